@@ -1,0 +1,2 @@
+pub mod FakeLemmas
+pub mod TakenLemmas

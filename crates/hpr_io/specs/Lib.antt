@@ -1,0 +1,4 @@
+pub mod Counts
+pub mod Fakes
+pub mod Files
+pub mod Taken
