@@ -1,0 +1,9 @@
+pub mod Keywords
+pub mod Names
+pub mod Term
+pub mod TermOf
+pub mod TermCode
+pub mod TermFalls
+pub mod Tokens
+pub mod Uses
+pub mod ExprCode

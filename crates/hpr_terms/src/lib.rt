@@ -1,0 +1,20 @@
+//! The words of the language: names, keywords, tags, literals, expressions and tokens, with their
+//! equality and their total order, and the definitions that say what they are.
+#![tactic(auto)]
+
+mod expr;
+mod keyword;
+mod memory;
+mod name;
+mod tag;
+mod token;
+
+pub use expr::{Binary, Expr, Literal, Operand, Unary};
+pub use keyword::Keyword;
+pub use memory::NoMemory;
+pub use name::{Name, NameError, is_name, is_name_byte};
+pub use tag::Tag;
+pub use token::{Sign, Token};
+
+#[cfg(test)]
+mod tests;
