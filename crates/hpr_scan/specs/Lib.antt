@@ -1,0 +1,4 @@
+pub mod Machine
+pub mod Scanner
+pub mod Steps
+pub mod Words

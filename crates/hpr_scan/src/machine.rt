@@ -1,0 +1,80 @@
+//! Machines that read tokens.
+ghost use Rattle.std.specs.Prelude.{◌≡◌, ℕ, List, Option, is_some};
+ghost use Rattle.hpr_terms.specs.declared.token.Token.{Token};
+ghost use Rattle.hpr_terms.specs.declared.token.Token.TheVariants.{Word, Name, Number, Mark};
+ghost use Rattle.hpr_scan.specs.Machine.{IsTokenMachine};
+ghost use Rattle.hpr_scan.specs.Steps.{Steps};
+
+use hpr_terms::{Keyword, NoMemory, Sign, Token};
+use std::alloc::{AllocError, AllocFailed, Global};
+
+/// Why a machine did not go on.
+#[derive(Clone, Copy, Debug, PartialEq, Eq, PartialOrd, Ord)]
+pub enum Fault {
+    /// The token, or the byte, cannot stand here.
+    Refused,
+    /// Memory ran out.
+    Memory,
+}
+
+impl From<AllocError> for Fault {
+    ghost use Rattle.std.specs.Prelude.{◌≡◌};
+    ghost use Rattle.hpr_scan.specs.declared.machine.Fault.TheVariants.{Memory};
+
+    ghost from_gives = { λ _ e. e ≡ Memory };
+
+    fn from(_error: AllocError) -> Fault {
+        Fault::Memory
+    }
+}
+
+impl<T: Drop> From<AllocFailed<T>> for Fault {
+    ghost use Rattle.std.specs.Prelude.{◌≡◌};
+    ghost use Rattle.hpr_scan.specs.declared.machine.Fault.TheVariants.{Memory};
+
+    ghost from_gives = { λ _ e. e ≡ Memory };
+
+    fn from(_error: AllocFailed<T>) -> Fault {
+        Fault::Memory
+    }
+}
+
+impl From<NoMemory> for Fault {
+    ghost use Rattle.std.specs.Prelude.{◌≡◌};
+    ghost use Rattle.hpr_scan.specs.declared.machine.Fault.TheVariants.{Memory};
+
+    ghost from_gives = { λ _ e. e ≡ Memory };
+
+    fn from(_error: NoMemory) -> Fault {
+        Fault::Memory
+    }
+}
+
+/// A machine that reads tokens from left to right.
+pub trait TokenMachine: Sized {
+    // where a token leads, if it can stand next
+    ghost next: { Self → Token → Option Self };
+
+    /// The machine after the token. `Refused` comes exactly where the token cannot stand next.
+    fn step(self, alloc: Global, token: Token) -> Result<Self, Fault>
+        ensures { Steps (next self token) result };
+
+    /// Whether the keyword can stand next.
+    fn takes_keyword(&self, keyword: Keyword) -> bool
+        ensures { result ≡ is_some (next self.now (Word keyword)) };
+
+    /// Whether a name can stand next.
+    fn takes_name(&self) -> bool
+        ensures { (x : List ℕ) → result ≡ is_some (next self.now (Name x)) };
+
+    /// Whether the number can stand next.
+    fn takes_number(&self, number: u64) -> bool
+        ensures { result ≡ is_some (next self.now (Number number)) };
+
+    /// Whether the sign can stand next.
+    fn takes_sign(&self, sign: Sign) -> bool
+        ensures { result ≡ is_some (next self.now (Mark sign)) };
+
+    // what the reader of bytes relies on
+    ghost laws: { IsTokenMachine next };
+}

@@ -1,0 +1,213 @@
+//! Words: names, keywords and numbers.
+ghost use Rattle.std.specs.Prelude.{◌≡◌, ◌^◌, ◌+◌, ◌*◌, ◌-◌, ◌<◌, ◌≤◌, ◌++◌, ◌∷◌, [], IfOk, IsTrue, MatchOption, Some, is_some};
+ghost use Rattle.std.specs.List.{list_all, list_any};
+ghost use Rattle.hpr_terms.specs.declared.token.Token.TheVariants as tokens;
+ghost use Rattle.hpr_terms.specs.Keywords.{keywords};
+ghost use Rattle.hpr_terms.specs.Names.{is_name_byte};
+ghost use Rattle.hpr_scan.specs.Words.{is_digit, is_name_like, is_numeral, value_after, number_token, other_token, word_token, IsNoToken, ReadsWord, begins_name, begins_number, begins_keyword, begins};
+
+use crate::machine::{Fault, TokenMachine};
+use hpr_terms::{Keyword, Name, NameError, Token, is_name_byte};
+use std::alloc::{AllocError, Global};
+use std::marker::Model;
+
+/// The letters of a word that has begun. A contract sees them as a list of bytes.
+#[derive(Debug, Drop)]
+pub struct Letters {
+    text: String,
+}
+
+impl Model for Letters {
+    ghost use Rattle.std.specs.Prelude.{List, ℕ, string_bytes};
+
+    ghost Value = { List ℕ };
+
+    ghost view = { λ l. string_bytes l.text };
+}
+
+impl Letters {
+    /// No letters.
+    pub fn new(alloc: Global) -> Letters
+        ensures { result ≡ [] }
+    {
+        Letters {
+            text: String::new(alloc),
+        }
+    }
+
+    /// One letter more.
+    #[tactic(auto, unfolding(hpr_terms::specs::Names::is_name_byte))]
+    pub fn push(&mut self, byte: u8) -> Result<(), AllocError>
+        requires { IsTrue (is_name_byte byte) }
+        ensures { IfOk result (λ _. self.new ≡ self.old ++ byte ∷ []) }
+    {
+        self.text.push(char::from(byte))
+    }
+
+    fn text(&self) -> &str
+        ensures { result.now ≡ self.now }
+    {
+        self.text.as_str()
+    }
+}
+
+#[tactic(auto, unfolding(crate::specs::Words::is_digit))]
+fn is_digit(byte: u8) -> bool
+    ensures { result ≡ is_digit byte }
+{
+    byte.is_ascii_digit()
+}
+
+fn has_digits(bytes: &[u8]) -> bool
+    ensures { result ≡ list_all is_digit bytes.now }
+{
+    bytes.iter().all(|byte| is_digit(*byte))
+}
+
+fn has_name_bytes(bytes: &[u8]) -> bool
+    ensures { result ≡ list_all is_name_byte bytes.now }
+{
+    bytes.iter().all(|byte| is_name_byte(*byte))
+}
+
+const MAX_NAME: usize = 64;
+
+#[tactic(auto, unfolding(crate::specs::Words::is_name_like))]
+fn is_name_like(word: &[u8]) -> bool
+    ensures { result ≡ is_name_like word.now }
+{
+    match word {
+        [] => false,
+        [first, ..] => { word.len() <= MAX_NAME && has_name_bytes(word) && !first.is_ascii_digit() }
+    }
+}
+
+fn is_numeral(word: &[u8]) -> bool
+    ensures { result ≡ is_numeral word.now }
+{
+    match word {
+        [] => false,
+        [only] => is_digit(*only),
+        [first, rest @ ..] => is_digit(*first) && *first > b'0' && has_digits(rest),
+    }
+}
+
+/// The number that the digits write, where it is below 2 ^ 64.
+fn value(word: &[u8]) -> Option<u64>
+    ensures { let number = value_after 0 word.now in
+        MatchOption result (2 ^ 64 ≤ number) (λ n. n ≡ number) }
+{
+    let mut sum = 0u64;
+    for byte in word {
+        let digit = u64::from(byte.saturating_sub(b'0'));
+        if sum > (u64::MAX - digit) / 10 {
+            return None;
+        }
+        sum = 10 * sum + digit;
+    }
+    Some(sum)
+}
+
+fn number_token(word: &[u8]) -> Option<Token>
+    ensures { let token = number_token word.now in
+        MatchOption result (IsNoToken token) (λ t. token ≡ Some t) }
+{
+    if is_numeral(word) {
+        return value(word).map(Token::Number);
+    }
+    None
+}
+
+fn other_token(alloc: Global, word: &str) -> Result<Token, Fault>
+    ensures { ReadsWord (other_token word.now) result }
+{
+    match Name::new(alloc, word) {
+        Ok(name) => Ok(Token::Name(name)),
+        Err(NameError::NotAName) => match number_token(word.as_bytes()) {
+            Some(token) => Ok(token),
+            None => Err(Fault::Refused),
+        },
+        Err(NameError::Memory) => Err(Fault::Memory),
+    }
+}
+
+/// The token whose text the word is.
+///
+/// `Refused` comes where there is none, or a number from 2 ^ 64 on.
+#[tactic(auto, unfolding(crate::specs::Words::word_token))]
+pub fn word_token(alloc: Global, letters: &Letters) -> Result<Token, Fault>
+    ensures { ReadsWord (word_token letters.now) result }
+{
+    let word = letters.text();
+    match Keyword::of(word.as_bytes()) {
+        Some(keyword) => Ok(Token::Word(keyword)),
+        None => other_token(alloc, word),
+    }
+}
+
+const KEYWORDS: [Keyword; 15] = [
+    Keyword::Program,
+    Keyword::Issued,
+    Keyword::If,
+    Keyword::Then,
+    Keyword::Else,
+    Keyword::Fi,
+    Keyword::While,
+    Keyword::Do,
+    Keyword::Od,
+    Keyword::End,
+    Keyword::And,
+    Keyword::Or,
+    Keyword::Not,
+    Keyword::Write,
+    Keyword::Out,
+];
+
+fn begins_keyword<M: TokenMachine>(machine: &M, word: &[u8], keyword: Keyword) -> bool
+    ensures { result ≡ begins_keyword M.next machine.now word.now keyword }
+{
+    machine.takes_keyword(keyword) && keyword.text().starts_with(word)
+}
+
+fn begins_keyword_of<M: TokenMachine>(machine: &M, word: &[u8], keywords: &[Keyword]) -> bool
+    ensures { result ≡ list_any (begins_keyword M.next machine.now word.now) keywords.now }
+{
+    for keyword in keywords {
+        if begins_keyword(machine, word, *keyword) {
+            return true;
+        }
+    }
+    false
+}
+
+fn begins_name<M: TokenMachine>(machine: &M, word: &[u8]) -> bool
+    ensures { result ≡ begins_name M.next machine.now word.now }
+{
+    is_name_like(word) && machine.takes_name()
+}
+
+fn takes_value<M: TokenMachine>(machine: &M, word: &[u8]) -> bool
+    ensures { result ≡ is_some (M.next machine.now (tokens.Number (value_after 0 word.now))) }
+{
+    match value(word) {
+        None => false,
+        Some(number) => machine.takes_number(number),
+    }
+}
+
+fn begins_number<M: TokenMachine>(machine: &M, word: &[u8]) -> bool
+    ensures { result ≡ begins_number M.next machine.now word.now }
+{
+    is_numeral(word) && takes_value(machine, word)
+}
+
+/// Whether the letters are the front of a word that can stand next.
+#[tactic(auto, unfolding(crate::specs::Words::begins))]
+pub fn begins<M: TokenMachine>(machine: &M, letters: &Letters) -> bool
+    ensures { result ≡ begins M.next machine.now letters.now }
+{
+    let word = letters.text().as_bytes();
+    begins_name(machine, word)
+        || begins_number(machine, word)
+        || begins_keyword_of(machine, word, &KEYWORDS)
+}
