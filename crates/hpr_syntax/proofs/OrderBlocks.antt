@@ -1,0 +1,70 @@
+-- The order of blocks against their codes.
+use Rattle.std.proofs.Common.{◌≡◌, ℕ, Some, Option, List, [], ◌∷◌, refl, ap, sym, ◌∙◌}
+use Rattle.std.specs.Cmp.Lexicographic.{slice_cmp, slice_partial_cmp}
+use Rattle.std.specs.Ordering.{nat_cmp, ordering_then, partial_ordering_then}
+use Rattle.std.specs.declared.cmp.Ordering.{Ordering}
+use Rattle.hpr_terms.specs.declared.tag.Tag.{Tag}
+use Rattle.hpr_syntax.specs.declared.tree.Stmt.{Stmt}
+use Rattle.hpr_syntax.specs.declared.tree.Stmt.TheVariants.{Assign, If, While}
+use Rattle.hpr_terms.specs.declared.expr.Expr.{Expr}
+use Rattle.hpr_terms.specs.Term.{term_code}
+use Rattle.hpr_terms.specs.TermOf.{term_of}
+use Rattle.hpr_syntax.specs.Body.{Body, done, assign, branch, loop, body_code, block_code}
+use Rattle.hpr_syntax.specs.BodyOf.{body_of}
+use Rattle.hpr_terms.specs.contracts.expr.ExprOrd.TheImpl as ords
+use Rattle.hpr_terms.specs.contracts.expr.ExprPartialOrd.TheImpl as partials
+use Rattle.hpr_terms.specs.contracts.tag.TagOrd.TheImpl as tag_ords
+use Rattle.hpr_terms.specs.contracts.tag.TagPartialOrd.TheImpl as tag_partials
+use Rattle.hpr_syntax.specs.contracts.tree.StmtOrd.TheImpl as stmt_ords
+use Rattle.hpr_syntax.specs.contracts.tree.StmtPartialOrd.TheImpl as stmt_partials
+use Rattle.hpr_terms.proofs.Compare.{order, then_assoc, partial_then, name_order, term_order, cmp_codes, partial_codes}
+
+expr_part : (e f : Expr) (s t : List ℕ) → order (term_code (term_of e) s) (term_code (term_of f) t) ≡ ordering_then ((ords.ghosts).cmp e f) (order s t)
+expr_part e f s t = term_order (term_of e) (term_of f) s t ∙ ap (λ r. ordering_then r (order s t)) (sym (cmp_codes e f))
+
+block_order : (b c : Body) (s t : List ℕ) → order (body_code b s) (body_code c t) ≡ ordering_then (order (block_code b) (block_code c)) (order s t)
+block_order done done s t = refl
+block_order (assign t x e r) (assign u y f q) s s' =
+    rw (name_order x y (term_code (term_of e) (body_code r s)) (term_code (term_of f) (body_code q s')), expr_part e f (body_code r s) (body_code q s'), block_order r q s s', name_order x y (term_code (term_of e) (body_code r [])) (term_code (term_of f) (body_code q [])), expr_part e f (body_code r []) (body_code q [])) (simp then_assoc)
+block_order (branch t e a b r) (branch u f c d q) s s' =
+    rw (expr_part e f (body_code a (body_code b (body_code r s))) (body_code c (body_code d (body_code q s'))), block_order a c (body_code b (body_code r s)) (body_code d (body_code q s')), block_order b d (body_code r s) (body_code q s'), block_order r q s s', expr_part e f (body_code a (body_code b (body_code r []))) (body_code c (body_code d (body_code q []))), block_order a c (body_code b (body_code r [])) (body_code d (body_code q [])), block_order b d (body_code r []) (body_code q [])) (simp then_assoc)
+block_order (loop t e a r) (loop u f c q) s s' =
+    rw (expr_part e f (body_code a (body_code r s)) (body_code c (body_code q s')), block_order a c (body_code r s) (body_code q s'), block_order r q s s', expr_part e f (body_code a (body_code r [])) (body_code c (body_code q [])), block_order a c (body_code r []) (body_code q [])) (simp then_assoc)
+block_order _ _ s t = refl
+
+pub stmts_order : (xs ys : List Stmt) → slice_cmp (stmt_ords.ghosts).cmp xs ys ≡ order (block_code (body_of xs)) (block_code (body_of ys))
+stmts_order [] [] = refl
+stmts_order [] (Assign u y f ∷ ys) = refl
+stmts_order [] (If u f c d ∷ ys) = refl
+stmts_order [] (While u f c ∷ ys) = refl
+stmts_order (Assign t x e ∷ xs) (Assign u y f ∷ ys) =
+    rw (stmts_order xs ys, name_order x y (term_code (term_of e) (body_code (body_of xs) [])) (term_code (term_of f) (body_code (body_of ys) [])), expr_part e f (body_code (body_of xs) []) (body_code (body_of ys) [])) (simp then_assoc)
+stmts_order (If t e a b ∷ xs) (If u f c d ∷ ys) =
+    rw (stmts_order xs ys, expr_part e f (body_code a (body_code b (body_code (body_of xs) []))) (body_code c (body_code d (body_code (body_of ys) []))), block_order a c (body_code b (body_code (body_of xs) [])) (body_code d (body_code (body_of ys) [])), block_order b d (body_code (body_of xs) []) (body_code (body_of ys) [])) (simp then_assoc)
+stmts_order (While t e a ∷ xs) (While u f c ∷ ys) =
+    rw (stmts_order xs ys, expr_part e f (body_code a (body_code (body_of xs) [])) (body_code c (body_code (body_of ys) [])), block_order a c (body_code (body_of xs) []) (body_code (body_of ys) [])) (simp then_assoc)
+stmts_order _ _ = refl
+
+partial_two : (a b : Option Ordering) (x y : Ordering) → a ≡ Some x → b ≡ Some y → partial_ordering_then a b ≡ Some (ordering_then x y)
+partial_two a b x y p q = rw (p, q) (partial_then x y)
+
+expr_partial : (e f : Expr) → (partials.ghosts).partial_cmp e f ≡ Some ((ords.ghosts).cmp e f)
+expr_partial e f = partial_codes e f ∙ ap Some (sym (cmp_codes e f))
+
+tag_partial : (t u : Tag) → (tag_partials.ghosts).partial_cmp t u ≡ Some ((tag_ords.ghosts).cmp t u)
+tag_partial t u = partial_then (nat_cmp t.author u.author) (nat_cmp t.serial u.serial)
+
+stmt_partial : (s r : Stmt) → (stmt_partials.ghosts).partial_cmp s r ≡ Some ((stmt_ords.ghosts).cmp s r)
+stmt_partial (Assign t x e) (Assign u y f) = partial_two _ _ _ _ (tag_partial t u) (partial_two _ _ _ _ refl (expr_partial e f))
+stmt_partial (If t e a b) (If u f c d) =
+    partial_two _ _ _ _ (tag_partial t u) (partial_two _ _ _ _ (expr_partial e f) (partial_then (order (block_code a) (block_code c)) (order (block_code b) (block_code d))))
+stmt_partial (While t e a) (While u f c) = partial_two _ _ _ _ (tag_partial t u) (partial_two _ _ _ _ (expr_partial e f) refl)
+stmt_partial _ _ = refl
+
+slice_partial : (xs ys : List Stmt) → slice_partial_cmp (stmt_partials.ghosts).partial_cmp xs ys ≡ Some (slice_cmp (stmt_ords.ghosts).cmp xs ys)
+slice_partial [] [] = refl
+slice_partial (x ∷ xs) (y ∷ ys) = partial_two _ _ _ _ (stmt_partial x y) (slice_partial xs ys)
+slice_partial _ _ = refl
+
+pub stmts_partial : (xs ys : List Stmt) → slice_partial_cmp (stmt_partials.ghosts).partial_cmp xs ys ≡ Some (order (block_code (body_of xs)) (block_code (body_of ys)))
+stmts_partial xs ys = slice_partial xs ys ∙ ap Some (stmts_order xs ys)

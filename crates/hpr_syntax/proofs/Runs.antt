@@ -1,0 +1,79 @@
+-- Laws of runs.
+use Rattle.std.proofs.Common.{subst, ◌≡◌, ℕ, zero, suc, ◌+◌, ◌≤◌, ◌<◌, ℤ, Bool, true, false, refl, ap, ◌∙◌, arith, add-one, if◌then◌else◌, Ok, Err}
+use Rattle.std.specs.FinMap.{insert}
+use Rattle.hpr_terms.specs.declared.tag.Tag.{Tag}
+use Rattle.hpr_terms.specs.declared.expr.Expr.{Expr}
+use Rattle.hpr_syntax.specs.Body.{Body, done, assign, branch, loop}
+use Rattle.hpr_syntax.specs.Values.{Values}
+use Rattle.hpr_syntax.specs.Value.{Answer, value, is_true}
+use Rattle.hpr_syntax.specs.Run.{After, goes, stops, spent, step, then_go, turns, run_body}
+
+-- no more steps are left than there were
+abbrev pub LeavesAtMost : After → ℕ → Type 0
+LeavesAtMost (goes s l) n = l ≤ n
+LeavesAtMost (stops t f l) n = l ≤ n
+LeavesAtMost spent n = Unit {0}
+
+weaken : (x : After) (m n : ℕ) → m ≤ n → LeavesAtMost x m → LeavesAtMost x n
+weaken (goes s l) m n h p = omega arith
+weaken (stops t f l) m n h p = omega arith
+weaken spent m n h p = tt
+
+then_leaves : (x : After) (n : ℕ) (k : Values → ℕ → After) → ((s : Values) (l : ℕ) → LeavesAtMost (k s l) l) → LeavesAtMost x n → LeavesAtMost (then_go x k) n
+then_leaves (goes s l) n k h p = weaken (k s l) l n p (h s l)
+then_leaves (stops t f l) n k h p = p
+then_leaves spent n k h p = tt
+
+step_leaves : (t : Tag) (a : Answer) (left : ℕ) (f : ℤ → ℕ → After) → ((v : ℤ) (l : ℕ) → LeavesAtMost (f v l) l) → LeavesAtMost (step t a left f) left
+step_leaves t a zero f h = tt
+step_leaves t (Ok v) (suc l) f h = let le : l ≤ suc l = omega arith in weaken (f v l) l (suc l) le (h v l)
+step_leaves t (Err e) (suc l) f h = omega arith
+
+if_leaves : (b : Bool) (x y : After) (n : ℕ) → LeavesAtMost x n → LeavesAtMost y n → LeavesAtMost (if b then x else y) n
+if_leaves true x y n p q = p
+if_leaves false x y n p q = q
+
+turns_leaves : (n : ℕ) (t : Tag) (e : Expr) (k : Values → ℕ → After) → ((s : Values) (l : ℕ) → LeavesAtMost (k s l) l) → (s : Values) (left : ℕ) → LeavesAtMost (turns n t e k s left) left
+turns_leaves zero t e k h s left = tt
+turns_leaves (suc n) t e k h s left =
+    let step_k : (v : ℤ) (l : ℕ) → LeavesAtMost (if is_true v then then_go (k s l) (turns n t e k) else goes s l) l =
+    λ v l. let le : l ≤ l = omega arith in if_leaves (is_true v) _ _ l (then_leaves (k s l) l (turns n t e k) (turns_leaves n t e k h) (h s l)) le in
+    step_leaves t (value e s) left _ step_k
+
+pub run_body_leaves : (b : Body) (s : Values) (left : ℕ) → LeavesAtMost (run_body b s left) left
+run_body_leaves done s left = omega arith
+run_body_leaves (assign t x e rest) s left = step_leaves t (value e s) left _ (λ v l. run_body_leaves rest (insert s x v) l)
+run_body_leaves (branch t e a b rest) s left =
+    step_leaves t (value e s) left _ (λ v l. then_leaves _ l (run_body rest) (run_body_leaves rest) (if_leaves (is_true v) _ _ l (run_body_leaves a s l) (run_body_leaves b s l)))
+run_body_leaves (loop t e b rest) s left =
+    then_leaves _ left (run_body rest) (run_body_leaves rest) (turns_leaves (left + 1) t e (run_body b) (run_body_leaves b) s left)
+
+-- a loop that may make more turns than it has steps does the same with any such number
+then_same : (x : After) (n : ℕ) (k k' : Values → ℕ → After) → ((s : Values) (l : ℕ) → l ≤ n → k s l ≡ k' s l) → LeavesAtMost x n → then_go x k ≡ then_go x k'
+then_same (goes s l) n k k' h p = h s l p
+then_same (stops t f l) n k k' h p = refl
+then_same spent n k k' h p = refl
+
+pub turns_enough : (m n : ℕ) (t : Tag) (e : Expr) (k : Values → ℕ → After) → ((s : Values) (l : ℕ) → LeavesAtMost (k s l) l) → (s : Values) (left : ℕ) → left < m → left < n → turns m t e k s left ≡ turns n t e k s left
+turns_enough zero n t e k h s left p q = absurd (omega arith)
+turns_enough (suc m) zero t e k h s left p q = absurd (omega arith)
+turns_enough (suc m) (suc n) t e k h s zero p q = refl
+turns_enough (suc m) (suc n) t e k h s (suc l) p q =
+    let both : (s' : Values) (l' : ℕ) → l' ≤ l → turns m t e k s' l' ≡ turns n t e k s' l' =
+    λ s' l' r. turns_enough m n t e k h s' l' (omega arith) (omega arith) in
+    let a = then_same (k s l) l (turns m t e k) (turns n t e k) both (h s l) in
+    let answered : (a : Answer) → step t a (suc l) (λ v l'. if is_true v then then_go (k s l') (turns m t e k) else goes s l') ≡ step t a (suc l) (λ v l'. if is_true v then then_go (k s l') (turns n t e k) else goes s l') =
+    λ v. elim v as (λ v. step t v (suc l) (λ v l'. if is_true v then then_go (k s l') (turns m t e k) else goes s l') ≡ step t v (suc l) (λ v l'. if is_true v then then_go (k s l') (turns n t e k) else goes s l')) [
+      | Ok z ↦ ap (λ x. if is_true z then x else goes s l) a
+      | Err f ↦ refl
+    ] in
+    answered (value e s)
+
+module _ (t : Tag) (e : Expr) (k : Values → ℕ → After) (s : Values) (l l' : ℕ) (v : ℤ) (one : l ≡ suc l') (is : value e s ≡ Ok v) where
+  turn : is_true v ≡ true → turns (l + 1) t e k s l ≡ then_go (k s l') (turns l t e k)
+  turn holds = rw (add-one, one, is, holds) refl
+
+  pub turn_more : ((s : Values) (l : ℕ) → LeavesAtMost (k s l) l) → is_true v ≡ true → (s'' : Values) (l'' : ℕ) → k s l' ≡ goes s'' l'' → turns (l + 1) t e k s l ≡ turns (l'' + 1) t e k s'' l''
+  turn_more h holds s'' l'' did =
+      let le : LeavesAtMost (goes s'' l'') l' = subst (λ x. LeavesAtMost x l') did (h s l') in
+      turn holds ∙ rw (did, add-one) (turns_enough l (suc l'') t e k h s'' l'' (omega arith) (omega arith))

@@ -1,0 +1,152 @@
+-- The tokens of a block's canonical text spell the block.
+use Rattle.std.proofs.Common.{◌≡◌, ℕ, zero, suc, ◌+◌, ◌≤◌, List, [], ◌∷◌, ◌++◌, Bool, true, false, nat_lt, ◌==◌, ◌||◌, if◌then◌else◌, Option, Some, None, refl, arith}
+use Rattle.std.specs.Option.{option_or}
+use Rattle.std.proofs.lemmas.Bool.Decides.{nat_tests}
+use Rattle.hpr_terms.specs.declared.tag.Tag.{Tag}
+use Rattle.hpr_terms.specs.declared.expr.Expr.{Expr}
+use Rattle.hpr_terms.specs.declared.keyword.Keyword.TheVariants as keyword
+use Rattle.hpr_terms.specs.declared.token.Sign.TheVariants as sign
+use Rattle.hpr_terms.specs.declared.token.Token.{Token}
+use Rattle.hpr_terms.specs.declared.token.Token.TheVariants.{Word, Name, Number, Mark}
+use Rattle.hpr_terms.specs.Term.{operators}
+use Rattle.hpr_terms.specs.TermOf.{term_of}
+use Rattle.hpr_syntax.specs.Body.{Body, done, assign, branch, loop}
+use Rattle.hpr_syntax.specs.Parts.{tags_of}
+use Rattle.hpr_syntax.specs.Issued.{Issued, issued_to}
+use Rattle.hpr_syntax.specs.Shape.{max_operators, is_unissued, first_unissued, first_deep, is_large, first_large}
+use Rattle.hpr_syntax.specs.Grammar as grammar
+use Rattle.hpr_syntax.specs.Grammar.{tagged, IsTag, SpellsExpr, max_brackets, SpellsParts, nothing, assignment, conditional, conditional_else, while_loop}
+use Rattle.hpr_syntax.specs.Print.{is_done}
+use Rattle.hpr_syntax.specs.Proper.{IsProperTerm, IsProperTag, IsProperBody}
+use Rattle.hpr_syntax.proofs.NoRefusal.{or_none}
+use Rattle.hpr_syntax.proofs.Shown.{shown, expr_shown}
+
+abbrev pub label : Tag → List Token
+label t = Number t.author ∷ Mark sign.Dot ∷ Number t.serial ∷ Mark sign.Colon ∷ []
+
+abbrev pub shown_expr : Expr → List Token
+shown_expr e = shown (term_of e)
+
+-- `else` and the second block's tokens, where the block isn't empty
+abbrev pub shown_else : Body → List Token → List Token
+shown_else block second = if is_done block then [] else (Word keyword.Else ∷ second)
+
+abbrev pub shown_body : Body → List Token
+shown_body done = []
+shown_body (assign t x e rest) = label t ++ (Name x ∷ Mark sign.Becomes ∷ (shown_expr e ++ (Mark sign.Semicolon ∷ shown_body rest)))
+shown_body (branch t e a b rest) =
+    label t ++ (Word keyword.If ∷ (shown_expr e ++ (Word keyword.Then ∷ (shown_body a ++ (shown_else b (shown_body b) ++ (Word keyword.Fi ∷ shown_body rest))))))
+shown_body (loop t e b rest) = label t ++ (Word keyword.While ∷ (shown_expr e ++ (Word keyword.Do ∷ (shown_body b ++ (Word keyword.Od ∷ shown_body rest)))))
+
+-- ---- what the tests of a tree say
+
+pub if_none : {X : Type 0} (b : Bool) (x : X) (o : Option X) → (if b then Some x else o) ≡ None → (b ≡ false) × (o ≡ None)
+if_none false x o h = (refl, h)
+if_none true x o h = absurd cc
+
+-- each part's serial is at least 1
+abbrev pub HasSerials : Body → Type 0
+HasSerials done = Unit {0}
+HasSerials (assign t x e rest) = (1 ≤ t.serial) × HasSerials rest
+HasSerials (branch t e a b rest) = (1 ≤ t.serial) × HasSerials a × HasSerials b × HasSerials rest
+HasSerials (loop t e b rest) = (1 ≤ t.serial) × HasSerials b × HasSerials rest
+
+serial_if : (s n : ℕ) → ((s == 0) || nat_lt n s) ≡ false → 1 ≤ s
+serial_if s n h = grind (arith, nat_tests)
+
+first_issued : (issued : Issued) (t : Tag) (ts : List Tag) → first_unissued issued (t ∷ ts) ≡ None → (1 ≤ t.serial) × (first_unissued issued ts ≡ None)
+first_issued issued t ts h =
+    let e : (is_unissued issued t ≡ false) × (first_unissued issued ts ≡ None) = if_none (is_unissued issued t) t (first_unissued issued ts) h in
+    (serial_if t.serial (issued_to t.author issued) e.0, e.1)
+
+pub has_serials : (issued : Issued) (body : Body) (after : List Tag) → first_unissued issued (tags_of body after) ≡ None → HasSerials body × (first_unissued issued after ≡ None)
+has_serials issued done after h = (tt, h)
+has_serials issued (assign t x e rest) after h =
+    let i = first_issued issued t (tags_of rest after) h in
+    let r = has_serials issued rest after i.1 in
+    ((i.0, r.0), r.1)
+has_serials issued (branch t e a b rest) after h =
+    let i = first_issued issued t (tags_of a (tags_of b (tags_of rest after))) h in
+    let p = has_serials issued a (tags_of b (tags_of rest after)) i.1 in
+    let q = has_serials issued b (tags_of rest after) p.1 in
+    let r = has_serials issued rest after q.1 in
+    ((i.0, p.0, q.0, r.0), r.1)
+has_serials issued (loop t e b rest) after h =
+    let i = first_issued issued t (tags_of b (tags_of rest after)) h in
+    let q = has_serials issued b (tags_of rest after) i.1 in
+    let r = has_serials issued rest after q.1 in
+    ((i.0, q.0, r.0), r.1)
+
+few_operators : (n most : ℕ) → nat_lt most n ≡ false → n ≤ most
+few_operators n most h = grind (arith, nat_tests)
+
+expr_spelled : (e : Expr) → is_large e ≡ false → IsProperTerm (term_of e) → SpellsExpr (shown_expr e) e
+expr_spelled e small proper =
+    let few : operators (term_of e) ≤ max_operators = few_operators (operators (term_of e)) max_operators small in
+    (expr_shown (term_of e) max_brackets proper few, few)
+
+tag_is : (t : Tag) → IsProperTag t → 1 ≤ t.serial → IsTag t
+tag_is t h one = (h.0, (one, h.1))
+
+-- ---- parts
+
+-- the block's tokens spell it, whatever number of parts stands before it
+record Spelled (l : ℕ) (body : Body) : Type 0 where
+  spelled : (n : ℕ) → (m : ℕ) × SpellsParts tagged l n m (shown_body body) body
+
+branch_spelled : (l : ℕ) (t : Tag) (e : Expr) (then_part else_part rest : Body) → IsTag t → SpellsExpr (shown_expr e) e → Spelled l then_part → Spelled l else_part → Spelled (suc l) rest
+    → Spelled (suc l) (branch t e then_part else_part rest)
+branch_spelled l t e then_part done rest ht he hy hn hr =
+    record {
+      spelled = λ n.
+          let y = hy.spelled (n + 1) in
+          let r = hr.spelled y.0 in
+          (r.0, conditional (grammar.tag ht) he y.1 r.1);
+    }
+branch_spelled l t e then_part else_part rest ht he hy hn hr =
+    record {
+      spelled = λ n.
+          let y = hy.spelled (n + 1) in
+          let z = hn.spelled y.0 in
+          let r = hr.spelled z.0 in
+          (r.0, conditional_else (grammar.tag ht) he y.1 z.1 r.1);
+    }
+
+parts_spelled : (l : ℕ) (body : Body) → IsProperBody body → HasSerials body → first_deep l body ≡ None → first_large body ≡ None → Spelled l body
+parts_spelled l done h s deep large = record { spelled = λ n. (n, nothing) }
+parts_spelled zero (assign t x e rest) h s deep large = absurd cc
+parts_spelled zero (branch t e a b rest) h s deep large = absurd cc
+parts_spelled zero (loop t e b rest) h s deep large = absurd cc
+parts_spelled (suc l) (assign t x e rest) h s deep large =
+    let g : (is_large e ≡ false) × (first_large rest ≡ None) = if_none (is_large e) t (first_large rest) large in
+    let more = parts_spelled (suc l) rest h.3 s.1 deep g.1 in
+    record {
+      spelled = λ n.
+          let r = more.spelled (n + 1) in
+          (r.0, assignment (grammar.tag (tag_is t h.0 s.0)) (expr_spelled e g.0 h.2) r.1);
+    }
+parts_spelled (suc l) (branch t e a b rest) h s deep large =
+    let g : (is_large e ≡ false) × (option_or (first_large a) (option_or (first_large b) (first_large rest)) ≡ None)
+    = if_none (is_large e) t (option_or (first_large a) (option_or (first_large b) (first_large rest))) large in
+    let ga = or_none (first_large a) (option_or (first_large b) (first_large rest)) g.1 in
+    let gb = or_none (first_large b) (first_large rest) ga.1 in
+    let da = or_none (first_deep l a) (option_or (first_deep l b) (first_deep (suc l) rest)) deep in
+    let db = or_none (first_deep l b) (first_deep (suc l) rest) da.1 in
+    branch_spelled l t e a b rest (tag_is t h.0 s.0) (expr_spelled e g.0 h.1) (parts_spelled l a h.2 s.1 da.0 ga.0) (parts_spelled l b h.3 s.2 db.0 gb.0)
+    (parts_spelled (suc l) rest h.4 s.3 db.1 gb.1)
+parts_spelled (suc l) (loop t e b rest) h s deep large =
+    let g : (is_large e ≡ false) × (option_or (first_large b) (first_large rest) ≡ None) = if_none (is_large e) t (option_or (first_large b) (first_large rest)) large in
+    let gb = or_none (first_large b) (first_large rest) g.1 in
+    let db = or_none (first_deep l b) (first_deep (suc l) rest) deep in
+    let inner = parts_spelled l b h.2 s.1 db.0 gb.0 in
+    let more = parts_spelled (suc l) rest h.3 s.2 db.1 gb.1 in
+    record {
+      spelled = λ n.
+          let y = inner.spelled (n + 1) in
+          let r = more.spelled y.0 in
+          (r.0, while_loop (grammar.tag (tag_is t h.0 s.0)) (expr_spelled e g.0 h.1) y.1 r.1);
+    }
+
+pub body_spelled : (l n : ℕ) (body : Body) → IsProperBody body → HasSerials body → first_deep l body ≡ None → first_large body ≡ None
+    → (m : ℕ) × SpellsParts tagged l n m (shown_body body) body
+body_spelled l n body h s deep large = (parts_spelled l body h s deep large).spelled n

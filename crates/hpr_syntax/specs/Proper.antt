@@ -1,0 +1,39 @@
+-- What the names and the numbers of a tree have to be.
+--
+-- IsProperTerm x     == each literal of the expression is at most 9223372036854775807, and each of its names is a name
+-- IsProperTag t      == author and serial are at most 4294967295
+-- IsProperBody body  == the same of all tags and expressions of a block, and each name that a part assigns is a name
+-- IsProperPair p     == author and number are at most 4294967295
+-- IsProper tree      == the same of all that stands in the tree; the authors of its issued numbers ascend, and the numbers are at least 1
+use Rattle.std.specs.Prelude.{ℕ, ◌<◌, ◌^◌, All}
+use Rattle.hpr_terms.specs.declared.tag.Tag.{Tag}
+use Rattle.hpr_terms.specs.Names.{IsName}
+use Rattle.hpr_terms.specs.Term.{Term, num, var, prefix, infix'}
+use Rattle.hpr_terms.specs.TermOf.{term_of}
+use Rattle.hpr_syntax.specs.Body.{Body, done, assign, branch, loop}
+use Rattle.hpr_syntax.specs.Issued.{IsIssued}
+use Rattle.hpr_syntax.specs.Tree.{Tree}
+
+abbrev pub IsProperTerm : Term → Type 0
+IsProperTerm (num n) = n < 2 ^ 63
+IsProperTerm (var x) = IsName x
+IsProperTerm (prefix op a) = IsProperTerm a
+IsProperTerm (infix' op a b) = IsProperTerm a × IsProperTerm b
+
+abbrev pub IsProperTag : Tag → Type 0
+IsProperTag t = (t.author < 2 ^ 32) × (t.serial < 2 ^ 32)
+
+abbrev pub IsProperBody : Body → Type 0
+IsProperBody done = Unit {0}
+IsProperBody (assign t x e rest) = IsProperTag t × IsName x × IsProperTerm (term_of e) × IsProperBody rest
+IsProperBody (branch t e a b rest) = IsProperTag t × IsProperTerm (term_of e) × IsProperBody a × IsProperBody b × IsProperBody rest
+IsProperBody (loop t e b rest) = IsProperTag t × IsProperTerm (term_of e) × IsProperBody b × IsProperBody rest
+
+abbrev pub IsProperPair : ℕ × ℕ → Type 0
+IsProperPair p = (p.0 < 2 ^ 32) × (p.1 < 2 ^ 32)
+
+pub record IsProper (t : Tree) : Type 0 where
+  pub ascending : IsIssued t.issued
+  pub numbers : All IsProperPair t.issued
+  pub body : IsProperBody t.body
+  pub finals : All IsName t.finals

@@ -1,0 +1,34 @@
+-- The rows of a block in preorder.
+--
+-- Parent           == where a part stands: the part around it with the branch, or none at the top
+-- row_of t p i c   == the row of these four
+-- rows_of p i body == the rows of a block's parts, of which the first stands at the place i
+-- content_of stmt  == what the part says
+use Rattle.std.specs.Prelude.{ℕ, ◌+◌, Bool, true, false, Option, Some, List, [], ◌∷◌, ◌++◌}
+use Rattle.hpr_terms.specs.declared.tag.Tag.{Tag}
+use Rattle.hpr_syntax.specs.declared.tree.Stmt.{Stmt}
+use Rattle.hpr_syntax.specs.declared.rows.Row.{Row}
+use Rattle.hpr_syntax.specs.declared.rows.Content.{Content}
+use Rattle.hpr_syntax.specs.declared.rows.Content.TheVariants.{Assign, If, While}
+use Rattle.hpr_syntax.specs.Body.{Body, done, assign, branch, loop}
+use Rattle.hpr_syntax.specs.declared.tree.Stmt.TheVariants as stmt
+
+-- where a part stands: the part around it with the branch, or none at the top
+abbrev pub Parent : Type 0
+Parent = Option (Tag × Bool)
+
+abbrev pub row_of : Tag → Parent → ℕ → Content → Row
+row_of t p i c = record { tag = t; parent = p; at = i; content = c }
+
+-- the rows of a block's parts from the place i on
+abbrev pub rows_of : Parent → ℕ → Body → List Row
+rows_of p i done = []
+rows_of p i (assign t x e rest) = row_of t p i (Assign x e) ∷ rows_of p (i + 1) rest
+rows_of p i (branch t e a b rest) =
+    row_of t p i (If e) ∷ rows_of (Some (t, true)) 0 a ++ rows_of (Some (t, false)) 0 b ++ rows_of p (i + 1) rest
+rows_of p i (loop t e b rest) = row_of t p i (While e) ∷ rows_of (Some (t, true)) 0 b ++ rows_of p (i + 1) rest
+
+abbrev pub content_of : Stmt → Content
+content_of (stmt.Assign t x e) = Assign x e
+content_of (stmt.If t e a b) = If e
+content_of (stmt.While t e b) = While e

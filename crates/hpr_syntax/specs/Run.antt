@@ -1,0 +1,67 @@
+-- What a program does, with so many steps to spend. A step is an assignment or an evaluation of a predicate.
+--
+-- After             == where a run is after some statements: it goes on from a state with some steps left, a part stopped it
+--                      with a fault, or it is spent and has a further step to do
+-- step t a left go  == one step of the part t whose value is a, if a step is left; go says what follows
+-- then_go after go  == what follows, where the run goes on
+-- turns n t e body  == at most n turns of the loop t with the predicate e
+-- run_body body s left == a block, from the state s with so many steps left
+-- Outcome           == ends, with the final values and the steps taken; faults, with the tag, the fault and the steps taken, the
+--                      faulting one counted; more, where all steps are taken and there is a further one to do
+-- run p s n         == the run of the program p from the state s with n steps to spend
+use Rattle.std.specs.Prelude.{ℕ, zero, suc, ◌+◌, ◌-◌, ℤ, if◌then◌else◌, List, map, Ok, Err}
+use Rattle.std.specs.FinMap.{insert}
+use Rattle.hpr_terms.specs.declared.tag.Tag.{Tag}
+use Rattle.hpr_terms.specs.declared.expr.Expr.{Expr}
+use Rattle.hpr_syntax.specs.Body.{Body, done, assign, branch, loop}
+use Rattle.hpr_syntax.specs.Tree.{Tree}
+use Rattle.hpr_syntax.specs.Values.{Values, value_at}
+use Rattle.hpr_syntax.specs.Value.{Fault, Answer, value, is_true}
+
+pub data After : Type 0 where
+  goes : (state : Values) → (left : ℕ) → After
+  stops : (tag : Tag) → (fault : Fault) → (left : ℕ) → After
+  spent : After
+
+abbrev pub step : Tag → Answer → ℕ → (ℤ → ℕ → After) → After
+step t a zero go = spent
+step t (Ok v) (suc left) go = go v left
+step t (Err f) (suc left) go = stops t f left
+
+abbrev pub then_go : After → (Values → ℕ → After) → After
+then_go (goes s left) go = go s left
+then_go (stops t f left) go = stops t f left
+then_go spent go = spent
+
+abbrev pub turns : ℕ → Tag → Expr → (Values → ℕ → After) → Values → ℕ → After
+turns zero t e body s left = spent
+turns (suc n) t e body s left =
+    step t (value e s) left (λ v left'. if is_true v then then_go (body s left') (turns n t e body) else goes s left')
+
+-- A loop makes no more turns than it has steps, and one to see that none is left.
+abbrev pub run_body : Body → Values → ℕ → After
+run_body done s left = goes s left
+run_body (assign t x e rest) s left = step t (value e s) left (λ v left'. run_body rest (insert s x v) left')
+run_body (branch t e a b rest) s left =
+    step t (value e s) left (λ v left'. then_go (if is_true v then run_body a s left' else run_body b s left') (run_body rest))
+run_body (loop t e b rest) s left = then_go (turns (left + 1) t e (run_body b) s left) (run_body rest)
+
+-- names and their values
+abbrev pub FinalValues : Type 0
+FinalValues = List (List ℕ × ℤ)
+
+abbrev pub final_values : List (List ℕ) → Values → FinalValues
+final_values names s = map (λ x. (x, value_at s x)) names
+
+pub data Outcome : Type 0 where
+  ends : (finals : FinalValues) → (steps : ℕ) → Outcome
+  faults : (tag : Tag) → (fault : Fault) → (steps : ℕ) → Outcome
+  more : (steps : ℕ) → Outcome
+
+abbrev pub outcome : List (List ℕ) → ℕ → After → Outcome
+outcome names most (goes s left) = ends (final_values names s) (most - left)
+outcome names most (stops t f left) = faults t f (most - left)
+outcome names most spent = more most
+
+abbrev pub run : Tree → Values → ℕ → Outcome
+run p s most = outcome p.finals most (run_body p.body s most)

@@ -1,0 +1,90 @@
+-- The tests that a tree must pass to be a program.
+--
+-- first_repeated_tag body     == the first part's tag, in preorder, that stands earlier
+-- first_unissued issued body  == the first part's tag whose serial is 0 or above its author's issued number
+-- first_deep n body           == the first part's tag that stands more than n levels deep
+-- first_large body            == the first part's tag whose expression has more than 256 operators
+-- left_after most k           == what is left of most after k are taken, if there are as many
+-- first_repeated_name names   == the first name that stands earlier
+-- shape tree                  == the first refusal, in the order of the tests, or none
+-- IsProgram tree              == its names are names, its numbers in range, and the tree has no refusal
+use Rattle.std.specs.Prelude.{◌≡◌, ℕ, Bool, zero, suc, ◌-◌, ◌==◌, ◌||◌, nat_lt, nat_le, if◌then◌else◌, List, [], ◌∷◌, Option, Some, None, option_map}
+use Rattle.std.specs.Option.{option_or}
+use Rattle.std.specs.List.{list_any}
+use Rattle.std.specs.Str.{bytes_eq}
+use Rattle.hpr_terms.specs.declared.tag.Tag.{Tag}
+use Rattle.hpr_terms.specs.declared.expr.Expr.{Expr}
+use Rattle.hpr_terms.specs.Term.{operators}
+use Rattle.hpr_terms.specs.TermOf.{term_of}
+use Rattle.hpr_syntax.specs.declared.shape.ShapeError.{ShapeError}
+use Rattle.hpr_syntax.specs.declared.shape.ShapeError.TheVariants.{DuplicateTag, Unissued, TooDeep, ExprTooLarge, TooManyParts, DuplicateFinal}
+use Rattle.hpr_syntax.specs.Body.{Body, done, assign, branch, loop, part_count}
+use Rattle.hpr_syntax.specs.Parts.{same_tag, tags_of}
+use Rattle.hpr_syntax.specs.Issued.{Issued, issued_to}
+use Rattle.hpr_syntax.specs.Tree.{Tree}
+use Rattle.hpr_syntax.specs.Proper.{IsProper}
+
+abbrev pub max_levels : ℕ
+max_levels = 64
+
+abbrev pub max_operators : ℕ
+max_operators = 256
+
+abbrev pub max_parts : ℕ
+max_parts = 1000
+
+-- the first of the tags that stands before it, in this list or in the other
+abbrev pub first_repeated : List Tag → List Tag → Option Tag
+first_repeated earlier [] = None
+first_repeated earlier (t ∷ ts) = if list_any (same_tag t) earlier then Some t else first_repeated (t ∷ earlier) ts
+
+abbrev pub first_repeated_tag : Body → Option Tag
+first_repeated_tag body = first_repeated [] (tags_of body [])
+
+abbrev pub is_unissued : Issued → Tag → Bool
+is_unissued issued t = (t.serial == 0) || nat_lt (issued_to t.author issued) t.serial
+
+abbrev pub first_unissued : Issued → List Tag → Option Tag
+first_unissued issued [] = None
+first_unissued issued (t ∷ ts) = if is_unissued issued t then Some t else first_unissued issued ts
+
+abbrev pub first_deep : ℕ → Body → Option Tag
+first_deep n done = None
+first_deep zero (assign t x e rest) = Some t
+first_deep zero (branch t e a b rest) = Some t
+first_deep zero (loop t e b rest) = Some t
+first_deep (suc n) (assign t x e rest) = first_deep (suc n) rest
+first_deep (suc n) (branch t e a b rest) = option_or (first_deep n a) (option_or (first_deep n b) (first_deep (suc n) rest))
+first_deep (suc n) (loop t e b rest) = option_or (first_deep n b) (first_deep (suc n) rest)
+
+abbrev pub is_large : Expr → Bool
+is_large e = nat_lt max_operators (operators (term_of e))
+
+abbrev pub left_after : ℕ → ℕ → Option ℕ
+left_after most k = if nat_le k most then Some (most - k) else None
+
+abbrev pub first_large : Body → Option Tag
+first_large done = None
+first_large (assign t x e rest) = if is_large e then Some t else first_large rest
+first_large (branch t e a b rest) = if is_large e then Some t else option_or (first_large a) (option_or (first_large b) (first_large rest))
+first_large (loop t e b rest) = if is_large e then Some t else option_or (first_large b) (first_large rest)
+
+abbrev pub first_repeated_name : List (List ℕ) → List (List ℕ) → Option (List ℕ)
+first_repeated_name earlier [] = None
+first_repeated_name earlier (x ∷ xs) = if list_any (bytes_eq x) earlier then Some x else first_repeated_name (x ∷ earlier) xs
+
+abbrev pub too_many : ℕ → Option ShapeError
+too_many n = if nat_lt max_parts n then Some (TooManyParts n) else None
+
+unfoldable pub shape : Tree → Option ShapeError
+shape t =
+    option_or (option_map DuplicateTag (first_repeated_tag t.body))
+    (option_or (option_map Unissued (first_unissued t.issued (tags_of t.body [])))
+    (option_or (option_map TooDeep (first_deep max_levels t.body))
+    (option_or (option_map ExprTooLarge (first_large t.body))
+    (option_or (too_many (part_count t.body))
+    (option_map DuplicateFinal (first_repeated_name [] t.finals))))))
+
+pub record IsProgram (t : Tree) : Type 0 where
+  pub proper : IsProper t
+  pub shape : shape t ≡ None

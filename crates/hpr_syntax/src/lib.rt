@@ -1,0 +1,23 @@
+//! Programs as trees with tags: blocks, statements, issued numbers, and the tests that a tree must
+//! pass to be a program.
+#![tactic(auto)]
+
+mod issued;
+pub mod laws;
+mod program;
+mod proper;
+mod rows;
+mod shape;
+mod tree;
+
+pub use hpr_terms::{
+    Binary, Expr, Keyword, Literal, Name, NameError, NoMemory, Operand, Sign, Tag, Token, Unary,
+};
+pub use issued::Issued;
+pub use program::Program;
+pub use rows::{Content, Row, content_of, has_content, same_content};
+pub use shape::ShapeError;
+pub use tree::{Block, Stmt, defines, expr_of, uses};
+
+#[cfg(test)]
+mod tests;

@@ -1,0 +1,122 @@
+//! The parts of a block in preorder.
+ghost use Rattle.std.specs.Prelude.{◌≡◌, ◌↔◌, IsTrue, [], ◌∷◌, ◌++◌, IfOk, OnOk, length, None};
+ghost use Rattle.hpr_syntax.specs.Body.{done};
+ghost use Rattle.hpr_syntax.specs.BodyOf.{before};
+ghost use Rattle.hpr_syntax.specs.Rows.{rows_of, content_of};
+
+use crate::tree::{Block, Stmt};
+use hpr_terms::{Expr, Name, NoMemory, Tag};
+use std::alloc::Global;
+
+/// What a part says, without its tag and without the parts that stand in it.
+#[derive(Debug, PartialEq, Eq, PartialOrd, Ord, Drop)]
+pub enum Content {
+    /// The name takes the value.
+    Assign(Name, Expr),
+    /// The test of a conditional.
+    If(Expr),
+    /// The test of a loop.
+    While(Expr),
+}
+
+/// A part by itself, with where it stands.
+#[derive(Debug, PartialEq, Eq, PartialOrd, Ord, Drop)]
+pub struct Row {
+    pub tag: Tag,
+    /// The part whose block it stands in, with the branch, which is true for a conditional's first
+    /// block and for a loop's body. A top part has none.
+    pub parent: Option<(Tag, bool)>,
+    /// The place in that block, from 0.
+    pub at: usize,
+    pub content: Content,
+}
+
+/// What a part says, without the parts that stand in it.
+pub fn content_of(alloc: Global, stmt: &Stmt) -> Result<Content, NoMemory>
+    ensures { IfOk result (λ c. c ≡ content_of stmt.now) }
+{
+    match stmt {
+        Stmt::Assign(_, name, value) => Ok(Content::Assign(name.copy(alloc)?, value.copy(alloc)?)),
+        Stmt::If(_, test, _, _) => Ok(Content::If(test.copy(alloc)?)),
+        Stmt::While(_, test, _) => Ok(Content::While(test.copy(alloc)?)),
+    }
+}
+
+/// Whether a part says this.
+pub fn has_content(stmt: &Stmt, content: &Content) -> bool
+    ensures { IsTrue result ↔ (content_of stmt.now ≡ content.now) }
+{
+    match (stmt, content) {
+        (Stmt::Assign(_, name, value), Content::Assign(other_name, other)) => name.is_same(
+            other_name,
+        ) && value.is_same(other),
+        (Stmt::If(_, test, _, _), Content::If(other)) => test.is_same(other),
+        (Stmt::While(_, test, _), Content::While(other)) => test.is_same(other),
+        _ => false,
+    }
+}
+
+/// Whether two contents are the same.
+pub fn same_content(a: &Content, b: &Content) -> bool
+    ensures { IsTrue result ↔ (a.now ≡ b.now) }
+{
+    match (a, b) {
+        (Content::Assign(name, value), Content::Assign(other_name, other)) => name.is_same(
+            other_name,
+        ) && value.is_same(other),
+        (Content::If(test), Content::If(other)) => test.is_same(other),
+        (Content::While(test), Content::While(other)) => test.is_same(other),
+        _ => false,
+    }
+}
+
+/// The rows of a block's parts in preorder.
+pub fn preorder(alloc: Global, body: &Block) -> Result<Vec<Row>, NoMemory>
+    ensures { IfOk result (λ rows. rows.items ≡ rows_of None 0 body.now) }
+{
+    let mut rows = Vec::new(alloc);
+    push_block(alloc, body, None, &mut rows)?;
+    Ok(rows)
+}
+
+#[cycle(push)]
+fn push_block(
+    alloc: Global,
+    block: &Block,
+    parent: Option<(Tag, bool)>,
+    rows: &mut Vec<Row>,
+) -> Result<(), NoMemory>
+    ensures { OnOk result (rows.new.items ≡ rows.old.items ++ rows_of parent 0 block.now) }
+{
+    for (at, stmt) in block.stmts.iter().enumerate() {
+        push_stmt(alloc, stmt, parent, at, rows)?;
+    }
+    Ok(())
+}
+
+#[cycle(push)]
+fn push_stmt(
+    alloc: Global,
+    stmt: &Stmt,
+    parent: Option<(Tag, bool)>,
+    at: usize,
+    rows: &mut Vec<Row>,
+) -> Result<(), NoMemory>
+    ensures { OnOk result (rows.new.items ≡ rows.old.items ++ rows_of parent at (before stmt.now done)) }
+{
+    let tag = stmt.tag();
+    rows.push(Row {
+        tag,
+        parent,
+        at,
+        content: content_of(alloc, stmt)?,
+    })?;
+    match stmt {
+        Stmt::Assign(_, _, _) => Ok(()),
+        Stmt::If(_, _, yes, no) => {
+            push_block(alloc, yes, Some((tag, true)), rows)?;
+            push_block(alloc, no, Some((tag, false)), rows)
+        }
+        Stmt::While(_, _, body) => push_block(alloc, body, Some((tag, true)), rows),
+    }
+}

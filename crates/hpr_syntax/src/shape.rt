@@ -1,0 +1,240 @@
+//! The tests that a tree must pass to be a program.
+ghost use Rattle.std.specs.Prelude.{◌≡◌, ◌-◌, ◌++◌, ◌<◌, ◌^◌, IfOk, OnOk, [], if◌then◌else◌, Some, None, nat_le};
+ghost use Rattle.hpr_terms.specs.Term.{operators};
+ghost use Rattle.hpr_terms.specs.TermOf.{term_of};
+ghost use Rattle.hpr_syntax.specs.Body.{done};
+ghost use Rattle.hpr_syntax.specs.BodyOf.{before};
+ghost use Rattle.hpr_syntax.specs.Parts.{tags_of};
+ghost use Rattle.hpr_syntax.specs.Shape.{first_repeated, first_unissued, first_deep, first_large, first_repeated_name, is_large, left_after, shape};
+
+use crate::issued::Issued;
+use crate::tree::{Block, Stmt, expr_of};
+use hpr_terms::{Expr, Name, NoMemory, Tag};
+use std::alloc::Global;
+use std::collections::BTreeSet;
+
+/// Why a tree is no program.
+#[derive(Debug, PartialEq, Eq, PartialOrd, Ord, Drop)]
+pub enum ShapeError {
+    /// The first part, in preorder, whose tag stands earlier.
+    DuplicateTag(Tag),
+    /// The first part whose serial is 0 or above its author's issued number.
+    Unissued(Tag),
+    /// The first part whose level is above 64; a top part has level 1.
+    TooDeep(Tag),
+    /// The first part whose expression has more than 256 operators.
+    ExprTooLarge(Tag),
+    /// There are more than 1,000 parts: so many.
+    TooManyParts(usize),
+    /// The first final name that stands earlier.
+    DuplicateFinal(Name),
+    /// Memory ran out.
+    Memory,
+}
+
+impl From<NoMemory> for ShapeError {
+    ghost use Rattle.std.specs.Prelude.{◌≡◌};
+    ghost use Rattle.hpr_syntax.specs.declared.shape.ShapeError.TheVariants.{Memory};
+
+    ghost from_gives = { λ _ e. e ≡ Memory };
+
+    fn from(_error: NoMemory) -> ShapeError {
+        ShapeError::Memory
+    }
+}
+
+/// The tags of a block's parts in preorder.
+fn tags(alloc: Global, block: &Block) -> Result<Vec<Tag>, NoMemory>
+    ensures { IfOk result (λ tags. tags.items ≡ tags_of block.now []) }
+{
+    let mut tags = Vec::new(alloc);
+    push_tags(block, &mut tags)?;
+    Ok(tags)
+}
+
+#[cycle(tags)]
+#[tactic(auto, using(crate::proofs::ShapeLemmas::tags_append, crate::proofs::ShapeLemmas::tags_before))]
+fn push_tags(block: &Block, tags: &mut Vec<Tag>) -> Result<(), NoMemory>
+    ensures { OnOk result (tags.new.items ≡ tags.old.items ++ tags_of block.now []) }
+{
+    for stmt in &block.stmts {
+        push_tags_in(stmt, tags)?;
+    }
+    Ok(())
+}
+
+#[cycle(tags)]
+#[tactic(auto, using(crate::proofs::ShapeLemmas::tags_append, crate::proofs::ShapeLemmas::tags_before))]
+fn push_tags_in(stmt: &Stmt, tags: &mut Vec<Tag>) -> Result<(), NoMemory>
+    ensures { OnOk result (tags.new.items ≡ tags.old.items ++ tags_of (before stmt.now done) []) }
+{
+    tags.push(stmt.tag())?;
+    match stmt {
+        Stmt::Assign(_, _, _) => Ok(()),
+        Stmt::If(_, _, yes, no) => {
+            push_tags(yes, tags)?;
+            push_tags(no, tags)
+        }
+        Stmt::While(_, _, body) => push_tags(body, tags),
+    }
+}
+
+/// The first tag that stands earlier.
+fn first_repeated(alloc: Global, tags: &[Tag]) -> Result<Option<Tag>, NoMemory>
+    ensures { IfOk result (λ tag. tag ≡ first_repeated [] tags.now) }
+{
+    let mut seen = BTreeSet::new(alloc);
+    for tag in tags {
+        if !seen.insert(*tag)? {
+            return Ok(Some(*tag));
+        }
+    }
+    Ok(None)
+}
+
+/// The first tag that was not issued.
+fn first_unissued(issued: &Issued, tags: &[Tag]) -> Option<Tag>
+    ensures { result ≡ first_unissued issued.now tags.now }
+{
+    for tag in tags {
+        if tag.serial == 0 || issued.get(tag.author) < tag.serial {
+            return Some(*tag);
+        }
+    }
+    None
+}
+
+/// The first part that stands more than this many levels deep.
+#[cycle(deep)]
+fn first_deep(block: &Block, levels: u32) -> Option<Tag>
+    ensures { result ≡ first_deep levels block.now }
+{
+    for stmt in &block.stmts {
+        if let Some(tag) = deep_in(stmt, levels) {
+            return Some(tag);
+        }
+    }
+    None
+}
+
+#[cycle(deep)]
+fn deep_in(stmt: &Stmt, levels: u32) -> Option<Tag>
+    ensures { result ≡ first_deep levels (before stmt.now done) }
+{
+    if levels == 0 {
+        return Some(stmt.tag());
+    }
+    match stmt {
+        Stmt::Assign(_, _, _) => None,
+        Stmt::If(_, _, yes, no) => match first_deep(yes, levels - 1) {
+            Some(tag) => Some(tag),
+            None => first_deep(no, levels - 1),
+        },
+        Stmt::While(_, _, body) => first_deep(body, levels - 1),
+    }
+}
+
+/// The first part whose expression is too large.
+#[cycle(large)]
+fn first_large(block: &Block) -> Option<Tag>
+    ensures { result ≡ first_large block.now }
+{
+    for stmt in &block.stmts {
+        if let Some(tag) = large_in(stmt) {
+            return Some(tag);
+        }
+    }
+    None
+}
+
+#[cycle(large)]
+fn large_in(stmt: &Stmt) -> Option<Tag>
+    ensures { result ≡ first_large (before stmt.now done) }
+{
+    if is_large(expr_of(stmt)) {
+        return Some(stmt.tag());
+    }
+    match stmt {
+        Stmt::Assign(_, _, _) => None,
+        Stmt::If(_, _, yes, no) => match first_large(yes) {
+            Some(tag) => Some(tag),
+            None => first_large(no),
+        },
+        Stmt::While(_, _, body) => first_large(body),
+    }
+}
+
+/// Whether an expression has more than 256 operators.
+fn is_large(expr: &Expr) -> bool
+    ensures { result ≡ is_large expr.now }
+{
+    left_after(expr, 256).is_none()
+}
+
+/// How many more operators may follow where so many may stand, if there are no more of them.
+fn left_after(expr: &Expr, most: u32) -> Option<u32>
+    ensures { result ≡ left_after most (operators (term_of expr.now)) }
+{
+    match expr {
+        Expr::Num(_) => Some(most),
+        Expr::Var(_) => Some(most),
+        Expr::Prefix(_, operand) => {
+            if most == 0 {
+                return None;
+            }
+            left_after(operand.expr(), most - 1)
+        }
+        Expr::Infix(_, left, right) => {
+            if most == 0 {
+                return None;
+            }
+            let rest = left_after(left.expr(), most - 1)?;
+            left_after(right.expr(), rest)
+        }
+    }
+}
+
+/// The first name that stands earlier.
+fn first_repeated_name(alloc: Global, names: &[Name]) -> Result<Option<Name>, NoMemory>
+    ensures { IfOk result (λ name. name ≡ first_repeated_name [] names.now) }
+{
+    let mut seen = BTreeSet::new(alloc);
+    for name in names {
+        if !seen.insert(name.copy(alloc)?)? {
+            return Ok(Some(name.copy(alloc)?));
+        }
+    }
+    Ok(None)
+}
+
+/// Why the tree of these three is no program, if it is none.
+#[tactic(auto, using(crate::proofs::ShapeLemmas::count_tags), unfolding(crate::specs::Shape::shape))]
+pub(crate) fn refusal(
+    alloc: Global,
+    issued: &Issued,
+    body: &Block,
+    finals: &[Name],
+) -> Result<Option<ShapeError>, NoMemory>
+    ensures { IfOk result (λ e. e ≡ shape (record { issued = issued.now; body = body.now; finals = finals.now })) }
+{
+    let tags = tags(alloc, body)?;
+    if let Some(tag) = first_repeated(alloc, &tags)? {
+        return Ok(Some(ShapeError::DuplicateTag(tag)));
+    }
+    if let Some(tag) = first_unissued(issued, &tags) {
+        return Ok(Some(ShapeError::Unissued(tag)));
+    }
+    if let Some(tag) = first_deep(body, 64) {
+        return Ok(Some(ShapeError::TooDeep(tag)));
+    }
+    if let Some(tag) = first_large(body) {
+        return Ok(Some(ShapeError::ExprTooLarge(tag)));
+    }
+    if tags.len() > 1000 {
+        return Ok(Some(ShapeError::TooManyParts(tags.len())));
+    }
+    if let Some(name) = first_repeated_name(alloc, finals)? {
+        return Ok(Some(ShapeError::DuplicateFinal(name)));
+    }
+    Ok(None)
+}
