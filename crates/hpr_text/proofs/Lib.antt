@@ -1,0 +1,9 @@
+pub mod Innermost
+pub mod Going
+pub mod Parts
+pub mod SoundExpression
+pub mod Sound
+pub mod WholeExpression
+pub mod Whole
+pub mod Once
+pub mod Texts

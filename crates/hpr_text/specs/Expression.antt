@@ -1,0 +1,85 @@
+-- How the tokens of an expression are read.
+--
+-- Before context       == an operand must stand next
+-- After context value  == the operand value was read
+-- start                == nothing was read
+-- counted c            == the reading before an operand, behind one more operator, where there may be one
+-- operand_next c t     == the reading after the token, where an operand must stand next
+-- operator_next c e t  == the reading after the token, where the operand e was read
+-- read reading t       == the reading after the token, if the token can stand next
+-- ended reading        == the expression, if it can end here
+use Rattle.std.specs.Prelude.{ℕ, ◌+◌, ◌^◌, nat_lt, if◌then◌else◌, List, [], ◌∷◌, length, Option, Some, None}
+use Rattle.hpr_terms.specs.declared.expr.Expr.{Expr}
+use Rattle.hpr_terms.specs.declared.expr.Expr.TheVariants.{Num, Var}
+use Rattle.hpr_terms.specs.declared.expr.Unary.TheVariants as unary
+use Rattle.hpr_terms.specs.declared.expr.Binary.{Binary}
+use Rattle.hpr_terms.specs.declared.expr.Binary.TheVariants as binary
+use Rattle.hpr_terms.specs.declared.keyword.Keyword.TheVariants.{And, Or, Not}
+use Rattle.hpr_terms.specs.declared.token.Sign.TheVariants.{Open, Close, Plus, Minus, Star, Slash, Percent, Equal, Differ, Less, LessEqual, Greater, GreaterEqual}
+use Rattle.hpr_terms.specs.declared.token.Token.{Token}
+use Rattle.hpr_terms.specs.declared.token.Token.TheVariants.{Word, Name, Number, Mark}
+use Rattle.hpr_syntax.specs.Shape.{max_operators}
+use Rattle.hpr_syntax.specs.Grammar.{max_brackets}
+use Rattle.hpr_text.specs.declared.pending.Left.{Left}
+use Rattle.hpr_text.specs.declared.pending.Pending.{Pending}
+use Rattle.hpr_text.specs.declared.expression.Context.{Context}
+use Rattle.hpr_text.specs.declared.expression.Reading.{Reading}
+use Rattle.hpr_text.specs.declared.expression.Reading.TheVariants.{Before, After}
+use Rattle.hpr_text.specs.Pending.{nothing_pending, whole, with_or, with_and, with_comparison, with_sum, with_term, with_prefix}
+
+abbrev pub start : Reading
+start = Before (record { outer = []; here = nothing_pending; count = 0 })
+
+abbrev pub counted : Context → Pending → Option Reading
+counted c p = if nat_lt c.count max_operators then Some (Before (record { outer = c.outer; here = p; count = c.count + 1 })) else None
+
+abbrev pub compare_next : Option Left → Context → Binary → Expr → Option Reading
+compare_next None c op e = counted c (with_comparison c.here op e)
+compare_next (Some l) c op e = None
+
+abbrev pub close_next : List Pending → Pending → ℕ → Expr → Option Reading
+close_next [] here count e = None
+close_next (p ∷ ps) here count e = Some (After (record { outer = ps; here = p; count = count }) (whole here e))
+
+abbrev pub opened : Context → Context
+opened c = record { outer = c.here ∷ c.outer; here = nothing_pending; count = c.count }
+
+abbrev pub open_next : Context → Option Reading
+open_next c = if nat_lt (length c.outer) max_brackets then Some (Before (opened c)) else None
+
+abbrev pub operand_next : Context → Token → Option Reading
+operand_next c (Number n) = if nat_lt n (2 ^ 63) then Some (After c (Num n)) else None
+operand_next c (Name x) = Some (After c (Var x))
+operand_next c (Mark Open) = open_next c
+operand_next c (Mark Minus) = counted c (with_prefix c.here unary.Neg)
+operand_next c (Word Not) = counted c (with_prefix c.here unary.Not)
+operand_next c _ = None
+
+abbrev pub operator_next : Context → Expr → Token → Option Reading
+operator_next c e (Word Or) = counted c (with_or c.here binary.Or e)
+operator_next c e (Word And) = counted c (with_and c.here binary.And e)
+operator_next c e (Mark Equal) = compare_next c.here.compared c binary.Equal e
+operator_next c e (Mark Differ) = compare_next c.here.compared c binary.Differ e
+operator_next c e (Mark Less) = compare_next c.here.compared c binary.Less e
+operator_next c e (Mark LessEqual) = compare_next c.here.compared c binary.LessEqual e
+operator_next c e (Mark Greater) = compare_next c.here.compared c binary.Greater e
+operator_next c e (Mark GreaterEqual) = compare_next c.here.compared c binary.GreaterEqual e
+operator_next c e (Mark Plus) = counted c (with_sum c.here binary.Add e)
+operator_next c e (Mark Minus) = counted c (with_sum c.here binary.Sub e)
+operator_next c e (Mark Star) = counted c (with_term c.here binary.Mul e)
+operator_next c e (Mark Slash) = counted c (with_term c.here binary.Div e)
+operator_next c e (Mark Percent) = counted c (with_term c.here binary.Rem e)
+operator_next c e (Mark Close) = close_next c.outer c.here c.count e
+operator_next c e _ = None
+
+unfoldable pub read : Reading → Token → Option Reading
+read (Before c) t = operand_next c t
+read (After c e) t = operator_next c e t
+
+abbrev pub ended_in : List Pending → Pending → Expr → Option Expr
+ended_in [] here e = Some (whole here e)
+ended_in (p ∷ ps) here e = None
+
+abbrev pub ended : Reading → Option Expr
+ended (Before c) = None
+ended (After c e) = ended_in c.outer c.here e

@@ -1,0 +1,111 @@
+//! Blocks that have begun and have not ended.
+ghost use Rattle.std.specs.Prelude.{◌≡◌, ◌∷◌, [], length, MatchOption, IfOk};
+ghost use Rattle.hpr_text.specs.Blocks as blocks;
+
+use hpr_syntax::Block;
+use hpr_terms::{Expr, NoMemory, Tag};
+use std::alloc::Global;
+use std::marker::Model;
+
+/// A part with blocks that is being read: the parts before it, its tag and what it tests.
+#[derive(Debug, Drop)]
+pub struct Around {
+    pub before: Block,
+    pub tag: Tag,
+    pub test: Expr,
+}
+
+/// A block that has begun.
+#[derive(Debug, Drop)]
+pub enum Begun {
+    /// The first block of a conditional.
+    Then(Around),
+    /// The second block of a conditional. With the first one.
+    Else(Around, Block),
+    /// The block of a loop.
+    Loop(Around),
+}
+
+/// What the innermost open block is.
+#[derive(Clone, Copy, Debug, PartialEq, Eq, PartialOrd, Ord)]
+pub enum Kind {
+    /// There is none: the parts stand at the top.
+    Top,
+    /// The first block of a conditional.
+    Then,
+    /// The second block of a conditional.
+    Else,
+    /// The block of a loop.
+    Loop,
+}
+
+/// The open blocks. A contract sees their list, the innermost one first.
+#[derive(Debug, Drop)]
+pub struct Blocks {
+    open: Vec<Begun>,
+}
+
+impl Model for Blocks {
+    ghost use Rattle.std.specs.Prelude.{List, reverse};
+    ghost use Rattle.std.specs.Coded.{codes};
+    ghost use Rattle.hpr_terms.specs.TermCode.{term_coded};
+    ghost use Rattle.hpr_syntax.specs.BodyCode.{body_coded};
+    ghost use Rattle.hpr_text.specs.declared.blocks.Begun.{Begun};
+
+    ghost Value = { List Begun };
+
+    ghost coded = { Prim.hlevel (codes, term_coded, body_coded) };
+
+    ghost view = { λ b. reverse b.open.items };
+}
+
+impl Blocks {
+    /// No block is open.
+    pub fn new(alloc: Global) -> Blocks
+        ensures { result ≡ [] }
+    {
+        Blocks {
+            open: Vec::new(alloc),
+        }
+    }
+
+    /// How many blocks are open.
+    pub fn len(&self) -> usize
+        ensures { result ≡ length self.now }
+    {
+        self.open.len()
+    }
+
+    /// One more open block.
+    pub fn with(self, block: Begun) -> Result<Blocks, NoMemory>
+        ensures { IfOk result (λ b. b ≡ block ∷ self) }
+    {
+        let Blocks { mut open } = self;
+        open.push(block)?;
+        Ok(Blocks { open })
+    }
+
+    /// The innermost open block, and those around it.
+    pub fn closed(self) -> Option<(Begun, Blocks)>
+        ensures { MatchOption result (self ≡ []) (λ p. self ≡ p.0 ∷ p.1) }
+    {
+        let Blocks { mut open } = self;
+        match open.pop() {
+            None => None,
+            Some(block) => Some((block, Blocks { open })),
+        }
+    }
+
+    /// What the innermost open block is.
+    #[tactic(auto, using(crate::proofs::Innermost::kind_none, crate::proofs::Innermost::kind_some))]
+    pub fn kind(&self) -> Kind
+        ensures { result ≡ blocks.kind_of self.now }
+    {
+        match self.open.last() {
+            None => Kind::Top,
+            Some(Begun::Then(_)) => Kind::Then,
+            Some(Begun::Else(_, _)) => Kind::Else,
+            Some(Begun::Loop(_)) => Kind::Loop,
+        }
+    }
+}

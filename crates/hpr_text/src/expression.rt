@@ -1,0 +1,403 @@
+//! Reads the tokens of an expression.
+ghost use Rattle.std.specs.Prelude.{◌≡◌, ◌∷◌, [], length, is_some, nat_lt, ◌^◌, MatchOption, Some, None, IfOk};
+ghost use Rattle.std.specs.Option.{is_none};
+ghost use Rattle.hpr_scan.specs.Steps.{Steps};
+ghost use Rattle.hpr_terms.specs.declared.token.Token.TheVariants as tokens;
+ghost use Rattle.hpr_syntax.specs.Shape.{max_operators};
+ghost use Rattle.hpr_syntax.specs.Grammar.{max_brackets};
+ghost use Rattle.hpr_text.specs.Expression as expression;
+ghost use Rattle.hpr_text.specs.Pending as pending;
+
+use crate::pending::Pending;
+use hpr_scan::Fault;
+use hpr_terms::{Binary, Expr, Keyword, Literal, NoMemory, Sign, Token, Unary};
+use std::alloc::Global;
+use std::marker::Model;
+
+/// Brackets may stand this deep in one another.
+const MAX_BRACKETS: usize = 256;
+
+/// An expression may have so many operators.
+const MAX_OPERATORS: usize = 256;
+
+/// What waits outside of each open bracket. A contract sees the list, the innermost one first.
+#[derive(Debug, Drop)]
+pub struct Brackets {
+    outside: Vec<Pending>,
+}
+
+impl Model for Brackets {
+    ghost use Rattle.std.specs.Prelude.{List, reverse};
+    ghost use Rattle.std.specs.Coded.{codes};
+    ghost use Rattle.hpr_terms.specs.TermCode.{term_coded};
+    ghost use Rattle.hpr_text.specs.declared.pending.Pending.{Pending};
+
+    ghost Value = { List Pending };
+
+    ghost coded = { Prim.hlevel (codes, term_coded) };
+
+    ghost view = { λ b. reverse b.outside.items };
+}
+
+impl Brackets {
+    fn new(alloc: Global) -> Brackets
+        ensures { result ≡ [] }
+    {
+        Brackets {
+            outside: Vec::new(alloc),
+        }
+    }
+
+    fn len(&self) -> usize
+        ensures { result ≡ length self.now }
+    {
+        self.outside.len()
+    }
+
+    fn with(self, pending: Pending) -> Result<Brackets, NoMemory>
+        ensures { IfOk result (λ b. b ≡ pending ∷ self) }
+    {
+        let Brackets { mut outside } = self;
+        outside.push(pending)?;
+        Ok(Brackets { outside })
+    }
+
+    fn closed(self) -> Option<(Pending, Brackets)>
+        ensures { MatchOption result (self ≡ []) (λ p. self ≡ p.0 ∷ p.1) }
+    {
+        let Brackets { mut outside } = self;
+        match outside.pop() {
+            None => None,
+            Some(pending) => Some((pending, Brackets { outside })),
+        }
+    }
+}
+
+/// What stands before an operand: the brackets around it, what waits in the innermost one, and how
+/// many operators there are.
+#[derive(Debug, Drop)]
+pub struct Context {
+    pub outer: Brackets,
+    pub here: Pending,
+    pub count: usize,
+}
+
+/// How far an expression was read.
+#[derive(Debug, Drop)]
+pub enum Reading {
+    /// An operand must stand next.
+    Before(Context),
+    /// An operand was read.
+    After(Context, Expr),
+}
+
+fn counted(outer: Brackets, here: Pending, count: usize) -> Result<Reading, Fault>
+    ensures { Steps (expression.counted (record { outer = outer; here = here; count = count }) here) result }
+{
+    if count < MAX_OPERATORS {
+        Ok(Reading::Before(Context {
+            outer,
+            here,
+            count: count + 1,
+        }))
+    } else {
+        Err(Fault::Refused)
+    }
+}
+
+fn opened(alloc: Global, context: Context) -> Result<Reading, Fault>
+    ensures { Steps (expression.open_next context) result }
+{
+    let Context { outer, here, count } = context;
+    if outer.len() < MAX_BRACKETS {
+        Ok(Reading::Before(Context {
+            outer: outer.with(here)?,
+            here: Pending::new(alloc),
+            count,
+        }))
+    } else {
+        Err(Fault::Refused)
+    }
+}
+
+fn literal(context: Context, number: u64) -> Result<Reading, Fault>
+    ensures { Steps (expression.operand_next context (tokens.Number number)) result }
+{
+    match Literal::new(number) {
+        Some(literal) => Ok(Reading::After(context, Expr::Num(literal))),
+        None => Err(Fault::Refused),
+    }
+}
+
+fn prefix(context: Context, op: Unary) -> Result<Reading, Fault>
+    ensures { Steps (expression.counted context (pending.with_prefix context.here op)) result }
+{
+    let Context { outer, here, count } = context;
+    counted(outer, here.with_prefix(op)?, count)
+}
+
+fn operand_next(alloc: Global, context: Context, token: Token) -> Result<Reading, Fault>
+    ensures { Steps (expression.operand_next context token) result }
+{
+    match token {
+        Token::Number(number) => literal(context, number),
+        Token::Name(name) => Ok(Reading::After(context, Expr::Var(name))),
+        Token::Mark(Sign::Open) => opened(alloc, context),
+        Token::Mark(Sign::Minus) => prefix(context, Unary::Neg),
+        Token::Word(Keyword::Not) => prefix(context, Unary::Not),
+        _ => Err(Fault::Refused),
+    }
+}
+
+fn join_or(alloc: Global, context: Context, value: Expr) -> Result<Reading, Fault>
+    ensures { Steps (expression.counted context (pending.with_or context.here Binary.Or value)) result }
+{
+    let Context { outer, here, count } = context;
+    counted(outer, here.with_or(alloc, Binary::Or, value)?, count)
+}
+
+fn join_and(alloc: Global, context: Context, value: Expr) -> Result<Reading, Fault>
+    ensures { Steps (expression.counted context (pending.with_and context.here Binary.And value)) result }
+{
+    let Context { outer, here, count } = context;
+    counted(outer, here.with_and(alloc, Binary::And, value)?, count)
+}
+
+fn compare(alloc: Global, context: Context, op: Binary, value: Expr) -> Result<Reading, Fault>
+    ensures { Steps (expression.compare_next context.here.compared context op value) result }
+{
+    let Context { outer, here, count } = context;
+    if here.compared.is_some() {
+        return Err(Fault::Refused);
+    }
+    counted(outer, here.with_comparison(alloc, op, value)?, count)
+}
+
+fn add(alloc: Global, context: Context, op: Binary, value: Expr) -> Result<Reading, Fault>
+    ensures { Steps (expression.counted context (pending.with_sum context.here op value)) result }
+{
+    let Context { outer, here, count } = context;
+    counted(outer, here.with_sum(alloc, op, value)?, count)
+}
+
+fn multiply(alloc: Global, context: Context, op: Binary, value: Expr) -> Result<Reading, Fault>
+    ensures { Steps (expression.counted context (pending.with_term context.here op value)) result }
+{
+    let Context { outer, here, count } = context;
+    counted(outer, here.with_term(alloc, op, value)?, count)
+}
+
+fn close(alloc: Global, context: Context, value: Expr) -> Result<Reading, Fault>
+    ensures { Steps (expression.close_next context.outer context.here context.count value) result }
+{
+    let Context { outer, here, count } = context;
+    match outer.closed() {
+        None => Err(Fault::Refused),
+        Some((pending, outer)) => {
+            let value = here.whole(alloc, value)?;
+            let context = Context {
+                outer,
+                here: pending,
+                count,
+            };
+            Ok(Reading::After(context, value))
+        }
+    }
+}
+
+fn word_next(
+    alloc: Global,
+    context: Context,
+    value: Expr,
+    keyword: Keyword,
+) -> Result<Reading, Fault>
+    ensures { Steps (expression.operator_next context value (tokens.Word keyword)) result }
+{
+    match keyword {
+        Keyword::Or => join_or(alloc, context, value),
+        Keyword::And => join_and(alloc, context, value),
+        _ => Err(Fault::Refused),
+    }
+}
+
+fn sign_next(alloc: Global, context: Context, value: Expr, sign: Sign) -> Result<Reading, Fault>
+    ensures { Steps (expression.operator_next context value (tokens.Mark sign)) result }
+{
+    match sign {
+        Sign::Equal => compare(alloc, context, Binary::Equal, value),
+        Sign::Differ => compare(alloc, context, Binary::Differ, value),
+        Sign::Less => compare(alloc, context, Binary::Less, value),
+        Sign::LessEqual => compare(alloc, context, Binary::LessEqual, value),
+        Sign::Greater => compare(alloc, context, Binary::Greater, value),
+        Sign::GreaterEqual => compare(alloc, context, Binary::GreaterEqual, value),
+        Sign::Plus => add(alloc, context, Binary::Add, value),
+        Sign::Minus => add(alloc, context, Binary::Sub, value),
+        Sign::Star => multiply(alloc, context, Binary::Mul, value),
+        Sign::Slash => multiply(alloc, context, Binary::Div, value),
+        Sign::Percent => multiply(alloc, context, Binary::Rem, value),
+        Sign::Close => close(alloc, context, value),
+        _ => Err(Fault::Refused),
+    }
+}
+
+fn operator_next(
+    alloc: Global,
+    context: Context,
+    value: Expr,
+    token: Token,
+) -> Result<Reading, Fault>
+    ensures { Steps (expression.operator_next context value token) result }
+{
+    match token {
+        Token::Word(keyword) => word_next(alloc, context, value, keyword),
+        Token::Mark(sign) => sign_next(alloc, context, value, sign),
+        Token::Name(_) => Err(Fault::Refused),
+        Token::Number(_) => Err(Fault::Refused),
+    }
+}
+
+impl Context {
+    fn counts(&self) -> bool
+        ensures { result ≡ nat_lt self.now.count max_operators }
+    {
+        self.count < MAX_OPERATORS
+    }
+
+    fn opens(&self) -> bool
+        ensures { result ≡ nat_lt (length self.now.outer) max_brackets }
+    {
+        self.outer.len() < MAX_BRACKETS
+    }
+
+    fn compares(&self) -> bool
+        ensures { (op : _) (e : _) → result ≡ is_some (expression.compare_next self.now.here.compared self.now op e) }
+    {
+        self.here.compared.is_none() && self.counts()
+    }
+
+    fn closes(&self) -> bool
+        ensures { (e : _) → result ≡ is_some (expression.close_next self.now.outer self.now.here self.now.count e) }
+    {
+        self.outer.len() > 0
+    }
+
+    fn operand_sign(&self, sign: Sign) -> bool
+        ensures { result ≡ is_some (expression.operand_next self.now (tokens.Mark sign)) }
+    {
+        match sign {
+            Sign::Open => self.opens(),
+            Sign::Minus => self.counts(),
+            _ => false,
+        }
+    }
+
+    fn operator_sign(&self, sign: Sign) -> bool
+        ensures { (e : _) → result ≡ is_some (expression.operator_next self.now e (tokens.Mark sign)) }
+    {
+        match sign {
+            Sign::Equal
+            | Sign::Differ
+            | Sign::Less
+            | Sign::LessEqual
+            | Sign::Greater
+            | Sign::GreaterEqual => self.compares(),
+            Sign::Plus | Sign::Minus | Sign::Star | Sign::Slash | Sign::Percent => self.counts(),
+            Sign::Close => self.closes(),
+            _ => false,
+        }
+    }
+}
+
+impl Reading {
+    /// Nothing of the expression was read.
+    pub fn start(alloc: Global) -> Reading
+        ensures { result ≡ expression.start }
+    {
+        Reading::Before(Context {
+            outer: Brackets::new(alloc),
+            here: Pending::new(alloc),
+            count: 0,
+        })
+    }
+
+    /// The reading after the token. `Refused` comes exactly where the token cannot stand next.
+    #[tactic(auto, unfolding(crate::specs::Expression::read))]
+    pub fn read(self, alloc: Global, token: Token) -> Result<Reading, Fault>
+        ensures { Steps (expression.read self token) result }
+    {
+        match self {
+            Reading::Before(context) => operand_next(alloc, context, token),
+            Reading::After(context, value) => operator_next(alloc, context, value, token),
+        }
+    }
+
+    /// The expression. `Refused` comes exactly where it cannot end here.
+    pub fn ended(self, alloc: Global) -> Result<Expr, Fault>
+        ensures { Steps (expression.ended self) result }
+    {
+        match self {
+            Reading::Before(_) => Err(Fault::Refused),
+            Reading::After(context, value) => {
+                let Context {
+                    outer,
+                    here,
+                    count: _,
+                } = context;
+                match outer.closed() {
+                    None => Ok(here.whole(alloc, value)?),
+                    Some(_) => Err(Fault::Refused),
+                }
+            }
+        }
+    }
+
+    /// Whether the keyword can stand next.
+    #[tactic(auto, unfolding(crate::specs::Expression::read))]
+    pub fn takes_keyword(&self, keyword: Keyword) -> bool
+        ensures { result ≡ is_some (expression.read self.now (tokens.Word keyword)) }
+    {
+        match self {
+            Reading::Before(context) => matches!(keyword, Keyword::Not) && context.counts(),
+            Reading::After(context, _) => {
+                matches!(keyword, Keyword::Or | Keyword::And) && context.counts()
+            }
+        }
+    }
+
+    /// Whether a name can stand next.
+    #[tactic(auto, unfolding(crate::specs::Expression::read))]
+    pub fn takes_name(&self) -> bool
+        ensures { (x : _) → result ≡ is_some (expression.read self.now (tokens.Name x)) }
+    {
+        matches!(self, Reading::Before(_))
+    }
+
+    /// Whether the number can stand next.
+    #[tactic(auto, unfolding(crate::specs::Expression::read))]
+    pub fn takes_number(&self, number: u64) -> bool
+        ensures { result ≡ is_some (expression.read self.now (tokens.Number number)) }
+    {
+        matches!(self, Reading::Before(_)) && number <= i64::MAX as u64
+    }
+
+    /// Whether the sign can stand next.
+    #[tactic(auto, unfolding(crate::specs::Expression::read))]
+    pub fn takes_sign(&self, sign: Sign) -> bool
+        ensures { result ≡ is_some (expression.read self.now (tokens.Mark sign)) }
+    {
+        match self {
+            Reading::Before(context) => context.operand_sign(sign),
+            Reading::After(context, _) => context.operator_sign(sign),
+        }
+    }
+
+    /// Whether the expression can end here.
+    pub fn can_end(&self) -> bool
+        ensures { result ≡ is_some (expression.ended self.now) }
+    {
+        match self {
+            Reading::Before(_) => false,
+            Reading::After(context, _) => context.outer.len() == 0,
+        }
+    }
+}

@@ -1,0 +1,88 @@
+//! The machine of the tokens of a program.
+ghost use Rattle.std.specs.Prelude.{◌≡◌, ℕ, List, Option, is_some};
+ghost use Rattle.hpr_scan.specs.Steps.{Steps};
+ghost use Rattle.hpr_text.specs.Machine as machine;
+
+use crate::places::{
+    is_author, is_serial, next_at, takes_block, takes_expression_keyword, takes_expression_sign,
+    takes_tag,
+};
+use crate::state::{Place, State};
+use hpr_scan::{Fault, TokenMachine};
+use hpr_terms::{Keyword, Sign, Token};
+use std::alloc::Global;
+
+impl TokenMachine for State {
+    ghost use Rattle.hpr_text.specs.Machine as machine;
+    ghost use Rattle.hpr_text.specs.Laws.{is_token_machine};
+
+    ghost next = { machine.next };
+
+    ghost laws = { is_token_machine };
+
+    #[tactic(auto, unfolding(crate::specs::Machine::next))]
+    fn step(self, alloc: Global, token: Token) -> Result<State, Fault> {
+        let State { found, place } = self;
+        next_at(alloc, found, place, token)
+    }
+
+    #[tactic(auto, unfolding(crate::specs::Machine::next))]
+    fn takes_keyword(&self, keyword: Keyword) -> bool {
+        match &self.place {
+            Place::Start => matches!(keyword, Keyword::Program),
+            Place::AfterProgram => {
+                matches!(keyword, Keyword::Issued) || takes_block(&self.found, keyword)
+            }
+            Place::AfterPair => takes_block(&self.found, keyword),
+            Place::AtPart => takes_block(&self.found, keyword),
+            Place::AfterColon(_) => matches!(keyword, Keyword::If | Keyword::While),
+            Place::InExpression(purpose, reading) => {
+                takes_expression_keyword(&self.found, purpose, reading, keyword)
+            }
+            _ => false,
+        }
+    }
+
+    #[tactic(auto, unfolding(crate::specs::Machine::next), using(crate::proofs::Going::goes_on_is_some))]
+    fn takes_name(&self) -> bool {
+        match &self.place {
+            Place::AfterColon(_) => true,
+            Place::InExpression(_, reading) => reading.takes_name(),
+            Place::AfterOpen => true,
+            Place::AfterComma => true,
+            _ => false,
+        }
+    }
+
+    #[tactic(auto, unfolding(crate::specs::Machine::next), using(crate::proofs::Going::goes_on_is_some))]
+    fn takes_number(&self, number: u64) -> bool {
+        match &self.place {
+            Place::AfterProgram => takes_tag(&self.found, number),
+            Place::BeforePair => is_author(number),
+            Place::AfterPair => takes_tag(&self.found, number),
+            Place::AtPart => takes_tag(&self.found, number),
+            Place::AfterPairColon(_) => is_serial(number),
+            Place::AfterDot(_) => is_serial(number),
+            Place::InExpression(_, reading) => reading.takes_number(number),
+            _ => false,
+        }
+    }
+
+    #[tactic(auto, unfolding(crate::specs::Machine::next))]
+    fn takes_sign(&self, sign: Sign) -> bool {
+        match &self.place {
+            Place::AfterPairAuthor(_) => matches!(sign, Sign::Colon),
+            Place::AfterPair => matches!(sign, Sign::Comma),
+            Place::AfterAuthor(_) => matches!(sign, Sign::Dot),
+            Place::AfterSerial(_) => matches!(sign, Sign::Colon),
+            Place::AfterTarget(_, _) => matches!(sign, Sign::Becomes),
+            Place::InExpression(purpose, reading) => {
+                takes_expression_sign(&self.found, purpose, reading, sign)
+            }
+            Place::AfterEnd => matches!(sign, Sign::Open),
+            Place::AfterOpen => matches!(sign, Sign::Close),
+            Place::AfterName => matches!(sign, Sign::Comma | Sign::Close),
+            _ => false,
+        }
+    }
+}

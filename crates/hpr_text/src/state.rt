@@ -1,0 +1,79 @@
+//! The places of the grammar at which a text can stand.
+ghost use Rattle.std.specs.Prelude.{◌≡◌};
+ghost use Rattle.hpr_text.specs.Machine as machine;
+
+use crate::expression::Reading;
+use crate::found::Found;
+use hpr_terms::{Name, Tag};
+use std::alloc::Global;
+
+/// What an expression is read for.
+#[derive(Debug, Drop)]
+pub enum Purpose {
+    /// The value of an assignment.
+    Assign(Tag, Name),
+    /// The test of a conditional.
+    Test(Tag),
+    /// The test of a loop.
+    Guard(Tag),
+}
+
+/// What was read last.
+#[derive(Debug, Drop)]
+pub enum Place {
+    /// Nothing.
+    Start,
+    /// `program`.
+    AfterProgram,
+    /// `issued`, or the comma between two pairs.
+    BeforePair,
+    /// The author of a pair.
+    AfterPairAuthor(u32),
+    /// The colon of a pair.
+    AfterPairColon(u32),
+    /// A pair.
+    AfterPair,
+    /// A part.
+    AtPart,
+    /// The author of a tag.
+    AfterAuthor(u32),
+    /// The dot of a tag.
+    AfterDot(u32),
+    /// A tag.
+    AfterSerial(Tag),
+    /// The colon of a tag.
+    AfterColon(Tag),
+    /// The name that a part assigns to.
+    AfterTarget(Tag, Name),
+    /// A front of an expression.
+    InExpression(Purpose, Reading),
+    /// `end`.
+    AfterEnd,
+    /// The opening bracket of `end`.
+    AfterOpen,
+    /// A name of `end`.
+    AfterName,
+    /// A comma between two names of `end`.
+    AfterComma,
+    /// The whole program.
+    AtEnd,
+}
+
+/// A reader of the tokens of a program.
+#[derive(Debug, Drop)]
+pub struct State {
+    pub found: Found,
+    pub place: Place,
+}
+
+impl State {
+    /// Nothing was read.
+    pub fn new(alloc: Global) -> State
+        ensures { result ≡ machine.initially }
+    {
+        State {
+            found: Found::new(alloc),
+            place: Place::Start,
+        }
+    }
+}
