@@ -1,0 +1,28 @@
+use Rattle.std.proofs.Common.{◌≡◌, ◌+◌, drop, length, arith, List, append_assoc, ℕ, false, ◌==◌, codes}
+use Rattle.std.proofs.lemmas.Grind.{common_steps}
+use Rattle.hpr_syntax.specs.Body.{done, depth}
+use Rattle.hpr_syntax.specs.BodyOf.{before, body_of}
+use Rattle.hpr_syntax.specs.Print.{body_text, line}
+use Rattle.hpr_print.proofs.Texts.{part_fits, part_here, first_part, else_shown, no_text}
+use Rattle.hpr_print.proofs.blocks.+put_block.Goals as goal
+
+pub put_block-put_stmt-requires : goal.put_block-put_stmt-requires
+put_block-put_stmt-requires t c =
+    let fits = part_fits c.deref-stmt-items.result.now c.loop-stmt.stmt-index c.stmt-item.result (depth c.args.block.now) c.loop-stmt-test.true c.stmt-item.is c.loop-stmt.invariant.1 in
+    (grind (arith, common_steps), omega arith)
+
+pub put_block-loop-stmt-preserved : goal.put_block-loop-stmt-preserved
+put_block-loop-stmt-preserved t c =
+    let fits = part_fits c.deref-stmt-items.result.now c.loop-stmt.stmt-index c.stmt-item.result (depth c.args.block.now) c.loop-stmt-test.true c.stmt-item.is c.loop-stmt.invariant.1 in
+    let here = part_here c.deref-stmt-items.result.now c.loop-stmt.stmt-index c.stmt-item.result c.loop-stmt-test.true c.stmt-item.is in
+    let first = first_part c.args.level c.stmt-item.result (body_of (drop (c.loop-stmt.stmt-index + 1) c.deref-stmt-items.result.now)) in
+    (c.loop-stmt.invariant.0, fits.1, cc (c.in_ok-put_stmt.ensures, append_assoc c.loop-stmt.out.items (body_text c.args.level (before c.stmt-item.result done)) (body_text c.args.level (body_of (drop (c.loop-stmt.stmt-index + 1) c.deref-stmt-items.result.now)))))
+
+pub put_block-returns : goal.put_block-returns
+put_block-returns t c = let e = no_text c.args.level c.deref-stmt-items.result.now c.loop-stmt.stmt-index c.loop-stmt.out.items c.loop-stmt-test.false in cc (e, c.loop-stmt.invariant.2)
+
+pub put_else-returns-in_ok-put_block : goal.put_else-returns-in_ok-put_block
+put_else-returns-in_ok-put_block t c =
+    let some : (length c.block.inside.stmts.items == 0) ≡ false = grind arith in
+    let shown : List ℕ = body_text (c.args.level + 1) c.args.block.now in
+    cc (else_shown c.args.level c.block.inside.stmts.items shown some, c.in_ok-put_line.ensures, c.in_ok-put_block.ensures, append_assoc c.args.out.now.items (line c.args.level (codes "else")) shown)

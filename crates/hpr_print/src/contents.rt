@@ -1,0 +1,40 @@
+//! The text of a content or an expression alone.
+ghost use Rattle.std.specs.Prelude.{◌≡◌, IfOk};
+ghost use Rattle.hpr_syntax.specs.Print as print;
+
+use crate::expressions::put_expr;
+use crate::put::put;
+use hpr_syntax::{Content, Expr, NoMemory};
+use std::alloc::Global;
+
+/// The text of an expression.
+pub fn expr_text(alloc: Global, expr: &Expr) -> Result<Vec<u8>, NoMemory>
+    ensures { IfOk result (λ v. v.items ≡ print.expr_text expr.now) }
+{
+    let mut out = Vec::new(alloc);
+    put_expr(alloc, &mut out, expr)?;
+    Ok(out)
+}
+
+/// What a part says: an assignment, or the predicate of a conditional or a loop.
+pub fn content_text(alloc: Global, content: &Content) -> Result<Vec<u8>, NoMemory>
+    ensures { IfOk result (λ v. v.items ≡ print.content_text content.now) }
+{
+    let mut out = Vec::new(alloc);
+    match content {
+        Content::Assign(name, value) => {
+            put(&mut out, name.text().as_bytes())?;
+            put(&mut out, b" := ")?;
+            put_expr(alloc, &mut out, value)?;
+        }
+        Content::If(test) => {
+            put(&mut out, b"if ")?;
+            put_expr(alloc, &mut out, test)?;
+        }
+        Content::While(test) => {
+            put(&mut out, b"while ")?;
+            put_expr(alloc, &mut out, test)?;
+        }
+    }
+    Ok(out)
+}

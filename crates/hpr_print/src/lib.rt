@@ -1,0 +1,13 @@
+//! The canonical text of programs, contents and expressions.
+#![tactic(auto)]
+
+mod blocks;
+mod contents;
+mod expressions;
+mod program;
+mod put;
+#[cfg(test)]
+mod tests;
+
+pub use contents::{content_text, expr_text};
+pub use program::{text_of, text_of_parts};
