@@ -1,0 +1,46 @@
+-- Faults and outcomes of the code as those of the definitions, and what the parts of the interpreter answer.
+--
+-- fault_of f               == the fault
+-- answer_of r              == the number or the fault
+-- outcome_of o             == the outcome
+-- Stepped r t a n left     == r is what one step of the part t with the value a gave, of n steps to spend; left of them are left
+-- Did r after s left       == r is what statements gave that do what `after` says, with the state and the steps that they left;
+--                             want of memory may come anywhere
+use Rattle.std.specs.Prelude.{◌≡◌, ℕ, suc, ℤ, Result, Ok, Err}
+use Rattle.hpr_terms.specs.declared.tag.Tag.{Tag}
+use Rattle.hpr_syntax.specs.Values.{Values}
+use Rattle.hpr_syntax.specs.Value.{Answer, overflow, zero_divide}
+use Rattle.hpr_syntax.specs.Value as means
+use Rattle.hpr_syntax.specs.Run.{After, goes, stops, spent, ends, faults, more}
+use Rattle.hpr_syntax.specs.Run as means_run
+use Rattle.hpr_run.specs.declared.values.Fault.{Fault}
+use Rattle.hpr_run.specs.declared.values.Fault.TheVariants.{Overflow, ZeroDivide}
+use Rattle.hpr_run.specs.declared.interpreter.Outcome.{Outcome}
+use Rattle.hpr_run.specs.declared.interpreter.Outcome.TheVariants.{Ends, Faults, More}
+use Rattle.hpr_run.specs.declared.interpreter.Stop.{Stop}
+use Rattle.hpr_run.specs.declared.interpreter.Stop.TheVariants.{Faulty, Spent, Memory}
+
+abbrev pub fault_of : Fault → means.Fault
+fault_of Overflow = overflow
+fault_of ZeroDivide = zero_divide
+
+abbrev pub answer_of : Result ℤ Fault → Answer
+answer_of (Ok v) = Ok v
+answer_of (Err f) = Err (fault_of f)
+
+abbrev pub outcome_of : Outcome → means_run.Outcome
+outcome_of (Ends finals steps) = ends finals steps
+outcome_of (Faults tag fault steps) = faults tag (fault_of fault) steps
+outcome_of (More steps) = more steps
+
+abbrev pub Stepped : Result ℤ Stop → Tag → Answer → ℕ → ℕ → Type 0
+Stepped (Ok v) t a n left = (n ≡ suc left) × (a ≡ Ok v)
+Stepped (Err Spent) t a n left = n ≡ 0
+Stepped (Err (Faulty u f)) t a n left = (n ≡ suc left) × (t ≡ u) × (a ≡ Err (fault_of f))
+Stepped (Err Memory) t a n left = ⊥
+
+abbrev pub Did : Result (Unit {0}) Stop → After → Values → ℕ → Type 0
+Did (Ok u) after s left = after ≡ goes s left
+Did (Err Spent) after s left = after ≡ spent
+Did (Err (Faulty t f)) after s left = after ≡ stops t (fault_of f) left
+Did (Err Memory) after s left = Unit {0}

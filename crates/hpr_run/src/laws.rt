@@ -1,0 +1,11 @@
+//! Laws over the definitions: each function's contract is the law, for all values.
+ghost use Rattle.std.specs.Prelude.{◌≡◌, ℕ, List};
+ghost use Rattle.hpr_terms.specs.declared.expr.Expr.{Expr};
+ghost use Rattle.hpr_terms.specs.Uses.{Uses};
+ghost use Rattle.hpr_syntax.specs.Values.{Values, value_at};
+ghost use Rattle.hpr_syntax.specs.Value.{value};
+
+/// The value of an expression depends on the names that it uses alone.
+pub fn value_by_uses()
+    ensures { (e : Expr) (s t : Values) → ((x : List ℕ) → Uses e x → value_at s x ≡ value_at t x) → value e s ≡ value e t }
+{}

@@ -1,0 +1,14 @@
+//! The interpreter: values of expressions, and runs of programs that are bounded by a number of steps.
+#![tactic(auto)]
+
+mod interpreter;
+pub mod laws;
+mod state;
+mod values;
+
+pub use interpreter::{FinalValues, Outcome, run};
+pub use state::State;
+pub use values::{Fault, eval};
+
+#[cfg(test)]
+mod tests;
