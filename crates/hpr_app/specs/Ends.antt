@@ -1,0 +1,105 @@
+-- How a call ends: one case for each status.
+--
+-- Change               == an object before and after a call: how often it had failed, and what it took where it tells
+-- IsUntouched c        == it took nothing and did not fail
+-- status_of r          == the status of a decision
+-- text_of r            == its text for `out`
+-- message_of r         == its message for `err`, if it has one
+-- Says message err     == `err` took a prefix of the message, and all of it where no put failed
+-- Decided s P .. err   == some decision r of P has the status s; no read and no write failed; `out` took the text of r, and `err` the message
+-- CutShort P .. err    == a write failed: `out` took a prefix of the text of some decision of P
+-- ReadFailed names ..  == a read failed: `out` took nothing, and the message names one of the files
+-- Ends s P names ..    == the call ends with the status s in the one case that s stands for
+use Rattle.std.specs.Prelude.{◌≡◌, ℕ, List, [], ◌++◌, Option, Some, None, codes, Contains}
+use Rattle.hpr_io.specs.Counts.{Rose}
+use Rattle.hpr_io.specs.Taken.{taken_then, TookPrefix}
+use Rattle.hpr_app.specs.declared.answer.Kind.{Kind}
+use Rattle.hpr_app.specs.declared.answer.Kind.TheVariants as kind
+use Rattle.hpr_app.specs.declared.status.Status.{Status}
+use Rattle.hpr_app.specs.declared.status.Status.TheVariants as status
+use Rattle.hpr_app.specs.Decision.{Decision, prints, not_built, usage}
+
+abbrev pub usage_text : List ℕ
+usage_text = codes "usage: hpr integrate BASE A B\n"
+
+abbrev pub not_built_text : List ℕ
+not_built_text = codes "hpr: not built yet\n"
+
+abbrev pub cannot_write : List ℕ
+cannot_write = codes "hpr: cannot write output\n"
+
+abbrev pub no_memory : List ℕ
+no_memory = codes "hpr: no memory\n"
+
+abbrev pub cannot_read : List ℕ → List ℕ
+cannot_read file = codes "hpr: cannot read " ++ file ++ codes "\n"
+
+pub record Change : Type 0 where
+  pub before : ℕ
+  pub now : ℕ
+  pub old : Option (List ℕ)
+  pub new : Option (List ℕ)
+
+abbrev pub IsUntouched : Change → Type 0
+IsUntouched c = (c.now ≡ c.before) × (c.new ≡ c.old)
+
+abbrev pub status_of_kind : Kind → Status
+status_of_kind kind.Done = status.Done
+
+abbrev pub status_of : Decision → Status
+status_of (prints k text) = status_of_kind k
+status_of not_built = status.NotBuilt
+status_of usage = status.Words
+
+abbrev pub text_of : Decision → List ℕ
+text_of (prints k text) = text
+text_of _ = []
+
+abbrev pub has_text : Decision → Type 0
+has_text (prints k text) = Unit {0}
+has_text _ = ⊥
+
+abbrev pub message_of : Decision → Option (List ℕ)
+message_of (prints k text) = None
+message_of not_built = Some not_built_text
+message_of usage = Some usage_text
+
+pub record Says (message : List ℕ) (err : Change) : Type 0 where
+  pub prefix : TookPrefix err.old err.new message
+  pub whole : (Rose err.before err.now → ⊥) → err.new ≡ taken_then err.old message
+
+abbrev pub SaysIfAny : Option (List ℕ) → Change → Type 0
+SaysIfAny None err = IsUntouched err
+SaysIfAny (Some message) err = Says message err
+
+pub record Decided (s : Status) (P : Decision → Type 0) (shelf_before shelf_now : ℕ) (out err : Change) : Type 0 where
+  pub r : Decision
+  pub outcome : P r
+  pub status_is : s ≡ status_of r
+  pub shelf : shelf_now ≡ shelf_before
+  pub count : out.now ≡ out.before
+  pub took : out.new ≡ taken_then out.old (text_of r)
+  pub says : SaysIfAny (message_of r) err
+
+pub record CutShort (P : Decision → Type 0) (shelf_before shelf_now : ℕ) (out err : Change) : Type 0 where
+  pub r : Decision
+  pub outcome : P r
+  pub text : has_text r
+  pub shelf : shelf_now ≡ shelf_before
+  pub count : Rose out.before out.now
+  pub took : TookPrefix out.old out.new (text_of r)
+  pub says : Says cannot_write err
+
+pub record ReadFailed (names : List (List ℕ)) (shelf_before shelf_now : ℕ) (out err : Change) : Type 0 where
+  pub count : Rose shelf_before shelf_now
+  pub untouched : IsUntouched out
+  pub file : List ℕ
+  pub named : Contains names file
+  pub says : Says (cannot_read file) err
+
+-- Exactly one case holds, since the status picks it.
+abbrev pub Ends : Status → (Decision → Type 0) → List (List ℕ) → ℕ → ℕ → Change → Change → Type 0
+Ends status.ReadFault P names shelf_before shelf_now out err = ReadFailed names shelf_before shelf_now out err
+Ends status.WriteFault P names shelf_before shelf_now out err = CutShort P shelf_before shelf_now out err
+Ends status.Memory P names shelf_before shelf_now out err = IsUntouched out × Says no_memory err
+Ends s P names shelf_before shelf_now out err = Decided s P shelf_before shelf_now out err

@@ -1,0 +1,11 @@
+pub mod Request
+pub mod Asked
+pub mod Decision
+pub mod Integrate
+pub mod Outcome
+pub mod Ends
+pub mod Answer
+pub mod Files
+pub mod Writes
+pub mod Number
+pub mod Theorem

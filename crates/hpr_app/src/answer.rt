@@ -1,0 +1,108 @@
+//! Writes an answer to `out` and `err`.
+ghost use Rattle.std.specs.Prelude.{◌≡◌};
+ghost use Rattle.hpr_app.specs.Writes.{Writes, stop_status, stop_message};
+ghost use Rattle.hpr_app.specs.Ends.{Says};
+
+use crate::status::Status;
+use hpr_io::{Sink, put_all};
+use hpr_syntax::NoMemory;
+
+/// The text for words that are no call.
+pub const USAGE: &[u8] = b"usage: hpr integrate BASE A B\n";
+
+/// The kinds of answers that have a text for `out`.
+#[derive(Clone, Copy)]
+pub enum Kind {
+    Done,
+}
+
+/// A decided answer with a text for `out`.
+#[derive(Drop)]
+pub struct Report {
+    pub kind: Kind,
+    pub text: Vec<u8>,
+}
+
+/// Why there is no text for `out`, with the message for `err` where it isn't a fixed one.
+#[derive(Drop)]
+pub enum Stop {
+    NotBuilt,
+    ReadFault(Vec<u8>),
+    Memory,
+}
+
+impl From<NoMemory> for Stop {
+    ghost use Rattle.std.specs.Prelude.{◌≡◌};
+    ghost use Rattle.hpr_app.specs.declared.answer.Stop.TheVariants.{Memory};
+
+    ghost from_gives = { λ _ stop. stop ≡ Memory };
+
+    fn from(_error: NoMemory) -> Stop {
+        Stop::Memory
+    }
+}
+
+impl Kind {
+    ghost use Rattle.hpr_app.specs.Ends.{status_of_kind};
+
+    /// The status of an answer of this kind.
+    pub fn status(self) -> Status
+        ensures { result ≡ status_of_kind self }
+    {
+        match self {
+            Kind::Done => Status::Done,
+        }
+    }
+}
+
+/// Puts the text of an answer to `out`, or its message to `err`.
+pub fn write_answer<O: Sink, E: Sink>(
+    answer: Result<Report, Stop>,
+    out: &mut O,
+    err: &mut E,
+) -> Status
+    ensures { Writes answer result
+        (record { before = O.faults out.old; now = O.faults out.new; old = O.taken out.old; new = O.taken out.new })
+        (record { before = E.faults err.old; now = E.faults err.new; old = E.taken err.old; new = E.taken err.new }) }
+{
+    match answer {
+        Ok(report) => match put_all(out, report.text.as_slice()) {
+            Ok(()) => report.kind.status(),
+            Err(_) => {
+                write_message(b"hpr: cannot write output\n", err);
+                Status::WriteFault
+            }
+        },
+        Err(stop) => write_stop(&stop, err),
+    }
+}
+
+/// Puts a message to `err`; a put that fails changes nothing else.
+pub fn write_message<E: Sink>(message: &[u8], err: &mut E)
+    ensures { Says message.now (record { before = E.faults err.old; now = E.faults err.new; old = E.taken err.old; new = E.taken err.new }) }
+{
+    match put_all(err, message) {
+        Ok(()) => {}
+        Err(_) => {}
+    }
+}
+
+fn write_stop<E: Sink>(stop: &Stop, err: &mut E) -> Status
+    ensures status { result ≡ stop_status stop.now }
+    ensures says { Says (stop_message stop.now) (record { before = E.faults err.old; now = E.faults err.new; old = E.taken err.old; new = E.taken err.new }) }
+{
+    match stop {
+        Stop::NotBuilt => {
+            write_message(b"hpr: not built yet\n", err);
+            Status::NotBuilt
+        }
+        Stop::ReadFault(message) => {
+            write_message(message.as_slice(), err);
+            Status::ReadFault
+        }
+        Stop::Memory => {
+            write_message(b"hpr: no memory\n", err);
+            Status::Memory
+        }
+    }
+}

@@ -1,0 +1,97 @@
+//! The command `integrate`.
+ghost use Rattle.std.specs.Prelude.{◌≡◌, [], ◌∷◌, IsTrue, IfOk, OnOk, Some};
+ghost use Rattle.std.specs.List.Sorted.{IsPermutation, IsSorted};
+ghost use Rattle.std.specs.Ordering.{nat_cmp};
+ghost use Rattle.std.specs.Cmp.Lexicographic.{slice_cmp};
+ghost use Rattle.hpr_syntax.specs.Issued.{raised_by};
+ghost use Rattle.hpr_app.specs.Outcome.{OutcomeIfTold};
+ghost use Rattle.hpr_app.specs.Integrate.{OneSideOutcome, PrintsText};
+ghost use Rattle.hpr_app.specs.Request.{integrate};
+ghost use Rattle.hpr_app.specs.Answer.{Decides, Merges};
+
+use crate::answer::{Kind, Report, Stop};
+use crate::files::read_program;
+use hpr_io::Shelf;
+use hpr_print::text_of_parts;
+use hpr_syntax::{Issued, Name, NoMemory, Program};
+use std::alloc::Global;
+
+/// Integrates two variants with their base, where one of them is the base.
+pub fn integrate_files<S: Shelf>(
+    alloc: Global,
+    base: &str,
+    a: &str,
+    b: &str,
+    shelf: &mut S,
+) -> Result<Report, Stop>
+    requires base { IsTrue (S.serves shelf.old base.now) }
+    requires a { IsTrue (S.serves shelf.old a.now) }
+    requires b { IsTrue (S.serves shelf.old b.now) }
+    ensures { Decides (OutcomeIfTold (Some (integrate base.now a.now b.now)) (S.files shelf.old)) (base.now ∷ a.now ∷ b.now ∷ []) (S.faults shelf.old) (S.faults shelf.new) result }
+{
+    let base_program = read_program(alloc, base, shelf)?;
+    let a_program = read_program(alloc, a, shelf)?;
+    let b_program = read_program(alloc, b, shelf)?;
+    one_side(alloc, &base_program, &a_program, &b_program)
+}
+
+/// The answer where one variant is the base.
+fn one_side(alloc: Global, base: &Program, a: &Program, b: &Program) -> Result<Report, Stop>
+    ensures { Merges (OneSideOutcome base.now a.now b.now) result }
+{
+    if b.is_same(base) {
+        let text = printed(alloc, base, a, b, a)?;
+        return Ok(Report {
+            kind: Kind::Done,
+            text,
+        });
+    }
+    if a.is_same(base) {
+        let text = printed(alloc, base, a, b, b)?;
+        return Ok(Report {
+            kind: Kind::Done,
+            text,
+        });
+    }
+    Err(Stop::NotBuilt)
+}
+
+/// The text of the variant `other`, with its finals ascending and each author's issued number the
+/// greatest of the three programs.
+#[tactic(auto, using(hpr_syntax::proofs::DepthBound::shallow))]
+fn printed(
+    alloc: Global,
+    base: &Program,
+    a: &Program,
+    b: &Program,
+    other: &Program,
+) -> Result<Vec<u8>, NoMemory>
+    ensures { IfOk result (λ v. PrintsText base.now a.now b.now other.now v.items) }
+{
+    let mut issued = base.issued().copy(alloc)?;
+    raise_all(&mut issued, a.issued())?;
+    raise_all(&mut issued, b.issued())?;
+    let mut finals = copy_names(alloc, other.finals())?;
+    finals.sort()?;
+    text_of_parts(alloc, &issued, other.body(), &finals)
+}
+
+/// Raises each author's number to that of other issued numbers.
+fn raise_all(issued: &mut Issued, other: &Issued) -> Result<(), NoMemory>
+    ensures { OnOk result (issued.new ≡ raised_by other.now issued.old) }
+{
+    for (author, serial) in other.rows() {
+        issued.raise(*author, *serial)?;
+    }
+    Ok(())
+}
+
+fn copy_names(alloc: Global, names: &[Name]) -> Result<Vec<Name>, NoMemory>
+    ensures { IfOk result (λ v. v.items ≡ names.now) }
+{
+    let mut copies = Vec::new(alloc);
+    for name in names {
+        copies.push(name.copy(alloc)?)?;
+    }
+    Ok(copies)
+}

@@ -1,0 +1,91 @@
+//! The top call of the integrator: reads the words, the files that they name, decides, and writes
+//! the answer.
+#![tactic(auto)]
+
+mod answer;
+mod commands;
+mod files;
+mod integrate;
+mod status;
+mod words;
+
+ghost use Rattle.std.specs.Prelude.{◌≡◌, ◌≢◌, ℕ, List, ◌++◌, ◌<◌, ◌⊎◌, ◌↔◌, All, None, IsTrue, map, string_bytes};
+ghost use Rattle.hpr_io.specs.Files.{Files};
+ghost use Rattle.hpr_io.specs.Counts.{Rose};
+ghost use Rattle.hpr_app.specs.Request.{Request, taken, files_of, files_of_taken};
+ghost use Rattle.hpr_app.specs.Asked.{request};
+ghost use Rattle.hpr_app.specs.Outcome.{RequestOutcome, OutcomeIfTold};
+ghost use Rattle.hpr_app.specs.Decision.{not_built};
+ghost use Rattle.hpr_app.specs.Theorem.{KeepsMeaning};
+ghost use Rattle.hpr_app.specs.Ends.{Ends};
+
+use crate::words::Asked;
+use hpr_io::{Shelf, Sink};
+pub use status::Status;
+use std::alloc::Global;
+
+/// Runs one command: reads its words, fetches the files that they name, and puts its text to `out`
+/// or its message to `err`.
+///
+/// All text of `out` is made before its first byte is put. Faults of `err` change no status.
+pub fn hpr<S: Shelf, O: Sink, E: Sink>(
+    alloc: Global,
+    words: &[String],
+    shelf: &mut S,
+    out: &mut O,
+    err: &mut E,
+) -> Status
+    requires { All (λ name. IsTrue (S.serves shelf.old name)) (files_of_taken (taken (map string_bytes words.now))) }
+
+    // Exactly one of four cases holds, by the status.
+    ensures ends { Ends result (OutcomeIfTold (taken (map string_bytes words.now)) (S.files shelf.old))
+        (files_of_taken (taken (map string_bytes words.now)))
+        (S.faults shelf.old) (S.faults shelf.new)
+        (record { before = O.faults out.old; now = O.faults out.new; old = O.taken out.old; new = O.taken out.new })
+        (record { before = E.faults err.old; now = E.faults err.new; old = E.taken err.old; new = E.taken err.new }) }
+
+    // Each status has its cause.
+    ensures words { result ≢ Status.Memory → ((result ≡ Status.Words) ↔ (taken (map string_bytes words.now) ≡ None)) }
+    ensures read { result ≡ Status.ReadFault → Rose (S.faults shelf.old) (S.faults shelf.new) }
+    ensures write { result ≡ Status.WriteFault → Rose (O.faults out.old) (O.faults out.new) }
+    ensures read_grew { S.faults shelf.old < S.faults shelf.new → (result ≡ Status.ReadFault) ⊎ (result ≡ Status.Memory) }
+    ensures write_grew { O.faults out.old < O.faults out.new → result ≡ Status.WriteFault }
+
+    // Where no read and no write failed and the case is built, the command does what it is for.
+    ensures complete { (asked : Request) (fs : Files) → taken (map string_bytes words.now) ≡ Some asked → S.files shelf.old ≡ Some fs
+        → ¬ RequestOutcome asked fs not_built → ¬ Rose (S.faults shelf.old) (S.faults shelf.new) → ¬ Rose (O.faults out.old) (O.faults out.new)
+        → (result ≡ Status.Done) ⊎ (result ≡ Status.Memory) }
+
+    // The integration theorem: the bytes that `out` took in this call spell a program that keeps the meaning of both variants.
+    ensures keeps { (asked : Request) (fs : Files) (old : List ℕ) → taken (map string_bytes words.now) ≡ Some asked → S.files shelf.old ≡ Some fs
+        → O.taken out.old ≡ Some old → result ≡ Status.Done → (new : List ℕ) × (O.taken out.new ≡ Some (old ++ new)) × KeepsMeaning asked fs new }
+{
+    match words::read_words(words) {
+        None => {
+            answer::write_message(answer::USAGE, err);
+            Status::Words
+        }
+        Some(asked) => run_asked(alloc, asked, shelf, out, err),
+    }
+}
+
+fn run_asked<S: Shelf, O: Sink, E: Sink>(
+    alloc: Global,
+    asked: Asked<'_>,
+    shelf: &mut S,
+    out: &mut O,
+    err: &mut E,
+) -> Status
+    requires { All (λ name. IsTrue (S.serves shelf.old name)) (files_of (request asked)) }
+    ensures ends { Ends result (OutcomeIfTold (Some (request asked.entry)) (S.files shelf.old))
+        (files_of (request asked.entry))
+        (S.faults shelf.old) (S.faults shelf.new)
+        (record { before = O.faults out.old; now = O.faults out.new; old = O.taken out.old; new = O.taken out.new })
+        (record { before = E.faults err.old; now = E.faults err.new; old = E.taken err.old; new = E.taken err.new }) }
+    ensures taken { result ≢ Status.Words }
+    ensures read_grew { S.faults shelf.old < S.faults shelf.new → (result ≡ Status.ReadFault) ⊎ (result ≡ Status.Memory) }
+    ensures write_grew { O.faults out.old < O.faults out.new → result ≡ Status.WriteFault }
+{
+    let answer = commands::decide(alloc, asked, shelf);
+    answer::write_answer(answer, out, err)
+}
