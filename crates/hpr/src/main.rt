@@ -1,0 +1,38 @@
+//! The program: real files and streams, and the top call over them.
+#![tactic(auto)]
+
+mod edges;
+
+use edges::{FileShelf, StdSink};
+use std::io;
+use std::process::ExitCode;
+
+// The status for want of memory, where there is none even for the words.
+const NO_MEMORY: u8 = 8;
+
+fn main(rt: HostRuntime) -> ExitCode {
+    let words: Vec<String> = match read_words(&rt) {
+        Ok(words) => words,
+        Err(error) => {
+            if error.kind() == io::ErrorKind::OutOfMemory {
+                return ExitCode::from(NO_MEMORY);
+            }
+            Vec::new(rt.alloc())
+        }
+    };
+    let mut shelf = FileShelf::new(&rt);
+    let mut out = StdSink::new(rt.stdout());
+    let mut err = StdSink::new(rt.stderr());
+    let status = hpr_app::hpr(rt.alloc(), words.as_slice(), &mut shelf, &mut out, &mut err);
+    ExitCode::from(status.number())
+}
+
+// The words after the program's name. The error's kind is `OutOfMemory` where there is no memory for them, and another
+// where a word is not UTF-8.
+fn read_words(rt: &HostRuntime) -> io::Result<Vec<String>> {
+    let mut words = Vec::new(rt.alloc());
+    for word in std::env::args(rt)?.skip(1) {
+        words.push(word)?;
+    }
+    Ok(words)
+}
