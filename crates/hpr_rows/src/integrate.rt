@@ -1,0 +1,292 @@
+//! The command `integrate`.
+use crate::calls::{Call, ending_of};
+use hpr_app::Status;
+use std::test::Fail;
+
+type Files = &'static [(&'static str, &'static [u8])];
+
+const WORDS: &[&str] = &["integrate", "BASE", "A", "B"];
+
+const A_PART_ADDED: Files = &[
+    ("BASE", b"program 1.1: x := 1; end(x)"),
+    ("A", b"program 1.1: x := 1; 2.1: y := x + 1; end(y, x)"),
+    ("B", b"program 1.1: x := 1; end(x)"),
+];
+
+const B_PART_ADDED: Files = &[
+    ("BASE", b"program issued 1:3 1.1: x := 1; end(x)"),
+    ("A", b"program issued 1:3 1.1: x := 1; end(x)"),
+    (
+        "B",
+        b"program issued 2:4, 1:2 1.1: x := 1; 2.3: c := 7; end(x, c, a_1, A)",
+    ),
+];
+
+const BOTH_CHANGED: Files = &[
+    ("BASE", b"program 1.1: x := 1; end(x)"),
+    ("A", b"program 1.1: x := 2; end(x)"),
+    ("B", b"program 1.1: x := 3; end(x)"),
+];
+
+const EMPTY_PROGRAMS: Files = &[
+    ("BASE", b"program end()"),
+    ("A", b"program end()"),
+    ("B", b"program end()"),
+];
+
+const UNTAGGED_BASE: Files = &[
+    ("BASE", b"program x := 1; end(x)"),
+    ("A", b"program end()"),
+    ("B", b"program end()"),
+];
+
+const TAG_TWICE_IN_B: Files = &[
+    ("BASE", b"program end()"),
+    ("A", b"program end()"),
+    ("B", b"program 1.1: x := 1; 1.1: x := 2; end()"),
+];
+
+const NO_A: Files = &[("BASE", b"program end()"), ("B", b"program end()")];
+
+const MERGED: &[u8] = b"program\nissued 1:1, 2:1\n1.1: x := 1;\n2.1: y := x + 1;\nend(x, y)\n";
+
+const MERGED_B: &[u8] =
+    b"program\nissued 1:3, 2:4\n1.1: x := 1;\n2.3: c := 7;\nend(A, a_1, c, x)\n";
+
+const USAGE: &[u8] = b"usage: hpr integrate BASE A B\n";
+
+const NOT_BUILT: &[u8] = b"hpr: not built yet\n";
+
+const CANNOT_WRITE: &[u8] = b"hpr: cannot write output\n";
+
+/// A call over a shelf and sinks that don't fail by themselves.
+struct Row {
+    shows: &'static str,
+    words: &'static [&'static str],
+    files: Files,
+    status: Status,
+    out: &'static [u8],
+    err: &'static [u8],
+}
+
+static ROWS: [Row; 13] = [
+    Row {
+        shows: "one variant adds a part",
+        words: WORDS,
+        files: A_PART_ADDED,
+        status: Status::Done,
+        out: MERGED,
+        err: b"",
+    },
+    Row {
+        shows: "the other variant adds a part: the greatest issued numbers, and the finals ascending by bytes",
+        words: WORDS,
+        files: B_PART_ADDED,
+        status: Status::Done,
+        out: MERGED_B,
+        err: b"",
+    },
+    Row {
+        shows: "empty programs",
+        words: WORDS,
+        files: EMPTY_PROGRAMS,
+        status: Status::Done,
+        out: b"program\nend()\n",
+        err: b"",
+    },
+    Row {
+        shows: "not built yet: both variants change an assignment",
+        words: WORDS,
+        files: BOTH_CHANGED,
+        status: Status::NotBuilt,
+        out: b"",
+        err: NOT_BUILT,
+    },
+    Row {
+        shows: "not built yet: a part without a tag",
+        words: WORDS,
+        files: UNTAGGED_BASE,
+        status: Status::NotBuilt,
+        out: b"",
+        err: NOT_BUILT,
+    },
+    Row {
+        shows: "not built yet: a tag stands twice",
+        words: WORDS,
+        files: TAG_TWICE_IN_B,
+        status: Status::NotBuilt,
+        out: b"",
+        err: NOT_BUILT,
+    },
+    Row {
+        shows: "an absent file",
+        words: WORDS,
+        files: NO_A,
+        status: Status::ReadFault,
+        out: b"",
+        err: b"hpr: cannot read A\n",
+    },
+    Row {
+        shows: "no words",
+        words: &[],
+        files: EMPTY_PROGRAMS,
+        status: Status::Words,
+        out: b"",
+        err: USAGE,
+    },
+    Row {
+        shows: "a word too few",
+        words: &["integrate", "BASE", "A"],
+        files: EMPTY_PROGRAMS,
+        status: Status::Words,
+        out: b"",
+        err: USAGE,
+    },
+    Row {
+        shows: "a word too many",
+        words: &["integrate", "BASE", "A", "B", "B"],
+        files: EMPTY_PROGRAMS,
+        status: Status::Words,
+        out: b"",
+        err: USAGE,
+    },
+    Row {
+        shows: "another command",
+        words: &["merge", "BASE", "A", "B"],
+        files: EMPTY_PROGRAMS,
+        status: Status::Words,
+        out: b"",
+        err: USAGE,
+    },
+    Row {
+        shows: "an empty word",
+        words: &["integrate", "BASE", "", "B"],
+        files: EMPTY_PROGRAMS,
+        status: Status::Words,
+        out: b"",
+        err: USAGE,
+    },
+    Row {
+        shows: "a word that begins like an option",
+        words: &["integrate", "BASE", "A", "-B"],
+        files: EMPTY_PROGRAMS,
+        status: Status::Words,
+        out: b"",
+        err: USAGE,
+    },
+];
+
+#[test]
+fn calls_end_with_their_status_and_texts(rt: HostRuntime) -> Result<(), Fail> {
+    for row in ROWS.iter() {
+        let call = Call {
+            words: row.words,
+            files: row.files,
+            failing_reads: &[],
+            failing_writes: &[],
+            step: 4096,
+            room: 4096,
+        };
+        let ending = ending_of(rt.alloc(), &call)?;
+        let shows = row.shows;
+        assert_eq!(rt; ending.status, row.status, "{shows}");
+        assert_eq!(rt; ending.out.as_slice(), row.out, "{shows}");
+        assert_eq!(rt; ending.err.as_slice(), row.err, "{shows}");
+    }
+    Ok(())
+}
+
+/// The call in which one variant adds a part, over a shelf and an output that may fail.
+struct FaultRow {
+    shows: &'static str,
+    failing_reads: &'static [u64],
+    failing_writes: &'static [u64],
+    step: usize,
+    room: usize,
+    status: Status,
+    out: &'static [u8],
+    err: &'static [u8],
+}
+
+static FAULT_ROWS: [FaultRow; 6] = [
+    FaultRow {
+        shows: "an output that takes a byte at a time",
+        failing_reads: &[],
+        failing_writes: &[],
+        step: 1,
+        room: 4096,
+        status: Status::Done,
+        out: MERGED,
+        err: b"",
+    },
+    FaultRow {
+        shows: "room for twenty bytes",
+        failing_reads: &[],
+        failing_writes: &[],
+        step: 4096,
+        room: 20,
+        status: Status::WriteFault,
+        out: b"program\nissued 1:1, ",
+        err: CANNOT_WRITE,
+    },
+    FaultRow {
+        shows: "the first write fails",
+        failing_reads: &[],
+        failing_writes: &[0],
+        step: 4096,
+        room: 4096,
+        status: Status::WriteFault,
+        out: b"",
+        err: CANNOT_WRITE,
+    },
+    FaultRow {
+        shows: "a later write fails",
+        failing_reads: &[],
+        failing_writes: &[3],
+        step: 5,
+        room: 4096,
+        status: Status::WriteFault,
+        out: b"program\nissued ",
+        err: CANNOT_WRITE,
+    },
+    FaultRow {
+        shows: "the first read fails",
+        failing_reads: &[0],
+        failing_writes: &[],
+        step: 4096,
+        room: 4096,
+        status: Status::ReadFault,
+        out: b"",
+        err: b"hpr: cannot read BASE\n",
+    },
+    FaultRow {
+        shows: "the third read fails",
+        failing_reads: &[2],
+        failing_writes: &[],
+        step: 4096,
+        room: 4096,
+        status: Status::ReadFault,
+        out: b"",
+        err: b"hpr: cannot read B\n",
+    },
+];
+
+#[test]
+fn faults_have_their_status_and_texts(rt: HostRuntime) -> Result<(), Fail> {
+    for row in FAULT_ROWS.iter() {
+        let call = Call {
+            words: WORDS,
+            files: A_PART_ADDED,
+            failing_reads: row.failing_reads,
+            failing_writes: row.failing_writes,
+            step: row.step,
+            room: row.room,
+        };
+        let ending = ending_of(rt.alloc(), &call)?;
+        let shows = row.shows;
+        assert_eq!(rt; ending.status, row.status, "{shows}");
+        assert_eq!(rt; ending.out.as_slice(), row.out, "{shows}");
+        assert_eq!(rt; ending.err.as_slice(), row.err, "{shows}");
+    }
+    Ok(())
+}

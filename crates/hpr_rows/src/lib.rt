@@ -1,0 +1,10 @@
+//! Worked cases of the whole program, run through the top call over the shelf and the sinks in
+//! memory, with ample memory.
+#![tactic(auto)]
+
+#[cfg(test)]
+mod calls;
+#[cfg(test)]
+mod integrate;
+#[cfg(test)]
+mod programs;

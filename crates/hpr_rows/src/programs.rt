@@ -1,0 +1,165 @@
+//! Programs of the whole language: what is read is printed in canonical form.
+use crate::calls::{Call, ending_of};
+use hpr_app::Status;
+use std::test::Fail;
+
+/// A program that is its own base and both its variants, and its canonical text.
+struct Row {
+    shows: &'static str,
+    files: &'static [(&'static str, &'static [u8])],
+    out: &'static [u8],
+}
+
+static ROWS: [Row; 10] = [
+    Row {
+        shows: "a loop, and the finals in another order than the text's",
+        files: &[
+            (
+                "BASE",
+                b"program\nissued 1:5\n1.1: sum := 0;\n1.2: x := 1;\n1.3: while x < 11 do\n  1.4: sum := sum + x;\n  1.5: x := x + 1;\nod\nend(sum)\n",
+            ),
+            (
+                "A",
+                b"program\nissued 1:5, 2:1\n1.1: sum := 0;\n1.2: x := 1;\n1.3: while x < 11 do\n  1.4: sum := sum + x;\n  1.5: x := x + 1;\nod\n2.1: mean := sum / 10;\nend(sum, mean)\n",
+            ),
+            (
+                "B",
+                b"program\nissued 1:5\n1.1: sum := 0;\n1.2: x := 1;\n1.3: while x < 11 do\n  1.4: sum := sum + x;\n  1.5: x := x + 1;\nod\nend(sum)\n",
+            ),
+        ],
+        out: b"program\nissued 1:5, 2:1\n1.1: sum := 0;\n1.2: x := 1;\n1.3: while x < 11 do\n  1.4: sum := sum + x;\n  1.5: x := x + 1;\nod\n2.1: mean := sum / 10;\nend(mean, sum)\n",
+    },
+    Row {
+        shows: "a part inserted before a loop and one inside it",
+        files: &[
+            (
+                "BASE",
+                b"program\nissued 1:5\n1.1: sum := 0;\n1.2: x := 1;\n1.3: while x < 11 do\n  1.4: sum := sum + x;\n  1.5: x := x + 1;\nod\nend(sum)\n",
+            ),
+            (
+                "A",
+                b"program 1.1: sum := 0; 1.2: x := 1; 1.3: while x < 11 do 1.4: sum := sum + x; 1.5: x := x + 1; od end(sum)",
+            ),
+            (
+                "B",
+                b"program issued 1:5, 3:2 1.1: sum := 0; 1.2: x := 1; 3.1: prod := 1; 1.3: while x < 11 do 1.4: sum := sum + x; 3.2: prod := prod * x; 1.5: x := x + 1; od end(prod, sum)",
+            ),
+        ],
+        out: b"program\nissued 1:5, 3:2\n1.1: sum := 0;\n1.2: x := 1;\n3.1: prod := 1;\n1.3: while x < 11 do\n  1.4: sum := sum + x;\n  3.2: prod := prod * x;\n  1.5: x := x + 1;\nod\nend(prod, sum)\n",
+    },
+    Row {
+        shows: "a conditional in a loop",
+        files: &[
+            ("BASE", CONDITIONAL_IN_LOOP),
+            ("A", CONDITIONAL_IN_LOOP),
+            ("B", CONDITIONAL_IN_LOOP),
+        ],
+        out: b"program\nissued 1:6\n1.1: i := 0;\n1.2: while i < 3 do\n  1.3: if i = 1 then\n    1.4: x := i;\n  fi\n  1.5: y := x + y;\n  1.6: i := i + 1;\nod\nend(y)\n",
+    },
+    Row {
+        shows: "a conditional with two branches",
+        files: &[
+            ("BASE", TWO_BRANCHES),
+            ("A", TWO_BRANCHES),
+            ("B", TWO_BRANCHES),
+        ],
+        out: b"program\nissued 1:3\n1.1: if p then\n  1.2: x := 1;\nelse\n  1.3: x := 2;\nfi\nend(x)\n",
+    },
+    Row {
+        shows: "an `else` without parts is not written",
+        files: &[
+            (
+                "BASE",
+                b"program 1.1: if a then 1.2: b := 1; else fi 1.3: while a do od end(b)",
+            ),
+            (
+                "A",
+                b"program 1.1: if a then 1.2: b := 1; fi 1.3: while a do od end(b)",
+            ),
+            (
+                "B",
+                b"program 1.1: if a then 1.2: b := 1; else fi 1.3: while a do od end(b)",
+            ),
+        ],
+        out: b"program\nissued 1:3\n1.1: if a then\n  1.2: b := 1;\nfi\n1.3: while a do\nod\nend(b)\n",
+    },
+    Row {
+        shows: "the least number, and a prefix after a sign",
+        files: &[
+            ("BASE", LEAST_NUMBER),
+            ("A", LEAST_NUMBER),
+            ("B", LEAST_NUMBER),
+        ],
+        out: b"program\nissued 1:2\n1.1: x := -9223372036854775807 - 1;\n1.2: y := x / -1;\nend(y)\n",
+    },
+    Row {
+        shows: "brackets that the canonical text needs, and no others",
+        files: &[("BASE", BRACKETS), ("A", BRACKETS), ("B", BRACKETS)],
+        out: b"program\nissued 1:7\n1.1: x := (a + b) * c;\n1.2: x := a - (b - c);\n1.3: x := a - b - c;\n1.4: x := not (a < b);\n1.5: x := --x;\n1.6: x := a - -b;\n1.7: x := (a = b) = c;\nend()\n",
+    },
+    Row {
+        shows: "comments of any bytes, and no blank where signs part the words",
+        files: &[("BASE", COMMENTS), ("A", COMMENTS), ("B", COMMENTS)],
+        out: b"program\nissued 1:1\n1.1: while not x <> 0 or y >= 1 and z do\nod\nend(x)\n",
+    },
+    Row {
+        shows: "a text without its last newline",
+        files: &[
+            (
+                "BASE",
+                b"program 1.1: x := 2; 1.2: while x do 1.3: x := x - 1; od end(x)",
+            ),
+            (
+                "A",
+                b"program 1.1: x := 2; 1.2: while x do 1.3: x := x - 1; od end(x)",
+            ),
+            (
+                "B",
+                b"program 1.1: x := 2; 1.2: while x do 1.3: x := x - 1; od end(x)",
+            ),
+        ],
+        out: b"program\nissued 1:3\n1.1: x := 2;\n1.2: while x do\n  1.3: x := x - 1;\nod\nend(x)\n",
+    },
+    Row {
+        shows: "parts in another order than their serials'",
+        files: &[
+            ("BASE", b"program 1.1: a := 1; 1.2: b := 2; end(a, b)"),
+            ("A", b"program 1.1: a := 1; 1.2: b := 2; end(a, b)"),
+            ("B", b"program 1.2: b := 2; 1.1: a := 1; end(a, b)"),
+        ],
+        out: b"program\nissued 1:2\n1.2: b := 2;\n1.1: a := 1;\nend(a, b)\n",
+    },
+];
+
+const CONDITIONAL_IN_LOOP: &[u8] =
+    b"program 1.1: i := 0; 1.2: while i < 3 do 1.3: if i = 1 then 1.4: x := i; fi 1.5: y := x + y; 1.6: i := i + 1; od end(y)";
+
+const TWO_BRANCHES: &[u8] = b"program 1.1: if p then 1.2: x := 1; else 1.3: x := 2; fi end(x)";
+
+const LEAST_NUMBER: &[u8] = b"program 1.1: x := -9223372036854775807 - 1; 1.2: y := x / -1; end(y)";
+
+const BRACKETS: &[u8] =
+    b"program 1.1: x := ((a + b)) * c; 1.2: x := a - (b - c); 1.3: x := (a - b) - c; 1.4: x := not (a < b); 1.5: x := -(-x); 1.6: x := a - (-b); 1.7: x := (a = b) = c; end()";
+
+const COMMENTS: &[u8] =
+    b"#\xff\x00 any\rbytes\nprogram#\n1.1:while(not x)<>0 or(y>=1)and z do#od\nod end(x)#";
+
+#[test]
+fn programs_are_read_and_printed(rt: HostRuntime) -> Result<(), Fail> {
+    for row in ROWS.iter() {
+        let call = Call {
+            words: &["integrate", "BASE", "A", "B"],
+            files: row.files,
+            failing_reads: &[],
+            failing_writes: &[],
+            step: 4096,
+            room: 4096,
+        };
+        let ending = ending_of(rt.alloc(), &call)?;
+        let shows = row.shows;
+        assert_eq!(rt; ending.status, Status::Done, "{shows}");
+        assert_eq!(rt; ending.out.as_slice(), row.out, "{shows}");
+        assert!(rt; ending.err.is_empty(), "{shows}");
+    }
+    Ok(())
+}
