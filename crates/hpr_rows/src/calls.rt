@@ -44,10 +44,22 @@ fn shelf_of(alloc: Global, files: &[(&str, &[u8])], failing: &[u64]) -> Result<M
 
 /// Makes the call.
 pub(crate) fn ending_of(alloc: Global, call: &Call) -> Result<Ending, Fail> {
-    let words = words_of(alloc, call.words)?;
-    let mut shelf = shelf_of(alloc, call.files, call.failing_reads)?;
+    let shelf = shelf_of(alloc, call.files, call.failing_reads)?;
     let failing = Vec::from_slice(alloc, call.failing_writes)?;
-    let mut out = MemorySink::new(alloc, call.step.max(1), call.room, failing)?;
+    let out = MemorySink::new(alloc, call.step.max(1), call.room, failing)?;
+    ending_over(alloc, call.words, shelf, out)
+}
+
+/// Makes the call with these words over this shelf and this output.
+pub(crate) fn ending_over(
+    alloc: Global,
+    words: &[&str],
+    shelf: MemoryShelf,
+    out: MemorySink,
+) -> Result<Ending, Fail> {
+    let words = words_of(alloc, words)?;
+    let mut shelf = shelf;
+    let mut out = out;
     let mut err = MemorySink::new(alloc, 64, 4096, Vec::new(alloc))?;
     let status = hpr(alloc, words.as_slice(), &mut shelf, &mut out, &mut err);
     Ok(Ending {

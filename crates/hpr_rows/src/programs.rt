@@ -1,6 +1,8 @@
 //! Programs of the whole language: what is read is printed in canonical form.
-use crate::calls::{Call, ending_of};
+use crate::calls::{Call, Ending, ending_of, ending_over};
 use hpr_app::Status;
+use hpr_io::{MemoryShelf, MemorySink};
+use std::alloc::{AllocError, Global};
 use std::test::Fail;
 
 /// A program that is its own base and both its variants, and its canonical text.
@@ -161,5 +163,82 @@ fn programs_are_read_and_printed(rt: HostRuntime) -> Result<(), Fail> {
         assert_eq!(rt; ending.out.as_slice(), row.out, "{shows}");
         assert!(rt; ending.err.is_empty(), "{shows}");
     }
+    Ok(())
+}
+
+// What comes of a program that is its own base and both its variants.
+fn ending_with_itself(alloc: Global, text: &str) -> Result<Ending, Fail> {
+    let mut files = Vec::new(alloc);
+    for name in ["BASE", "A", "B"] {
+        let bytes = Vec::from_slice(alloc, text.as_bytes())?;
+        files.push((String::from_str(alloc, name)?, bytes))?;
+    }
+    let shelf = MemoryShelf::new(files, Vec::new(alloc));
+    let out = MemorySink::new(alloc, 4096, 65536, Vec::new(alloc))?;
+    ending_over(alloc, &["integrate", "BASE", "A", "B"], shelf, out)
+}
+
+fn indent(text: &mut String, level: u32) -> Result<(), AllocError> {
+    for _ in 1..level {
+        text.push_str("  ")?;
+    }
+    Ok(())
+}
+
+fn loop_begins(alloc: Global, text: &mut String, level: u32) -> Result<(), AllocError> {
+    indent(text, level)?;
+    text.push_str("1.")?;
+    text.push_str(level.to_string(alloc)?.as_str())?;
+    text.push_str(": while x do\n")
+}
+
+// 64 loops, each in the one before
+fn deepest(alloc: Global) -> Result<String, AllocError> {
+    let mut text = String::from_str(alloc, "program\nissued 1:64\n")?;
+    for level in 1..65 {
+        loop_begins(alloc, &mut text, level)?;
+    }
+    for past in 0..64 {
+        indent(&mut text, 64 - past)?;
+        text.push_str("od\n")?;
+    }
+    text.push_str("end()\n")?;
+    Ok(text)
+}
+
+#[test]
+fn the_deepest_nesting_is_read_and_printed(rt: HostRuntime) -> Result<(), Fail> {
+    let text = deepest(rt.alloc())?;
+    let ending = ending_with_itself(rt.alloc(), text.as_str())?;
+    assert_eq!(rt; ending.status, Status::Done);
+    assert!(rt; ending.out.as_slice() == text.as_bytes());
+    Ok(())
+}
+
+fn part(alloc: Global, text: &mut String, number: u32) -> Result<(), AllocError> {
+    let number = number.to_string(alloc)?;
+    text.push_str("1.")?;
+    text.push_str(number.as_str())?;
+    text.push_str(": x := ")?;
+    text.push_str(number.as_str())?;
+    text.push_str(";\n")
+}
+
+// 1,000 assignments
+fn longest(alloc: Global) -> Result<String, AllocError> {
+    let mut text = String::from_str(alloc, "program\nissued 1:1000\n")?;
+    for number in 1..1001 {
+        part(alloc, &mut text, number)?;
+    }
+    text.push_str("end(x)\n")?;
+    Ok(text)
+}
+
+#[test]
+fn the_most_parts_are_read_and_printed(rt: HostRuntime) -> Result<(), Fail> {
+    let text = longest(rt.alloc())?;
+    let ending = ending_with_itself(rt.alloc(), text.as_str())?;
+    assert_eq!(rt; ending.status, Status::Done);
+    assert!(rt; ending.out.as_slice() == text.as_bytes());
     Ok(())
 }
