@@ -16,7 +16,7 @@ use Rattle.hpr_terms.specs.Names.{IsName}
 use Rattle.hpr_terms.specs.Tokens.{sign_text, is_blank, nothing, blank, Ending, blanks, Text, ending, token}
 use Rattle.hpr_terms.specs.Term.{Term, num, var, prefix, infix'}
 use Rattle.hpr_syntax.specs.Print as print
-use Rattle.hpr_syntax.specs.Print.{bracketed, prefix_sign, term_text, indent, line}
+use Rattle.hpr_syntax.specs.Print.{bracketed, prefix_sign, term_text, indent}
 use Rattle.hpr_syntax.specs.Proper.{IsProperTerm}
 use Rattle.hpr_syntax.proofs.Shown.{prefix_token, sign_token, in_brackets, operand_test, left_test, right_test, shown}
 
