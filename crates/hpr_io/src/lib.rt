@@ -1,9 +1,11 @@
-//! Files to read from and places to write to, by what a caller may ask of them, and two that live in memory.
+//! Files to read from and places to write to, by what a caller may ask of them, and those that live in memory.
 #![tactic(auto)]
 
 mod files;
 mod memory_shelf;
 mod memory_sink;
+mod steady_shelf;
+mod steady_sink;
 #[cfg(test)]
 mod tests;
 
@@ -15,6 +17,8 @@ ghost use Rattle.hpr_io.specs.Taken.{taken_then, TookPrefix};
 pub use memory_shelf::MemoryShelf;
 pub use memory_sink::MemorySink;
 use std::alloc::Global;
+pub use steady_shelf::SteadyShelf;
+pub use steady_sink::SteadySink;
 use thiserror::Error;
 
 /// Why a file was not fetched.

@@ -1,5 +1,7 @@
 //! Each public call, by answers worked out by hand.
-use crate::{FetchError, MemoryShelf, MemorySink, PutError, Shelf, Sink, put_all};
+use crate::{
+    FetchError, MemoryShelf, MemorySink, PutError, Shelf, Sink, SteadyShelf, SteadySink, put_all,
+};
 use std::alloc::Global;
 use std::test::Fail;
 
@@ -82,5 +84,34 @@ fn puts_all_or_a_front(rt: HostRuntime) -> Result<(), Fail> {
     assert_eq!(rt; put_all(&mut cut, b"abcdefghi"), Err(PutError::Failed));
     assert_eq!(rt; cut.bytes(), b"abcdef".as_slice());
     assert_eq!(rt; put_all(&mut cut, b""), Ok(()));
+    Ok(())
+}
+
+#[test]
+fn steady_shelf_has_no_bytes_for_an_absent_name(rt: HostRuntime) -> Result<(), Fail> {
+    let files = vec![in rt.alloc();
+        file(rt.alloc(), "a", b"hello")?,
+        file(rt.alloc(), "a", b"late")?,
+    ]?;
+    let mut shelf = SteadyShelf::new(files);
+    let rows: [(&str, usize, &[u8]); 4] = [
+        ("a", 9, b"hello"),
+        ("a", 2, b"he"),
+        ("c", 9, b""),
+        ("", 9, b""),
+    ];
+    for (name, most, want) in rows {
+        let bytes = shelf.fetch(rt.alloc(), name, most)?;
+        assert_eq!(rt; bytes.as_slice(), want, "at {name} and {most}");
+    }
+    Ok(())
+}
+
+#[test]
+fn steady_sink_takes_every_piece_whole(rt: HostRuntime) -> Result<(), Fail> {
+    let mut sink = SteadySink::new();
+    assert_eq!(rt; sink.put(b"abc"), Ok(3));
+    assert_eq!(rt; sink.put(b""), Ok(0));
+    assert_eq!(rt; put_all(&mut sink, b"defgh"), Ok(()));
     Ok(())
 }
