@@ -1,4 +1,7 @@
+pub mod Front
+pub mod Live
 pub mod Loop
+pub mod Place
 pub mod SoundText
 pub mod WholeText
 pub mod WordLoops

@@ -1,17 +1,19 @@
 -- What the reader answers, from where the machine of bytes comes.
-use Rattle.std.proofs.Common.{◌≡◌, ℕ, suc, ◌+◌, ◌<◌, List, [], ◌∷◌, ◌++◌, length, take, drop, get_or, Option, Some, None, Result, Ok, Err, refl, sym, ap, subst, ◌∙◌, drop-cons, add-one}
+use Rattle.std.proofs.Common.{◌≡◌, ℕ, suc, ◌+◌, ◌<◌, List, [], ◌∷◌, ◌++◌, length, take, drop, get_or, Option, Some, None, Result, Err, refl, sym, ap, subst, ◌∙◌, drop-cons, add-one}
 use Rattle.std.proofs.Math.Seq.{take-suc}
 use Rattle.std.proofs.lemmas.List.{append-nil, take-append-drop}
 use Rattle.hpr_terms.specs.declared.token.Token.{Token}
 use Rattle.hpr_scan.specs.declared.machine.Fault.{Fault}
-use Rattle.hpr_scan.specs.declared.machine.Fault.TheVariants.{Refused, Memory}
+use Rattle.hpr_scan.specs.declared.machine.Fault.TheVariants.{Refused}
+use Rattle.hpr_scan.specs.declared.reader.Refusal.{Refusal}
+use Rattle.hpr_scan.specs.declared.reader.Refusal.TheVariants.{Stuck, Memory}
 use Rattle.hpr_scan.specs.declared.scanner.Lex.{Lex}
 use Rattle.hpr_scan.specs.declared.scanner.Lex.TheVariants.{Gap}
 use Rattle.hpr_scan.specs.declared.scanner.Scanner.{Scanner}
 use Rattle.hpr_scan.specs.Machine.{IsTokenMachine}
-use Rattle.hpr_scan.specs.Steps.{Steps, IsReading, IsNoReading, Reads}
-use Rattle.hpr_scan.specs.Scanner.{at, feed, feeds, scan, finish, IsStuck}
-use Rattle.hpr_scan.proofs.Words.{some_is, none_some}
+use Rattle.hpr_scan.specs.Steps.{Steps, IsReading}
+use Rattle.hpr_scan.specs.Scanner.{at, feed, feeds, scan, finish, FeedsAt, IsStuck, Scans}
+use Rattle.hpr_scan.proofs.Words.{some_is}
 use Rattle.hpr_scan.proofs.WholeText.{text_scan}
 use Rattle.hpr_scan.proofs.SoundText.{then_of, scan_from}
 
@@ -41,38 +43,27 @@ feeds_scan next (b ∷ x) y l s a e =
     let k = then_of (feed next l s b) (λ a. feeds next a.lex a.machine x) a e in
     rw k.1 (feeds_scan next x y k.0.lex k.0.machine a k.2)
 
-scan_end : {S : Type 0} (next : S → Token → Option S) (bytes : List ℕ) (s : S) (a : Scanner S) → feeds next Gap s bytes ≡ Some a → scan next Gap s bytes ≡ finish next a.lex a.machine
+pub scan_end : {S : Type 0} (next : S → Token → Option S) (bytes : List ℕ) (s : S) (a : Scanner S) → feeds next Gap s bytes ≡ Some a → scan next Gap s bytes ≡ finish next a.lex a.machine
 unfolding scan
 scan_end next bytes s a e = ap (scan next Gap s) (sym (append-nil bytes)) ∙ feeds_scan next bytes [] Gap s a e
 
-scan_stops : {S : Type 0} (next : S → Token → Option S) (l : Lex) (s : S) (b : ℕ) (more : List ℕ) → feed next l s b ≡ None → scan next l s (b ∷ more) ≡ None
+pub scan_stops : {S : Type 0} (next : S → Token → Option S) (l : Lex) (s : S) (b : ℕ) (more : List ℕ) → feed next l s b ≡ None → scan next l s (b ∷ more) ≡ None
 unfolding scan
 scan_stops next l s b more e = rw e refl
 
-scan_reads : {S : Type 0} (next : S → Token → Option S) → IsTokenMachine next → (s m : S) (bytes : List ℕ) → scan next Gap s bytes ≡ Some m → IsReading next s bytes m
+-- what the machine of bytes reads
+pub scan_reads : {S : Type 0} (next : S → Token → Option S) → IsTokenMachine next → (s m : S) (bytes : List ℕ) → scan next Gap s bytes ≡ Some m → IsReading next s bytes m
 scan_reads next laws s m bytes e =
     let k = scan_from next laws bytes Gap s m e in
     record { tokens = k.0; text = k.1; leads = k.2; only = λ ts n t r. some_is n m (sym (text_scan next laws t s n r) ∙ e) }
 
-scan_refuses : {S : Type 0} (next : S → Token → Option S) → IsTokenMachine next → (s : S) (bytes : List ℕ) → scan next Gap s bytes ≡ None → IsNoReading next s bytes
-scan_refuses next laws s bytes e ts n t r = none_some (sym e ∙ text_scan next laws t s n r)
-
--- the answer at the end of the bytes
-pub end_reads : {S : Type 0} (next : S → Token → Option S) → IsTokenMachine next → (s : S) (bytes : List ℕ) (a : Scanner S) (r : Result S Fault) → feeds next Gap s bytes ≡ Some a → Steps (finish next a.lex a.machine) r → Reads next s bytes r
-end_reads next laws s bytes a (Ok m) e h = scan_reads next laws s m bytes (scan_end next bytes s a e ∙ h)
-end_reads next laws s bytes a (Err Refused) e h = scan_refuses next laws s bytes (scan_end next bytes s a e ∙ h)
-end_reads next laws s bytes a (Err Memory) e h = tt
-
-split_at : (bytes : List ℕ) (n : ℕ) → n < length bytes → bytes ≡ take n bytes ++ (get_or bytes n 0 ∷ drop (suc n) bytes)
+pub split_at : (bytes : List ℕ) (n : ℕ) → n < length bytes → bytes ≡ take n bytes ++ (get_or bytes n 0 ∷ drop (suc n) bytes)
 split_at bytes n lt = sym (take-append-drop n bytes) ∙ ap (λ (x : List ℕ). take n bytes ++ x) (drop-cons bytes n 0 lt)
 
--- the answer before the end
-pub stuck_refuses : {S : Type 0} (next : S → Token → Option S) → IsTokenMachine next → (s : S) (bytes : List ℕ) (n : ℕ) → IsStuck next s bytes n → IsNoReading next s bytes
-stuck_refuses next laws s bytes n h =
-    scan_refuses next laws s bytes
-    (ap (scan next Gap s) (split_at bytes n h.within)
-    ∙ feeds_scan next (take n bytes) (get_or bytes n 0 ∷ drop (suc n) bytes) Gap s h.place h.front
-    ∙ scan_stops next h.place.lex h.place.machine (get_or bytes n 0) (drop (suc n) bytes) h.stops)
+-- the answer at a byte that cannot stand
+pub fed_stops : {S : Type 0} (next : S → Token → Option S) (s : S) (bytes : List ℕ) (n : ℕ) (a : Scanner S) (refusal : Refusal) → n < length bytes → feeds next Gap s (take n bytes) ≡ Some a → FeedsAt (feed next a.lex a.machine (get_or bytes n 0)) n (Err refusal) → Scans next s bytes (Err refusal)
+fed_stops next s bytes n a (Stuck m) lt e h = subst (IsStuck next s bytes) (sym h.1) (record { place = a; within = lt; front = e; stops = h.0 })
+fed_stops next s bytes n a Memory lt e h = tt
 
 pub refused_is : {A : Type 0} (o : Option A) (r : Result A Fault) → r ≡ Err Refused → Steps o r → o ≡ None
 refused_is o r e h = subst (Steps o) e h

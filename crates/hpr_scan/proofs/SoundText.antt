@@ -17,7 +17,7 @@ use Rattle.hpr_scan.specs.Machine.{IsTokenMachine}
 use Rattle.hpr_scan.specs.Steps.{and_then, runs}
 use Rattle.hpr_scan.specs.Words.{word_token, begins}
 use Rattle.hpr_scan.specs.Scanner.{at, sign_of, longer, after_sign, waiting, feed_sign, feed_gap, finish, feed_half, feed, scan}
-use Rattle.hpr_scan.proofs.Words.{some_is, none_some, IsSmall, small, word_bytes, token_is}
+use Rattle.hpr_scan.proofs.Words.{some_is, none_some, true_false, IsSmall, small, word_bytes, token_is}
 use Rattle.hpr_scan.proofs.WholeText.{NoWord, run_parts}
 
 -- the bytes go on with a comment, up to its newline or to their end
@@ -55,7 +55,7 @@ From Comment bytes ts = FromComment bytes ts
 From (InWord w) bytes ts = FromWord w bytes ts
 From (Half sign) bytes ts = FromHalf sign bytes ts
 
-apart_cons : (w : Bool) (b : ℕ) (bs : List ℕ) (v : Bool) → Apart w (b ∷ bs) v
+pub apart_cons : (w : Bool) (b : ℕ) (bs : List ℕ) (v : Bool) → Apart w (b ∷ bs) v
 apart_cons true b bs true = tt
 apart_cons true b bs false = tt
 apart_cons false b bs v = tt
@@ -90,14 +90,11 @@ longer_comment : {bs : List ℕ} {ts : List Token} (b : ℕ) → eqb b 10 ≡ fa
 longer_comment b e (goes remark n text) = goes (b ∷ remark) (no_newline_more b remark e n) text
 longer_comment b e (stops remark n) = stops (b ∷ remark) (no_newline_more b remark e n)
 
-no_both : {b : Bool} → b ≡ true → b ≡ false → ⊥
-no_both p q = absurd cc
-
 word_apart : {bs : List ℕ} (text rest : List ℕ) (t : Token) (w : Bool) → is_word t ≡ w → IsToken text t → IsSmall t → Blanks bs → NoWord (bs ++ (text ++ rest)) → Apart true bs w
 word_apart text rest t true e h s nothing nw =
     let k = word_bytes text t h e s in
     let first : is_name_byte k.first ≡ false = subst (λ (x : List ℕ). NoWord (x ++ rest)) k.is nw in
-    absurd (no_both k.begins first)
+    absurd (true_false k.begins first)
 word_apart text rest t false e h s nothing nw = tt
 word_apart text rest t w e h s (blank {b = b} {bytes = bs} f k) nw = apart_cons true b bs w
 word_apart text rest t w e h s (comment remark {bytes = bs} n k) nw = apart_cons true 35 (remark ++ (10 ∷ bs)) w
@@ -117,14 +114,14 @@ pub record Back {S : Type 0} (next : S → Token → Option S) (l : Lex) (s : S)
   pub from : From l (b ∷ bs) tokens
   pub run : runs next s tokens ≡ Some n
 
-run_first : {S : Type 0} (next : S → Token → Option S) (s m n : S) (t : Token) (ts : List Token) → next s t ≡ Some m → runs next m ts ≡ Some n → runs next s (t ∷ ts) ≡ Some n
+pub run_first : {S : Type 0} (next : S → Token → Option S) (s m n : S) (t : Token) (ts : List Token) → next s t ≡ Some m → runs next m ts ≡ Some n → runs next s (t ∷ ts) ≡ Some n
 run_first next s m n t ts e q = rw e q
 
-guard_of : {A : Type 0} (b : Bool) (x y : Option A) (z : A) → cond b x y ≡ Some z → ((b ≡ true) × (x ≡ Some z)) ⊎ ((b ≡ false) × (y ≡ Some z))
+pub guard_of : {A : Type 0} (b : Bool) (x y : Option A) (z : A) → cond b x y ≡ Some z → ((b ≡ true) × (x ≡ Some z)) ⊎ ((b ≡ false) × (y ≡ Some z))
 guard_of true x y z e = inl (refl, e)
 guard_of false x y z e = inr (refl, e)
 
-guard_is : {A : Type 0} (b : Bool) (x y : A) → cond b (Some x) None ≡ Some y → (b ≡ true) × (x ≡ y)
+pub guard_is : {A : Type 0} (b : Bool) (x y : A) → cond b (Some x) None ≡ Some y → (b ≡ true) × (x ≡ y)
 guard_is true x y e = (refl, cc)
 guard_is false x y e = absurd cc
 

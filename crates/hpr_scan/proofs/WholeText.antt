@@ -69,7 +69,7 @@ other_follows Less b e f = rw (e, f) refl
 other_follows Greater b e f = rw e refl
 other_follows _ b e f = refl
 
-blank_follows : (sign : Sign) (b : ℕ) → is_blank b ≡ true → longer sign b ≡ None
+pub blank_follows : (sign : Sign) (b : ℕ) → is_blank b ≡ true → longer sign b ≡ None
 unfolding is_blank
 blank_follows sign b e = other_follows sign b (grind (arith, nat_tests)) (grind (arith, nat_tests))
 
@@ -229,7 +229,7 @@ or_true : (a : Bool) → (a || true) ≡ true
 or_true true = refl
 or_true false = refl
 
-half_scan : {S : Type 0} (next : S → Token → Option S) (s n : S) (sign : Sign) (rest : List ℕ) → next s (Mark sign) ≡ Some n → Follows sign rest → scan next (Half sign) s rest ≡ scan next Gap n rest
+pub half_scan : {S : Type 0} (next : S → Token → Option S) (s n : S) (sign : Sign) (rest : List ℕ) → next s (Mark sign) ≡ Some n → Follows sign rest → scan next (Half sign) s rest ≡ scan next Gap n rest
 unfolding scan feed finish
 half_scan next s n sign [] e h = e
 half_scan next s n sign (b ∷ rest) e h = rw (h, e) refl

@@ -75,7 +75,7 @@ digit_bytes : (bs : List ℕ) → list_all is_digit bs ≡ true → list_all is_
 digit_bytes [] e = refl
 digit_bytes (b ∷ bs) e = let t = and_parts (is_digit b) (list_all is_digit bs) e in and_from (is_name_byte b) (list_all is_name_byte bs) (digit_byte b t.0) (digit_bytes bs t.1)
 
-keyword_bytes : (k : Keyword) → list_all is_name_byte (keyword_text k) ≡ true
+pub keyword_bytes : (k : Keyword) → list_all is_name_byte (keyword_text k) ≡ true
 unfolding is_name_byte
 keyword_bytes Program = refl
 keyword_bytes Issued = refl
@@ -248,7 +248,7 @@ keyword_no_numeral Not = refl
 keyword_no_numeral Write = refl
 keyword_no_numeral Out = refl
 
-true_false : {b : Bool} → b ≡ true → b ≡ false → ⊥
+pub true_false : {b : Bool} → b ≡ true → b ≡ false → ⊥
 true_false p q = absurd cc
 
 numeral_no_keyword : (w : List ℕ) (o : Option Keyword) → keyword_of w ≡ o → is_numeral w ≡ true → keyword_of w ≡ None

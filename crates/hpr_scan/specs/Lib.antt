@@ -1,4 +1,5 @@
 pub mod Machine
+pub mod Place
 pub mod Scanner
 pub mod Steps
 pub mod Words

@@ -17,6 +17,7 @@
 -- feed next lex s b       == the place after the byte b, if b can stand here
 -- scan next lex s bytes   == the machine after all of the bytes, if they can stand here and end here
 -- feeds next lex s bytes  == the place after the bytes, if they can stand here
+-- FeedsAt o n result      == the answer is o's place, or that n bytes is all that can stand, where o is none; memory may run out
 -- IsStuck next s bytes n  == the first n bytes lead from s to a place at which the next byte cannot stand
 -- Scans next s bytes r    == r is the place after the bytes, or the number of bytes before the first that cannot stand; memory may run out
 use Rattle.std.specs.Prelude.{◌≡◌, ℕ, ◌<◌, Bool, ◌||◌, nat_eq, List, [], ◌∷◌, ◌++◌, length, take, slice_index, Option, Some, None, is_some, Result, Ok, Err, if◌then◌else◌}
@@ -29,8 +30,8 @@ use Rattle.hpr_terms.specs.Tokens.{is_blank}
 use Rattle.hpr_scan.specs.declared.scanner.Lex.{Lex}
 use Rattle.hpr_scan.specs.declared.scanner.Lex.TheVariants.{Gap, Comment, InWord, Half}
 use Rattle.hpr_scan.specs.declared.scanner.Scanner.{Scanner}
-use Rattle.hpr_scan.specs.declared.reader.Stop.{Stop}
-use Rattle.hpr_scan.specs.declared.reader.Stop.TheVariants.{Stuck, Memory}
+use Rattle.hpr_scan.specs.declared.reader.Refusal.{Refusal}
+use Rattle.hpr_scan.specs.declared.reader.Refusal.TheVariants.{Stuck, Memory}
 use Rattle.hpr_scan.specs.Steps.{and_then}
 use Rattle.hpr_scan.specs.Words.{word_token, begins}
 
@@ -95,13 +96,18 @@ unfoldable pub feeds : {S : Type 0} → (S → Token → Option S) → Lex → S
 feeds next l s [] = Some (at l s)
 feeds next l s (b ∷ bs) = and_then (feed next l s b) (λ a. feeds next a.lex a.machine bs)
 
+abbrev pub FeedsAt : {S : Type 0} → Option (Scanner S) → ℕ → Result (Scanner S) Refusal → Type 0
+FeedsAt o n (Ok a) = o ≡ Some a
+FeedsAt o n (Err (Stuck m)) = (o ≡ None) × (m ≡ n)
+FeedsAt o n (Err Memory) = Unit {0}
+
 pub record IsStuck {S : Type 0} (next : S → Token → Option S) (s : S) (bytes : List ℕ) (n : ℕ) : Type 0 where
   pub place : Scanner S
   pub within : n < length bytes
   pub front : feeds next Gap s (take n bytes) ≡ Some place
   pub stops : feed next place.lex place.machine (slice_index bytes n) ≡ None
 
-abbrev pub Scans : {S : Type 0} → (S → Token → Option S) → S → List ℕ → Result (Scanner S) Stop → Type 0
+abbrev pub Scans : {S : Type 0} → (S → Token → Option S) → S → List ℕ → Result (Scanner S) Refusal → Type 0
 Scans next s bytes (Ok a) = feeds next Gap s bytes ≡ Some a
 Scans next s bytes (Err (Stuck n)) = IsStuck next s bytes n
 Scans next s bytes (Err Memory) = Unit {0}

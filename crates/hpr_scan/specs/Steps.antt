@@ -1,10 +1,8 @@
 -- Where tokens and bytes lead a machine.
 --
--- Steps o result               == the step's answer is o: a machine, or a refusal; memory may run out
--- runs next s tokens           == where the tokens lead from s
--- IsReading next s bytes m     == the bytes are the text of tokens that lead from s to m, and of no tokens that lead elsewhere
--- IsNoReading next s bytes     == the bytes are the text of no tokens that lead from s anywhere
--- Reads next s bytes result    == the answer is such a machine, or a refusal where there is none; memory may run out
+-- Steps o result           == the step's answer is o: a machine, or a refusal; memory may run out
+-- runs next s tokens       == where the tokens lead from s
+-- IsReading next s bytes m == the bytes are the text of tokens that lead from s to m, and of no tokens that lead elsewhere
 use Rattle.std.specs.Prelude.{◌≡◌, ℕ, false, List, [], ◌∷◌, Option, Some, None, Result, Ok, Err}
 use Rattle.hpr_terms.specs.declared.token.Token.{Token}
 use Rattle.hpr_terms.specs.Tokens.{Text}
@@ -29,11 +27,3 @@ pub record IsReading {S : Type 0} (next : S → Token → Option S) (s : S) (byt
   pub text : Text false bytes tokens
   pub leads : runs next s tokens ≡ Some m
   pub only : (ts : List Token) (n : S) → Text false bytes ts → runs next s ts ≡ Some n → n ≡ m
-
-abbrev pub IsNoReading : {S : Type 0} → (S → Token → Option S) → S → List ℕ → Type 0
-IsNoReading {S} next s bytes = (ts : List Token) (n : S) → Text false bytes ts → runs next s ts ≡ Some n → ⊥
-
-abbrev pub Reads : {S : Type 0} → (S → Token → Option S) → S → List ℕ → Result S Fault → Type 0
-Reads next s bytes (Ok m) = IsReading next s bytes m
-Reads next s bytes (Err Refused) = IsNoReading next s bytes
-Reads next s bytes (Err Memory) = Unit {0}

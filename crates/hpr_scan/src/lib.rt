@@ -2,7 +2,8 @@
 //!
 //! A machine says by its steps which tokens may follow one another. The reader finds the tokens in
 //! the bytes, one byte at a time, and hands them to the machine. It takes exactly the texts of the
-//! lists of tokens that the machine takes.
+//! lists of tokens that lead the machine to an end. Of other bytes it names the exact place: the
+//! length of their longest front that further bytes complete to such a text.
 #![tactic(auto)]
 
 mod machine;
@@ -10,7 +11,9 @@ mod reader;
 mod scanner;
 #[cfg(test)]
 mod tests;
+#[cfg(test)]
+mod toys;
 mod word;
 
-pub use machine::{Fault, TokenMachine};
-pub use reader::read;
+pub use machine::{Fault, FrontMachine, TokenMachine};
+pub use reader::{Refusal, read, read_front};

@@ -1,8 +1,8 @@
 //! Machines that read tokens.
-ghost use Rattle.std.specs.Prelude.{◌≡◌, ℕ, List, Option, is_some};
+ghost use Rattle.std.specs.Prelude.{◌≡◌, ℕ, Bool, true, List, Option, Some, is_some};
 ghost use Rattle.hpr_terms.specs.declared.token.Token.{Token};
 ghost use Rattle.hpr_terms.specs.declared.token.Token.TheVariants.{Word, Name, Number, Mark};
-ghost use Rattle.hpr_scan.specs.Machine.{IsTokenMachine};
+ghost use Rattle.hpr_scan.specs.Machine.{IsTokenMachine, Live, EndsAtOnce};
 ghost use Rattle.hpr_scan.specs.Steps.{Steps};
 
 use hpr_terms::{Keyword, NoMemory, Sign, Token};
@@ -55,6 +55,9 @@ pub trait TokenMachine: Sized {
     // where a token leads, if it can stand next
     ghost next: { Self → Token → Option Self };
 
+    // whether a text may end here
+    ghost may_end: { Self → Bool };
+
     /// The machine after the token. `Refused` comes exactly where the token cannot stand next.
     fn step(self, alloc: Global, token: Token) -> Result<Self, Fault>
         ensures { Steps (next self token) result };
@@ -75,6 +78,22 @@ pub trait TokenMachine: Sized {
     fn takes_sign(&self, sign: Sign) -> bool
         ensures { result ≡ is_some (next self.now (Mark sign)) };
 
+    /// Whether a text may end here.
+    fn can_end(&self) -> bool
+        ensures { result ≡ may_end self.now };
+
     // what the reader of bytes relies on
     ghost laws: { IsTokenMachine next };
+
+    // every machine can still come to an end
+    ghost live: { (s : Self) → Live next may_end s };
+}
+
+/// A machine at which a text ends only behind a sign that no byte makes a longer one, as `;`.
+///
+/// So its reader knows the end of a text by the last byte, whatever follows.
+pub trait FrontMachine: TokenMachine {
+    // only such a sign leads to an end
+    ghost ends_at_once: { (s n : Self) (t : Token) →
+        Self.next s t ≡ Some n → Self.may_end n ≡ true → EndsAtOnce t };
 }

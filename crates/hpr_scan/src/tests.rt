@@ -1,117 +1,7 @@
-//! Texts that a small machine takes and refuses.
-ghost use Rattle.std.specs.Prelude.{◌≡◌, Some, None, ◌+◌, nat_le, nat_lt, ◌&&◌, true, false, not, refl, if◌then◌else◌};
-ghost use Rattle.hpr_scan.specs.Steps.{Steps};
-ghost use Rattle.hpr_terms.specs.declared.token.Token.TheVariants as tokens;
-
-use crate::machine::{Fault, TokenMachine};
-use crate::reader::read;
-use hpr_terms::{Keyword, Sign, Token};
-use std::alloc::Global;
-
-/// Counts names and other tokens.
-///
-/// It takes no two signs in a row, no number above 300, and no more than 99 of each count.
-#[derive(Debug, Drop)]
-struct Counter {
-    names: u32,
-    others: u32,
-    after_sign: bool,
-}
-
-impl Counter {
-    fn count_name(self) -> Result<Counter, Fault>
-        ensures { let counted = record self { names = self.names + 1; after_sign = false } in
-            Steps (if nat_lt self.names 99 then Some counted else None) result }
-    {
-        if self.names < 99 {
-            return Ok(Counter {
-                names: self.names + 1,
-                others: self.others,
-                after_sign: false,
-            });
-        }
-        Err(Fault::Refused)
-    }
-
-    fn count_other(self, can: bool, after_sign: bool) -> Result<Counter, Fault>
-        ensures { let counted = record self { others = self.others + 1; after_sign = after_sign } in
-            Steps (if can && nat_lt self.others 99 then Some counted else None) result }
-    {
-        if can && self.others < 99 {
-            return Ok(Counter {
-                names: self.names,
-                others: self.others + 1,
-                after_sign,
-            });
-        }
-        Err(Fault::Refused)
-    }
-}
-
-impl TokenMachine for Counter {
-    ghost next = { λ s t.
-        let other = record s { others = s.others + 1; after_sign = false } in
-        elim t [
-          | tokens.Word k ↦ (if nat_lt s.others 99 then Some other else None)
-          | tokens.Name x ↦
-              (if nat_lt s.names 99 then Some (record s { names = s.names + 1; after_sign = false })
-              else None)
-          | tokens.Number n ↦ (if nat_le n 300 && nat_lt s.others 99 then Some other else None)
-          | tokens.Mark sign ↦
-              (if not s.after_sign && nat_lt s.others 99 then Some (record other { after_sign = true })
-              else None)
-        ] };
-
-    fn step(self, _alloc: Global, token: Token) -> Result<Counter, Fault> {
-        match token {
-            Token::Word(_) => self.count_other(true, false),
-            Token::Name(_) => self.count_name(),
-            Token::Number(number) => self.count_other(number <= 300, false),
-            Token::Mark(_) => {
-                let can = !self.after_sign;
-                self.count_other(can, true)
-            }
-        }
-    }
-
-    fn takes_keyword(&self, _keyword: Keyword) -> bool {
-        self.others < 99
-    }
-
-    fn takes_name(&self) -> bool {
-        self.names < 99
-    }
-
-    fn takes_number(&self, number: u64) -> bool {
-        number <= 300 && self.others < 99
-    }
-
-    fn takes_sign(&self, _sign: Sign) -> bool {
-        !self.after_sign && self.others < 99
-    }
-
-    ghost use Rattle.std.proofs.Common.{arith};
-    ghost use Rattle.std.proofs.lemmas.Bool.Decides.{nat_tests};
-
-    ghost laws = { record {
-      names = λ s x y. refl;
-      smaller = λ s m n low le h. Prim.grind (arith, nat_tests, h);
-      bounded = λ s n h. Prim.grind (arith, nat_tests, h);
-      colon = λ s n h. Prim.grind (arith, nat_tests, h);
-      less_equal = λ s n h. Prim.grind (arith, nat_tests, h);
-      less_greater = λ s n h. Prim.grind (arith, nat_tests, h);
-      less_greater_equal = λ s n h. Prim.grind (arith, nat_tests, h);
-      greater = λ s n h. Prim.grind (arith, nat_tests, h);
-    } };
-}
-
-fn start() -> Counter {
-    Counter {
-        names: 0,
-        others: 0,
-        after_sign: false,
-    }
-}
+//! Texts that small machines take and refuse.
+use crate::machine::Fault;
+use crate::reader::{Refusal, read, read_front};
+use crate::toys::{no_count, no_lines};
 
 #[test]
 fn counts_tokens(rt: HostRuntime) {
@@ -142,7 +32,7 @@ fn counts_tokens(rt: HostRuntime) {
         ("a<# \n b", 2, 1),
     ];
     for (text, names, others) in taken {
-        match read(rt.alloc(), start(), text.as_bytes()) {
+        match read(rt.alloc(), no_count(), text.as_bytes()) {
             Ok(counter) => {
                 assert_eq!(rt; counter.names, names, "names of {text}");
                 assert_eq!(rt; counter.others, others, "others of {text}");
@@ -152,31 +42,130 @@ fn counts_tokens(rt: HostRuntime) {
     }
 }
 
+/// The place of the refusal, if there is one. Out of memory has the greatest place.
+fn place<T: Drop>(answer: Result<T, Refusal>) -> Option<usize> {
+    match answer {
+        Ok(_) => None,
+        Err(Refusal::Stuck { place }) => Some(place),
+        Err(Refusal::Memory) => Some(usize::MAX),
+    }
+}
+
 #[test]
-fn refuses_texts(rt: HostRuntime) {
+fn refuses_at_the_place(rt: HostRuntime) {
     let refused = [
-        "01",
-        "00",
-        "301",
-        "18446744073709551616",
-        "1x",
-        "1or",
-        "a\u{c}b",
-        "é",
-        "# a\n é",
-        "a<#\n>b",
-        "a!",
-        "a < = b",
-        "a : = b",
-        "a <> = b",
-        "a<=>b",
-        "a==b",
+        ("01", 1),
+        ("00", 1),
+        ("301", 2),
+        ("3010 x", 2),
+        ("18446744073709551616", 3),
+        ("1x", 1),
+        ("1or", 1),
+        ("a\u{c}b", 1),
+        ("é", 0),
+        ("# a\n é", 5),
+        ("a<#\n>b", 4),
+        ("a!", 1),
+        ("a < = b", 4),
+        ("a : = b", 4),
+        ("a <> = b", 5),
+        ("a<=>b", 3),
+        ("a==b", 2),
     ];
-    for text in refused {
-        match read(rt.alloc(), start(), text.as_bytes()) {
-            Ok(_) => assert!(rt; false, "{text} is refused"),
-            Err(fault) => assert_eq!(rt; fault, Fault::Refused, "{text}"),
+    for (text, at) in refused {
+        assert_eq!(rt;
+            place(read(rt.alloc(), no_count(), text.as_bytes())),
+            Some(at),
+            "{text}"
+        );
+    }
+}
+
+// A text may not end behind a sign: its place is its end.
+#[test]
+fn refuses_early_ends(rt: HostRuntime) {
+    let cut = [
+        "<", "a :", "a :=", "a <= ", "a < # b", "a + #\n", "(", "a ;",
+    ];
+    for text in cut {
+        let bytes = text.as_bytes();
+        assert_eq!(rt;
+            place(read(rt.alloc(), no_count(), bytes)),
+            Some(bytes.len()),
+            "{text}"
+        );
+    }
+}
+
+// One text, cut behind each byte.
+#[test]
+fn finds_the_place_of_each_front(rt: HostRuntime) -> Result<(), Fault> {
+    let text = [
+        ('a', None),
+        (' ', None),
+        ('<', Some(3)),
+        ('=', Some(4)),
+        (' ', Some(5)),
+        ('2', None),
+        ('0', None),
+        (' ', None),
+        ('#', None),
+        ('é', None),
+        ('\n', None),
+        ('<', Some(13)),
+        (' ', Some(14)),
+        ('=', Some(14)),
+        ('b', Some(14)),
+    ];
+    let mut front = String::new(rt.alloc());
+    for (letter, at) in text {
+        front.push(letter)?;
+        assert_eq!(rt;
+            place(read(rt.alloc(), no_count(), front.as_bytes())),
+            at,
+            "{front}"
+        );
+    }
+    Ok(())
+}
+
+#[test]
+fn reads_fronts(rt: HostRuntime) {
+    let taken = [
+        (";", 0, 0),
+        ("a b; c", 2, 3),
+        ("a:=b;!", 2, 4),
+        ("a # b;\n c ;;", 2, 10),
+        ("a;\u{0}", 1, 1),
+    ];
+    for (text, names, last) in taken {
+        match read_front(rt.alloc(), no_lines(), text.as_bytes()) {
+            Ok((lines, at)) => {
+                assert_eq!(rt; lines.names, names, "names of {text}");
+                assert_eq!(rt; at, last, "last byte of {text}");
+            }
+            Err(_) => assert!(rt; false, "{text} is taken"),
         }
+    }
+}
+
+#[test]
+fn refuses_fronts_at_the_place(rt: HostRuntime) {
+    let refused = [
+        ("", 0),
+        ("a", 1),
+        ("if", 2),
+        ("if ;", 2),
+        ("a # b;", 6),
+        ("a :", 3),
+        ("a :; b;", 3),
+        ("a := b :", 8),
+        ("a 1;", 2),
+        ("a\n!;", 2),
+    ];
+    for (text, at) in refused {
+        let answer = read_front(rt.alloc(), no_lines(), text.as_bytes());
+        assert_eq!(rt; place(answer), Some(at), "{text}");
     }
 }
 
@@ -186,9 +175,14 @@ fn bounds_names(rt: HostRuntime) -> Result<(), Fault> {
     for _ in 0..64 {
         name.push('a')?;
     }
-    let counter = read(rt.alloc(), start(), name.as_bytes())?;
-    assert_eq!(rt; counter.names, 1);
+    match read(rt.alloc(), no_count(), name.as_bytes()) {
+        Ok(counter) => assert_eq!(rt; counter.names, 1),
+        Err(_) => assert!(rt; false, "64 letters are taken"),
+    }
     name.push('a')?;
-    assert!(rt; read(rt.alloc(), start(), name.as_bytes()).is_err());
+    assert_eq!(rt;
+        place(read(rt.alloc(), no_count(), name.as_bytes())),
+        Some(64)
+    );
     Ok(())
 }

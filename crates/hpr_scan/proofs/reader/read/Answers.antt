@@ -1,8 +1,30 @@
-use Rattle.hpr_scan.proofs.Loop.{end_reads, stuck_refuses}
+use Rattle.std.proofs.Common.{◌∙◌, ap, Err, sym}
+use Rattle.std.proofs.lemmas.Result.{err_from_is_err_and}
+use Rattle.hpr_scan.proofs.Loop.{scan_end, scan_reads, refused_is}
+use Rattle.hpr_scan.proofs.Place.{refusal_is, unended_is, too_early_is}
 use Rattle.hpr_scan.proofs.reader.read.Goals as goal
 
-pub returns-in-Ok : goal.returns-in-Ok
-returns-in-Ok g c = end_reads g.M.TokenMachine.next g.met.M.TokenMachine.laws c.args.machine c.args.bytes.now c.in-Ok.scanner c.end.result c.in-Ok.ensures c.end.ensures
+pub returns-in_err-scanner-clause-place : goal.returns-in_err-scanner-clause-place
+returns-in_err-scanner-clause-place g c =
+    let m = g.M.TokenMachine in
+    let p = err_from_is_err_and c.from_residual.result c.from_residual.ensures.1 in
+    rw (p.1, p.2)
+    (refusal_is m.next m.may_end g.met.M.TokenMachine.laws g.met.M.TokenMachine.live c.args.machine c.args.bytes.now c.in_err-scanner.field-0.0 c.in_err-scanner.ensures)
 
-pub returns-in-Err-Stuck : goal.returns-in-Err-Stuck
-returns-in-Err-Stuck g c = stuck_refuses g.M.TokenMachine.next g.met.M.TokenMachine.laws c.args.machine c.args.bytes.now c.in-Err-Stuck._place (rw c.in-Err-Stuck.field-0-is at c.in-Err-Stuck.ensures)
+pub returns-in-Err-Refused-clause-place : goal.returns-in-Err-Refused-clause-place
+returns-in-Err-Refused-clause-place g c =
+    let m = g.M.TokenMachine in
+    unended_is m.next m.may_end g.met.M.TokenMachine.laws g.met.M.TokenMachine.live c.args.machine c.args.bytes.now c.in_ok-scanner.scanner c.in_ok-scanner.ensures
+    (refused_is _ c.end.result (c.in-Err-Refused.is ∙ ap Err c.in-Err-Refused.field-0-is) c.end.ensures)
+
+pub returns-then-can_end-clause-reads : goal.returns-then-can_end-clause-reads
+returns-then-can_end-clause-reads g c =
+    let next = g.M.TokenMachine.next in
+    scan_reads next g.met.M.TokenMachine.laws c.args.machine c.in-Ok.machine c.args.bytes.now
+    (scan_end next c.args.bytes.now c.args.machine c.in_ok-scanner.scanner c.in_ok-scanner.ensures ∙ c.in-Ok.ensures)
+
+pub returns-else-can_end-clause-place : goal.returns-else-can_end-clause-place
+returns-else-can_end-clause-place g c =
+    let m = g.M.TokenMachine in
+    too_early_is m.next m.may_end g.met.M.TokenMachine.laws g.met.M.TokenMachine.live c.args.machine c.in-Ok.machine c.args.bytes.now c.in_ok-scanner.scanner c.in_ok-scanner.ensures
+    c.in-Ok.ensures (sym c.can_end.ensures ∙ c.if-can_end.false)

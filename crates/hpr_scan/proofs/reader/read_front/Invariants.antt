@@ -1,0 +1,14 @@
+use Rattle.std.proofs.Common.{◌≡◌, false, take, Some}
+use Rattle.hpr_scan.specs.declared.scanner.Lex.TheVariants.{Gap}
+use Rattle.hpr_scan.specs.Scanner.{feeds}
+use Rattle.hpr_scan.proofs.Front.{NoFront}
+use Rattle.hpr_scan.proofs.reader.read_front.Given as goal
+
+abbrev pub invariant-loop-place : goal.invariant-loop-place
+invariant-loop-place g l =
+    let m = g.M.TokenMachine in
+    record {
+      front : feeds m.next Gap l.fn.machine (take l.place l.bytes) ≡ Some l.scanner;
+      goes_on : m.may_end l.scanner.machine ≡ false;
+      no_front : NoFront m.next m.may_end l.fn.machine l.bytes l.place;
+    }
