@@ -1,5 +1,5 @@
 -- An expression goes on where its reading does, and ends where its reading can end.
-use Rattle.std.proofs.Common.{◌≡◌, Option, Some, None, is_some, refl}
+use Rattle.std.proofs.Common.{◌≡◌, ℕ, Option, Some, None, is_some, refl}
 use Rattle.hpr_terms.specs.declared.expr.Expr.{Expr}
 use Rattle.hpr_text.specs.declared.expression.Reading.{Reading}
 use Rattle.hpr_text.specs.declared.found.Found.{Found}
@@ -11,8 +11,8 @@ pub goes_on_is_some : (f : Found) (p : Purpose) (o : Option Reading) → is_some
 goes_on_is_some f p None = refl
 goes_on_is_some f p (Some r) = refl
 
-pub ends_here_is_some : (f : Found) (p : Purpose) (o : Option Expr) → is_some (ends_here f p o) ≡ is_some o
-ends_here_is_some f p None = refl
-ends_here_is_some f (Assign t x) (Some e) = refl
-ends_here_is_some f (Test t) (Some e) = refl
-ends_here_is_some f (Guard t) (Some e) = refl
+pub ends_here_is_some : (l : Option ℕ) (f : Found) (p : Purpose) (o : Option Expr) → is_some (ends_here l f p o) ≡ is_some o
+ends_here_is_some l f p None = refl
+ends_here_is_some l f (Assign t x) (Some e) = refl
+ends_here_is_some l f (Test t) (Some e) = refl
+ends_here_is_some l f (Guard t) (Some e) = refl

@@ -5,5 +5,13 @@ pub mod SoundExpression
 pub mod Sound
 pub mod WholeExpression
 pub mod Whole
+pub mod Kept
+pub mod Lengths
+pub mod Shapes
+pub mod Numbered
 pub mod Once
+pub mod Answers
 pub mod Texts
+pub mod ContentGoing
+pub mod LastSign
+pub mod Contents

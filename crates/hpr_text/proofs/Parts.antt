@@ -13,6 +13,8 @@ use Rattle.hpr_syntax.specs.Grammar.{Form, SpellsParts, tag_pair}
 use Rattle.hpr_terms.specs.declared.token.Token.{Token}
 use Rattle.hpr_text.specs.declared.blocks.Begun.{Begun}
 use Rattle.hpr_text.specs.declared.blocks.Begun.TheVariants as begun
+use Rattle.hpr_text.specs.declared.form.Mode.{Mode}
+use Rattle.hpr_text.specs.declared.form.Mode.TheVariants.{Tagged, Untagged}
 use Rattle.hpr_text.specs.Machine.{then_parts}
 
 pub pushed_body : (ss : List Stmt) (s : Stmt) → body_of (ss ++ (s ∷ [])) ≡ then_parts (body_of ss) (before s done)
@@ -110,3 +112,10 @@ parts_then (grammar.conditional label test first rest) h = rw (append_assoc, app
 parts_then (grammar.conditional_else label test first second rest) h =
     rw (append_assoc, append_assoc, append_assoc, append_assoc) (grammar.conditional_else label test first second (parts_then rest h))
 parts_then (grammar.while_loop label test inner rest) h = rw (append_assoc, append_assoc, append_assoc) (grammar.while_loop label test inner (parts_then rest h))
+
+-- ---- counts
+
+-- how many parts the machine has given their tags, where n parts have begun
+abbrev pub tally : Mode → ℕ → ℕ
+tally Tagged n = 0
+tally (Untagged a) n = n

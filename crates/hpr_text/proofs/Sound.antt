@@ -9,18 +9,19 @@ use Rattle.hpr_terms.specs.declared.token.Sign.TheVariants.{Colon, Becomes, Dot,
 use Rattle.hpr_terms.specs.declared.token.Token.{Token}
 use Rattle.hpr_terms.specs.declared.token.Token.TheVariants.{Word, Name, Number, Mark}
 use Rattle.hpr_syntax.specs.Body.{Body, done, assign, branch, loop}
-use Rattle.hpr_syntax.specs.Parts.{tags_of}
 use Rattle.hpr_syntax.specs.Issued as issued
 use Rattle.hpr_syntax.specs.Shape.{max_levels}
 use Rattle.hpr_syntax.specs.Tree.{Tree}
 use Rattle.hpr_syntax.specs.Grammar as grammar
-use Rattle.hpr_syntax.specs.Grammar.{tagged, IsAuthor, IsSerial, IsTag, IsPair, Labels, SpellsExpr, SpellsParts, SpellsPairs, SpellsHeader, SpellsNames, SpellsProgram, tag_pair, pair_then, issued_of}
+use Rattle.hpr_syntax.specs.Grammar.{Form, IsAuthor, IsSerial, IsTag, IsPair, Labels, SpellsExpr, SpellsParts, SpellsPairs, SpellsHeader, SpellsNames, SpellsProgram, tag_pair, pair_then, issued_of}
 use Rattle.hpr_scan.specs.Steps.{and_then, runs}
 use Rattle.hpr_scan.proofs.Words.{some_is}
 use Rattle.hpr_text.specs.declared.expression.Reading.{Reading}
 use Rattle.hpr_text.specs.declared.blocks.Around.{Around}
 use Rattle.hpr_text.specs.declared.blocks.Begun.{Begun}
 use Rattle.hpr_text.specs.declared.blocks.Begun.TheVariants as begun
+use Rattle.hpr_text.specs.declared.form.Mode.{Mode}
+use Rattle.hpr_text.specs.declared.form.Mode.TheVariants.{Tagged, Untagged}
 use Rattle.hpr_text.specs.declared.found.Found.{Found}
 use Rattle.hpr_text.specs.declared.state.Purpose.{Purpose}
 use Rattle.hpr_text.specs.declared.state.Purpose.TheVariants.{Assign, Test, Guard}
@@ -28,9 +29,10 @@ use Rattle.hpr_text.specs.declared.state.Place.{Place}
 use Rattle.hpr_text.specs.declared.state.Place.TheVariants.{Start, AfterProgram, BeforePair, AfterPairAuthor, AfterPairColon, AfterPair, AtPart, AfterAuthor, AfterDot, AfterSerial, AfterColon, AfterTarget, InExpression, AfterEnd, AfterOpen, AfterName, AfterComma, AtEnd}
 use Rattle.hpr_text.specs.declared.state.State.{State}
 use Rattle.hpr_text.specs.Expression.{read, ended, start}
-use Rattle.hpr_text.specs.Machine.{then_parts, with_number, with_header, with_tag, tag_raised, with_part, in_then, in_loop, else_in, fi_in, od_in, at_part, ends_parts, with_name, state_at, part_next, goes_on, ends_here, expression_next, next_at, next, nothing_found, initially, accepted, accepted_at, tag_read}
+use Rattle.hpr_text.specs.Forms.{form_of}
+use Rattle.hpr_text.specs.Machine.{then_parts, with_number, with_header, with_tag, with_count, tag_raised, given, tag_given, begun_in, first_next, tag_next, header_next, colon_next, with_part, in_then, in_loop, else_in, fi_in, od_in, at_part, ends_parts, with_name, state_at, part_next, goes_on, ends_here, expression_next, next_at, next, nothing_found, initially, accepted, accepted_at, tag_read}
 use Rattle.hpr_text.proofs.SoundExpression.{guard_is, ReadingIs, start_is, read_is, ended_is}
-use Rattle.hpr_text.proofs.Parts.{raised_after, tags_read, read_then, tag_raises, parts_then}
+use Rattle.hpr_text.proofs.Parts.{raised_after, tags_read, read_then, tag_raises, parts_then, tally}
 
 -- ---- what is taken
 
@@ -48,7 +50,11 @@ serial_is n e = let two = both (nat_le 1 n) (nat_lt n (2 ^ 32)) e in (leb-true 1
 abbrev pub PairsGo : List Token → List (ℕ × ℕ) → Type 0
 PairsGo front ps = (ts : List Token) (qs : List (ℕ × ℕ)) → SpellsPairs ts qs → SpellsPairs (front ++ ts) (ps ++ qs)
 
-pub record PairsAre (f : Found) (ts : List Token) : Type 0 where
+-- there is a header only in the tagged form
+pub record PairsAre (m : Mode) (f : Found) (ts : List Token) : Type 0 where
+  pub tagged : m ≡ Tagged
+  pub mode : f.mode ≡ m
+  pub no_count : f.count ≡ 0
   pub front : List Token
   pub pairs : List (ℕ × ℕ)
   pub go : PairsGo front pairs
@@ -60,7 +66,10 @@ pub record PairsAre (f : Found) (ts : List Token) : Type 0 where
   pub tokens : ts ≡ Word Program ∷ Word Issued ∷ front
 
 -- the same, with a last pair that has no comma yet
-pub record LastPairIs (f : Found) (ts : List Token) : Type 0 where
+pub record LastPairIs (m : Mode) (f : Found) (ts : List Token) : Type 0 where
+  pub tagged : m ≡ Tagged
+  pub mode : f.mode ≡ m
+  pub no_count : f.count ≡ 0
   pub front : List Token
   pub pairs : List (ℕ × ℕ)
   pub last : ℕ × ℕ
@@ -75,30 +84,35 @@ pub record LastPairIs (f : Found) (ts : List Token) : Type 0 where
 
 -- ---- parts
 
+-- how many parts have begun, where n stand before one that has or has not begun
+abbrev pub begun_by : ℕ → List Tag → ℕ
+begun_by n [] = n
+begun_by n (t ∷ ts) = n + 1
+
 abbrev pub label_of : Tag → List Token
 label_of t = Number t.author ∷ Mark Dot ∷ Number t.serial ∷ Mark Colon ∷ []
 
 -- a part with a block that has begun: its parts before, its label and its test; outer is said of the blocks around it
-pub record AroundIs (outer : ℕ → List Token → Type 0) (l k : ℕ) (r : Around) (begins ends : Token) (ts : List Token) : Type 0 where
+pub record AroundIs (m : Form) (outer : ℕ → List Token → Type 0) (l k : ℕ) (r : Around) (begins ends : Token) (ts : List Token) : Type 0 where
   pub from : ℕ
   pub past : List Token
   pub before : List Token
   pub label : List Token
   pub test : List Token
   pub blocks : outer from past
-  pub before_is : SpellsParts tagged (suc l) from k before r.before
-  pub label_is : Labels tagged k label r.tag
+  pub before_is : SpellsParts m (suc l) from k before r.before
+  pub label_is : Labels m k label r.tag
   pub test_is : SpellsExpr test r.test
   pub tokens : ts ≡ past ++ (before ++ (label ++ (begins ∷ (test ++ (ends ∷ [])))))
 
 -- the open blocks: l levels are left in the innermost one, and n parts had their tags before its parts
-abbrev pub BlocksAre : ℕ → ℕ → List Begun → List Token → Type 0
-BlocksAre l n [] ts = (l ≡ max_levels) × (n ≡ 0) × (ts ≡ [])
-BlocksAre l n (begun.Then r ∷ os) ts = (k : ℕ) × (n ≡ k + 1) × AroundIs (λ j a. BlocksAre (suc l) j os a) l k r (Word If) (Word Then) ts
-BlocksAre l n (begun.Else r first ∷ os) ts =
-    (k : ℕ) × (past : List Token) × (yes : List Token) × SpellsParts tagged l (k + 1) n yes first × AroundIs (λ j a. BlocksAre (suc l) j os a) l k r (Word If) (Word Then) past
-    × (ts ≡ past ++ (yes ++ (Word Else ∷ [])))
-BlocksAre l n (begun.Loop r ∷ os) ts = (k : ℕ) × (n ≡ k + 1) × AroundIs (λ j a. BlocksAre (suc l) j os a) l k r (Word While) (Word Do) ts
+abbrev pub BlocksAre : Form → ℕ → ℕ → List Begun → List Token → Type 0
+BlocksAre m l n [] ts = (l ≡ max_levels) × (n ≡ 0) × (ts ≡ [])
+BlocksAre m l n (begun.Then r ∷ os) ts = (k : ℕ) × (n ≡ k + 1) × AroundIs m (λ j a. BlocksAre m (suc l) j os a) l k r (Word If) (Word Then) ts
+BlocksAre m l n (begun.Else r first ∷ os) ts =
+    (k : ℕ) × (past : List Token) × (yes : List Token) × SpellsParts m l (k + 1) n yes first
+    × AroundIs m (λ j a. BlocksAre m (suc l) j os a) l k r (Word If) (Word Then) past × (ts ≡ past ++ (yes ++ (Word Else ∷ [])))
+BlocksAre m l n (begun.Loop r ∷ os) ts = (k : ℕ) × (n ≡ k + 1) × AroundIs m (λ j a. BlocksAre m (suc l) j os a) l k r (Word While) (Word Do) ts
 
 -- the numbers are the header's, or those of the parts' tags and then of these
 abbrev pub NumbersAre : Option (List (ℕ × ℕ)) → Found → List Tag → Type 0
@@ -106,27 +120,40 @@ NumbersAre None f more = (f.has_header ≡ false) × (f.issued ≡ issued.raised
 NumbersAre (Some ps) f more = (f.has_header ≡ true) × (f.issued ≡ issued.raised_by ps [])
 
 -- more is the tag of a part that has begun
-pub record PartsAre (l : ℕ) (f : Found) (more : List Tag) (ts : List Token) : Type 0 where
+pub record PartsAre (m : Mode) (l : ℕ) (f : Found) (more : List Tag) (ts : List Token) : Type 0 where
   pub header : List Token
   pub pairs : Option (List (ℕ × ℕ))
   pub from : ℕ
   pub to : ℕ
   pub around : List Token
   pub inside : List Token
-  pub header_is : SpellsHeader tagged header pairs
-  pub blocks : BlocksAre l from f.blocks around
-  pub spelled : SpellsParts tagged l from to inside f.parts
+  pub mode : f.mode ≡ m
+  pub counts : f.count ≡ tally m (begun_by to more)
+  pub header_is : SpellsHeader (form_of m) header pairs
+  pub blocks : BlocksAre (form_of m) l from f.blocks around
+  pub spelled : SpellsParts (form_of m) l from to inside f.parts
   pub numbers : NumbersAre pairs f more
   pub no_names : f.names ≡ []
   pub tokens : ts ≡ Word Program ∷ (header ++ (around ++ inside))
 
--- the tokens since the last part
-pub record SincePart (f : Found) (more : List Tag) (last : List Token) (ts : List Token) : Type 0 where
+-- the tokens since the last part: a front of a tag
+pub record SincePart (m : Mode) (f : Found) (more : List Tag) (last : List Token) (ts : List Token) : Type 0 where
+  pub tagged : m ≡ Tagged
   pub level : ℕ
   pub past : List Token
-  pub parts : PartsAre level f more past
+  pub parts : PartsAre m level f more past
   pub room : length f.blocks < max_levels
   pub tokens : ts ≡ past ++ last
+
+-- the tokens since the last part: a label, and what follows it
+pub record BegunIs (m : Mode) (f : Found) (t : Tag) (last : List Token) (ts : List Token) : Type 0 where
+  pub level : ℕ
+  pub past : List Token
+  pub label : List Token
+  pub parts : PartsAre m level f (t ∷ []) past
+  pub label_is : Labels (form_of m) parts.to label t
+  pub room : length f.blocks < max_levels
+  pub tokens : ts ≡ past ++ (label ++ last)
 
 -- ---- the end
 
@@ -135,57 +162,61 @@ abbrev pub NamesGo : List Token → List (List ℕ) → Type 0
 NamesGo front xs = (ts : List Token) (y : List ℕ) (ys : List (List ℕ)) → SpellsNames ts (y ∷ ys) → SpellsNames (front ++ ts) (xs ++ (y ∷ ys))
 
 -- the tokens up to the opening bracket
-pub record BodyIs (f : Found) (names : List (List ℕ)) (last : List Token) (ts : List Token) : Type 0 where
+pub record BodyIs (m : Mode) (f : Found) (names : List (List ℕ)) (last : List Token) (ts : List Token) : Type 0 where
   pub header : List Token
   pub pairs : Option (List (ℕ × ℕ))
   pub parts : List Token
-  pub header_is : SpellsHeader tagged header pairs
+  pub header_is : SpellsHeader (form_of m) header pairs
   pub count : ℕ
-  pub parts_are : SpellsParts tagged max_levels 0 count parts f.parts
+  pub counts : f.count ≡ tally m count
+  pub parts_are : SpellsParts (form_of m) max_levels 0 count parts f.parts
   pub numbers : f.issued ≡ issued_of pairs f.parts
   pub names_are : f.names ≡ names
   pub tokens : ts ≡ Word Program ∷ (header ++ (parts ++ (Word End ∷ last)))
 
 -- ---- each place
 
-abbrev pub PurposeIs : Purpose → Found → Reading → List Token → Type 0
-PurposeIs (Assign t x) f r ts = IsTag t × ((e : List Token) × ReadingIs r e × SincePart f (t ∷ []) (label_of t ++ (Name x ∷ Mark Becomes ∷ e)) ts)
-PurposeIs (Test t) f r ts = IsTag t × ((e : List Token) × ReadingIs r e × SincePart f (t ∷ []) (label_of t ++ (Word If ∷ e)) ts)
-PurposeIs (Guard t) f r ts = IsTag t × ((e : List Token) × ReadingIs r e × SincePart f (t ∷ []) (label_of t ++ (Word While ∷ e)) ts)
+abbrev pub PurposeIs : Mode → Purpose → Found → Reading → List Token → Type 0
+PurposeIs m (Assign t x) f r ts = (e : List Token) × ReadingIs r e × BegunIs m f t (Name x ∷ Mark Becomes ∷ e) ts
+PurposeIs m (Test t) f r ts = (e : List Token) × ReadingIs r e × BegunIs m f t (Word If ∷ e) ts
+PurposeIs m (Guard t) f r ts = (e : List Token) × ReadingIs r e × BegunIs m f t (Word While ∷ e) ts
 
-abbrev pub PlaceIs : Place → Found → List Token → Type 0
-PlaceIs Start f ts = (f ≡ nothing_found) × (ts ≡ [])
-PlaceIs AfterProgram f ts = (f ≡ nothing_found) × (ts ≡ Word Program ∷ [])
-PlaceIs BeforePair f ts = PairsAre f ts
-PlaceIs (AfterPairAuthor a) f ts = IsAuthor a × ((past : List Token) × PairsAre f past × (ts ≡ past ++ (Number a ∷ [])))
-PlaceIs (AfterPairColon a) f ts = IsAuthor a × ((past : List Token) × PairsAre f past × (ts ≡ past ++ (Number a ∷ Mark Colon ∷ [])))
-PlaceIs AfterPair f ts = LastPairIs f ts
-PlaceIs AtPart f ts = (l : ℕ) × PartsAre l f [] ts
-PlaceIs (AfterAuthor a) f ts = IsAuthor a × SincePart f [] (Number a ∷ []) ts
-PlaceIs (AfterDot a) f ts = IsAuthor a × SincePart f [] (Number a ∷ Mark Dot ∷ []) ts
-PlaceIs (AfterSerial t) f ts = IsTag t × SincePart f (t ∷ []) (Number t.author ∷ Mark Dot ∷ Number t.serial ∷ []) ts
-PlaceIs (AfterColon t) f ts = IsTag t × SincePart f (t ∷ []) (label_of t) ts
-PlaceIs (AfterTarget t x) f ts = IsTag t × SincePart f (t ∷ []) (label_of t ++ (Name x ∷ [])) ts
-PlaceIs (InExpression p r) f ts = PurposeIs p f r ts
-PlaceIs AfterEnd f ts = BodyIs f [] [] ts
-PlaceIs AfterOpen f ts = BodyIs f [] (Mark Open ∷ []) ts
-PlaceIs AfterName f ts =
-    (front : List Token) × (xs : List (List ℕ)) × (x : List ℕ) × NamesGo front xs × BodyIs f (xs ++ (x ∷ [])) (Mark Open ∷ (front ++ (Name x ∷ []))) ts
-PlaceIs AfterComma f ts = (front : List Token) × (xs : List (List ℕ)) × NamesGo front xs × BodyIs f xs (Mark Open ∷ front) ts
-PlaceIs AtEnd f ts = (names : List Token) × (xs : List (List ℕ)) × SpellsNames names xs × BodyIs f xs (Mark Open ∷ (names ++ (Mark Close ∷ []))) ts
+abbrev pub PlaceIs : Mode → Place → Found → List Token → Type 0
+PlaceIs m Start f ts = (f ≡ nothing_found m) × (ts ≡ [])
+PlaceIs m AfterProgram f ts = (f ≡ nothing_found m) × (ts ≡ Word Program ∷ [])
+PlaceIs m BeforePair f ts = PairsAre m f ts
+PlaceIs m (AfterPairAuthor a) f ts = IsAuthor a × ((past : List Token) × PairsAre m f past × (ts ≡ past ++ (Number a ∷ [])))
+PlaceIs m (AfterPairColon a) f ts = IsAuthor a × ((past : List Token) × PairsAre m f past × (ts ≡ past ++ (Number a ∷ Mark Colon ∷ [])))
+PlaceIs m AfterPair f ts = LastPairIs m f ts
+PlaceIs m AtPart f ts = (l : ℕ) × PartsAre m l f [] ts
+PlaceIs m (AfterAuthor a) f ts = IsAuthor a × SincePart m f [] (Number a ∷ []) ts
+PlaceIs m (AfterDot a) f ts = IsAuthor a × SincePart m f [] (Number a ∷ Mark Dot ∷ []) ts
+PlaceIs m (AfterSerial t) f ts = IsTag t × SincePart m f (t ∷ []) (Number t.author ∷ Mark Dot ∷ Number t.serial ∷ []) ts
+PlaceIs m (AfterColon t) f ts = BegunIs m f t [] ts
+PlaceIs m (AfterTarget t x) f ts = BegunIs m f t (Name x ∷ []) ts
+PlaceIs m (InExpression p r) f ts = PurposeIs m p f r ts
+PlaceIs m AfterEnd f ts = BodyIs m f [] [] ts
+PlaceIs m AfterOpen f ts = BodyIs m f [] (Mark Open ∷ []) ts
+PlaceIs m AfterName f ts =
+    (front : List Token) × (xs : List (List ℕ)) × (x : List ℕ) × NamesGo front xs × BodyIs m f (xs ++ (x ∷ [])) (Mark Open ∷ (front ++ (Name x ∷ []))) ts
+PlaceIs m AfterComma f ts = (front : List Token) × (xs : List (List ℕ)) × NamesGo front xs × BodyIs m f xs (Mark Open ∷ front) ts
+PlaceIs m AtEnd f ts = (names : List Token) × (xs : List (List ℕ)) × SpellsNames names xs × BodyIs m f xs (Mark Open ∷ (names ++ (Mark Close ∷ []))) ts
 
-abbrev pub StateIs : State → List Token → Type 0
-StateIs s ts = PlaceIs s.place s.found ts
+abbrev pub StateIs : Mode → State → List Token → Type 0
+StateIs m s ts = PlaceIs m s.place s.found ts
 
-to_state : (f : Found) (p : Place) (ts : List Token) (n : State) → Some (state_at f p) ≡ Some n → PlaceIs p f ts → StateIs n ts
-to_state f p ts n e h = subst (λ (s : State). StateIs s ts) (some_is _ _ e) h
+to_state : (m : Mode) (f : Found) (p : Place) (ts : List Token) (n : State) → Some (state_at f p) ≡ Some n → PlaceIs m p f ts → StateIs m n ts
+to_state m f p ts n e h = subst (λ (s : State). StateIs m s ts) (some_is _ _ e) h
 
 -- ---- steps in the header
 
-pair_ends : (f : Found) (a k : ℕ) (ts : List Token) → PlaceIs (AfterPairColon a) f ts → IsSerial k → LastPairIs (with_number a k f) (ts ++ (Number k ∷ []))
-pair_ends f a k ts h s =
+pair_ends : (m : Mode) (f : Found) (a k : ℕ) (ts : List Token) → PlaceIs m (AfterPairColon a) f ts → IsSerial k → LastPairIs m (with_number a k f) (ts ++ (Number k ∷ []))
+pair_ends m f a k ts h s =
     let g = h.1.1 in
     record {
+      tagged = g.tagged;
+      mode = g.mode;
+      no_count = g.no_count;
       front = g.front;
       pairs = g.pairs;
       last = (a, k);
@@ -199,9 +230,12 @@ pair_ends f a k ts h s =
       tokens = rw (h.1.2, g.tokens) (simp append_assoc);
     }
 
-pair_again : (f : Found) (ts : List Token) → LastPairIs f ts → PairsAre f (ts ++ (Mark Comma ∷ []))
-pair_again f ts h =
+pair_again : (m : Mode) (f : Found) (ts : List Token) → LastPairIs m f ts → PairsAre m f (ts ++ (Mark Comma ∷ []))
+pair_again m f ts h =
     record {
+      tagged = h.tagged;
+      mode = h.mode;
+      no_count = h.no_count;
       front = h.front ++ pair_then h.last (Mark Comma ∷ []);
       pairs = h.pairs ++ (h.last ∷ []);
       go = λ us qs s. rw (append_assoc, append_assoc) (h.go _ _ (grammar.more h.last_is s));
@@ -214,14 +248,21 @@ pair_again f ts h =
     }
 
 -- at the top, with no parts
-top_blocks : (bs : List Begun) → bs ≡ [] → BlocksAre max_levels 0 bs []
-top_blocks bs e = subst (λ (x : List Begun). BlocksAre max_levels 0 x []) (sym e) (refl, refl, refl)
+top_blocks : (m : Form) (bs : List Begun) → bs ≡ [] → BlocksAre m max_levels 0 bs []
+top_blocks m bs e = subst (λ (x : List Begun). BlocksAre m max_levels 0 x []) (sym e) (refl, refl, refl)
 
-no_parts : (l n : ℕ) (b : Body) → b ≡ done → SpellsParts tagged l n n [] b
-no_parts l n b e = subst (λ (x : Body). SpellsParts tagged l n n [] x) (sym e) grammar.nothing
+no_parts : (m : Form) (l n : ℕ) (b : Body) → b ≡ done → SpellsParts m l n n [] b
+no_parts m l n b e = subst (λ (x : Body). SpellsParts m l n n [] x) (sym e) grammar.nothing
 
-header_ends : (f : Found) (ts : List Token) → LastPairIs f ts → PartsAre max_levels f [] ts
-header_ends f ts h =
+no_tally : (m : Mode) → tally m 0 ≡ 0
+no_tally Tagged = refl
+no_tally (Untagged a) = refl
+
+tagged_header : (m : Mode) {ts : List Token} {ps : List (ℕ × ℕ)} → m ≡ Tagged → SpellsPairs ts ps → SpellsHeader (form_of m) (Word Issued ∷ ts) (Some ps)
+tagged_header m {ts} {ps} e s = subst (λ (o : Mode). SpellsHeader (form_of o) (Word Issued ∷ ts) (Some ps)) (sym e) (grammar.pairs s)
+
+header_ends : (m : Mode) (f : Found) (ts : List Token) → LastPairIs m f ts → PartsAre m max_levels f [] ts
+header_ends m f ts h =
     record {
       header = Word Issued ∷ (h.front ++ pair_then h.last []);
       pairs = Some (h.pairs ++ (h.last ∷ []));
@@ -229,18 +270,20 @@ header_ends f ts h =
       to = 0;
       around = [];
       inside = [];
-      header_is = grammar.pairs (h.go _ _ (grammar.one h.last_is));
-      blocks = top_blocks f.blocks h.no_blocks;
-      spelled = no_parts max_levels 0 f.parts h.no_parts;
+      mode = h.mode;
+      counts = h.no_count ∙ sym (no_tally m);
+      header_is = tagged_header m h.tagged (h.go _ _ (grammar.one h.last_is));
+      blocks = top_blocks (form_of m) f.blocks h.no_blocks;
+      spelled = no_parts (form_of m) max_levels 0 f.parts h.no_parts;
       numbers = (h.flag, h.numbers);
       no_names = h.no_names;
       tokens = rw (h.tokens, append-nil) refl;
     }
 
-no_header : (f : Found) (ts : List Token) → PlaceIs AfterProgram f ts → PartsAre max_levels f [] ts
-no_header f ts h = subst (λ (g : Found). PartsAre max_levels g [] ts) (sym h.0) made
+no_header : (m : Mode) (f : Found) (ts : List Token) → PlaceIs m AfterProgram f ts → PartsAre m max_levels f [] ts
+no_header m f ts h = subst (λ (g : Found). PartsAre m max_levels g [] ts) (sym h.0) made
   where
-    made : PartsAre max_levels nothing_found [] ts
+    made : PartsAre m max_levels (nothing_found m) [] ts
     made = record {
       header = [];
       pairs = None;
@@ -248,6 +291,8 @@ no_header f ts h = subst (λ (g : Found). PartsAre max_levels g [] ts) (sym h.0)
       to = 0;
       around = [];
       inside = [];
+      mode = refl;
+      counts = sym (no_tally m);
       header_is = grammar.none;
       blocks = (refl, refl, refl);
       spelled = grammar.nothing;
@@ -256,11 +301,14 @@ no_header f ts h = subst (λ (g : Found). PartsAre max_levels g [] ts) (sym h.0)
       tokens = h.1;
     }
 
-first_pair : (f : Found) (ts : List Token) → PlaceIs AfterProgram f ts → PairsAre (with_header f) (ts ++ (Word Issued ∷ []))
-first_pair f ts h = subst (λ (g : Found). PairsAre (with_header g) (ts ++ (Word Issued ∷ []))) (sym h.0) made
+first_pair : (m : Mode) (f : Found) (ts : List Token) → m ≡ Tagged → PlaceIs m AfterProgram f ts → PairsAre m (with_header f) (ts ++ (Word Issued ∷ []))
+first_pair m f ts e h = subst (λ (g : Found). PairsAre m (with_header g) (ts ++ (Word Issued ∷ []))) (sym h.0) made
   where
-    made : PairsAre (with_header nothing_found) (ts ++ (Word Issued ∷ []))
+    made : PairsAre m (with_header (nothing_found m)) (ts ++ (Word Issued ∷ []))
     made = record {
+      tagged = e;
+      mode = refl;
+      no_count = refl;
       front = [];
       pairs = [];
       go = λ us qs s. s;
@@ -271,6 +319,12 @@ first_pair f ts h = subst (λ (g : Found). PairsAre (with_header g) (ts ++ (Word
       no_names = refl;
       tokens = rw h.1 refl;
     }
+
+header_is : (m : Mode) (f : Found) (o : Mode) (ts : List Token) (n : State) → PlaceIs m AfterProgram f ts → f.mode ≡ o → header_next o f ≡ Some n → StateIs m n (ts ++ (Word Issued ∷ []))
+header_is m f Tagged ts n h q e =
+    let tagged : m ≡ Tagged = sym (ap (λ (g : Found). g.mode) h.0) ∙ q in
+    to_state m (with_header f) BeforePair (ts ++ (Word Issued ∷ [])) n e (first_pair m f ts tagged h)
+header_is m f (Untagged a) ts n h q e = absurd cc
 
 -- ---- numbers
 
@@ -291,20 +345,34 @@ body_numbers (Some ps) f e h = h.1
 
 -- ---- steps in parts
 
-level_is : (l n : ℕ) (os : List Begun) (ts : List Token) → BlocksAre l n os ts → l + length os ≡ max_levels
-level_is l n [] ts h = omega (arith, h.0)
-level_is l n (begun.Then r ∷ os) ts h = omega (arith, level_is (suc l) h.2.from os h.2.past h.2.blocks)
-level_is l n (begun.Else r first ∷ os) ts h = omega (arith, level_is (suc l) h.4.from os h.4.past h.4.blocks)
-level_is l n (begun.Loop r ∷ os) ts h = omega (arith, level_is (suc l) h.2.from os h.2.past h.2.blocks)
+level_is : (m : Form) (l n : ℕ) (os : List Begun) (ts : List Token) → BlocksAre m l n os ts → l + length os ≡ max_levels
+level_is m l n [] ts h = omega (arith, h.0)
+level_is m l n (begun.Then r ∷ os) ts h = omega (arith, level_is m (suc l) h.2.from os h.2.past h.2.blocks)
+level_is m l n (begun.Else r first ∷ os) ts h = omega (arith, level_is m (suc l) h.4.from os h.4.past h.4.blocks)
+level_is m l n (begun.Loop r ∷ os) ts h = omega (arith, level_is m (suc l) h.2.from os h.2.past h.2.blocks)
 
-no_room : {A : Type 0} (f : Found) (more : List Tag) (ts : List Token) → PartsAre zero f more ts → length f.blocks < max_levels → A
-no_room f more ts h room = absurd (omega (arith, level_is zero h.from f.blocks h.around h.blocks, room))
+no_room : {A : Type 0} (m : Mode) (f : Found) (more : List Tag) (ts : List Token) → PartsAre m zero f more ts → length f.blocks < max_levels → A
+no_room m f more ts h room = absurd (omega (arith, level_is (form_of m) zero h.from f.blocks h.around h.blocks, room))
 
-since : (f : Found) (more : List Tag) (last : List Token) (t : Token) (ts : List Token) → SincePart f more last ts → SincePart f more (last ++ (t ∷ [])) (ts ++ (t ∷ []))
-since f more last t ts h = record { level = h.level; past = h.past; parts = h.parts; room = h.room; tokens = rw h.tokens (append_assoc h.past last (t ∷ [])) }
+since : (m : Mode) (f : Found) (more : List Tag) (last : List Token) (t : Token) (ts : List Token) → SincePart m f more last ts → SincePart m f more (last ++ (t ∷ [])) (ts ++ (t ∷ []))
+since m f more last t ts h =
+    record { tagged = h.tagged; level = h.level; past = h.past; parts = h.parts; room = h.room; tokens = rw h.tokens (append_assoc h.past last (t ∷ [])) }
 
-tag_begins : (l : ℕ) (f : Found) (t : Tag) (ts : List Token) → PartsAre l f [] ts → PartsAre l (with_tag t f) (t ∷ []) ts
-tag_begins l f t ts h =
+behind : (m : Mode) (f : Found) (g : Tag) (last : List Token) (t : Token) (ts : List Token) → BegunIs m f g last ts → BegunIs m f g (last ++ (t ∷ [])) (ts ++ (t ∷ []))
+behind m f g last t ts h =
+    record {
+      level = h.level;
+      past = h.past;
+      label = h.label;
+      parts = h.parts;
+      label_is = h.label_is;
+      room = h.room;
+      tokens = rw h.tokens (append_assoc h.past (h.label ++ last) (t ∷ []) ∙ ap (λ x. h.past ++ x) (append_assoc h.label last (t ∷ [])));
+    }
+
+-- with one more tag
+tag_begins : (m : Mode) (l : ℕ) (f : Found) (t : Tag) (ts : List Token) (n : ℕ) (h : PartsAre m l f [] ts) → n ≡ tally m (h.to + 1) → PartsAre m l (with_tag t (with_count n f)) (t ∷ []) ts
+tag_begins m l f t ts n h e =
     record {
       header = h.header;
       pairs = h.pairs;
@@ -312,18 +380,81 @@ tag_begins l f t ts h =
       to = h.to;
       around = h.around;
       inside = h.inside;
+      mode = h.mode;
+      counts = e;
       header_is = h.header_is;
       blocks = h.blocks;
       spelled = h.spelled;
-      numbers = tag_numbers h.pairs f t h.numbers;
+      numbers = tag_numbers h.pairs (with_count n f) t (renumbered h.pairs f (with_count n f) [] [] refl refl refl h.numbers);
       no_names = h.no_names;
       tokens = h.tokens;
     }
 
-assigned : (l : ℕ) (f : Found) (t : Tag) (x : List ℕ) (e : Expr) (past value ts : List Token) → PartsAre l f (t ∷ []) past → length f.blocks < max_levels → IsTag t → SpellsExpr value e
-    → ts ≡ past ++ (label_of t ++ (Name x ∷ Mark Becomes ∷ value)) → (m : ℕ) × PartsAre m (with_part t x e f) [] (ts ++ (Mark Semicolon ∷ []))
-assigned zero f t x e past value ts p room is v q = no_room f (t ∷ []) past p room
-assigned (suc l) f t x e past value ts p room is v q = (
+-- a tag that stands in the text
+tag_stands : (m : Mode) (l : ℕ) (f : Found) (t : Tag) (ts : List Token) → m ≡ Tagged → PartsAre m l f [] ts → PartsAre m l (with_tag t f) (t ∷ []) ts
+tag_stands m l f t ts e h =
+    tag_begins m l f t ts f.count h (h.counts ∙ ap (λ (o : Mode). tally o h.to) e ∙ sym (ap (λ (o : Mode). tally o (h.to + 1)) e))
+
+colon_ends : (m : Mode) (f : Found) (t : Tag) (ts : List Token) → IsTag t → SincePart m f (t ∷ []) (Number t.author ∷ Mark Dot ∷ Number t.serial ∷ []) ts → BegunIs m f t [] (ts ++ (Mark Colon ∷ []))
+colon_ends m f t ts is h =
+    record {
+      level = h.level;
+      past = h.past;
+      label = label_of t;
+      parts = h.parts;
+      label_is = subst (λ (o : Mode). Labels (form_of o) h.parts.to (label_of t) t) (sym h.tagged) (grammar.tag is);
+      room = h.room;
+      tokens = rw h.tokens (append_assoc h.past (Number t.author ∷ Mark Dot ∷ Number t.serial ∷ []) (Mark Colon ∷ []));
+    }
+
+colon_is : (m : Mode) (f : Found) (g : Tag) (t : Token) (ts : List Token) (n : State) → BegunIs m f g [] ts → colon_next f g t ≡ Some n → StateIs m n (ts ++ (t ∷ []))
+colon_is m f g (Name x) ts n h e = to_state m f (AfterTarget g x) (ts ++ (Name x ∷ [])) n e (behind m f g [] (Name x) ts h)
+colon_is m f g (Word If) ts n h e = to_state m f (InExpression (Test g) start) (ts ++ (Word If ∷ [])) n e ([], start_is, behind m f g [] (Word If) ts h)
+colon_is m f g (Word While) ts n h e = to_state m f (InExpression (Guard g) start) (ts ++ (Word While ∷ [])) n e ([], start_is, behind m f g [] (Word While) ts h)
+colon_is m f g t ts n h e = absurd cc
+
+-- a part that gets its tag from the machine
+untagged_begins : (m : Mode) (l a : ℕ) (f : Found) (ts : List Token) → m ≡ Untagged a → PartsAre m l f [] ts → length f.blocks < max_levels
+    → BegunIs m (given (f.count + 1) (tag_given None a (f.count + 1)) f).0 (tag_given None a (f.count + 1)) [] ts
+unfolding tag_begins
+untagged_begins m l a f ts e h room =
+    let is : f.count ≡ h.to = h.counts ∙ ap (λ (o : Mode). tally o h.to) e in
+    let counts : f.count + 1 ≡ tally m (h.to + 1) = ap (λ (k : ℕ). k + 1) is ∙ sym (ap (λ (o : Mode). tally o (h.to + 1)) e) in
+    record {
+      level = l;
+      past = ts;
+      label = [];
+      parts = tag_begins m l f (tag_given None a (f.count + 1)) ts (f.count + 1) h counts;
+      label_is =
+          subst (λ (k : ℕ). Labels (form_of m) h.to [] (record { author = a; serial = k + 1 })) (sym is)
+          (subst (λ (o : Mode). Labels (form_of o) h.to [] (record { author = a; serial = h.to + 1 })) (sym e) grammar.none);
+      room = room;
+      tokens = sym (append-nil ts);
+    }
+
+first_guard : (b : Bool) (u : Found × Tag) (t : Token) (n : State) → first_next (cond b (Some u) None) t ≡ Some n → (b ≡ true) × (colon_next u.0 u.1 t ≡ Some n)
+first_guard true u t n e = (refl, e)
+first_guard false u t n e = absurd cc
+
+first_is : (m : Mode) (l : ℕ) (f : Found) (o : Mode) (t : Token) (ts : List Token) (n : State) → PartsAre m l f [] ts → f.mode ≡ o → first_next (begun_in None o f) t ≡ Some n → StateIs m n (ts ++ (t ∷ []))
+first_is m l f Tagged t ts n h q e = absurd cc
+first_is m l f (Untagged a) t ts n h q e =
+    let u : Found × Tag = given (f.count + 1) (tag_given None a (f.count + 1)) f in
+    let g = first_guard (nat_lt (length f.blocks) max_levels) u t n e in
+    colon_is m u.0 u.1 t ts n (untagged_begins m l a f ts (sym h.mode ∙ q) h (ltb-true (length f.blocks) max_levels g.0)) g.1
+
+tag_is : (m : Mode) (l : ℕ) (f : Found) (o : Mode) (a : ℕ) (ts : List Token) (n : State) → PartsAre m l f [] ts → f.mode ≡ o → tag_next o f a ≡ Some n → StateIs m n (ts ++ (Number a ∷ []))
+tag_is m l f Tagged a ts n h q e =
+    let g = guard_is (nat_lt (length f.blocks) max_levels && nat_lt a (2 ^ 32)) (state_at f (AfterAuthor a)) n e in
+    let two = both (nat_lt (length f.blocks) max_levels) (nat_lt a (2 ^ 32)) g.0 in
+    to_state m f (AfterAuthor a) (ts ++ (Number a ∷ [])) n (ap (λ s. Some s) g.1)
+    (ltb-true a (2 ^ 32) two.1, record { tagged = sym h.mode ∙ q; level = l; past = ts; parts = h; room = ltb-true (length f.blocks) max_levels two.0; tokens = refl })
+tag_is m l f (Untagged b) a ts n h q e = absurd cc
+
+assigned : (m : Mode) (l : ℕ) (f : Found) (t : Tag) (x : List ℕ) (e : Expr) (past label value ts : List Token) (p : PartsAre m l f (t ∷ []) past) → length f.blocks < max_levels → Labels (form_of m) p.to label t
+    → SpellsExpr value e → ts ≡ past ++ (label ++ (Name x ∷ Mark Becomes ∷ value)) → (k : ℕ) × PartsAre m k (with_part None t x e f) [] (ts ++ (Mark Semicolon ∷ []))
+assigned m zero f t x e past label value ts p room is v q = no_room m f (t ∷ []) past p room
+assigned m (suc l) f t x e past label value ts p room is v q = (
   suc l,
   record {
     header = p.header;
@@ -331,30 +462,34 @@ assigned (suc l) f t x e past value ts p room is v q = (
     from = p.from;
     to = p.to + 1;
     around = p.around;
-    inside = p.inside ++ (label_of t ++ (Name x ∷ Mark Becomes ∷ (value ++ (Mark Semicolon ∷ []))));
+    inside = p.inside ++ (label ++ (Name x ∷ Mark Becomes ∷ (value ++ (Mark Semicolon ∷ []))));
+    mode = p.mode;
+    counts = p.counts;
     header_is = p.header_is;
     blocks = p.blocks;
-    spelled = parts_then p.spelled (grammar.assignment {x = x} (grammar.tag is) v grammar.nothing);
-    numbers = renumbered p.pairs f (with_part t x e f) (t ∷ []) [] refl refl (sym (read_then f.blocks f.parts (assign t x e done) [])) p.numbers;
+    spelled = parts_then p.spelled (grammar.assignment {x = x} is v grammar.nothing);
+    numbers = renumbered p.pairs f (with_part None t x e f) (t ∷ []) [] refl refl (sym (read_then f.blocks f.parts (assign t x e done) [])) p.numbers;
     no_names = p.no_names;
     tokens = rw (q, p.tokens) (simp append_assoc);
   },
 )
 
-then_begins : (l : ℕ) (f : Found) (t : Tag) (e : Expr) (past test ts : List Token) → PartsAre l f (t ∷ []) past → length f.blocks < max_levels → IsTag t → SpellsExpr test e
-    → ts ≡ past ++ (label_of t ++ (Word If ∷ test)) → (m : ℕ) × PartsAre m (in_then t e f) [] (ts ++ (Word Then ∷ []))
-then_begins zero f t e past test ts p room is v q = no_room f (t ∷ []) past p room
-then_begins (suc l) f t e past test ts p room is v q = (
+then_begins : (m : Mode) (l : ℕ) (f : Found) (t : Tag) (e : Expr) (past label test ts : List Token) (p : PartsAre m l f (t ∷ []) past) → length f.blocks < max_levels → Labels (form_of m) p.to label t
+    → SpellsExpr test e → ts ≡ past ++ (label ++ (Word If ∷ test)) → (k : ℕ) × PartsAre m k (in_then t e f) [] (ts ++ (Word Then ∷ []))
+then_begins m zero f t e past label test ts p room is v q = no_room m f (t ∷ []) past p room
+then_begins m (suc l) f t e past label test ts p room is v q = (
   l,
   record {
     header = p.header;
     pairs = p.pairs;
     from = p.to + 1;
     to = p.to + 1;
-    around = p.around ++ (p.inside ++ (label_of t ++ (Word If ∷ (test ++ (Word Then ∷ [])))));
+    around = p.around ++ (p.inside ++ (label ++ (Word If ∷ (test ++ (Word Then ∷ [])))));
     inside = [];
+    mode = p.mode;
+    counts = p.counts;
     header_is = p.header_is;
-    blocks = (p.to, refl, record { from = p.from; past = p.around; before = p.inside; label = label_of t; test = test; blocks = p.blocks; before_is = p.spelled; label_is = grammar.tag is; test_is = v; tokens = refl });
+    blocks = (p.to, refl, record { from = p.from; past = p.around; before = p.inside; label = label; test = test; blocks = p.blocks; before_is = p.spelled; label_is = is; test_is = v; tokens = refl });
     spelled = grammar.nothing;
     numbers = renumbered p.pairs f (in_then t e f) (t ∷ []) [] refl refl refl p.numbers;
     no_names = p.no_names;
@@ -362,20 +497,22 @@ then_begins (suc l) f t e past test ts p room is v q = (
   },
 )
 
-loop_begins : (l : ℕ) (f : Found) (t : Tag) (e : Expr) (past test ts : List Token) → PartsAre l f (t ∷ []) past → length f.blocks < max_levels → IsTag t → SpellsExpr test e
-    → ts ≡ past ++ (label_of t ++ (Word While ∷ test)) → (m : ℕ) × PartsAre m (in_loop t e f) [] (ts ++ (Word Do ∷ []))
-loop_begins zero f t e past test ts p room is v q = no_room f (t ∷ []) past p room
-loop_begins (suc l) f t e past test ts p room is v q = (
+loop_begins : (m : Mode) (l : ℕ) (f : Found) (t : Tag) (e : Expr) (past label test ts : List Token) (p : PartsAre m l f (t ∷ []) past) → length f.blocks < max_levels → Labels (form_of m) p.to label t
+    → SpellsExpr test e → ts ≡ past ++ (label ++ (Word While ∷ test)) → (k : ℕ) × PartsAre m k (in_loop t e f) [] (ts ++ (Word Do ∷ []))
+loop_begins m zero f t e past label test ts p room is v q = no_room m f (t ∷ []) past p room
+loop_begins m (suc l) f t e past label test ts p room is v q = (
   l,
   record {
     header = p.header;
     pairs = p.pairs;
     from = p.to + 1;
     to = p.to + 1;
-    around = p.around ++ (p.inside ++ (label_of t ++ (Word While ∷ (test ++ (Word Do ∷ [])))));
+    around = p.around ++ (p.inside ++ (label ++ (Word While ∷ (test ++ (Word Do ∷ [])))));
     inside = [];
+    mode = p.mode;
+    counts = p.counts;
     header_is = p.header_is;
-    blocks = (p.to, refl, record { from = p.from; past = p.around; before = p.inside; label = label_of t; test = test; blocks = p.blocks; before_is = p.spelled; label_is = grammar.tag is; test_is = v; tokens = refl });
+    blocks = (p.to, refl, record { from = p.from; past = p.around; before = p.inside; label = label; test = test; blocks = p.blocks; before_is = p.spelled; label_is = is; test_is = v; tokens = refl });
     spelled = grammar.nothing;
     numbers = renumbered p.pairs f (in_loop t e f) (t ∷ []) [] refl refl refl p.numbers;
     no_names = p.no_names;
@@ -416,42 +553,46 @@ ends_body : (header around inside ts : List Token) → ts ≡ Word Program ∷ (
     → ts ++ (Word End ∷ []) ≡ Word Program ∷ (header ++ (inside ++ (Word End ∷ [])))
 ends_body header around inside ts p q = one_more header around inside ts (Word End) p ∙ ap (λ x. Word Program ∷ (header ++ (x ++ (inside ++ (Word End ∷ []))))) q
 
-else_is : (bs : List Begun) (l : ℕ) (f g : Found) (ts : List Token) → PartsAre l f [] ts → f.blocks ≡ bs → else_in bs f ≡ Some g → (m : ℕ) × PartsAre m g [] (ts ++ (Word Else ∷ []))
-else_is (begun.Then r ∷ os) l f g ts h e q =
-    let b = subst (λ (x : List Begun). BlocksAre l h.from x h.around) e h.blocks in
+else_is : (m : Mode) (bs : List Begun) (l : ℕ) (f g : Found) (ts : List Token) → PartsAre m l f [] ts → f.blocks ≡ bs → else_in bs f ≡ Some g → (k : ℕ) × PartsAre m k g [] (ts ++ (Word Else ∷ []))
+else_is m (begun.Then r ∷ os) l f g ts h e q =
+    let b = subst (λ (x : List Begun). BlocksAre (form_of m) l h.from x h.around) e h.blocks in
     let goal : Found = record f { blocks = begun.Else r f.parts ∷ os; parts = done } in
-    let made : PartsAre l goal [] (ts ++ (Word Else ∷ [])) = record {
+    let made : PartsAre m l goal [] (ts ++ (Word Else ∷ [])) = record {
       header = h.header;
       pairs = h.pairs;
       from = h.to;
       to = h.to;
       around = h.around ++ (h.inside ++ (Word Else ∷ []));
       inside = [];
+      mode = h.mode;
+      counts = h.counts;
       header_is = h.header_is;
-      blocks = (b.0, h.around, h.inside, subst (λ (n : ℕ). SpellsParts tagged l n h.to h.inside f.parts) b.1 h.spelled, b.2, refl);
+      blocks = (b.0, h.around, h.inside, subst (λ (n : ℕ). SpellsParts (form_of m) l n h.to h.inside f.parts) b.1 h.spelled, b.2, refl);
       spelled = grammar.nothing;
       numbers = renumbered h.pairs f goal [] [] refl refl (ap (λ (x : List Begun). tags_read x f.parts []) e) h.numbers;
       no_names = h.no_names;
       tokens = rw h.tokens (simp (append_assoc, append-nil));
     } in
-    (l, subst (λ (x : Found). PartsAre l x [] (ts ++ (Word Else ∷ []))) (some_is _ _ q) made)
-else_is [] l f g ts h e q = absurd cc
-else_is (begun.Else r first ∷ os) l f g ts h e q = absurd cc
-else_is (begun.Loop r ∷ os) l f g ts h e q = absurd cc
+    (l, subst (λ (x : Found). PartsAre m l x [] (ts ++ (Word Else ∷ []))) (some_is _ _ q) made)
+else_is m [] l f g ts h e q = absurd cc
+else_is m (begun.Else r first ∷ os) l f g ts h e q = absurd cc
+else_is m (begun.Loop r ∷ os) l f g ts h e q = absurd cc
 
-fi_is : (bs : List Begun) (l : ℕ) (f g : Found) (ts : List Token) → PartsAre l f [] ts → f.blocks ≡ bs → fi_in bs f ≡ Some g → (m : ℕ) × PartsAre m g [] (ts ++ (Word Fi ∷ []))
-fi_is (begun.Then r ∷ os) l f g ts h e q =
-    let b = subst (λ (x : List Begun). BlocksAre l h.from x h.around) e h.blocks in
-    let inner = subst (λ (n : ℕ). SpellsParts tagged l n h.to h.inside f.parts) b.1 h.spelled in
+fi_is : (m : Mode) (bs : List Begun) (l : ℕ) (f g : Found) (ts : List Token) → PartsAre m l f [] ts → f.blocks ≡ bs → fi_in None bs f ≡ Some g → (k : ℕ) × PartsAre m k g [] (ts ++ (Word Fi ∷ []))
+fi_is m (begun.Then r ∷ os) l f g ts h e q =
+    let b = subst (λ (x : List Begun). BlocksAre (form_of m) l h.from x h.around) e h.blocks in
+    let inner = subst (λ (n : ℕ). SpellsParts (form_of m) l n h.to h.inside f.parts) b.1 h.spelled in
     let part : Body = branch r.tag r.test f.parts done done in
     let goal : Found = record f { blocks = os; parts = then_parts r.before part } in
-    let made : PartsAre (suc l) goal [] (ts ++ (Word Fi ∷ [])) = record {
+    let made : PartsAre m (suc l) goal [] (ts ++ (Word Fi ∷ [])) = record {
       header = h.header;
       pairs = h.pairs;
       from = b.2.from;
       to = h.to;
       around = b.2.past;
       inside = b.2.before ++ (b.2.label ++ (Word If ∷ (b.2.test ++ (Word Then ∷ (h.inside ++ (Word Fi ∷ []))))));
+      mode = h.mode;
+      counts = h.counts;
       header_is = h.header_is;
       blocks = b.2.blocks;
       spelled = parts_then b.2.before_is (grammar.conditional b.2.label_is b.2.test_is inner grammar.nothing);
@@ -459,18 +600,20 @@ fi_is (begun.Then r ∷ os) l f g ts h e q =
       no_names = h.no_names;
       tokens = closes h.header h.around h.inside b.2.past b.2.before b.2.label b.2.test ts (Word If) (Word Then) (Word Fi) h.tokens b.2.tokens;
     } in
-    (suc l, subst (λ (x : Found). PartsAre (suc l) x [] (ts ++ (Word Fi ∷ []))) (some_is _ _ q) made)
-fi_is (begun.Else r first ∷ os) l f g ts h e q =
-    let b = subst (λ (x : List Begun). BlocksAre l h.from x h.around) e h.blocks in
+    (suc l, subst (λ (x : Found). PartsAre m (suc l) x [] (ts ++ (Word Fi ∷ []))) (some_is _ _ q) made)
+fi_is m (begun.Else r first ∷ os) l f g ts h e q =
+    let b = subst (λ (x : List Begun). BlocksAre (form_of m) l h.from x h.around) e h.blocks in
     let part : Body = branch r.tag r.test first f.parts done in
     let goal : Found = record f { blocks = os; parts = then_parts r.before part } in
-    let made : PartsAre (suc l) goal [] (ts ++ (Word Fi ∷ [])) = record {
+    let made : PartsAre m (suc l) goal [] (ts ++ (Word Fi ∷ [])) = record {
       header = h.header;
       pairs = h.pairs;
       from = b.4.from;
       to = h.to;
       around = b.4.past;
       inside = b.4.before ++ (b.4.label ++ (Word If ∷ (b.4.test ++ (Word Then ∷ (b.2 ++ (Word Else ∷ (h.inside ++ (Word Fi ∷ []))))))));
+      mode = h.mode;
+      counts = h.counts;
       header_is = h.header_is;
       blocks = b.4.blocks;
       spelled = parts_then b.4.before_is (grammar.conditional_else b.4.label_is b.4.test_is b.3 h.spelled grammar.nothing);
@@ -478,23 +621,25 @@ fi_is (begun.Else r first ∷ os) l f g ts h e q =
       no_names = h.no_names;
       tokens = closes_second h.header h.around h.inside b.2 b.1 b.4.past b.4.before b.4.label b.4.test ts (Word If) (Word Then) (Word Else) (Word Fi) h.tokens b.5 b.4.tokens;
     } in
-    (suc l, subst (λ (x : Found). PartsAre (suc l) x [] (ts ++ (Word Fi ∷ []))) (some_is _ _ q) made)
-fi_is [] l f g ts h e q = absurd cc
-fi_is (begun.Loop r ∷ os) l f g ts h e q = absurd cc
+    (suc l, subst (λ (x : Found). PartsAre m (suc l) x [] (ts ++ (Word Fi ∷ []))) (some_is _ _ q) made)
+fi_is m [] l f g ts h e q = absurd cc
+fi_is m (begun.Loop r ∷ os) l f g ts h e q = absurd cc
 
-od_is : (bs : List Begun) (l : ℕ) (f g : Found) (ts : List Token) → PartsAre l f [] ts → f.blocks ≡ bs → od_in bs f ≡ Some g → (m : ℕ) × PartsAre m g [] (ts ++ (Word Od ∷ []))
-od_is (begun.Loop r ∷ os) l f g ts h e q =
-    let b = subst (λ (x : List Begun). BlocksAre l h.from x h.around) e h.blocks in
-    let inner = subst (λ (n : ℕ). SpellsParts tagged l n h.to h.inside f.parts) b.1 h.spelled in
+od_is : (m : Mode) (bs : List Begun) (l : ℕ) (f g : Found) (ts : List Token) → PartsAre m l f [] ts → f.blocks ≡ bs → od_in None bs f ≡ Some g → (k : ℕ) × PartsAre m k g [] (ts ++ (Word Od ∷ []))
+od_is m (begun.Loop r ∷ os) l f g ts h e q =
+    let b = subst (λ (x : List Begun). BlocksAre (form_of m) l h.from x h.around) e h.blocks in
+    let inner = subst (λ (n : ℕ). SpellsParts (form_of m) l n h.to h.inside f.parts) b.1 h.spelled in
     let part : Body = loop r.tag r.test f.parts done in
     let goal : Found = record f { blocks = os; parts = then_parts r.before part } in
-    let made : PartsAre (suc l) goal [] (ts ++ (Word Od ∷ [])) = record {
+    let made : PartsAre m (suc l) goal [] (ts ++ (Word Od ∷ [])) = record {
       header = h.header;
       pairs = h.pairs;
       from = b.2.from;
       to = h.to;
       around = b.2.past;
       inside = b.2.before ++ (b.2.label ++ (Word While ∷ (b.2.test ++ (Word Do ∷ (h.inside ++ (Word Od ∷ []))))));
+      mode = h.mode;
+      counts = h.counts;
       header_is = h.header_is;
       blocks = b.2.blocks;
       spelled = parts_then b.2.before_is (grammar.while_loop b.2.label_is b.2.test_is inner grammar.nothing);
@@ -502,111 +647,113 @@ od_is (begun.Loop r ∷ os) l f g ts h e q =
       no_names = h.no_names;
       tokens = closes h.header h.around h.inside b.2.past b.2.before b.2.label b.2.test ts (Word While) (Word Do) (Word Od) h.tokens b.2.tokens;
     } in
-    (suc l, subst (λ (x : Found). PartsAre (suc l) x [] (ts ++ (Word Od ∷ []))) (some_is _ _ q) made)
-od_is [] l f g ts h e q = absurd cc
-od_is (begun.Then r ∷ os) l f g ts h e q = absurd cc
-od_is (begun.Else r first ∷ os) l f g ts h e q = absurd cc
+    (suc l, subst (λ (x : Found). PartsAre m (suc l) x [] (ts ++ (Word Od ∷ []))) (some_is _ _ q) made)
+od_is m [] l f g ts h e q = absurd cc
+od_is m (begun.Then r ∷ os) l f g ts h e q = absurd cc
+od_is m (begun.Else r first ∷ os) l f g ts h e q = absurd cc
 
-top_parts : (l n m : ℕ) (inside : List Token) (b : Body) → l ≡ max_levels → n ≡ 0 → SpellsParts tagged l n m inside b → SpellsParts tagged max_levels 0 m inside b
-top_parts l n m inside b p q s = subst (λ (k : ℕ). SpellsParts tagged max_levels k m inside b) q (subst (λ (k : ℕ). SpellsParts tagged k n m inside b) p s)
+top_parts : (m : Form) (l n k : ℕ) (inside : List Token) (b : Body) → l ≡ max_levels → n ≡ 0 → SpellsParts m l n k inside b → SpellsParts m max_levels 0 k inside b
+top_parts m l n k inside b p q s = subst (λ (j : ℕ). SpellsParts m max_levels j k inside b) q (subst (λ (j : ℕ). SpellsParts m j n k inside b) p s)
 
-body_ends : (l : ℕ) (f : Found) (ts : List Token) → PartsAre l f [] ts → f.blocks ≡ [] → BodyIs f [] [] (ts ++ (Word End ∷ []))
-body_ends l f ts h e =
-    let b = subst (λ (x : List Begun). BlocksAre l h.from x h.around) e h.blocks in
+body_ends : (m : Mode) (l : ℕ) (f : Found) (ts : List Token) → PartsAre m l f [] ts → f.blocks ≡ [] → BodyIs m f [] [] (ts ++ (Word End ∷ []))
+body_ends m l f ts h e =
+    let b = subst (λ (x : List Begun). BlocksAre (form_of m) l h.from x h.around) e h.blocks in
     record {
       header = h.header;
       pairs = h.pairs;
       parts = h.inside;
       header_is = h.header_is;
       count = h.to;
-      parts_are = top_parts l h.from h.to h.inside f.parts b.0 b.1 h.spelled;
+      counts = h.counts;
+      parts_are = top_parts (form_of m) l h.from h.to h.inside f.parts b.0 b.1 h.spelled;
       numbers = body_numbers h.pairs f e h.numbers;
       names_are = h.no_names;
       tokens = ends_body h.header h.around h.inside ts h.tokens b.2;
     }
 
-parts_end_is : (bs : List Begun) (l : ℕ) (f : Found) (ts : List Token) (n : State) → PartsAre l f [] ts → f.blocks ≡ bs → ends_parts bs f ≡ Some n → StateIs n (ts ++ (Word End ∷ []))
-parts_end_is [] l f ts n h e q = to_state f AfterEnd (ts ++ (Word End ∷ [])) n q (body_ends l f ts h e)
-parts_end_is (b ∷ bs) l f ts n h e q = absurd cc
+parts_end_is : (m : Mode) (bs : List Begun) (l : ℕ) (f : Found) (ts : List Token) (n : State) → PartsAre m l f [] ts → f.blocks ≡ bs → ends_parts bs f ≡ Some n → StateIs m n (ts ++ (Word End ∷ []))
+parts_end_is m [] l f ts n h e q = to_state m f AfterEnd (ts ++ (Word End ∷ [])) n q (body_ends m l f ts h e)
+parts_end_is m (b ∷ bs) l f ts n h e q = absurd cc
 
-at_part_is : (o : Option Found) (n : State) (ts : List Token) → at_part o ≡ Some n → ((g : Found) → o ≡ Some g → (m : ℕ) × PartsAre m g [] ts) → StateIs n ts
-at_part_is None n ts q go = absurd cc
-at_part_is (Some g) n ts q go = to_state g AtPart ts n q (go g refl)
+at_part_is : (m : Mode) (o : Option Found) (n : State) (ts : List Token) → at_part o ≡ Some n → ((g : Found) → o ≡ Some g → (k : ℕ) × PartsAre m k g [] ts) → StateIs m n ts
+at_part_is m None n ts q go = absurd cc
+at_part_is m (Some g) n ts q go = to_state m g AtPart ts n q (go g refl)
 
-part_is : (l : ℕ) (f : Found) (t : Token) (ts : List Token) (n : State) → PartsAre l f [] ts → part_next f t ≡ Some n → StateIs n (ts ++ (t ∷ []))
-part_is l f (Number a) ts n h e =
-    let g = guard_is (nat_lt (length f.blocks) max_levels && nat_lt a (2 ^ 32)) (state_at f (AfterAuthor a)) n e in
-    let two = both (nat_lt (length f.blocks) max_levels) (nat_lt a (2 ^ 32)) g.0 in
-    to_state f (AfterAuthor a) (ts ++ (Number a ∷ [])) n (ap (λ s. Some s) g.1)
-    (ltb-true a (2 ^ 32) two.1, record { level = l; past = ts; parts = h; room = ltb-true (length f.blocks) max_levels two.0; tokens = refl })
-part_is l f (Word End) ts n h e = parts_end_is f.blocks l f ts n h refl e
-part_is l f (Word Else) ts n h e = at_part_is (else_in f.blocks f) n (ts ++ (Word Else ∷ [])) e (λ g q. else_is f.blocks l f g ts h refl q)
-part_is l f (Word Fi) ts n h e = at_part_is (fi_in f.blocks f) n (ts ++ (Word Fi ∷ [])) e (λ g q. fi_is f.blocks l f g ts h refl q)
-part_is l f (Word Od) ts n h e = at_part_is (od_in f.blocks f) n (ts ++ (Word Od ∷ [])) e (λ g q. od_is f.blocks l f g ts h refl q)
-part_is l f t ts n h e = absurd cc
+part_is : (m : Mode) (l : ℕ) (f : Found) (t : Token) (ts : List Token) (n : State) → PartsAre m l f [] ts → part_next None f t ≡ Some n → StateIs m n (ts ++ (t ∷ []))
+part_is m l f (Number a) ts n h e = tag_is m l f f.mode a ts n h refl e
+part_is m l f (Name x) ts n h e = first_is m l f f.mode (Name x) ts n h refl e
+part_is m l f (Word If) ts n h e = first_is m l f f.mode (Word If) ts n h refl e
+part_is m l f (Word While) ts n h e = first_is m l f f.mode (Word While) ts n h refl e
+part_is m l f (Word End) ts n h e = parts_end_is m f.blocks l f ts n h refl e
+part_is m l f (Word Else) ts n h e = at_part_is m (else_in f.blocks f) n (ts ++ (Word Else ∷ [])) e (λ g q. else_is m f.blocks l f g ts h refl q)
+part_is m l f (Word Fi) ts n h e = at_part_is m (fi_in None f.blocks f) n (ts ++ (Word Fi ∷ [])) e (λ g q. fi_is m f.blocks l f g ts h refl q)
+part_is m l f (Word Od) ts n h e = at_part_is m (od_in None f.blocks f) n (ts ++ (Word Od ∷ [])) e (λ g q. od_is m f.blocks l f g ts h refl q)
+part_is m l f t ts n h e = absurd cc
 
 -- ---- steps in expressions
 
-further : (p : Purpose) (f : Found) (r m : Reading) (t : Token) (ts : List Token) → PurposeIs p f r ts → read r t ≡ Some m → PurposeIs p f m (ts ++ (t ∷ []))
-further (Assign g x) f r m t ts h e = (h.0, (h.1.0 ++ (t ∷ []), read_is r t m h.1.0 h.1.1 e, since f (g ∷ []) (label_of g ++ (Name x ∷ Mark Becomes ∷ h.1.0)) t ts h.1.2))
-further (Test g) f r m t ts h e = (h.0, (h.1.0 ++ (t ∷ []), read_is r t m h.1.0 h.1.1 e, since f (g ∷ []) (label_of g ++ (Word If ∷ h.1.0)) t ts h.1.2))
-further (Guard g) f r m t ts h e = (h.0, (h.1.0 ++ (t ∷ []), read_is r t m h.1.0 h.1.1 e, since f (g ∷ []) (label_of g ++ (Word While ∷ h.1.0)) t ts h.1.2))
+further : (m : Mode) (p : Purpose) (f : Found) (r k : Reading) (t : Token) (ts : List Token) → PurposeIs m p f r ts → read r t ≡ Some k → PurposeIs m p f k (ts ++ (t ∷ []))
+further m (Assign g x) f r k t ts h e = (h.0 ++ (t ∷ []), read_is r t k h.0 h.1 e, behind m f g (Name x ∷ Mark Becomes ∷ h.0) t ts h.2)
+further m (Test g) f r k t ts h e = (h.0 ++ (t ∷ []), read_is r t k h.0 h.1 e, behind m f g (Word If ∷ h.0) t ts h.2)
+further m (Guard g) f r k t ts h e = (h.0 ++ (t ∷ []), read_is r t k h.0 h.1 e, behind m f g (Word While ∷ h.0) t ts h.2)
 
-goes_on_is : (f : Found) (p : Purpose) (r : Reading) (t : Token) (o : Option Reading) (ts : List Token) (n : State) → PurposeIs p f r ts → read r t ≡ o → goes_on f p o ≡ Some n → StateIs n (ts ++ (t ∷ []))
-goes_on_is f p r t None ts n h e q = absurd cc
-goes_on_is f p r t (Some m) ts n h e q = to_state f (InExpression p m) (ts ++ (t ∷ [])) n q (further p f r m t ts h e)
+goes_on_is : (m : Mode) (f : Found) (p : Purpose) (r : Reading) (t : Token) (o : Option Reading) (ts : List Token) (n : State) → PurposeIs m p f r ts → read r t ≡ o → goes_on f p o ≡ Some n → StateIs m n (ts ++ (t ∷ []))
+goes_on_is m f p r t None ts n h e q = absurd cc
+goes_on_is m f p r t (Some k) ts n h e q = to_state m f (InExpression p k) (ts ++ (t ∷ [])) n q (further m p f r k t ts h e)
 
-value_ends : (f : Found) (g : Tag) (x : List ℕ) (r : Reading) (o : Option Expr) (ts : List Token) (n : State) → PurposeIs (Assign g x) f r ts → ended r ≡ o → ends_here f (Assign g x) o ≡ Some n
-    → StateIs n (ts ++ (Mark Semicolon ∷ []))
-value_ends f g x r None ts n h e q = absurd cc
-value_ends f g x r (Some v) ts n h e q =
-    let s = h.1.2 in
-    to_state (with_part g x v f) AtPart (ts ++ (Mark Semicolon ∷ [])) n q (assigned s.level f g x v s.past h.1.0 ts s.parts s.room h.0 (ended_is r v h.1.0 h.1.1 e) s.tokens)
+value_ends : (m : Mode) (f : Found) (g : Tag) (x : List ℕ) (r : Reading) (o : Option Expr) (ts : List Token) (n : State) → PurposeIs m (Assign g x) f r ts → ended r ≡ o → ends_here None f (Assign g x) o ≡ Some n
+    → StateIs m n (ts ++ (Mark Semicolon ∷ []))
+value_ends m f g x r None ts n h e q = absurd cc
+value_ends m f g x r (Some v) ts n h e q =
+    let s = h.2 in
+    to_state m (with_part None g x v f) AtPart (ts ++ (Mark Semicolon ∷ [])) n q (assigned m s.level f g x v s.past s.label h.0 ts s.parts s.room s.label_is (ended_is r v h.0 h.1 e) s.tokens)
 
-test_ends : (f : Found) (g : Tag) (r : Reading) (o : Option Expr) (ts : List Token) (n : State) → PurposeIs (Test g) f r ts → ended r ≡ o → ends_here f (Test g) o ≡ Some n
-    → StateIs n (ts ++ (Word Then ∷ []))
-test_ends f g r None ts n h e q = absurd cc
-test_ends f g r (Some v) ts n h e q =
-    let s = h.1.2 in
-    to_state (in_then g v f) AtPart (ts ++ (Word Then ∷ [])) n q (then_begins s.level f g v s.past h.1.0 ts s.parts s.room h.0 (ended_is r v h.1.0 h.1.1 e) s.tokens)
+test_ends : (m : Mode) (f : Found) (g : Tag) (r : Reading) (o : Option Expr) (ts : List Token) (n : State) → PurposeIs m (Test g) f r ts → ended r ≡ o → ends_here None f (Test g) o ≡ Some n
+    → StateIs m n (ts ++ (Word Then ∷ []))
+test_ends m f g r None ts n h e q = absurd cc
+test_ends m f g r (Some v) ts n h e q =
+    let s = h.2 in
+    to_state m (in_then g v f) AtPart (ts ++ (Word Then ∷ [])) n q (then_begins m s.level f g v s.past s.label h.0 ts s.parts s.room s.label_is (ended_is r v h.0 h.1 e) s.tokens)
 
-guard_ends : (f : Found) (g : Tag) (r : Reading) (o : Option Expr) (ts : List Token) (n : State) → PurposeIs (Guard g) f r ts → ended r ≡ o → ends_here f (Guard g) o ≡ Some n
-    → StateIs n (ts ++ (Word Do ∷ []))
-guard_ends f g r None ts n h e q = absurd cc
-guard_ends f g r (Some v) ts n h e q =
-    let s = h.1.2 in
-    to_state (in_loop g v f) AtPart (ts ++ (Word Do ∷ [])) n q (loop_begins s.level f g v s.past h.1.0 ts s.parts s.room h.0 (ended_is r v h.1.0 h.1.1 e) s.tokens)
+guard_ends : (m : Mode) (f : Found) (g : Tag) (r : Reading) (o : Option Expr) (ts : List Token) (n : State) → PurposeIs m (Guard g) f r ts → ended r ≡ o → ends_here None f (Guard g) o ≡ Some n
+    → StateIs m n (ts ++ (Word Do ∷ []))
+guard_ends m f g r None ts n h e q = absurd cc
+guard_ends m f g r (Some v) ts n h e q =
+    let s = h.2 in
+    to_state m (in_loop g v f) AtPart (ts ++ (Word Do ∷ [])) n q (loop_begins m s.level f g v s.past s.label h.0 ts s.parts s.room s.label_is (ended_is r v h.0 h.1 e) s.tokens)
 
-expression_is : (f : Found) (p : Purpose) (r : Reading) (t : Token) (ts : List Token) (n : State) → PurposeIs p f r ts → expression_next f p r t ≡ Some n → StateIs n (ts ++ (t ∷ []))
-expression_is f (Assign g x) r (Mark Semicolon) ts n h e = value_ends f g x r (ended r) ts n h refl e
-expression_is f (Test g) r (Word Then) ts n h e = test_ends f g r (ended r) ts n h refl e
-expression_is f (Guard g) r (Word Do) ts n h e = guard_ends f g r (ended r) ts n h refl e
-expression_is f p r t ts n h e = goes_on_is f p r t (read r t) ts n h refl e
+expression_is : (m : Mode) (f : Found) (p : Purpose) (r : Reading) (t : Token) (ts : List Token) (n : State) → PurposeIs m p f r ts → expression_next None f p r t ≡ Some n → StateIs m n (ts ++ (t ∷ []))
+expression_is m f (Assign g x) r (Mark Semicolon) ts n h e = value_ends m f g x r (ended r) ts n h refl e
+expression_is m f (Test g) r (Word Then) ts n h e = test_ends m f g r (ended r) ts n h refl e
+expression_is m f (Guard g) r (Word Do) ts n h e = guard_ends m f g r (ended r) ts n h refl e
+expression_is m f p r t ts n h e = goes_on_is m f p r t (read r t) ts n h refl e
 
 -- ---- steps at the end
 
-ended_with : (f : Found) (names : List (List ℕ)) (last : List Token) (t : Token) (ts : List Token) → BodyIs f names last ts → BodyIs f names (last ++ (t ∷ [])) (ts ++ (t ∷ []))
-ended_with f names last t ts h =
+ended_with : (m : Mode) (f : Found) (names : List (List ℕ)) (last : List Token) (t : Token) (ts : List Token) → BodyIs m f names last ts → BodyIs m f names (last ++ (t ∷ [])) (ts ++ (t ∷ []))
+ended_with m f names last t ts h =
     record {
       header = h.header;
       pairs = h.pairs;
       parts = h.parts;
       header_is = h.header_is;
       count = h.count;
+      counts = h.counts;
       parts_are = h.parts_are;
       numbers = h.numbers;
       names_are = h.names_are;
       tokens = rw h.tokens (simp append_assoc);
     }
 
-named : (f : Found) (names : List (List ℕ)) (last : List Token) (x : List ℕ) (ts : List Token) → BodyIs f names last ts → BodyIs (with_name x f) (names ++ (x ∷ [])) (last ++ (Name x ∷ [])) (ts ++ (Name x ∷ []))
-named f names last x ts h =
+named : (m : Mode) (f : Found) (names : List (List ℕ)) (last : List Token) (x : List ℕ) (ts : List Token) → BodyIs m f names last ts → BodyIs m (with_name x f) (names ++ (x ∷ [])) (last ++ (Name x ∷ [])) (ts ++ (Name x ∷ []))
+named m f names last x ts h =
     record {
       header = h.header;
       pairs = h.pairs;
       parts = h.parts;
       header_is = h.header_is;
       count = h.count;
+      counts = h.counts;
       parts_are = h.parts_are;
       numbers = h.numbers;
       names_are = ap (λ xs. xs ++ (x ∷ [])) h.names_are;
@@ -615,72 +762,74 @@ named f names last x ts h =
 
 -- ---- one step, and many
 
-next_is : (f : Found) (p : Place) (t : Token) (ts : List Token) (n : State) → PlaceIs p f ts → next_at f p t ≡ Some n → StateIs n (ts ++ (t ∷ []))
-next_is f Start (Word Program) ts n h e = to_state f AfterProgram (ts ++ (Word Program ∷ [])) n e (h.0, rw h.1 refl)
-next_is f AfterProgram (Word Issued) ts n h e = to_state (with_header f) BeforePair (ts ++ (Word Issued ∷ [])) n e (first_pair f ts h)
-next_is f AfterProgram t ts n h e = part_is max_levels f t ts n (no_header f ts h) e
-next_is f BeforePair (Number a) ts n h e =
+next_is : (m : Mode) (f : Found) (p : Place) (t : Token) (ts : List Token) (n : State) → PlaceIs m p f ts → next_at None f p t ≡ Some n → StateIs m n (ts ++ (t ∷ []))
+next_is m f Start (Word Program) ts n h e = to_state m f AfterProgram (ts ++ (Word Program ∷ [])) n e (h.0, rw h.1 refl)
+next_is m f AfterProgram (Word Issued) ts n h e = header_is m f f.mode ts n h refl e
+next_is m f AfterProgram t ts n h e = part_is m max_levels f t ts n (no_header m f ts h) e
+next_is m f BeforePair (Number a) ts n h e =
     let g = guard_is (nat_lt a (2 ^ 32)) (state_at f (AfterPairAuthor a)) n e in
-    to_state f (AfterPairAuthor a) (ts ++ (Number a ∷ [])) n (ap (λ s. Some s) g.1) (ltb-true a (2 ^ 32) g.0, (ts, h, refl))
-next_is f (AfterPairAuthor a) (Mark Colon) ts n h e =
-    to_state f (AfterPairColon a) (ts ++ (Mark Colon ∷ [])) n e (h.0, (h.1.0, h.1.1, rw h.1.2 (append_assoc h.1.0 (Number a ∷ []) (Mark Colon ∷ []))))
-next_is f (AfterPairColon a) (Number k) ts n h e =
+    to_state m f (AfterPairAuthor a) (ts ++ (Number a ∷ [])) n (ap (λ s. Some s) g.1) (ltb-true a (2 ^ 32) g.0, (ts, h, refl))
+next_is m f (AfterPairAuthor a) (Mark Colon) ts n h e =
+    to_state m f (AfterPairColon a) (ts ++ (Mark Colon ∷ [])) n e (h.0, (h.1.0, h.1.1, rw h.1.2 (append_assoc h.1.0 (Number a ∷ []) (Mark Colon ∷ []))))
+next_is m f (AfterPairColon a) (Number k) ts n h e =
     let g = guard_is (nat_le 1 k && nat_lt k (2 ^ 32)) (state_at (with_number a k f) AfterPair) n e in
-    to_state (with_number a k f) AfterPair (ts ++ (Number k ∷ [])) n (ap (λ s. Some s) g.1) (pair_ends f a k ts h (serial_is k g.0))
-next_is f AfterPair (Mark Comma) ts n h e = to_state f BeforePair (ts ++ (Mark Comma ∷ [])) n e (pair_again f ts h)
-next_is f AfterPair t ts n h e = part_is max_levels f t ts n (header_ends f ts h) e
-next_is f AtPart t ts n h e = part_is h.0 f t ts n h.1 e
-next_is f (AfterAuthor a) (Mark Dot) ts n h e = to_state f (AfterDot a) (ts ++ (Mark Dot ∷ [])) n e (h.0, since f [] (Number a ∷ []) (Mark Dot) ts h.1)
-next_is f (AfterDot a) (Number k) ts n h e =
+    to_state m (with_number a k f) AfterPair (ts ++ (Number k ∷ [])) n (ap (λ s. Some s) g.1) (pair_ends m f a k ts h (serial_is k g.0))
+next_is m f AfterPair (Mark Comma) ts n h e = to_state m f BeforePair (ts ++ (Mark Comma ∷ [])) n e (pair_again m f ts h)
+next_is m f AfterPair t ts n h e = part_is m max_levels f t ts n (header_ends m f ts h) e
+next_is m f AtPart t ts n h e = part_is m h.0 f t ts n h.1 e
+next_is m f (AfterAuthor a) (Mark Dot) ts n h e = to_state m f (AfterDot a) (ts ++ (Mark Dot ∷ [])) n e (h.0, since m f [] (Number a ∷ []) (Mark Dot) ts h.1)
+next_is m f (AfterDot a) (Number k) ts n h e =
     let g = guard_is (nat_le 1 k && nat_lt k (2 ^ 32)) (tag_read f (record { author = a; serial = k })) n e in
     let t : Tag = record { author = a; serial = k } in
-    let s = since f [] (Number a ∷ Mark Dot ∷ []) (Number k) ts h.1 in
-    to_state (with_tag t f) (AfterSerial t) (ts ++ (Number k ∷ [])) n (ap (λ s. Some s) g.1) ((h.0, serial_is k g.0), record { level = s.level; past = s.past; parts = tag_begins s.level f t s.past s.parts; room = s.room; tokens = s.tokens })
-next_is f (AfterSerial g) (Mark Colon) ts n h e =
-    to_state f (AfterColon g) (ts ++ (Mark Colon ∷ [])) n e (h.0, since f (g ∷ []) (Number g.author ∷ Mark Dot ∷ Number g.serial ∷ []) (Mark Colon) ts h.1)
-next_is f (AfterColon g) (Name x) ts n h e = to_state f (AfterTarget g x) (ts ++ (Name x ∷ [])) n e (h.0, since f (g ∷ []) (label_of g) (Name x) ts h.1)
-next_is f (AfterColon g) (Word If) ts n h e =
-    to_state f (InExpression (Test g) start) (ts ++ (Word If ∷ [])) n e (h.0, ([], start_is, since f (g ∷ []) (label_of g) (Word If) ts h.1))
-next_is f (AfterColon g) (Word While) ts n h e =
-    to_state f (InExpression (Guard g) start) (ts ++ (Word While ∷ [])) n e (h.0, ([], start_is, since f (g ∷ []) (label_of g) (Word While) ts h.1))
-next_is f (AfterTarget g x) (Mark Becomes) ts n h e =
-    to_state f (InExpression (Assign g x) start) (ts ++ (Mark Becomes ∷ [])) n e (h.0, ([], start_is, since f (g ∷ []) (label_of g ++ (Name x ∷ [])) (Mark Becomes) ts h.1))
-next_is f (InExpression p r) t ts n h e = expression_is f p r t ts n h e
-next_is f AfterEnd (Mark Open) ts n h e = to_state f AfterOpen (ts ++ (Mark Open ∷ [])) n e (ended_with f [] [] (Mark Open) ts h)
-next_is f AfterOpen (Name x) ts n h e =
-    to_state (with_name x f) AfterName (ts ++ (Name x ∷ [])) n e ([], [], x, λ us y ys s. s, named f [] (Mark Open ∷ []) x ts h)
-next_is f AfterOpen (Mark Close) ts n h e = to_state f AtEnd (ts ++ (Mark Close ∷ [])) n e ([], [], grammar.none, ended_with f [] (Mark Open ∷ []) (Mark Close) ts h)
-next_is f AfterName (Mark Comma) ts n h e =
-    to_state f AfterComma (ts ++ (Mark Comma ∷ [])) n e (
+    let s = since m f [] (Number a ∷ Mark Dot ∷ []) (Number k) ts h.1 in
+    to_state m (with_tag t f) (AfterSerial t) (ts ++ (Number k ∷ [])) n (ap (λ s. Some s) g.1) (
+      (h.0, serial_is k g.0),
+      record { tagged = s.tagged; level = s.level; past = s.past; parts = tag_stands m s.level f t s.past s.tagged s.parts; room = s.room; tokens = s.tokens },
+    )
+next_is m f (AfterSerial g) (Mark Colon) ts n h e = to_state m f (AfterColon g) (ts ++ (Mark Colon ∷ [])) n e (colon_ends m f g ts h.0 h.1)
+next_is m f (AfterColon g) t ts n h e = colon_is m f g t ts n h e
+next_is m f (AfterTarget g x) (Mark Becomes) ts n h e =
+    to_state m f (InExpression (Assign g x) start) (ts ++ (Mark Becomes ∷ [])) n e ([], start_is, behind m f g (Name x ∷ []) (Mark Becomes) ts h)
+next_is m f (InExpression p r) t ts n h e = expression_is m f p r t ts n h e
+next_is m f AfterEnd (Mark Open) ts n h e = to_state m f AfterOpen (ts ++ (Mark Open ∷ [])) n e (ended_with m f [] [] (Mark Open) ts h)
+next_is m f AfterOpen (Name x) ts n h e =
+    to_state m (with_name x f) AfterName (ts ++ (Name x ∷ [])) n e ([], [], x, λ us y ys s. s, named m f [] (Mark Open ∷ []) x ts h)
+next_is m f AfterOpen (Mark Close) ts n h e = to_state m f AtEnd (ts ++ (Mark Close ∷ [])) n e ([], [], grammar.none, ended_with m f [] (Mark Open ∷ []) (Mark Close) ts h)
+next_is m f AfterName (Mark Comma) ts n h e =
+    to_state m f AfterComma (ts ++ (Mark Comma ∷ [])) n e (
       h.0 ++ (Name h.2 ∷ Mark Comma ∷ []),
       h.1 ++ (h.2 ∷ []),
       λ us y ys s. rw (append_assoc, append_assoc) (h.3 _ _ _ (grammar.more s)),
-      rw append_assoc at (ended_with f (h.1 ++ (h.2 ∷ [])) (Mark Open ∷ (h.0 ++ (Name h.2 ∷ []))) (Mark Comma) ts h.4),
+      rw append_assoc at (ended_with m f (h.1 ++ (h.2 ∷ [])) (Mark Open ∷ (h.0 ++ (Name h.2 ∷ []))) (Mark Comma) ts h.4),
     )
-next_is f AfterName (Mark Close) ts n h e =
-    to_state f AtEnd (ts ++ (Mark Close ∷ [])) n e
-    (h.0 ++ (Name h.2 ∷ []), h.1 ++ (h.2 ∷ []), h.3 _ _ _ grammar.one, ended_with f (h.1 ++ (h.2 ∷ [])) (Mark Open ∷ (h.0 ++ (Name h.2 ∷ []))) (Mark Close) ts h.4)
-next_is f AfterComma (Name x) ts n h e =
-    to_state (with_name x f) AfterName (ts ++ (Name x ∷ [])) n e (h.0, h.1, x, h.2, named f h.1 (Mark Open ∷ h.0) x ts h.3)
-next_is f p t ts n h e = absurd cc
+next_is m f AfterName (Mark Close) ts n h e =
+    to_state m f AtEnd (ts ++ (Mark Close ∷ [])) n e
+    (h.0 ++ (Name h.2 ∷ []), h.1 ++ (h.2 ∷ []), h.3 _ _ _ grammar.one, ended_with m f (h.1 ++ (h.2 ∷ [])) (Mark Open ∷ (h.0 ++ (Name h.2 ∷ []))) (Mark Close) ts h.4)
+next_is m f AfterComma (Name x) ts n h e =
+    to_state m (with_name x f) AfterName (ts ++ (Name x ∷ [])) n e (h.0, h.1, x, h.2, named m f h.1 (Mark Open ∷ h.0) x ts h.3)
+next_is m f p t ts n h e = absurd cc
 
-step_is : (s : State) (t : Token) (ts : List Token) (n : State) → StateIs s ts → next s t ≡ Some n → StateIs n (ts ++ (t ∷ []))
+step_is : (m : Mode) (s : State) (t : Token) (ts : List Token) (n : State) → StateIs m s ts → next None s t ≡ Some n → StateIs m n (ts ++ (t ∷ []))
 unfolding next
-step_is s t ts n h e = next_is s.found s.place t ts n h e
+step_is m s t ts n h e = next_is m s.found s.place t ts n h e
 
-runs_at : (s : State) (t : Token) (past ts : List Token) (o : Option State) (n : State) → StateIs s past → next s t ≡ o → and_then o (λ m. runs next m ts) ≡ Some n
-    → ((m : State) → StateIs m (past ++ (t ∷ [])) → runs next m ts ≡ Some n → StateIs n ((past ++ (t ∷ [])) ++ ts)) → StateIs n (past ++ (t ∷ ts))
-runs_at s t past ts None n h e q go = absurd cc
-runs_at s t past ts (Some m) n h e q go = rw append_assoc at (go m (step_is s t past m h e) q)
+runs_at : (m : Mode) (s : State) (t : Token) (past ts : List Token) (o : Option State) (n : State) → StateIs m s past → next None s t ≡ o → and_then o (λ k. runs (next None) k ts) ≡ Some n
+    → ((k : State) → StateIs m k (past ++ (t ∷ [])) → runs (next None) k ts ≡ Some n → StateIs m n ((past ++ (t ∷ [])) ++ ts)) → StateIs m n (past ++ (t ∷ ts))
+runs_at m s t past ts None n h e q go = absurd cc
+runs_at m s t past ts (Some k) n h e q go = rw append_assoc at (go k (step_is m s t past k h e) q)
 
-runs_is : (s : State) (past ts : List Token) (n : State) → StateIs s past → runs next s ts ≡ Some n → StateIs n (past ++ ts)
-runs_is s past [] n h e = rw append-nil (subst (λ (m : State). StateIs m past) (some_is _ _ e) h)
-runs_is s past (t ∷ ts) n h e = runs_at s t past ts (next s t) n h refl e (λ m k q. runs_is m (past ++ (t ∷ [])) ts n k q)
+runs_is : (m : Mode) (s : State) (past ts : List Token) (n : State) → StateIs m s past → runs (next None) s ts ≡ Some n → StateIs m n (past ++ ts)
+runs_is m s past [] n h e = rw append-nil (subst (λ (k : State). StateIs m k past) (some_is _ _ e) h)
+runs_is m s past (t ∷ ts) n h e = runs_at m s t past ts (next None s t) n h refl e (λ k i q. runs_is m k (past ++ (t ∷ [])) ts n i q)
 
-accepted_is : (f : Found) (p : Place) (t : Tree) (ts : List Token) → PlaceIs p f ts → accepted_at f p ≡ Some t → SpellsProgram tagged ts t
-accepted_is f AtEnd t ts h e =
+-- a tree that is spelled, with as many parts as have begun
+abbrev pub IsCounted : Mode → List Token → Found → Tree → Type 0
+IsCounted m ts f t = (h : SpellsProgram (form_of m) ts t) × (f.count ≡ tally m h.count)
+
+accepted_is : (m : Mode) (f : Found) (p : Place) (t : Tree) (ts : List Token) → PlaceIs m p f ts → accepted_at f p ≡ Some t → IsCounted m ts f t
+accepted_is m f AtEnd t ts h e =
     let b = h.3 in
-    let made : SpellsProgram tagged ts (record { issued = f.issued; body = f.parts; finals = f.names }) = record {
+    let made : SpellsProgram (form_of m) ts (record { issued = f.issued; body = f.parts; finals = f.names }) = record {
       header = b.header;
       pairs = b.pairs;
       parts = b.parts;
@@ -692,9 +841,9 @@ accepted_is f AtEnd t ts h e =
       issued_is = b.numbers;
       tokens_are = b.tokens;
     } in
-    subst (λ (u : Tree). SpellsProgram tagged ts u) (some_is _ _ e) made
-accepted_is f p t ts h e = absurd cc
+    subst (λ (u : Tree). IsCounted m ts f u) (some_is _ _ e) (made, b.counts)
+accepted_is m f p t ts h e = absurd cc
 
 -- what is accepted is spelled
-pub found_spelled : (ts : List Token) (s : State) (t : Tree) → runs next initially ts ≡ Some s → accepted s ≡ Some t → SpellsProgram tagged ts t
-found_spelled ts s t e a = accepted_is s.found s.place t ts (runs_is initially [] ts s (refl, refl) e) a
+pub found_spelled : (m : Mode) (ts : List Token) (s : State) (t : Tree) → runs (next None) (initially m) ts ≡ Some s → accepted s ≡ Some t → IsCounted m ts s.found t
+found_spelled m ts s t e a = accepted_is m s.found s.place t ts (runs_is m (initially m) [] ts s (refl, refl) e) a

@@ -1,6 +1,12 @@
 pub mod Pending
 pub mod Expression
 pub mod Blocks
+pub mod Forms
 pub mod Machine
 pub mod Laws
+pub mod Live
+pub mod Answers
 pub mod Spelled
+pub mod Contents
+pub mod ContentMachine
+pub mod ContentLaws

@@ -1,16 +1,24 @@
 //! What was read so far.
-ghost use Rattle.std.specs.Prelude.{◌≡◌, ◌≤◌, [], ◌∷◌, ◌++◌, IfOk};
+ghost use Rattle.std.specs.Prelude.{◌≡◌, ◌≤◌, [], ◌∷◌, ◌++◌, length, nat_lt, is_some, IfOk};
 ghost use Rattle.hpr_syntax.specs.Body.{assign, branch, done};
 ghost use Rattle.hpr_syntax.specs.BodyOf.{before};
+ghost use Rattle.hpr_syntax.specs.Shape.{max_levels};
 ghost use Rattle.hpr_scan.specs.Steps.{Steps};
 ghost use Rattle.hpr_text.specs.Machine as machine;
 
 use crate::blocks::{Around, Begun, Blocks};
+use crate::form::Mode;
 use hpr_scan::Fault;
 use hpr_syntax::{Block, Issued, Stmt};
 use hpr_terms::{Expr, Name, NoMemory, Tag};
 use std::alloc::Global;
 use std::marker::Model;
+
+/// Blocks with parts may stand this deep in one another.
+const MAX_LEVELS: usize = 64;
+
+/// A program may have this many parts.
+pub const MAX_PARTS: usize = 1000;
 
 /// Names in their order. A contract sees their list.
 #[derive(Debug, Drop)]
@@ -55,6 +63,10 @@ impl Names {
 /// What was read so far.
 #[derive(Debug, Drop)]
 pub struct Found {
+    /// Which texts are read.
+    pub mode: Mode,
+    /// How many parts of an untagged text have begun.
+    pub count: usize,
     /// Whether there is a header.
     pub has_header: bool,
     /// The numbers of the header's pairs, or of the tags where there is no header.
@@ -76,19 +88,32 @@ fn push_part(block: Block, stmt: Stmt) -> Result<Block, NoMemory>
     Ok(Block::new(stmts))
 }
 
-fn conditional(around: Around, yes: Block, no: Block) -> Result<Block, NoMemory>
-    ensures { IfOk result (λ b. b ≡ machine.then_parts around.before (branch around.tag around.test yes no done)) }
+/// The parts, and one more behind them, unless more have begun than a program may have.
+fn push_kept(block: Block, begun: usize, stmt: Stmt) -> Result<Block, NoMemory>
+    ensures { IfOk result (λ b. b ≡ machine.then_kept (machine.keeps machine.limit begun) block (before stmt done)) }
+{
+    if begun <= MAX_PARTS {
+        push_part(block, stmt)
+    } else {
+        Ok(block)
+    }
+}
+
+fn conditional(around: Around, begun: usize, yes: Block, no: Block) -> Result<Block, NoMemory>
+    ensures { IfOk result (λ b. b ≡ machine.then_kept (machine.keeps machine.limit begun) around.before (branch around.tag around.test yes no done)) }
 {
     let Around { before, tag, test } = around;
-    push_part(before, Stmt::If(tag, test, yes, no))
+    push_kept(before, begun, Stmt::If(tag, test, yes, no))
 }
 
 impl Found {
     /// Nothing was read.
-    pub fn new(alloc: Global) -> Found
-        ensures { result ≡ machine.nothing_found }
+    pub fn new(alloc: Global, mode: Mode) -> Found
+        ensures { result ≡ machine.nothing_found mode }
     {
         Found {
+            mode,
+            count: 0,
             has_header: false,
             issued: Issued::new(alloc),
             blocks: Blocks::new(alloc),
@@ -129,45 +154,61 @@ impl Found {
         }
     }
 
-    /// One more part.
-    pub fn with_part(self, tag: Tag, name: Name, value: Expr) -> Result<Found, NoMemory>
-        ensures { IfOk result (λ f. f ≡ machine.with_part tag name value self) }
+    /// Whether one more block may stand in the open ones.
+    pub fn has_room(&self) -> bool
+        ensures { result ≡ nat_lt (length self.now.blocks) max_levels }
     {
-        let Found {
-            has_header,
-            issued,
-            blocks,
-            parts,
-            names,
-        } = self;
-        let parts = push_part(parts, Stmt::Assign(tag, name, value))?;
-        Ok(Found {
-            has_header,
-            issued,
-            blocks,
-            parts,
-            names,
-        })
+        self.blocks.len() < MAX_LEVELS
+    }
+
+    /// Whether a part without a tag can begin.
+    pub fn can_begin(&self) -> bool
+        ensures { result ≡ is_some (machine.part_begun machine.limit self.now) }
+    {
+        match self.mode {
+            Mode::Tagged => false,
+            Mode::Untagged(_) => self.has_room(),
+        }
+    }
+
+    /// A part without a tag begins, and gets one. `Refused` comes exactly where it cannot begin.
+    pub fn begin(self) -> Result<(Found, Tag), Fault>
+        ensures { Steps (machine.part_begun machine.limit self) result }
+    {
+        let author = match self.mode {
+            Mode::Tagged => return Err(Fault::Refused),
+            Mode::Untagged(author) => author,
+        };
+        if !self.has_room() {
+            return Err(Fault::Refused);
+        }
+        let count = self.count.saturating_add(1);
+        // the parts past those that are kept have the last serial
+        let serial = count.min(MAX_PARTS) as u32;
+        let tag = Tag { author, serial };
+        let found = Found { count, ..self };
+        Ok((found.with_tag(tag)?, tag))
+    }
+
+    /// One more part, unless more have begun than a program may have.
+    pub fn with_part(self, tag: Tag, name: Name, value: Expr) -> Result<Found, NoMemory>
+        ensures { IfOk result (λ f. f ≡ machine.with_part machine.limit tag name value self) }
+    {
+        let parts = push_kept(self.parts, self.count, Stmt::Assign(tag, name, value))?;
+        Ok(Found { parts, ..self })
     }
 
     /// The first block of a conditional begins.
     pub fn in_then(self, alloc: Global, tag: Tag, test: Expr) -> Result<Found, NoMemory>
         ensures { IfOk result (λ f. f ≡ machine.in_then tag test self) }
     {
-        let Found {
-            has_header,
-            issued,
-            blocks,
-            parts: before,
-            names,
-        } = self;
-        let blocks = blocks.with(Begun::Then(Around { before, tag, test }))?;
+        let before = self.parts;
+        let blocks = self.blocks.with(Begun::Then(Around { before, tag, test }))?;
+        let parts = Block::new(Vec::new(alloc));
         Ok(Found {
-            has_header,
-            issued,
             blocks,
-            parts: Block::new(Vec::new(alloc)),
-            names,
+            parts,
+            ..self
         })
     }
 
@@ -175,20 +216,13 @@ impl Found {
     pub fn in_loop(self, alloc: Global, tag: Tag, test: Expr) -> Result<Found, NoMemory>
         ensures { IfOk result (λ f. f ≡ machine.in_loop tag test self) }
     {
-        let Found {
-            has_header,
-            issued,
-            blocks,
-            parts: before,
-            names,
-        } = self;
-        let blocks = blocks.with(Begun::Loop(Around { before, tag, test }))?;
+        let before = self.parts;
+        let blocks = self.blocks.with(Begun::Loop(Around { before, tag, test }))?;
+        let parts = Block::new(Vec::new(alloc));
         Ok(Found {
-            has_header,
-            issued,
             blocks,
-            parts: Block::new(Vec::new(alloc)),
-            names,
+            parts,
+            ..self
         })
     }
 
@@ -196,23 +230,18 @@ impl Found {
     pub fn at_else(self, alloc: Global) -> Result<Found, Fault>
         ensures { Steps (machine.else_found self) result }
     {
-        let Found {
-            has_header,
-            issued,
-            blocks,
-            parts,
-            names,
-        } = self;
-        match blocks.closed() {
+        match self.blocks.closed() {
             None => Err(Fault::Refused),
             Some((block, blocks)) => match block {
-                Begun::Then(around) => Ok(Found {
-                    has_header,
-                    issued,
-                    blocks: blocks.with(Begun::Else(around, parts))?,
-                    parts: Block::new(Vec::new(alloc)),
-                    names,
-                }),
+                Begun::Then(around) => {
+                    let blocks = blocks.with(Begun::Else(around, self.parts))?;
+                    let parts = Block::new(Vec::new(alloc));
+                    Ok(Found {
+                        blocks,
+                        parts,
+                        ..self
+                    })
+                }
                 _ => Err(Fault::Refused),
             },
         }
@@ -220,62 +249,43 @@ impl Found {
 
     /// A conditional ends. `Refused` comes exactly where it cannot.
     pub fn at_fi(self, alloc: Global) -> Result<Found, Fault>
-        ensures { Steps (machine.fi_found self) result }
+        ensures { Steps (machine.fi_found machine.limit self) result }
     {
-        let Found {
-            has_header,
-            issued,
-            blocks,
-            parts,
-            names,
-        } = self;
-        match blocks.closed() {
+        match self.blocks.closed() {
             None => Err(Fault::Refused),
-            Some((block, blocks)) => match block {
-                Begun::Then(around) => {
-                    let no = Block::new(Vec::new(alloc));
-                    Ok(Found {
-                        has_header,
-                        issued,
-                        blocks,
-                        parts: conditional(around, parts, no)?,
-                        names,
-                    })
-                }
-                Begun::Else(around, yes) => Ok(Found {
-                    has_header,
-                    issued,
+            Some((block, blocks)) => {
+                let parts = match block {
+                    Begun::Then(around) => {
+                        let no = Block::new(Vec::new(alloc));
+                        conditional(around, self.count, self.parts, no)?
+                    }
+                    Begun::Else(around, yes) => conditional(around, self.count, yes, self.parts)?,
+                    Begun::Loop(_) => return Err(Fault::Refused),
+                };
+                Ok(Found {
                     blocks,
-                    parts: conditional(around, yes, parts)?,
-                    names,
-                }),
-                Begun::Loop(_) => Err(Fault::Refused),
-            },
+                    parts,
+                    ..self
+                })
+            }
         }
     }
 
     /// A loop ends. `Refused` comes exactly where it cannot.
     pub fn at_od(self) -> Result<Found, Fault>
-        ensures { Steps (machine.od_found self) result }
+        ensures { Steps (machine.od_found machine.limit self) result }
     {
-        let Found {
-            has_header,
-            issued,
-            blocks,
-            parts,
-            names,
-        } = self;
-        match blocks.closed() {
+        match self.blocks.closed() {
             None => Err(Fault::Refused),
             Some((block, blocks)) => match block {
                 Begun::Loop(around) => {
                     let Around { before, tag, test } = around;
+                    let stmt = Stmt::While(tag, test, self.parts);
+                    let parts = push_kept(before, self.count, stmt)?;
                     Ok(Found {
-                        has_header,
-                        issued,
                         blocks,
-                        parts: push_part(before, Stmt::While(tag, test, parts))?,
-                        names,
+                        parts,
+                        ..self
                     })
                 }
                 _ => Err(Fault::Refused),
@@ -287,20 +297,7 @@ impl Found {
     pub fn with_name(self, name: Name) -> Result<Found, NoMemory>
         ensures { IfOk result (λ f. f ≡ machine.with_name name self) }
     {
-        let Found {
-            has_header,
-            issued,
-            blocks,
-            parts,
-            names,
-        } = self;
-        let names = names.with(name)?;
-        Ok(Found {
-            has_header,
-            issued,
-            blocks,
-            parts,
-            names,
-        })
+        let names = self.names.with(name)?;
+        Ok(Found { names, ..self })
     }
 }

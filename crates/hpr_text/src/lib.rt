@@ -1,11 +1,13 @@
-//! Reads the text of a program.
+//! Reads the text of a program, with the tag of each part or without tags, or of a content.
 //!
 //! A machine of tokens says where each token leads, by one function for each place of the grammar;
-//! the reader of bytes finds the tokens for it.
+//! the reader of bytes finds the tokens for it, and names the exact place of a refusal.
 #![tactic(auto)]
 
 mod blocks;
+mod content;
 mod expression;
+mod form;
 mod found;
 pub mod laws;
 mod machine;
@@ -15,6 +17,10 @@ mod reader;
 mod state;
 #[cfg(test)]
 mod tests;
+#[cfg(test)]
+mod untagged_tests;
 
-pub use hpr_syntax::{NoMemory, Program, ShapeError};
-pub use reader::{Mode, TextError, parse};
+pub use content::read_content;
+pub use form::Mode;
+pub use hpr_syntax::{Content, NoMemory, Program, ShapeError};
+pub use reader::{TextError, parse};

@@ -5,7 +5,7 @@ ghost use Rattle.hpr_text.specs.Machine as machine;
 
 use crate::places::{
     is_author, is_serial, next_at, takes_block, takes_expression_keyword, takes_expression_sign,
-    takes_tag,
+    takes_header, takes_tag,
 };
 use crate::state::{Place, State};
 use hpr_scan::{Fault, TokenMachine};
@@ -15,10 +15,15 @@ use std::alloc::Global;
 impl TokenMachine for State {
     ghost use Rattle.hpr_text.specs.Machine as machine;
     ghost use Rattle.hpr_text.specs.Laws.{is_token_machine};
+    ghost use Rattle.hpr_text.specs.Live.{live};
 
-    ghost next = { machine.next };
+    ghost next = { machine.next machine.limit };
 
-    ghost laws = { is_token_machine };
+    ghost may_end = { machine.may_end };
+
+    ghost laws = { is_token_machine machine.limit };
+
+    ghost live = { live };
 
     #[tactic(auto, unfolding(crate::specs::Machine::next))]
     fn step(self, alloc: Global, token: Token) -> Result<State, Fault> {
@@ -31,7 +36,8 @@ impl TokenMachine for State {
         match &self.place {
             Place::Start => matches!(keyword, Keyword::Program),
             Place::AfterProgram => {
-                matches!(keyword, Keyword::Issued) || takes_block(&self.found, keyword)
+                matches!(keyword, Keyword::Issued) && takes_header(&self.found)
+                    || takes_block(&self.found, keyword)
             }
             Place::AfterPair => takes_block(&self.found, keyword),
             Place::AtPart => takes_block(&self.found, keyword),
@@ -46,6 +52,9 @@ impl TokenMachine for State {
     #[tactic(auto, unfolding(crate::specs::Machine::next), using(crate::proofs::Going::goes_on_is_some))]
     fn takes_name(&self) -> bool {
         match &self.place {
+            Place::AfterProgram => self.found.can_begin(),
+            Place::AfterPair => self.found.can_begin(),
+            Place::AtPart => self.found.can_begin(),
             Place::AfterColon(_) => true,
             Place::InExpression(_, reading) => reading.takes_name(),
             Place::AfterOpen => true,
@@ -84,5 +93,9 @@ impl TokenMachine for State {
             Place::AfterName => matches!(sign, Sign::Comma | Sign::Close),
             _ => false,
         }
+    }
+
+    fn can_end(&self) -> bool {
+        matches!(self.place, Place::AtEnd)
     }
 }

@@ -9,14 +9,12 @@ ghost use Rattle.hpr_terms.specs.declared.token.Token.TheVariants as tokens;
 
 use crate::blocks::Kind;
 use crate::expression::Reading;
+use crate::form::Mode;
 use crate::found::Found;
 use crate::state::{Place, Purpose, State};
 use hpr_scan::Fault;
 use hpr_terms::{Keyword, Name, Sign, Tag, Token};
 use std::alloc::Global;
-
-/// Blocks with parts may stand this deep in one another.
-const MAX_LEVELS: usize = 64;
 
 /// Authors and serials are below this.
 const NUMBERS: u64 = 4_294_967_296;
@@ -37,16 +35,28 @@ pub fn is_serial(number: u64) -> bool
 
 /// Whether a part can stand next that begins with this number.
 pub fn takes_tag(found: &Found, number: u64) -> bool
-    ensures { result ≡ is_some (machine.part_next found.now (tokens.Number number)) }
+    ensures { result ≡ is_some (machine.part_next machine.limit found.now (tokens.Number number)) }
 {
-    found.blocks.len() < MAX_LEVELS && is_author(number)
+    match found.mode {
+        Mode::Tagged => found.has_room() && is_author(number),
+        Mode::Untagged(_) => false,
+    }
+}
+
+/// Whether `issued` can stand next, behind `program`.
+pub fn takes_header(found: &Found) -> bool
+    ensures { result ≡ is_some (machine.header_next found.now.mode found.now) }
+{
+    matches!(found.mode, Mode::Tagged)
 }
 
 /// Whether the keyword can stand next, where a part can.
 pub fn takes_block(found: &Found, keyword: Keyword) -> bool
-    ensures { result ≡ is_some (machine.part_next found.now (tokens.Word keyword)) }
+    ensures { result ≡ is_some (machine.part_next machine.limit found.now (tokens.Word keyword)) }
 {
     match keyword {
+        Keyword::If => found.can_begin(),
+        Keyword::While => found.can_begin(),
         Keyword::End => matches!(found.blocks.kind(), Kind::Top),
         Keyword::Else => matches!(found.blocks.kind(), Kind::Then),
         Keyword::Fi => matches!(found.blocks.kind(), Kind::Then | Kind::Else),
@@ -63,7 +73,7 @@ pub fn takes_expression_keyword(
     reading: &Reading,
     keyword: Keyword,
 ) -> bool
-    ensures { result ≡ is_some (machine.expression_next found.now purpose.now reading.now (tokens.Word keyword)) }
+    ensures { result ≡ is_some (machine.expression_next machine.limit found.now purpose.now reading.now (tokens.Word keyword)) }
 {
     match (purpose, keyword) {
         (Purpose::Test(_), Keyword::Then) => reading.can_end(),
@@ -80,7 +90,7 @@ pub fn takes_expression_sign(
     reading: &Reading,
     sign: Sign,
 ) -> bool
-    ensures { result ≡ is_some (machine.expression_next found.now purpose.now reading.now (tokens.Mark sign)) }
+    ensures { result ≡ is_some (machine.expression_next machine.limit found.now purpose.now reading.now (tokens.Mark sign)) }
 {
     match (purpose, sign) {
         (Purpose::Assign(_, _), Sign::Semicolon) => reading.can_end(),
@@ -110,9 +120,9 @@ fn at_part(found: Found) -> State
 }
 
 fn tag_next(found: Found, number: u64) -> Result<State, Fault>
-    ensures { Steps (machine.part_next found (tokens.Number number)) result }
+    ensures { Steps (machine.tag_next found.mode found number) result }
 {
-    if found.blocks.len() < MAX_LEVELS && is_author(number) {
+    if takes_tag(&found, number) {
         Ok(State {
             found,
             place: Place::AfterAuthor(number as u32),
@@ -120,6 +130,13 @@ fn tag_next(found: Found, number: u64) -> Result<State, Fault>
     } else {
         Err(Fault::Refused)
     }
+}
+
+fn first_next(alloc: Global, found: Found, token: Token) -> Result<State, Fault>
+    ensures { Steps (machine.first_next (machine.part_begun machine.limit found) token) result }
+{
+    let (found, tag) = found.begin()?;
+    colon_next(alloc, found, tag, token)
 }
 
 fn parts_end(found: Found) -> Result<State, Fault>
@@ -136,9 +153,11 @@ fn parts_end(found: Found) -> Result<State, Fault>
 }
 
 fn block_next(alloc: Global, found: Found, keyword: Keyword) -> Result<State, Fault>
-    ensures { Steps (machine.part_next found (tokens.Word keyword)) result }
+    ensures { Steps (machine.part_next machine.limit found (tokens.Word keyword)) result }
 {
     match keyword {
+        Keyword::If => first_next(alloc, found, Token::Word(keyword)),
+        Keyword::While => first_next(alloc, found, Token::Word(keyword)),
         Keyword::End => parts_end(found),
         Keyword::Else => Ok(at_part(found.at_else(alloc)?)),
         Keyword::Fi => Ok(at_part(found.at_fi(alloc)?)),
@@ -148,24 +167,33 @@ fn block_next(alloc: Global, found: Found, keyword: Keyword) -> Result<State, Fa
 }
 
 fn part_next(alloc: Global, found: Found, token: Token) -> Result<State, Fault>
-    ensures { Steps (machine.part_next found token) result }
+    ensures { Steps (machine.part_next machine.limit found token) result }
 {
     match token {
         Token::Number(number) => tag_next(found, number),
         Token::Word(keyword) => block_next(alloc, found, keyword),
-        Token::Name(_) => Err(Fault::Refused),
+        Token::Name(name) => first_next(alloc, found, Token::Name(name)),
         Token::Mark(_) => Err(Fault::Refused),
     }
 }
 
-fn program_next(alloc: Global, found: Found, token: Token) -> Result<State, Fault>
-    ensures { Steps (machine.program_next found token) result }
+fn header_next(found: Found) -> Result<State, Fault>
+    ensures { Steps (machine.header_next found.mode found) result }
 {
-    match token {
-        Token::Word(Keyword::Issued) => Ok(State {
+    match found.mode {
+        Mode::Tagged => Ok(State {
             found: found.with_header(),
             place: Place::BeforePair,
         }),
+        Mode::Untagged(_) => Err(Fault::Refused),
+    }
+}
+
+fn program_next(alloc: Global, found: Found, token: Token) -> Result<State, Fault>
+    ensures { Steps (machine.program_next machine.limit found token) result }
+{
+    match token {
+        Token::Word(Keyword::Issued) => header_next(found),
         _ => part_next(alloc, found, token),
     }
 }
@@ -219,7 +247,7 @@ fn pair_colon_next(found: Found, author: u32, token: Token) -> Result<State, Fau
 }
 
 fn pair_next(alloc: Global, found: Found, token: Token) -> Result<State, Fault>
-    ensures { Steps (machine.pair_next found token) result }
+    ensures { Steps (machine.pair_next machine.limit found token) result }
 {
     match token {
         Token::Mark(Sign::Comma) => Ok(State {
@@ -338,7 +366,7 @@ fn value_next(
     reading: Reading,
     token: Token,
 ) -> Result<State, Fault>
-    ensures { Steps (machine.expression_next found (Assign tag name) reading token) result }
+    ensures { Steps (machine.expression_next machine.limit found (Assign tag name) reading token) result }
 {
     match token {
         Token::Mark(Sign::Semicolon) => {
@@ -356,7 +384,7 @@ fn test_next(
     reading: Reading,
     token: Token,
 ) -> Result<State, Fault>
-    ensures { Steps (machine.expression_next found (Test tag) reading token) result }
+    ensures { Steps (machine.expression_next machine.limit found (Test tag) reading token) result }
 {
     match token {
         Token::Word(Keyword::Then) => {
@@ -374,7 +402,7 @@ fn guard_next(
     reading: Reading,
     token: Token,
 ) -> Result<State, Fault>
-    ensures { Steps (machine.expression_next found (Guard tag) reading token) result }
+    ensures { Steps (machine.expression_next machine.limit found (Guard tag) reading token) result }
 {
     match token {
         Token::Word(Keyword::Do) => {
@@ -392,7 +420,7 @@ fn expression_next(
     reading: Reading,
     token: Token,
 ) -> Result<State, Fault>
-    ensures { Steps (machine.expression_next found purpose reading token) result }
+    ensures { Steps (machine.expression_next machine.limit found purpose reading token) result }
 {
     match purpose {
         Purpose::Assign(tag, name) => value_next(alloc, found, tag, name, reading, token),
@@ -460,7 +488,7 @@ fn comma_next(found: Found, token: Token) -> Result<State, Fault>
 /// The state after the token at this place. `Refused` comes exactly where the token cannot stand
 /// there.
 pub fn next_at(alloc: Global, found: Found, place: Place, token: Token) -> Result<State, Fault>
-    ensures { Steps (machine.next_at found place token) result }
+    ensures { Steps (machine.next_at machine.limit found place token) result }
 {
     match place {
         Place::Start => start_next(found, token),

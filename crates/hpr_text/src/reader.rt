@@ -1,66 +1,86 @@
 //! Reads the text of a program.
-ghost use Rattle.std.specs.Prelude.{◌≡◌, Some, IfOk, IsErrOf};
-ghost use Rattle.hpr_syntax.specs.Tree.{Tree};
-ghost use Rattle.hpr_syntax.specs.Shape.{IsProgram};
+ghost use Rattle.std.specs.Prelude.{◌≡◌, ◌≤◌, Some, IfOk};
+ghost use Rattle.hpr_syntax.specs.Shape.{IsProgram, max_parts};
 ghost use Rattle.hpr_syntax.specs.Spelling.{Spells};
-ghost use Rattle.hpr_syntax.specs.Grammar.{tagged};
-ghost use Rattle.hpr_text.specs.Machine.{accepted};
+ghost use Rattle.hpr_scan.specs.Place.{IsPlace};
+ghost use Rattle.hpr_text.specs.Answers.{IsText, IsMisshapen, IfSyntax, IfShape, ComesFromText};
+ghost use Rattle.hpr_text.specs.Forms.{form_of, HasAuthor};
+ghost use Rattle.hpr_text.specs.Machine.{shape_of, tree_of};
 
-use crate::state::{Place, State};
-use hpr_scan::{Fault, read};
+use crate::form::Mode;
+use crate::found::{Found, MAX_PARTS};
+use crate::state::State;
+use hpr_scan::{Refusal, read};
 use hpr_syntax::{Program, ShapeError};
 use std::alloc::Global;
 
-/// Which texts are read.
-#[derive(Clone, Copy, Debug, PartialEq, Eq, PartialOrd, Ord)]
-pub enum Mode {
-    /// Each part has its tag.
-    Tagged,
-}
-
 /// Why a text is not read.
-#[derive(Clone, Copy, Debug, PartialEq, Eq, PartialOrd, Ord)]
+#[derive(Debug, PartialEq, Eq, PartialOrd, Ord, Drop)]
 pub enum TextError {
-    /// The text spells no tree, or a tree that is no program.
-    NotBuilt,
+    /// The bytes spell no tree. Their longest front that some further bytes complete to a text has
+    /// this many bytes.
+    Syntax {
+        /// The length of that front, in bytes.
+        place: usize,
+    },
+    /// The bytes spell a tree that is no program, and this is why. It is never `TooDeep`,
+    /// `ExprTooLarge` or `Memory`: a text has no part so deep and no expression so large, and want
+    /// of memory is `TextError::Memory`.
+    Shape(ShapeError),
     /// Memory ran out.
     Memory,
 }
 
-/// The program that ends in this state. `NotBuilt` comes exactly where the program cannot end here
-/// or its tree is no program.
+/// The program of what was read, if its tree is one.
 fn built(alloc: Global, state: State) -> Result<Program, TextError>
-    ensures tree { IfOk result (λ p. accepted state ≡ Some p) }
+    ensures tree { IfOk result (λ p. p ≡ tree_of state.found) }
+    ensures few { IfOk result (λ p. state.found.count ≤ max_parts) }
     ensures program { IfOk result (λ p. IsProgram p) }
-    ensures not_built { IsErrOf result TextError.NotBuilt → (t : Tree) → accepted state ≡ Some t → ¬ IsProgram t }
+    ensures shape { IfShape result (λ e. shape_of state.found ≡ Some e) }
+    ensures no_place { IfSyntax result (λ n. ⊥) }
 {
-    let State { found, place } = state;
-    match place {
-        Place::AtEnd => {
-            match Program::new(alloc, found.issued, found.parts, found.names.into_vec()) {
-                Ok(program) => Ok(program),
-                Err(ShapeError::Memory) => Err(TextError::Memory),
-                Err(_) => Err(TextError::NotBuilt),
-            }
-        }
-        _ => Err(TextError::NotBuilt),
+    let Found {
+        mode: _,
+        count,
+        has_header: _,
+        issued,
+        blocks: _,
+        parts,
+        names,
+    } = state.into_found();
+    if count > MAX_PARTS {
+        return Err(TextError::Shape(ShapeError::TooManyParts(count)));
+    }
+    match Program::new(alloc, issued, parts, names.into_vec()) {
+        Ok(program) => Ok(program),
+        Err(ShapeError::Memory) => Err(TextError::Memory),
+        Err(error) => Err(TextError::Shape(error)),
     }
 }
 
-/// The program that the bytes spell.
+/// The program that the bytes spell in a form of texts.
 ///
-/// In a tagged text authors are at most 4,294,967,295, serials are 1 to 4,294,967,295, literals are
-/// at most 9,223,372,036,854,775,807, and a name has 1 to 64 bytes. `NotBuilt` comes exactly where
-/// the bytes spell no tree, or spell a tree that is no program; `Memory` where memory ran out.
+/// In a tagged text authors are at most 4,294,967,295, and serials are 1 to 4,294,967,295. In an
+/// untagged one the parts get the tags of the author from 1 on, in preorder, and the issued numbers
+/// are the author with the number of parts, or none where there are no parts; the author is at
+/// least 1. In either one literals are at most 9,223,372,036,854,775,807, a name has 1 to 64 bytes,
+/// a part stands at most 64 levels deep, and an expression has at most 256 operators, and 256
+/// brackets in one another. `Syntax` comes exactly where the bytes spell no tree in this form, with
+/// the length of their longest front that some further bytes complete; `Shape` exactly where they
+/// spell a tree that is no program, with the first test that it fails; `Memory` where memory ran
+/// out. Of an untagged text with more than 1,000 parts no part past these is kept, and the refusal
+/// has the number of them all. The rules of texts, and their limits, are our profile.
 pub fn parse(alloc: Global, bytes: &[u8], mode: Mode) -> Result<Program, TextError>
-    ensures spelled { IfOk result (λ p. Spells tagged bytes.now p) }
+    requires author { HasAuthor mode }
+    ensures spelled { IfOk result (λ p. Spells (form_of mode) bytes.now p) }
     ensures program { IfOk result (λ p. IsProgram p) }
-    ensures not_built { IsErrOf result TextError.NotBuilt → (t : Tree) → Spells tagged bytes.now t → ¬ IsProgram t }
+    ensures syntax { IfSyntax result (λ n. IsPlace (IsText (form_of mode)) bytes.now n) }
+    ensures shape { IfShape result (λ e. IsMisshapen (form_of mode) bytes.now e) }
+    ensures never { IfShape result ComesFromText }
 {
-    let Mode::Tagged = mode;
-    match read(alloc, State::new(alloc), bytes) {
+    match read(alloc, State::new(alloc, mode), bytes) {
         Ok(state) => built(alloc, state),
-        Err(Fault::Refused) => Err(TextError::NotBuilt),
-        Err(Fault::Memory) => Err(TextError::Memory),
+        Err(Refusal::Stuck { place }) => Err(TextError::Syntax { place }),
+        Err(Refusal::Memory) => Err(TextError::Memory),
     }
 }

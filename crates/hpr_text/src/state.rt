@@ -3,6 +3,7 @@ ghost use Rattle.std.specs.Prelude.{◌≡◌};
 ghost use Rattle.hpr_text.specs.Machine as machine;
 
 use crate::expression::Reading;
+use crate::form::Mode;
 use crate::found::Found;
 use hpr_terms::{Name, Tag};
 use std::alloc::Global;
@@ -68,12 +69,20 @@ pub struct State {
 
 impl State {
     /// Nothing was read.
-    pub fn new(alloc: Global) -> State
-        ensures { result ≡ machine.initially }
+    pub fn new(alloc: Global, mode: Mode) -> State
+        ensures { result ≡ machine.initially mode }
     {
         State {
-            found: Found::new(alloc),
+            found: Found::new(alloc, mode),
             place: Place::Start,
         }
+    }
+
+    /// What was read so far.
+    pub fn into_found(self) -> Found
+        ensures { result ≡ self.found }
+    {
+        let State { found, place: _ } = self;
+        found
     }
 }

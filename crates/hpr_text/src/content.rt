@@ -1,0 +1,217 @@
+//! Reads the text of a content, and the `;` behind it.
+ghost use Rattle.std.specs.Prelude.{◌≡◌, ℕ, ◌+◌, ◌≤◌, ◌<◌, length, slice_index, slice_range, IfOk, true, Some};
+ghost use Rattle.hpr_terms.specs.declared.token.Token.TheVariants as tokens;
+ghost use Rattle.hpr_scan.specs.Place.{BeginsWith};
+ghost use Rattle.hpr_scan.specs.Steps.{Steps};
+ghost use Rattle.hpr_text.specs.Answers.{IfSyntax, IfShape};
+ghost use Rattle.hpr_text.specs.Contents.{IsContentText, HasContent, IsPlaceFrom};
+ghost use Rattle.hpr_text.specs.ContentMachine as machine;
+ghost use Rattle.hpr_text.specs.Expression as expression;
+
+use crate::expression::Reading;
+use crate::reader::TextError;
+use hpr_scan::{Fault, FrontMachine, Refusal, TokenMachine, read_front};
+use hpr_syntax::Content;
+use hpr_terms::{Expr, Keyword, Name, Sign, Token};
+use std::alloc::Global;
+
+/// What the expression of a content is read for.
+#[derive(Debug, Drop)]
+pub enum Aim {
+    /// The value of an assignment.
+    Assign(Name),
+    /// The test of a conditional.
+    Test,
+    /// The test of a loop.
+    Guard,
+}
+
+/// How far a content was read.
+#[derive(Debug, Drop)]
+pub enum ContentState {
+    /// Nothing was read.
+    Start,
+    /// The name that is assigned to.
+    AfterTarget(Name),
+    /// A front of the expression.
+    InExpression(Aim, Reading),
+    /// The content and its `;`.
+    Ended(Content),
+}
+
+fn content(aim: Aim, value: Expr) -> Content
+    ensures { result ≡ machine.content_of aim value }
+{
+    match aim {
+        Aim::Assign(name) => Content::Assign(name, value),
+        Aim::Test => Content::If(value),
+        Aim::Guard => Content::While(value),
+    }
+}
+
+fn begin_next(alloc: Global, token: Token) -> Result<ContentState, Fault>
+    ensures { Steps (machine.begin_next token) result }
+{
+    match token {
+        Token::Name(name) => Ok(ContentState::AfterTarget(name)),
+        Token::Word(Keyword::If) => {
+            Ok(ContentState::InExpression(Aim::Test, Reading::start(alloc)))
+        }
+        Token::Word(Keyword::While) => {
+            Ok(ContentState::InExpression(Aim::Guard, Reading::start(alloc)))
+        }
+        _ => Err(Fault::Refused),
+    }
+}
+
+fn becomes_next(alloc: Global, name: Name, token: Token) -> Result<ContentState, Fault>
+    ensures { Steps (machine.becomes_next name token) result }
+{
+    match token {
+        Token::Mark(Sign::Becomes) => {
+            Ok(ContentState::InExpression(Aim::Assign(name), Reading::start(alloc)))
+        }
+        _ => Err(Fault::Refused),
+    }
+}
+
+fn ends(alloc: Global, aim: Aim, reading: Reading) -> Result<ContentState, Fault>
+    ensures { Steps (machine.content_ends aim (expression.ended reading)) result }
+{
+    let value = reading.ended(alloc)?;
+    Ok(ContentState::Ended(content(aim, value)))
+}
+
+fn goes_on(alloc: Global, aim: Aim, reading: Reading, token: Token) -> Result<ContentState, Fault>
+    ensures { Steps (machine.content_goes_on aim (expression.read reading token)) result }
+{
+    let reading = reading.read(alloc, token)?;
+    Ok(ContentState::InExpression(aim, reading))
+}
+
+fn inside_next(
+    alloc: Global,
+    aim: Aim,
+    reading: Reading,
+    token: Token,
+) -> Result<ContentState, Fault>
+    ensures { Steps (machine.inside_next aim reading token) result }
+{
+    match token {
+        Token::Mark(Sign::Semicolon) => ends(alloc, aim, reading),
+        _ => goes_on(alloc, aim, reading, token),
+    }
+}
+
+impl TokenMachine for ContentState {
+    ghost use Rattle.hpr_text.specs.ContentMachine as machine;
+    ghost use Rattle.hpr_text.specs.ContentLaws.{content_is_token_machine, content_live};
+
+    ghost next = { machine.content_next };
+
+    ghost may_end = { machine.content_may_end };
+
+    ghost laws = { content_is_token_machine };
+
+    ghost live = { content_live };
+
+    #[tactic(auto, unfolding(crate::specs::ContentMachine::content_next))]
+    fn step(self, alloc: Global, token: Token) -> Result<ContentState, Fault> {
+        match self {
+            ContentState::Start => begin_next(alloc, token),
+            ContentState::AfterTarget(name) => becomes_next(alloc, name, token),
+            ContentState::InExpression(aim, reading) => inside_next(alloc, aim, reading, token),
+            ContentState::Ended(_) => Err(Fault::Refused),
+        }
+    }
+
+    #[tactic(auto, unfolding(crate::specs::ContentMachine::content_next), using(crate::proofs::ContentGoing::content_goes_on_is_some))]
+    fn takes_keyword(&self, keyword: Keyword) -> bool {
+        match self {
+            ContentState::Start => matches!(keyword, Keyword::If | Keyword::While),
+            ContentState::InExpression(_, reading) => reading.takes_keyword(keyword),
+            _ => false,
+        }
+    }
+
+    #[tactic(auto, unfolding(crate::specs::ContentMachine::content_next), using(crate::proofs::ContentGoing::content_goes_on_is_some))]
+    fn takes_name(&self) -> bool {
+        match self {
+            ContentState::Start => true,
+            ContentState::InExpression(_, reading) => reading.takes_name(),
+            _ => false,
+        }
+    }
+
+    #[tactic(auto, unfolding(crate::specs::ContentMachine::content_next), using(crate::proofs::ContentGoing::content_goes_on_is_some))]
+    fn takes_number(&self, number: u64) -> bool {
+        match self {
+            ContentState::InExpression(_, reading) => reading.takes_number(number),
+            _ => false,
+        }
+    }
+
+    #[tactic(auto, unfolding(crate::specs::ContentMachine::content_next), using(crate::proofs::ContentGoing::content_goes_on_is_some, crate::proofs::ContentGoing::content_ends_is_some))]
+    fn takes_sign(&self, sign: Sign) -> bool {
+        match self {
+            ContentState::AfterTarget(_) => matches!(sign, Sign::Becomes),
+            ContentState::InExpression(_, reading) => match sign {
+                Sign::Semicolon => reading.can_end(),
+                _ => reading.takes_sign(sign),
+            },
+            _ => false,
+        }
+    }
+
+    fn can_end(&self) -> bool {
+        matches!(self, ContentState::Ended(_))
+    }
+}
+
+impl FrontMachine for ContentState {
+    ghost use Rattle.hpr_text.specs.ContentLaws.{content_ends_at_once};
+
+    ghost ends_at_once = { content_ends_at_once };
+}
+
+impl ContentState {
+    /// The content, whose `;` was read.
+    fn ended(self) -> Content
+        requires { machine.content_may_end self ≡ true }
+        ensures { machine.content_read self ≡ Some result }
+    {
+        match self {
+            ContentState::Ended(content) => content,
+            _ => unreachable!(),
+        }
+    }
+}
+
+/// The content at `start`, which `;` follows, and the place of that `;`.
+///
+/// What follows the `;` is not read. A content is what a part says without its tag and its blocks:
+/// `name := expr`, `if expr` or `while expr`, with the limits of an expression. `Syntax` comes
+/// exactly where the bytes from `start` on begin with no content and `;`; its place is `start` and
+/// the length of the longest front of the bytes from there on that some further bytes complete.
+/// `Shape` never comes; `Memory` where memory ran out. The text of a content is our profile.
+pub fn read_content(
+    alloc: Global,
+    bytes: &[u8],
+    start: usize,
+) -> Result<(Content, usize), TextError>
+    requires { start ≤ length bytes.now }
+    ensures within { IfOk result (λ (_, at). (start ≤ at) × (at < length bytes.now)) }
+    ensures content { IfOk result (λ (content, at). IsContentText (slice_range bytes.now start (at + 1)) content) }
+    ensures sign { IfOk result (λ (_, at). slice_index bytes.now at ≡ 59) }
+    ensures first { IfOk result (λ (_, at). (n : ℕ) → n ≤ at → HasContent (slice_range bytes.now start n) → ⊥) }
+    ensures syntax { IfSyntax result (λ n. IsPlaceFrom start (BeginsWith HasContent) bytes.now n) }
+    ensures no_shape { IfShape result (λ _. ⊥) }
+{
+    match read_front(alloc, ContentState::Start, &bytes[start..]) {
+        Ok((state, at)) => Ok((state.ended(), start + at)),
+        Err(Refusal::Stuck { place }) => Err(TextError::Syntax {
+            place: start + place,
+        }),
+        Err(Refusal::Memory) => Err(TextError::Memory),
+    }
+}
