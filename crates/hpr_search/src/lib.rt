@@ -1,0 +1,10 @@
+//! One search over directed graphs: which points do walks lead to?
+#![tactic(auto)]
+
+mod digraph;
+mod search;
+#[cfg(test)]
+mod tests;
+
+pub use digraph::Digraph;
+pub use search::reachable;

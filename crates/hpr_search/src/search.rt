@@ -1,0 +1,55 @@
+//! The search.
+ghost use Rattle.std.specs.Prelude.{◌≡◌, ℕ, ◌<◌, false, length, replicate, All, IfOk, OnOk};
+ghost use Rattle.hpr_search.specs.Walks.{IsReached};
+ghost use Rattle.hpr_search.specs.Marks.{IsMarked, IsRowOf, Visited};
+
+use crate::Digraph;
+use std::alloc::{AllocError, Global};
+
+fn blank_row(alloc: Global, points: usize) -> Result<Vec<bool>, AllocError>
+    ensures { IfOk result (λ marks. marks.items ≡ replicate points false) }
+{
+    vec![in alloc; false; points]
+}
+
+/// Marks each of the points that isn't marked, and lists it.
+fn visit(marks: &mut Vec<bool>, order: &mut Vec<usize>, points: &[usize]) -> Result<(), AllocError>
+    requires row { IsRowOf marks.old.items order.old.items }
+    requires within { All (λ p. p < length marks.old.items) points.now }
+    ensures { OnOk result (Visited order.old.items points.now (length marks.old.items) marks.new.items order.new.items) }
+{
+    for point in points {
+        if !marks[*point] {
+            marks[*point] = true;
+            order.push(*point)?;
+        }
+    }
+    Ok(())
+}
+
+/// Marks the points to which a walk of edges leads from one of the starts. A walk may have no edge, so the starts are marked.
+///
+/// Looks once at each edge that leaves a marked point, and does not recurse. The starts are points of the graph.
+pub fn reachable<G: Digraph>(
+    alloc: Global,
+    graph: &G,
+    starts: &[usize],
+) -> Result<Vec<bool>, AllocError>
+    requires { All (λ s. s < G.points graph.now) starts.now }
+    ensures row { IfOk result (λ marks. length marks.items ≡ G.points graph.now) }
+    ensures sound { IfOk result (λ marks. (p : ℕ) → IsMarked marks.items p → IsReached (G.steps graph.now) starts.now p) }
+    ensures complete { IfOk result (λ marks. (p : ℕ) → IsReached (G.steps graph.now) starts.now p → IsMarked marks.items p) }
+{
+    let mut marks = blank_row(alloc, graph.point_count())?;
+    let mut order = Vec::new(alloc);
+    visit(&mut marks, &mut order, starts)?;
+    let mut steps = Vec::new(alloc);
+    let mut at = 0;
+    while at < order.len() {
+        steps.clear();
+        graph.push_steps(order[at], &mut steps)?;
+        visit(&mut marks, &mut order, steps.as_slice())?;
+        at += 1;
+    }
+    Ok(marks)
+}
