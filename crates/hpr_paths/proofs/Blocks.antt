@@ -1,0 +1,86 @@
+-- The points of a block, statement by statement.
+use Rattle.std.proofs.Common.{◌≡◌, ℕ, suc, ◌+◌, ◌<◌, ◌≤◌, Bool, true, false, cond, List, [], ◌∷◌, ◌++◌, length, get_or, drop, drop-cons, add-one, length-drop, inl, inr, refl, sym, ap, ◌∙◌, arith, append_assoc}
+use Rattle.std.proofs.lemmas.List.{append-nil, drop_all}
+use Rattle.std.proofs.lemmas.Bool.{cases_lt}
+use Rattle.hpr_syntax.specs.declared.tree.Stmt.{Stmt}
+use Rattle.hpr_syntax.specs.declared.tree.Stmt.TheVariants.{Assign, If, While}
+use Rattle.hpr_syntax.specs.declared.rows.Content.TheVariants as content
+use Rattle.hpr_syntax.specs.Body.{Body, done, part_count}
+use Rattle.hpr_syntax.specs.BodyOf.{before, body_of}
+use Rattle.hpr_paths.specs.declared.spot.Step.{Step}
+use Rattle.hpr_paths.specs.Spots.{Spot, part}
+use Rattle.hpr_paths.specs.Successors.{first_step, step_to, spot_of, spots_of}
+
+abbrev Rows : Type 0
+Rows = List Spot
+
+pub first_step_some : (xs : List Stmt) (n : ℕ) (f : Step) → 0 < length xs → first_step (body_of xs) n f ≡ step_to n
+first_step_some [] n f h = absurd (omega arith)
+first_step_some (Assign t x e ∷ xs) n f h = refl
+first_step_some (If t e a b ∷ xs) n f h = refl
+first_step_some (While t e b ∷ xs) n f h = refl
+
+regroup : (x y z : Rows) → (x ++ (y ++ [])) ++ z ≡ x ++ (y ++ z)
+regroup x y z = append_assoc x (y ++ []) z ∙ ap (λ (r : Rows). x ++ (r ++ z)) (append-nil y)
+
+pub spots_cons : (s : Stmt) (rest : Body) (n m : ℕ) (f : Step) (w : List ℕ) → m ≡ n + part_count (before s done)
+    → spots_of (before s rest) n f w ≡ spots_of (before s done) n (first_step rest m f) w ++ spots_of rest m f w
+spots_cons (Assign t x e) rest n m f w is = rw is refl
+spots_cons (If t e a b) rest n m f w is =
+    let next : m ≡ n + 1 + part_count a + part_count b = omega arith in
+    rw next (ap (λ (r : Rows). spot_of (first_step a (n + 1) (first_step rest (n + 1 + part_count a + part_count b) f) ∷ first_step b (n + 1 + part_count a) (first_step rest (n + 1 + part_count a + part_count b) f) ∷ []) w (part t (content.If e)) ∷ r)
+    (sym (regroup (spots_of a (n + 1) (first_step rest (n + 1 + part_count a + part_count b) f) w) (spots_of b (n + 1 + part_count a) (first_step rest (n + 1 + part_count a + part_count b) f) w) (spots_of rest (n + 1 + part_count a + part_count b) f w))))
+spots_cons (While t e b) rest n m f w is =
+    let next : m ≡ n + 1 + part_count b = omega arith in
+    rw next (ap (λ (r : Rows). spot_of (first_step b (n + 1) (record { to = n; back = true }) ∷ first_step rest (n + 1 + part_count b) f ∷ []) (w ++ n ∷ []) (part t (content.While e)) ∷ r)
+    (ap (λ (r : Rows). r ++ spots_of rest (n + 1 + part_count b) f w) (sym (append-nil (spots_of b (n + 1) (record { to = n; back = true }) (w ++ n ∷ []))))))
+
+pub count_cons : (s : Stmt) (rest : Body) → part_count (before s rest) ≡ part_count (before s done) + part_count rest
+count_cons (Assign t x e) rest = omega arith
+count_cons (If t e a b) rest = omega arith
+count_cons (While t e b) rest = omega arith
+
+if_not : (more : Bool) (s f : Step) → (more ≡ true → ⊥) → cond more s f ≡ f
+if_not true s f h = absurd (h refl)
+if_not false s f h = refl
+
+if_so : (more : Bool) (s f : Step) → (more ≡ false → ⊥) → cond more s f ≡ s
+if_so true s f h = refl
+if_so false s f h = absurd (h refl)
+
+-- what follows a statement is where the rest begins
+pub after_is : (xs : List Stmt) (i n : ℕ) (f : Step) (more : Bool) → (more ≡ true → i < length xs) → (more ≡ false → length xs ≤ i) → cond more (step_to n) f ≡ first_step (body_of (drop i xs)) n f
+after_is xs i n f more p q = elim (cases_lt i (length xs)) [
+  | inl l ↦ if_so more (step_to n) f (λ e. let h : length xs ≤ i = q e in omega arith)
+      ∙ sym (first_step_some (drop i xs) n f (omega (arith, length-drop i xs)))
+  | inr past ↦ if_not more (step_to n) f (λ e. let h : i < length xs = p e in omega arith)
+      ∙ ap (λ (ys : List Stmt). first_step (body_of ys) n f) (sym (drop_all i xs past))
+]
+
+-- the points of a part and of two blocks behind it
+pub three_rows : (r0 r1 r2 r3 : Rows) (row : Spot) (a b : Rows) → r1 ≡ r0 ++ row ∷ [] → r2 ≡ r1 ++ a → r3 ≡ r2 ++ b → r3 ≡ r0 ++ row ∷ (a ++ (b ++ []))
+three_rows r0 r1 r2 r3 row a b e f g =
+    g ∙ ap (λ (r : Rows). r ++ b) (f ∙ ap (λ (r : Rows). r ++ a) e ∙ append_assoc r0 (row ∷ []) a) ∙ append_assoc r0 (row ∷ a) b
+    ∙ ap (λ (r : Rows). r0 ++ row ∷ (a ++ r)) (sym (append-nil b))
+
+pub two_rows : (r0 r1 r2 : Rows) (row : Spot) (a : Rows) → r1 ≡ r0 ++ row ∷ [] → r2 ≡ r1 ++ a → r2 ≡ r0 ++ row ∷ (a ++ [])
+two_rows r0 r1 r2 row a e f =
+    f ∙ ap (λ (r : Rows). r ++ a) e ∙ append_assoc r0 (row ∷ []) a ∙ ap (λ (r : Rows). r0 ++ row ∷ r) (sym (append-nil a))
+
+take_apart : (xs : List Stmt) (i : ℕ) (s : Stmt) → i < length xs → s ≡ get_or xs i s → body_of (drop i xs) ≡ before s (body_of (drop (i + 1) xs))
+take_apart xs i s l is = let e : drop i xs ≡ s ∷ drop (i + 1) xs = rw add-one (drop-cons xs i s l ∙ ap (λ (t : Stmt). t ∷ drop (suc i) xs) (sym is)) in ap body_of e
+
+pub count_step : (xs : List Stmt) (i : ℕ) (s : Stmt) → i < length xs → s ≡ get_or xs i s → part_count (body_of (drop i xs)) ≡ part_count (before s done) + part_count (body_of (drop (i + 1) xs))
+count_step xs i s l is = ap part_count (take_apart xs i s l is) ∙ count_cons s (body_of (drop (i + 1) xs))
+
+-- the points after one more statement
+pub spots_step : (rows rows' full : Rows) (xs : List Stmt) (i n n' : ℕ) (s : Stmt) (f after : Step) (w : List ℕ) → i < length xs → s ≡ get_or xs i s → rows ++ spots_of (body_of (drop i xs)) n f w ≡ full → rows' ≡ rows ++ spots_of (before s done) n after w → after ≡ first_step (body_of (drop (i + 1) xs)) n' f → n' ≡ n + part_count (before s done) → rows' ++ spots_of (body_of (drop (i + 1) xs)) n' f w ≡ full
+spots_step rows rows' full xs i n n' s f after w l is so_far grown after_is n'_is =
+    let rest : Body = body_of (drop (i + 1) xs) in
+    ap (λ (r : Rows). r ++ spots_of rest n' f w) (grown ∙ ap (λ (a : Step). rows ++ spots_of (before s done) n a w) after_is)
+    ∙ append_assoc rows (spots_of (before s done) n (first_step rest n' f) w) (spots_of rest n' f w)
+    ∙ ap (λ (r : Rows). rows ++ r) (sym (ap (λ (b : Body). spots_of b n f w) (take_apart xs i s l is) ∙ spots_cons s rest n n' f w n'_is))
+    ∙ so_far
+
+pub spots_done : (rows full : Rows) (xs : List Stmt) (i n : ℕ) (f : Step) (w : List ℕ) → length xs ≤ i → rows ++ spots_of (body_of (drop i xs)) n f w ≡ full → rows ≡ full
+spots_done rows full xs i n f w past h = sym (ap (λ (ys : List Stmt). rows ++ spots_of (body_of ys) n f w) (drop_all i xs past) ∙ append-nil rows) ∙ h

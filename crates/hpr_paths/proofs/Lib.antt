@@ -1,0 +1,14 @@
+pub mod Blocks
+pub mod Few
+pub mod Readers
+pub mod Stands
+pub mod Names
+pub mod Whole
+pub mod Sound
+pub mod Tags
+pub mod Marks
+pub mod Nested
+pub mod Defines
+pub mod PathLaws
+pub mod Encloses
+pub mod Left
