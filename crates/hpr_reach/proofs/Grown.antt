@@ -1,0 +1,62 @@
+-- What a list contains after one more turn.
+use Rattle.std.proofs.Common.{◌≡◌, ℕ, ◌+◌, ◌<◌, ◌≤◌, Bool, List, [], ◌∷◌, ◌++◌, length, take, get_or, Contains, IsTrue, ◌↔◌, ◌⊎◌, inl, inr, sym, subst, arith}
+use Rattle.std.proofs.lemmas.Bool.{cases_eq}
+use Rattle.std.proofs.lemmas.List.{take_more, take_all}
+use Rattle.std.proofs.lemmas.List.Elements.{Contains-push, Contains-push_cases, Contains-append_left}
+
+-- some number below n has P
+abbrev pub Below : (ℕ → Type 0) → ℕ → Type 0
+Below P n = (p : ℕ) × (p < n) × P p
+
+pub below_split : (P : ℕ → Type 0) (n : ℕ) → Below P (n + 1) ↔ (Below P n ⊎ P n)
+below_split P n = (
+  (λ (p, l, h). elim (cases_eq p n) [ inl e ↦ inr (subst P e h) | inr ne ↦ inl (p, omega (arith, l), h) ]),
+  (λ h. elim h [ inl (p, l, k) ↦ (p, omega (arith, l), k) | inr k ↦ (n, omega arith, k) ]),
+)
+
+pub pushed : {X : Type 0} (xs : List X) (y x : X) → Contains (xs ++ y ∷ []) x ↔ (Contains xs x ⊎ (y ≡ x))
+pushed {X} xs y x = (
+  (λ h. Contains-push_cases xs y x h),
+  (λ h. elim h [ inl was ↦ Contains-append_left xs (y ∷ []) x was | inr e ↦ subst (λ (z : X). Contains (xs ++ y ∷ []) z) e (Contains-push xs y) ]),
+)
+
+pub taken_more : {X : Type 0} (xs : List X) (i : ℕ) (y x : X) → i < length xs → y ≡ get_or xs i y → Contains (take (i + 1) xs) x ↔ (Contains (take i xs) x ⊎ (y ≡ x))
+taken_more xs i y x l is = rw (take_more xs i y l) (rw (← is) (pushed (take i xs) y x))
+
+module _ {X : Type 0} (xs : List X) (i : ℕ) (y x : X) (P : X → Type 0) (t : Bool) (here : i < length xs) (is : y ≡ get_or xs i y) (test : IsTrue t ↔ P y) where
+  -- the list, with the next element of xs where that passes the test
+  pub turn_of_list : (A A' O : Type 0) → A' ↔ (A ⊎ (IsTrue t × (y ≡ x))) → A ↔ (O ⊎ (Contains (take i xs) x × P x)) → A' ↔ (O ⊎ (Contains (take (i + 1) xs) x × P x))
+  turn_of_list A A' O new old = (
+    (λ h. elim (new.0 h) [
+      | inl a ↦ (elim (old.0 a) [ inl o ↦ inl o | inr k ↦ inr ((taken_more xs i y x here is).1 (inl k.0), k.1) ])
+      | inr k ↦ inr ((taken_more xs i y x here is).1 (inr k.1), subst P k.1 (test.0 k.0))
+    ]),
+    (λ h. elim h [
+      | inl o ↦ new.1 (inl (old.1 (inl o)))
+      | inr k ↦ (elim ((taken_more xs i y x here is).0 k.0) [
+        | inl was ↦ new.1 (inl (old.1 (inr (was, k.1))))
+        | inr e ↦ new.1 (inr (test.1 (subst P (sym e) k.1), e))
+      ])
+    ]),
+  )
+
+-- the list, with what the next number has
+pub turn_of_number : (P : ℕ → Type 0) (n : ℕ) (A A' : Type 0) → A' ↔ (A ⊎ P n) → A ↔ Below P n → A' ↔ Below P (n + 1)
+turn_of_number P n A A' new old = (
+  (λ h. (below_split P n).1 (elim (new.0 h) [ inl a ↦ inl (old.0 a) | inr p ↦ inr p ])),
+  (λ h. elim ((below_split P n).0 h) [ inl b ↦ new.1 (inl (old.1 b)) | inr p ↦ new.1 (inr p) ]),
+)
+
+pub taken_whole : {X : Type 0} (xs : List X) (i : ℕ) (x : X) (A O P : Type 0) → length xs ≤ i → A ↔ (O ⊎ (Contains (take i xs) x × P)) → A ↔ (O ⊎ (Contains xs x × P))
+taken_whole xs i x A O P l h = rw (take_all i xs l) at h
+
+-- the names of a point that is marked, and of one that isn't
+module _ (new old : Type 0) (M U D : Type 0) where
+  pub marked_turn : (used : Type 0) → M → used ↔ U → new ↔ (old ⊎ (used × D)) → new ↔ (old ⊎ (M × U × D))
+  marked_turn used m uses is = (
+    (λ h. elim (is.0 h) [ inl o ↦ inl o | inr k ↦ inr (m, uses.0 k.0, k.1) ]),
+    (λ h. elim h [ inl o ↦ is.1 (inl o) | inr k ↦ is.1 (inr (uses.1 k.1, k.2)) ]),
+  )
+
+pub unmarked_turn : (old M U D : Type 0) → ¬ M → old ↔ (old ⊎ (M × U × D))
+unmarked_turn old M U D free = ((λ h. inl h), (λ h. elim h [ inl o ↦ o | inr k ↦ absurd (free k.0) ]))

@@ -1,0 +1,18 @@
+-- Names whose value from before the program is used.
+--
+-- IsDefined spots x      == some point defines x
+-- IsLive spots x         == an undisturbed path for x goes from Enter to a point that uses x
+-- IsUsedAfterAll spots x == some path goes from Enter to a point that uses x, whatever is defined in between
+use Rattle.std.specs.Prelude.{◌≡◌, ℕ, Some, List}
+use Rattle.hpr_paths.specs.declared.spot.Step.{Step}
+use Rattle.hpr_paths.specs.Spots.{Spot, defined_at, UsesAt}
+use Rattle.hpr_paths.specs.Numbers.{NumberPath, NumberUndisturbed}
+
+abbrev pub IsDefined : List Spot → List ℕ → Type 0
+IsDefined spots x = (p : ℕ) × (defined_at spots p ≡ Some x)
+
+abbrev pub IsLive : List Spot → List ℕ → Type 0
+IsLive spots x = (u : ℕ) × (steps : List Step) × NumberUndisturbed spots x 0 u steps × UsesAt spots u x
+
+abbrev pub IsUsedAfterAll : List Spot → List ℕ → Type 0
+IsUsedAfterAll spots x = (u : ℕ) × (steps : List Step) × NumberPath spots 0 u steps × UsesAt spots u x

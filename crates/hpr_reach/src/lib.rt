@@ -1,0 +1,15 @@
+//! What undisturbed paths reach: which points a definition comes to, and which names a program
+//! takes from before it.
+#![tactic(auto)]
+
+mod bits;
+pub mod laws;
+mod live;
+mod names;
+mod search;
+#[cfg(test)]
+mod tests;
+
+pub use bits::BitRow;
+pub use live::live_at_entry;
+pub use search::reach;

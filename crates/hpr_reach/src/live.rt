@@ -1,0 +1,129 @@
+//! Names whose value from before the program is used.
+ghost use Rattle.std.specs.Prelude.{◌≡◌, ◌↔◌, ◌⊎◌, ◌<◌, ℕ, Some, List, [], Contains, IfOk, OnOk, IsTrue, length};
+ghost use Rattle.std.specs.List.Sorted.{IsStrictlySortedBy};
+ghost use Rattle.std.specs.Cmp.Lexicographic.{slice_cmp};
+ghost use Rattle.std.specs.Ordering.{nat_cmp};
+ghost use Rattle.hpr_paths.specs.Spots.{defined_at};
+ghost use Rattle.hpr_reach.specs.Live.{IsDefined, IsLive, IsUsedAfterAll};
+
+use crate::names::{in_order, is_among};
+use crate::search::{reach, reach_past};
+use hpr_paths::{Name, NoMemory, Succ};
+use std::alloc::Global;
+
+/// Puts a copy of the name behind the names where the test holds.
+fn push_if(alloc: Global, test: bool, name: &Name, into: &mut Vec<Name>) -> Result<(), NoMemory>
+    ensures { OnOk result ((x : List ℕ) → Contains into.new.items x ↔ (Contains into.old.items x ⊎ (IsTrue test × (name.now ≡ x)))) }
+{
+    if test {
+        into.push(name.copy(alloc)?)?;
+    }
+    Ok(())
+}
+
+/// Puts the name that the point defines behind the names, if it defines one.
+fn push_defined(
+    alloc: Global,
+    succ: &Succ,
+    point: usize,
+    into: &mut Vec<Name>,
+) -> Result<(), NoMemory>
+    requires { point < length succ.now }
+    ensures { OnOk result ((x : List ℕ) → Contains into.new.items x ↔ (Contains into.old.items x ⊎ (defined_at succ.now point ≡ Some x))) }
+{
+    match succ.defines(point) {
+        Some(name) => push_if(alloc, true, name, into),
+        None => Ok(()),
+    }
+}
+
+/// The names that points define, in order.
+fn defined_names(alloc: Global, succ: &Succ) -> Result<Vec<Name>, NoMemory>
+    ensures ascending { IfOk result (λ v. IsStrictlySortedBy (slice_cmp nat_cmp) v.items) }
+    ensures exact { IfOk result (λ v. (x : List ℕ) → Contains v.items x ↔ IsDefined succ.now x) }
+{
+    let mut names = Vec::new(alloc);
+    for point in 0..succ.points() {
+        push_defined(alloc, succ, point, &mut names)?;
+    }
+    in_order(names)
+}
+
+/// Puts those of the names behind the others that aren't among the defined ones.
+fn push_others(
+    alloc: Global,
+    names: &[Name],
+    defined: &[Name],
+    into: &mut Vec<Name>,
+) -> Result<(), NoMemory>
+    requires { IsStrictlySortedBy (slice_cmp nat_cmp) defined.now }
+    ensures { OnOk result ((x : List ℕ) → Contains into.new.items x ↔ (Contains into.old.items x ⊎ (Contains names.now x × ¬ Contains defined.now x))) }
+{
+    for name in names {
+        push_if(alloc, !is_among(defined, name), name, into)?;
+    }
+    Ok(())
+}
+
+/// The names that no point defines, and that a point uses to which some path from Enter goes. One
+/// search serves them all.
+fn undefined_names(alloc: Global, succ: &Succ, defined: &[Name]) -> Result<Vec<Name>, NoMemory>
+    requires { IsStrictlySortedBy (slice_cmp nat_cmp) defined.now }
+    ensures { IfOk result (λ v. (x : List ℕ) → Contains v.items x ↔ (IsUsedAfterAll succ.now x × ¬ Contains defined.now x)) }
+{
+    let points = succ.points();
+    let row = reach_past(alloc, succ, 0, None, &[])?;
+    let mut names = Vec::new(alloc);
+    for point in 0..points {
+        if row.has(point) {
+            let used = succ.used_names(alloc, point)?;
+            push_others(alloc, used.as_slice(), defined, &mut names)?;
+        }
+    }
+    Ok(names)
+}
+
+/// Whether the name is live at Enter.
+fn is_live(alloc: Global, succ: &Succ, name: &Name) -> Result<bool, NoMemory>
+    ensures { IfOk result (λ live. IsTrue live ↔ IsLive succ.now name.now) }
+{
+    let points = succ.points();
+    let row = reach(alloc, succ, 0, name, 0)?;
+    for point in 0..points {
+        if row.has(point) && succ.uses(point, name) {
+            return Ok(true);
+        }
+    }
+    Ok(false)
+}
+
+/// Puts those of the names that are live at Enter behind the others.
+fn push_live(
+    alloc: Global,
+    succ: &Succ,
+    names: &[Name],
+    into: &mut Vec<Name>,
+) -> Result<(), NoMemory>
+    ensures { OnOk result ((x : List ℕ) → Contains into.new.items x ↔ (Contains into.old.items x ⊎ (Contains names.now x × IsLive succ.now x))) }
+{
+    for name in names {
+        push_if(alloc, is_live(alloc, succ, name)?, name, into)?;
+    }
+    Ok(())
+}
+
+/// The names that are live at Enter, ascending, each once: those that a program uses with the value
+/// from before it, since some undisturbed path for the name goes from Enter to a point that uses it
+/// (the initial definitions of Horwitz, Prins and Reps 1989).
+///
+/// Takes one search for all names that no part assigns, and one for each that some part assigns.
+pub fn live_at_entry(alloc: Global, succ: &Succ) -> Result<Vec<Name>, NoMemory>
+    ensures ascending { IfOk result (λ v. IsStrictlySortedBy (slice_cmp nat_cmp) v.items) }
+    ensures sound { IfOk result (λ v. (x : List ℕ) → Contains v.items x → IsLive succ.now x) }
+    ensures complete { IfOk result (λ v. (x : List ℕ) → IsLive succ.now x → Contains v.items x) }
+{
+    let defined = defined_names(alloc, succ)?;
+    let mut live = undefined_names(alloc, succ, defined.as_slice())?;
+    push_live(alloc, succ, defined.as_slice(), &mut live)?;
+    in_order(live)
+}
