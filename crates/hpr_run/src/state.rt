@@ -45,6 +45,13 @@ impl State {
         self.values.get(name).copied().unwrap_or(0)
     }
 
+    /// Whether the state lists the name.
+    pub fn lists(&self, name: &Name) -> bool
+        ensures { result ≡ map.contains_key self.now name.now }
+    {
+        self.values.contains_key(name)
+    }
+
     /// Gives the name this number, and leaves the others theirs. Want of memory leaves the state as
     /// it was.
     pub fn set(&mut self, name: Name, value: i64) -> Result<(), NoMemory>

@@ -262,3 +262,13 @@ fn leaves_the_state(rt: HostRuntime) -> Result<(), Fail> {
     assert_eq!(rt; state.get(&Name::new(alloc, "x")?), 0);
     Ok(())
 }
+
+#[test]
+fn lists_what_is_set(rt: HostRuntime) -> Result<(), Fail> {
+    let alloc = rt.alloc();
+    let mut state = State::new(alloc);
+    state.set(Name::new(alloc, "y")?, 0)?;
+    assert!(rt; state.lists(&Name::new(alloc, "y")?));
+    assert!(rt; !state.lists(&Name::new(alloc, "x")?));
+    Ok(())
+}
