@@ -1,0 +1,59 @@
+-- The numbers of what is taken are in their range.
+use Rattle.std.proofs.Common.{◌≡◌, ◌≤◌, ℕ, Bool, true, false, cond, List, Option, Some, None, Result, Ok, Err, IfOk, refl, ap, subst, codes, arith, unwrap_or}
+use Rattle.std.specs.Str.Parse.{digits_value, without_leading_plus}
+use Rattle.clap.proofs.ValueTestLemmas.{accepts-Accepts}
+use Rattle.clap.specs.ValueTests.{accepts}
+use Rattle.clap.specs.Walk.{is_empty}
+use Rattle.clap.specs.Words.{App, Row, fault_of, first_of, matches_of}
+use Rattle.clap.specs.declared.builder.value_parser.ValueParser.TheVariants.{Unsigned}
+use Rattle.hpr_words.specs.Commands.{integrate_app, run_app}
+use Rattle.hpr_words.specs.Request.{IsInRange, Request, Text}
+use Rattle.hpr_words.specs.Taken.{integrate_in, integrate_with, list_in, number_in, number_of, number_or, run_in, run_with, taken_by}
+use Rattle.hpr_words.proofs.PieceLemmas.{none_some}
+
+number_of-range : (most : ℕ) (text : Text) (n : ℕ) → number_of most text ≡ Some n → (1 ≤ n) × (n ≤ most)
+number_of-range most text n e = go (accepts false (Unsigned 1 most) text) refl e
+  where
+    go : (b : Bool) → accepts false (Unsigned 1 most) text ≡ b → cond b (Some (digits_value 10 (without_leading_plus text))) None ≡ Some n → (1 ≤ n) × (n ≤ most)
+    go false t f = absurd (none_some n f)
+    go true t f =
+        let a = accepts-Accepts false (Unsigned 1 most) text t in
+        let is : digits_value 10 (without_leading_plus text) ≡ n = ap (λ o. unwrap_or o n) f in
+        (omega (arith, is, a.2), omega (arith, is, a.3))
+
+number_or-range : (most default : ℕ) (o : Option Text) (n : ℕ) → 1 ≤ default → default ≤ most → number_or most default o ≡ Some n → (1 ≤ n) × (n ≤ most)
+number_or-range most default None n low high e =
+    let is : default ≡ n = ap (λ o. unwrap_or o n) e in
+    (omega (arith, is, low), omega (arith, is, high))
+number_or-range most default (Some text) n low high e = number_of-range most text n e
+
+integrate_with-range : (base a b : Option Text) (o : Option ℕ) (r : Request) → ((n : ℕ) → o ≡ Some n → (1 ≤ n) × (n ≤ 1000000000)) → integrate_with base a b o ≡ Some r → IsInRange r
+integrate_with-range (Some base) (Some a) (Some b) (Some tries) r range e = subst IsInRange (ap (λ o. unwrap_or o r) e) (range tries refl)
+integrate_with-range base a b o r range e = absurd (none_some r e)
+
+run_with-range : (file : Option Text) (states : List Text) (o : Option ℕ) (r : Request) → ((n : ℕ) → o ≡ Some n → (1 ≤ n) × (n ≤ 1000000000)) → run_with file states o ≡ Some r → IsInRange r
+run_with-range (Some file) states (Some steps) r range e = subst IsInRange (ap (λ o. unwrap_or o r) e) (range steps refl)
+run_with-range file states o r range e = absurd (none_some r e)
+
+taken_by-range : (app : App) (request_in : List Row → Option Request) → ((rows : List Row) (r : Request) → request_in rows ≡ Some r → IsInRange r)
+    → (words : List Text) (r : Request) → taken_by app request_in words ≡ Some r → IsInRange r
+taken_by-range app request_in range words r e = go (is_empty (fault_of app words)) e
+  where
+    go : (b : Bool) → cond b (request_in (matches_of app words)) None ≡ Some r → IsInRange r
+    go true f = range (matches_of app words) r f
+    go false f = absurd (none_some r f)
+
+pub integrate_taken-range : (words : List Text) (r : Request) → taken_by integrate_app integrate_in words ≡ Some r → IsInRange r
+integrate_taken-range = taken_by-range integrate_app integrate_in (λ rows r.
+    integrate_with-range (first_of (codes "base") rows) (first_of (codes "a") rows) (first_of (codes "b") rows) (number_in (codes "tries") 1000000000 10000 rows) r
+    (λ n. number_or-range 1000000000 10000 (first_of (codes "tries") rows) n (omega arith) (omega arith)))
+
+pub run_taken-range : (words : List Text) (r : Request) → taken_by run_app run_in words ≡ Some r → IsInRange r
+run_taken-range = taken_by-range run_app run_in (λ rows r.
+    run_with-range (first_of (codes "file") rows) (list_in (codes "state") rows) (number_in (codes "steps") 1000000000 1000000 rows) r
+    (λ n. number_or-range 1000000000 1000000 (first_of (codes "steps") rows) n (omega arith) (omega arith)))
+
+pub IfOk-range : {X E : Type 0} (f : X → Request) (r : Result X E) (asked : Option Request) → ((q : Request) → asked ≡ Some q → IsInRange q)
+    → IfOk r (λ x. asked ≡ Some (f x)) → IfOk r (λ x. IsInRange (f x))
+IfOk-range f (Ok x) asked range h = range (f x) h
+IfOk-range f (Err e) asked range h = h

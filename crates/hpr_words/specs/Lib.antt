@@ -1,0 +1,5 @@
+pub mod Request
+pub mod Commands
+pub mod Taken
+pub mod Asked
+pub mod Plain

@@ -1,0 +1,59 @@
+-- What the words of a command line ask for, by what `clap` takes.
+--
+-- number_of most text            == the number from 1 to most that `clap` reads in a text
+-- number_or most n text          == the number of a text, n where there is none
+-- number_in id most n rows       == the number of an option, n where it isn't given
+-- list_in id rows                == the words of a list, none where it isn't given
+-- integrate_with base a b n      == the request of three names and a number, if each is there
+-- integrate_in rows              == the request of `integrate`, whose arguments have these rows
+-- run_with file states n         == the request of a file, states and a number, if each is there
+-- run_in rows                    == the request of `run`, whose arguments have these rows
+-- taken_by app request_in words  == the request of a command, where `clap` takes the words for it
+-- taken words                    == the first word picks the command, which takes the words or doesn't
+use Rattle.std.specs.Prelude.{ℕ, false, List, [], ◌∷◌, Option, Some, None, codes, if◌then◌else◌, unwrap_or}
+use Rattle.std.specs.Str.{bytes_eq}
+use Rattle.std.specs.Str.Parse.{digits_value, without_leading_plus}
+use Rattle.clap.specs.Words.{App, Row, all_of, fault_of, first_of, matches_of}
+use Rattle.clap.specs.Walk.{is_empty}
+use Rattle.clap.specs.ValueTests.{accepts}
+use Rattle.clap.specs.declared.builder.value_parser.ValueParser.TheVariants.{Unsigned}
+use Rattle.hpr_words.specs.Request.{Request, Text, integrate, run}
+use Rattle.hpr_words.specs.Commands.{integrate_app, run_app}
+
+abbrev pub number_of : ℕ → Text → Option ℕ
+number_of most text = if accepts false (Unsigned 1 most) text then Some (digits_value 10 (without_leading_plus text)) else None
+
+abbrev pub number_or : ℕ → ℕ → Option Text → Option ℕ
+number_or most default None = Some default
+number_or most default (Some text) = number_of most text
+
+abbrev pub number_in : Text → ℕ → ℕ → List Row → Option ℕ
+number_in id most default rows = number_or most default (first_of id rows)
+
+abbrev pub list_in : Text → List Row → List Text
+list_in id rows = unwrap_or (all_of id rows) []
+
+abbrev pub integrate_with : Option Text → Option Text → Option Text → Option ℕ → Option Request
+integrate_with (Some base) (Some a) (Some b) (Some tries) = Some (integrate base a b tries)
+integrate_with _ _ _ _ = None
+
+abbrev pub integrate_in : List Row → Option Request
+integrate_in rows = integrate_with (first_of (codes "base") rows) (first_of (codes "a") rows) (first_of (codes "b") rows)
+    (number_in (codes "tries") 1000000000 10000 rows)
+
+abbrev pub run_with : Option Text → List Text → Option ℕ → Option Request
+run_with (Some file) states (Some steps) = Some (run file states steps)
+run_with _ _ _ = None
+
+abbrev pub run_in : List Row → Option Request
+run_in rows = run_with (first_of (codes "file") rows) (list_in (codes "state") rows) (number_in (codes "steps") 1000000000 1000000 rows)
+
+abbrev pub taken_by : App → (List Row → Option Request) → List Text → Option Request
+taken_by app request_in words = if is_empty (fault_of app words) then request_in (matches_of app words) else None
+
+abbrev pub taken : List Text → Option Request
+taken [] = None
+taken (command ∷ words) =
+    if bytes_eq command (codes "integrate") then taken_by integrate_app integrate_in (command ∷ words)
+    else (if bytes_eq command (codes "run") then taken_by run_app run_in (command ∷ words)
+    else None)

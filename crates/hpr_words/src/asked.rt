@@ -1,0 +1,63 @@
+//! What words ask for.
+ghost use Rattle.std.specs.Prelude.{◌≡◌, IfOk, IsErrOf, Some, None, map, string_bytes};
+ghost use Rattle.hpr_words.specs.Asked.{request};
+ghost use Rattle.hpr_words.specs.Request.{IsInRange};
+ghost use Rattle.hpr_words.specs.Taken.{taken};
+
+use crate::integrate::read_integrate;
+use crate::run::read_run;
+use std::alloc::Global;
+
+/// What the words of a command line ask for. The commands are our profile.
+#[derive(Drop)]
+pub enum Asked<'a> {
+    /// `integrate BASE A B [--tries N]`: integrate two variants with their base, within a number of
+    /// tries from 1 to 1,000,000,000, by default 10,000. The names are those of files.
+    Integrate {
+        base: &'a str,
+        a: &'a str,
+        b: &'a str,
+        tries: u64,
+    },
+    /// `run FILE [STATE..] [--steps N]`: run the program of a file from the state that the words
+    /// tell, which nothing has read yet, for at most a number of steps from 1 to 1,000,000,000, by
+    /// default 1,000,000.
+    Run {
+        file: &'a str,
+        states: Vec<&'a str>,
+        steps: u64,
+    },
+}
+
+/// Why words are not read.
+#[derive(Clone, Copy, PartialEq, Eq, Debug)]
+pub enum WordsError {
+    /// The first word is no command, or the command doesn't take the words. Words that ask for help
+    /// are among them.
+    Refused,
+    /// Memory ran out.
+    Memory,
+}
+
+/// What the words ask for, without the program's name. The first one picks the command, which takes
+/// the words as `clap` does: `--tries=7` and `+7` too, and any name behind `--`.
+///
+/// # Errors
+///
+/// `Refused` exactly where the words are not taken, and `Memory` where memory ran out.
+pub fn read_words<'a>(alloc: Global, words: &'a [String]) -> Result<Asked<'a>, WordsError>
+    ensures taken { IfOk result (λ a. taken (map string_bytes words.entry.now) ≡ Some (request a)) }
+    ensures in_range { IfOk result (λ a. IsInRange (request a)) }
+    ensures refused { IsErrOf result WordsError.Refused → taken (map string_bytes words.entry.now) ≡ None }
+{
+    if words.is_empty() {
+        return Err(WordsError::Refused);
+    }
+    if words[0].as_str() == "integrate" {
+        return read_integrate(alloc, words);
+    }
+    if words[0].as_str() == "run" {
+        return read_run(alloc, words);
+    }
+    Err(WordsError::Refused)
+}

@@ -1,0 +1,60 @@
+//! The words of `run`.
+ghost use Rattle.std.specs.Prelude.{◌≡◌, map, string_bytes, IfOk, IsErrOf, option_map, Some, None};
+ghost use Rattle.hpr_words.specs.Asked.{request};
+ghost use Rattle.hpr_words.specs.Commands.{run_app};
+ghost use Rattle.hpr_words.specs.Taken.{run_in, taken_by};
+ghost use Rattle.clap.specs.Words.{app_of, found_of, rows_of};
+
+use crate::arguments::{list_arg, list_from, name_arg, name_from, number_arg, number_from, parse};
+use crate::asked::{Asked, WordsError};
+use clap::{ArgMatches, Command};
+use std::alloc::{AllocError, Global};
+
+const MOST_STEPS: u32 = 1_000_000_000;
+
+const DEFAULT_STEPS: u64 = 1_000_000;
+
+/// What `run FILE [STATE..] [--steps N]` asks for.
+pub fn read_run<'a>(alloc: Global, words: &'a [String]) -> Result<Asked<'a>, WordsError>
+    ensures taken { IfOk result (λ a. taken_by run_app run_in (map string_bytes words.entry.now) ≡ Some (request a)) }
+    ensures refused { IsErrOf result WordsError.Refused → taken_by run_app run_in (map string_bytes words.entry.now) ≡ None }
+{
+    match run_command(alloc) {
+        Ok(command) => {
+            let matches = parse(command, words)?;
+            match run_from(alloc, &matches) {
+                Ok(Some(asked)) => Ok(asked),
+                Ok(None) => Err(WordsError::Refused),
+                Err(_) => Err(WordsError::Memory),
+            }
+        }
+        Err(_) => Err(WordsError::Memory),
+    }
+}
+
+fn run_command<'a>(alloc: Global) -> Result<Command<'a>, AllocError>
+    ensures { IfOk result (λ c. app_of c ≡ run_app) }
+{
+    let command = Command::new(alloc, "run")
+        .arg(name_arg(alloc, "file"))?
+        .arg(list_arg(alloc, "state"))?
+        .arg(number_arg(alloc, "steps", MOST_STEPS))?;
+    Ok(command)
+}
+
+fn run_from<'a>(alloc: Global, matches: &ArgMatches<'a>) -> Result<Option<Asked<'a>>, AllocError>
+    ensures { IfOk result (λ asked. option_map request asked ≡ run_in (rows_of (found_of matches.now))) }
+{
+    let states = list_from(alloc, matches, "state")?;
+    match (
+        name_from(matches, "file"),
+        number_from(matches, "steps", MOST_STEPS, DEFAULT_STEPS),
+    ) {
+        (Some(file), Some(steps)) => Ok(Some(Asked::Run {
+            file,
+            states,
+            steps,
+        })),
+        _ => Ok(None),
+    }
+}

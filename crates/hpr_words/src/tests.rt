@@ -1,0 +1,143 @@
+//! Words against what the commands say that they take.
+use crate::{Asked, WordsError, read_words};
+use std::alloc::Global;
+use std::test::Fail;
+
+// The words of a line, between single blanks.
+fn words_of(alloc: Global, line: &str) -> Result<Vec<String>, Fail> {
+    let mut words = Vec::new(alloc);
+    for word in line.split(' ') {
+        words.push(String::from_str(alloc, word)?)?;
+    }
+    Ok(words)
+}
+
+fn takes_integrate(alloc: Global, line: &str, names: [&str; 3], wanted: u64) -> Result<bool, Fail> {
+    let words = words_of(alloc, line)?;
+    match read_words(alloc, words.as_slice()) {
+        Ok(Asked::Integrate { base, a, b, tries }) => {
+            Ok(base == names[0] && a == names[1] && b == names[2] && tries == wanted)
+        }
+        _ => Ok(false),
+    }
+}
+
+// Each word with a blank behind it.
+fn joined(alloc: Global, words: &[&str]) -> Result<String, Fail> {
+    let mut text = String::new(alloc);
+    for word in words {
+        text.push_str(word)?;
+        text.push(' ')?;
+    }
+    Ok(text)
+}
+
+fn takes_run(alloc: Global, line: &str, wanted: &str, most: u64) -> Result<bool, Fail> {
+    let words = words_of(alloc, line)?;
+    match read_words(alloc, words.as_slice()) {
+        Ok(
+            Asked::Run {
+                file,
+                states,
+                steps,
+            },
+        ) => {
+            Ok(file == "F" && steps == most && joined(alloc, states.as_slice())?.as_str() == wanted)
+        }
+        _ => Ok(false),
+    }
+}
+
+#[test]
+fn takes_integrations(rt: HostRuntime) -> Result<(), Fail> {
+    let names = ["X", "Y", "Z"];
+    for (line, tries) in [
+        ("integrate X Y Z", 10_000),
+        ("integrate --tries 7 X Y Z", 7),
+        ("integrate X --tries 7 Y Z", 7),
+        ("integrate X Y --tries 7 Z", 7),
+        ("integrate X Y Z --tries 7", 7),
+        ("integrate X Y Z --tries 1", 1),
+        ("integrate X Y Z --tries 1000000000", 1_000_000_000),
+        ("integrate X Y Z --tries=7", 7),
+        ("integrate X Y Z --tries +7", 7),
+        ("integrate X Y Z --tries 007", 7),
+        ("integrate X Y -- Z", 10_000),
+    ] {
+        assert!(rt;
+            takes_integrate(rt.alloc(), line, names, tries)?,
+            "at {line}"
+        );
+    }
+    for (line, names) in [
+        ("integrate X Y -- --tries", ["X", "Y", "--tries"]),
+        ("integrate X  Z", ["X", "", "Z"]),
+    ] {
+        assert!(rt;
+            takes_integrate(rt.alloc(), line, names, 10_000)?,
+            "at {line}"
+        );
+    }
+    Ok(())
+}
+
+#[test]
+fn takes_runs(rt: HostRuntime) -> Result<(), Fail> {
+    let steps = 1_000_000;
+    assert!(rt; takes_run(rt.alloc(), "run F", "", steps)?);
+    assert!(rt; takes_run(rt.alloc(), "run --steps 6 F", "", 6)?);
+    for (line, steps) in [
+        ("run F x=1 y=-2", 1_000_000),
+        ("run --steps 6 F x=1 y=-2", 6),
+        ("run F --steps 6 x=1 y=-2", 6),
+        ("run F x=1 y=-2 --steps 6", 6),
+        ("run F x=1 --steps 6 y=-2", 6),
+        ("run F x=1 y=-2 --steps=1000000000", 1_000_000_000),
+    ] {
+        assert!(rt;
+            takes_run(rt.alloc(), line, "x=1 y=-2 ", steps)?,
+            "at {line}"
+        );
+    }
+    Ok(())
+}
+
+#[test]
+fn refuses_words(rt: HostRuntime) -> Result<(), Fail> {
+    let none: [String; 0] = [];
+    assert!(rt; matches!(read_words(rt.alloc(), &none), Err(WordsError::Refused)));
+    for line in [
+        "",
+        "merge X Y Z",
+        "Integrate X Y Z",
+        "--help",
+        "integrate --help",
+        "integrate X Y Z -h",
+        "integrate X Y",
+        "integrate X Y Z W",
+        "integrate X Y Z --tries",
+        "integrate X Y --tries Z",
+        "integrate X Y Z --tries 0",
+        "integrate X Y Z --tries 1000000001",
+        "integrate X Y Z --tries -7",
+        "integrate X Y Z --tries 7 --tries 7",
+        "integrate X Y Z --steps 7",
+        "integrate X Y -Z",
+        "run",
+        "run --steps 6",
+        "run F -h",
+        "run F --steps 0",
+        "run F --steps 1000000001",
+        "run F --steps 6 --steps 6",
+        "run F --trace=true",
+        "run F -x=1",
+    ] {
+        let words = words_of(rt.alloc(), line)?;
+        let refused = matches!(
+            read_words(rt.alloc(), words.as_slice()),
+            Err(WordsError::Refused)
+        );
+        assert!(rt; refused, "at {line}");
+    }
+    Ok(())
+}
