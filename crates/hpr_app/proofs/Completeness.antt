@@ -1,52 +1,99 @@
--- A taken call of a case that is built, in which nothing failed, is done, or memory ran out.
-use Rattle.std.proofs.Common.{◌≡◌, ℕ, List, refl, sym, ◌∙◌, subst, inl, inr, ◌⊎◌, Option, Some, None}
+-- Where nothing failed and each file spells a program, the outcome is the one that those programs have.
+use Rattle.std.proofs.Common.{◌≡◌, ℕ, arith, List, refl, ap, sym, ◌∙◌, subst, inl, inr, ◌⊎◌, Option, Some, None, Ok}
 use Rattle.hpr_io.specs.Counts.{Rose}
 use Rattle.hpr_io.specs.Files.{Files, bytes_of}
-use Rattle.hpr_app.specs.Request.{Request, integrate}
-use Rattle.hpr_app.specs.Decision.{Decision, prints, not_built, usage}
+use Rattle.hpr_io.specs.Taken.{taken_then}
+use Rattle.hpr_syntax.specs.Grammar.{tagged}
+use Rattle.hpr_syntax.specs.Shape.{shape}
+use Rattle.hpr_syntax.specs.Tree.{Tree}
+use Rattle.hpr_syntax.specs.Values.{Values}
+use Rattle.hpr_text.proofs.Texts.{one_tree}
+use Rattle.hpr_words.specs.Request.{Request, Text, integrate, run}
+use Rattle.hpr_app.specs.Complete.{DonePrinting, Completes, RequestCompletes, Runs}
+use Rattle.hpr_app.specs.Decision.{Decision}
+use Rattle.hpr_app.specs.Integrate.{OnFile, Prints, OneSideOutcome, IntegrateOutcome}
 use Rattle.hpr_app.specs.Outcome.{RequestOutcome, OutcomeIfTold}
-use Rattle.hpr_app.specs.Ends.{Change, Ends, Decided, status_of, status_of_kind}
-use Rattle.hpr_app.specs.declared.answer.Kind.{Kind}
-use Rattle.hpr_app.specs.declared.answer.Kind.TheVariants as kind
+use Rattle.hpr_app.specs.Refusals.{IsFileOf, IsCause}
+use Rattle.hpr_app.specs.RunFile.{OnState, Ran, RunOutcome}
+use Rattle.hpr_app.specs.States.{states_of}
+use Rattle.hpr_app.specs.Ends.{Change, Ends, Decided, status_of, text_of}
+use Rattle.hpr_app.specs.declared.refusals.Refusal.{Refusal}
+use Rattle.hpr_app.specs.declared.refusals.Refusal.TheVariants as refusal
 use Rattle.hpr_app.specs.declared.status.Status.{Status}
 use Rattle.hpr_app.specs.declared.status.Status.TheVariants as status
 
-prints_status : (k : Kind) (s : Status) → s ≡ status_of_kind k → s ≡ status.Done
-prints_status kind.Done s e = e
+-- what spells a program is not refused
+pub not_refused : (bytes : List ℕ) (why : Refusal) (p : Tree) → IsCause bytes why → IsFileOf bytes p → ⊥
+not_refused bytes refusal.Longer p h is = omega (arith, h, is.short)
+not_refused bytes (refusal.Syntax place) p h is = h.1.unspelled (p, is.spelled)
+not_refused bytes (refusal.Shape error) p (_, (t, spelled, fails)) is =
+    let same : shape p ≡ shape t = ap shape (one_tree tagged bytes p t is.spelled spelled) in
+    let e : None ≡ Some error = sym is.program.shape ∙ same ∙ fails in
+    absurd cc
 
--- a decision with a status is one of the three, each with its own
-pub decision_of : (s : Status) (r : Decision) → s ≡ status_of r → (s ≡ status.Done) ⊎ ((s ≡ status.NotBuilt) × (r ≡ not_built) ⊎ (s ≡ status.Words))
-decision_of s (prints k text) e = inl (prints_status k s e)
-decision_of s not_built e = inr (inl (e, refl))
-decision_of s usage e = inr (inr e)
+pub of_program : (fs : Files) (file : List ℕ) (next : Tree → Type 0) (r : Decision) (p : Tree) → OnFile fs file next r → IsFileOf (bytes_of fs file) p → next p
+of_program fs file next r p (inl (_, (why, cause, _), _)) is = absurd (not_refused (bytes_of fs file) why p cause is)
+of_program fs file next r p (inr (q, h, n)) is = subst next (one_tree tagged (bytes_of fs file) q p h.spelled is.spelled) n
 
-module _ (request : Request) (fs : Files) (names : List (List ℕ)) (before now : ℕ) (out err : Change)
-    (built : RequestOutcome request fs not_built → ⊥) (read : Rose before now → ⊥) (written : Rose out.before out.now → ⊥) where
+module _ (p q r : Tree) (old new : Option (List ℕ)) (s : Status) where
+  done_printing : (other : Tree) (d : Decision) → s ≡ status_of d → new ≡ taken_then old (text_of d) → Prints p q r other d → DonePrinting p q r other old new s
+  done_printing other d is took (bytes, text, same) = (is ∙ ap status_of same, bytes, text, took ∙ ap (λ x. taken_then old (text_of x)) same)
+
+  -- the outcome of three programs completes the call
+  completes_so : (d : Decision) → s ≡ status_of d → new ≡ taken_then old (text_of d) → OneSideOutcome p q r d → Completes p q r old new s
+  completes_so d is took (inl (e, prints)) = inl (e, done_printing q d is took prints)
+  completes_so d is took (inr (inl (n, e, prints))) = inr (inl (n, e, done_printing r d is took prints))
+  completes_so d is took (inr (inr (n, m, same))) = inr (inr (n, m, is ∙ ap status_of same))
+
+  of_three : (fs : Files) (base a b : List ℕ) (d : Decision) → s ≡ status_of d → new ≡ taken_then old (text_of d) → IntegrateOutcome fs base a b d
+      → IsFileOf (bytes_of fs base) p → IsFileOf (bytes_of fs a) q → IsFileOf (bytes_of fs b) r → Completes p q r old new s
+  of_three fs base a b d is took o hp hq hr =
+      let on_base = of_program fs base (λ p. OnFile fs a (λ q. OnFile fs b (λ r. OneSideOutcome p q r d) d) d) d p o hp in
+      let on_a = of_program fs a (λ q. OnFile fs b (λ r. OneSideOutcome p q r d) d) d q on_base hq in
+      completes_so d is took (of_program fs b (λ r. OneSideOutcome p q r d) d r on_a hr)
+
+module _ (state : Values) (p : Tree) (old new : Option (List ℕ)) (s : Status) where
+  of_run : (fs : Files) (file : List ℕ) (words : List Text) (steps : ℕ) (d : Decision) → s ≡ status_of d → new ≡ taken_then old (text_of d) → RunOutcome fs file words steps d
+      → states_of words ≡ Ok state → IsFileOf (bytes_of fs file) p → Runs p state steps old new s
+  of_run fs file words steps d is took o told hp =
+      let on_state : OnFile fs file (λ q. Ran q state steps d) d = subst (λ x. OnState x (λ t. OnFile fs file (λ q. Ran q t steps d) d) d) told o in
+      let same = of_program fs file (λ q. Ran q state steps d) d p on_state hp in
+      (is ∙ ap status_of same, took ∙ ap (λ x. taken_then old (text_of x)) same)
+
+request_completes : (request : Request) (fs : Files) (old new : Option (List ℕ)) (s : Status) (d : Decision) → s ≡ status_of d → new ≡ taken_then old (text_of d)
+    → RequestOutcome request fs d → RequestCompletes request fs old new s
+request_completes (integrate base a b tries) fs old new s d is took o = λ p q r hp hq hr. of_three p q r old new s fs base a b d is took o hp hq hr
+request_completes (run file words steps) fs old new s d is took o = λ state p told hp. of_run state p old new s fs file words steps d is took o told hp
+
+module _ (request : Request) (fs : Files) (reads : List ℕ → Type 0) (before now : ℕ) (out err : Change)
+    (read : Rose before now → ⊥) (written : Rose out.before out.now → ⊥) where
   abbrev Told : Decision → Type 0
   Told = OutcomeIfTold (Some request) (Some fs)
 
-  abbrev IsDone : Status → Type 0
-  IsDone s = (s ≡ status.Done) ⊎ (s ≡ status.Memory)
+  abbrev IsComplete : Status → Type 0
+  IsComplete s = (s ≡ status.Memory) ⊎ RequestCompletes request fs out.old out.new s
 
-  from_decision : (s : Status) → (s ≡ status.Words → ⊥) → Decided s Told before now out err → IsDone s
-  from_decision s words d =
-      elim (decision_of s d.r d.status_is) [
-        | inl e ↦ inl e
-        | inr w ↦ elim w [
-          | inl n ↦ absurd (built (subst (λ r. RequestOutcome request fs r) n.1 (d.outcome fs refl)))
-          | inr e ↦ absurd (words e)
-        ]
-      ]
+  decided : (s : Status) → Decided s Told before now out err → IsComplete s
+  decided s d = inr (request_completes request fs out.old out.new s d.r d.status_is d.took (d.outcome fs refl))
 
-  pub completes : (s : Status) → (s ≡ status.Words → ⊥) → Ends s Told names before now out err → IsDone s
-  completes status.ReadFault words h = absurd (read h.count)
-  completes status.WriteFault words h = absurd (written h.count)
-  completes status.Memory words h = inr refl
-  completes status.Done words h = inl refl
-  completes status.Interference words h = from_decision status.Interference words h
-  completes status.NoProgram words h = from_decision status.NoProgram words h
-  completes status.Spent words h = from_decision status.Spent words h
-  completes status.Refused words h = from_decision status.Refused words h
-  completes status.Words words h = absurd (words refl)
-  completes status.NotEnded words h = from_decision status.NotEnded words h
-  completes status.NotBuilt words h = from_decision status.NotBuilt words h
+  pub completes : (s : Status) → Ends s Told reads before now out err → IsComplete s
+  completes status.ReadFault h = absurd (read h.count)
+  completes status.WriteFault h = absurd (written h.count)
+  completes status.Memory h = inl refl
+  completes status.Done h = decided status.Done h
+  completes status.Interference h = decided status.Interference h
+  completes status.NoProgram h = decided status.NoProgram h
+  completes status.Spent h = decided status.Spent h
+  completes status.Refused h = decided status.Refused h
+  completes status.Words h = decided status.Words h
+  completes status.NotEnded h = decided status.NotEnded h
+  completes status.NotBuilt h = decided status.NotBuilt h
+
+-- the same, for a request and files that are known by other names
+pub asked_completes : (known request : Request) (taken : Option Request) (files : Option Files) (fs : Files) (reads : List ℕ → Type 0) (s : Status) (before now : ℕ) (out err : Change)
+    → Some known ≡ taken → taken ≡ Some request → files ≡ Some fs → (Rose before now → ⊥) → (Rose out.before out.now → ⊥)
+    → Ends s (OutcomeIfTold (Some known) files) reads before now out err → (s ≡ status.Memory) ⊎ RequestCompletes request fs out.old out.new s
+asked_completes known request taken files fs reads s before now out err is asked told read written h =
+    completes request fs reads before now out err read written s
+    (subst (λ o. Ends s (OutcomeIfTold o (Some fs)) reads before now out err) (is ∙ asked)
+    (subst (λ f. Ends s (OutcomeIfTold (Some known) f) reads before now out err) told h))

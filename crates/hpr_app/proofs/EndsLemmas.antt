@@ -1,15 +1,15 @@
 -- How a call ends, from what was decided and what was written.
-use Rattle.std.proofs.Common.{◌≡◌, ℕ, List, [], refl, ap, sym, subst, ◌∙◌, inl, inr, ◌⊎◌, Option, Some, None, Ok, Err, Result}
+use Rattle.std.proofs.Common.{◌≡◌, ℕ, List, [], refl, ap, sym, subst, ◌∙◌, inl, inr, Option, Some, None, Ok, Err, Result, string_bytes}
 use Rattle.std.proofs.lemmas.List.{append-nil}
-use Rattle.hpr_io.specs.Counts.{Rose}
 use Rattle.hpr_io.specs.Taken.{taken_then}
 use Rattle.hpr_io.specs.Files.{Files}
-use Rattle.hpr_app.specs.Request.{Request, files_of_taken}
+use Rattle.hpr_words.specs.Request.{Request}
 use Rattle.hpr_app.specs.Outcome.{OutcomeIfTold}
-use Rattle.hpr_app.specs.Decision.{Decision, prints, not_built}
-use Rattle.hpr_app.specs.Answer.{Decides, StopIs}
+use Rattle.hpr_app.specs.Reads.{MayReadIfTaken}
+use Rattle.hpr_app.specs.Decision.{Decision, prints, refuses, not_built}
+use Rattle.hpr_app.specs.Answer.{Decides}
 use Rattle.hpr_app.specs.Writes.{Writes, PutsAll, PutsPrefix}
-use Rattle.hpr_app.specs.Ends.{Change, Ends, Decided, CutShort, ReadFailed, Says, status_of_kind}
+use Rattle.hpr_app.specs.Ends.{Change, Ends, Says, status_of_kind}
 use Rattle.hpr_app.specs.declared.answer.Kind.{Kind}
 use Rattle.hpr_app.specs.declared.answer.Kind.TheVariants as kind
 use Rattle.hpr_app.specs.declared.answer.Report.{Report}
@@ -22,27 +22,32 @@ taken_nothing : (taken : Option (List ℕ)) → taken ≡ taken_then taken []
 taken_nothing None = refl
 taken_nothing (Some bytes) = ap Some (sym (append-nil bytes))
 
-module _ (P : Decision → Type 0) (names : List (List ℕ)) (before now : ℕ) (out err : Change) where
-  at_status : (s t : Status) → s ≡ t → Ends t P names before now out err → Ends s P names before now out err
-  at_status s t e h = subst (λ x. Ends x P names before now out err) (sym e) h
+module _ (P : Decision → Type 0) (reads : List ℕ → Type 0) (before now : ℕ) (out err : Change) where
+  at_status : (s t : Status) → s ≡ t → Ends t P reads before now out err → Ends s P reads before now out err
+  at_status s t e h = subst (λ x. Ends x P reads before now out err) (sym e) h
 
-  all_put : (k : Kind) (text : List ℕ) (s : Status) → P (prints k text) → now ≡ before → PutsAll (status_of_kind k) text s out err → Ends s P names before now out err
+  all_put : (k : Kind) (text : List ℕ) (s : Status) → P (prints k text) → now ≡ before → PutsAll (status_of_kind k) text s out err → Ends s P reads before now out err
   all_put kind.Done text s p same w =
       at_status s status.Done w.status_is (record { r = prints kind.Done text; outcome = p; status_is = refl; shelf = same; count = w.count; took = w.took; says = w.silent })
+  all_put kind.NotEnded text s p same w =
+      at_status s status.NotEnded w.status_is (record { r = prints kind.NotEnded text; outcome = p; status_is = refl; shelf = same; count = w.count; took = w.took; says = w.silent })
 
-  front_put : (k : Kind) (text : List ℕ) (s : Status) → P (prints k text) → now ≡ before → PutsPrefix text s out err → Ends s P names before now out err
+  front_put : (k : Kind) (text : List ℕ) (s : Status) → P (prints k text) → now ≡ before → PutsPrefix text s out err → Ends s P reads before now out err
   front_put k text s p same w =
       at_status s status.WriteFault w.status_is (record { r = prints k text; outcome = p; text = tt; shelf = same; count = w.count; took = w.took; says = w.says })
 
-  pub ends_of : (answer : Result Report Stop) (s : Status) → Decides P names before now answer → Writes answer s out err → Ends s P names before now out err
+  pub ends_of : (answer : Result Report Stop) (s : Status) → Decides P reads before now answer → Writes answer s out err → Ends s P reads before now out err
   ends_of (Ok report) s d (inl w) = all_put report.kind report.text.items s d.0 d.1 w
   ends_of (Ok report) s d (inr w) = front_put report.kind report.text.items s d.0 d.1 w
   ends_of (Err stop.NotBuilt) s d w =
       at_status s status.NotBuilt w.0 (record { r = not_built; outcome = d.0; status_is = refl; shelf = d.1; count = w.1.0; took = w.1.1 ∙ taken_nothing out.old; says = w.2 })
+  ends_of (Err (stop.Refused message)) s d w =
+      at_status s status.Refused w.0
+      (record { r = refuses (string_bytes message); outcome = d.0; status_is = refl; shelf = d.1; count = w.1.0; took = w.1.1 ∙ taken_nothing out.old; says = w.2 })
   ends_of (Err (stop.ReadFault message)) s d w =
       at_status s status.ReadFault w.0 (record { count = d.0; untouched = w.1; file = d.1; named = d.2; says = subst (λ m. Says m err) d.3 w.2 })
   ends_of (Err stop.Memory) s d w = at_status s status.Memory w.0 (w.1, w.2)
 
 pub Ends-for : (s : Status) (p q : Option Request) (files : Option Files) (before now : ℕ) (out err : Change)
-    → p ≡ q → Ends s (OutcomeIfTold p files) (files_of_taken p) before now out err → Ends s (OutcomeIfTold q files) (files_of_taken q) before now out err
-Ends-for s p q files before now out err e h = subst (λ r. Ends s (OutcomeIfTold r files) (files_of_taken r) before now out err) e h
+    → p ≡ q → Ends s (OutcomeIfTold p files) (MayReadIfTaken p) before now out err → Ends s (OutcomeIfTold q files) (MayReadIfTaken q) before now out err
+Ends-for s p q files before now out err e h = subst (λ r. Ends s (OutcomeIfTold r files) (MayReadIfTaken r) before now out err) e h

@@ -1,5 +1,5 @@
 -- Issued numbers are at least 1.
-use Rattle.std.proofs.Common.{◌≡◌, ℕ, zero, suc, ◌+◌, ◌<◌, ◌≤◌, List, [], ◌∷◌, length, get_or, arith}
+use Rattle.std.proofs.Common.{ℕ, zero, suc, ◌+◌, ◌<◌, ◌≤◌, List, [], ◌∷◌, length, get_or, arith}
 use Rattle.hpr_syntax.specs.Issued.{AscendsFrom, IsIssued}
 
 ascends_number : (low : ℕ) (ps : List (ℕ × ℕ)) (i : ℕ) (d : ℕ × ℕ) → AscendsFrom low ps → i < length ps → 1 ≤ (get_or ps i d).1

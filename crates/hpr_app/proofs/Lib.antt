@@ -1,6 +1,11 @@
 pub mod FileLemmas
 pub mod IssuedRows
 pub mod IntegrateLemmas
+pub mod ValueLemmas
+pub mod StateLemmas
 pub mod EndsLemmas
+pub mod WordLemmas
 pub mod Completeness
+pub mod Ascending
+pub mod Once
 pub mod Theorem

@@ -1,5 +1,5 @@
 -- What a printed program means.
-use Rattle.std.proofs.Common.{◌≡◌, ℕ, List, ◌++◌, refl, sym, ap, ◌∙◌, subst, inl, inr, ◌⊎◌, Option, Some, None}
+use Rattle.std.proofs.Common.{◌≡◌, ℕ, List, ◌++◌, refl, sym, ap, ◌∙◌, subst, inl, inr, ◌⊎◌, Option, Some}
 use Rattle.hpr_io.specs.Files.{Files, bytes_of}
 use Rattle.hpr_io.specs.Taken.{taken_then}
 use Rattle.hpr_syntax.specs.Tree.{Tree}
@@ -11,9 +11,10 @@ use Rattle.hpr_syntax.specs.Meaning.{Keeps}
 use Rattle.hpr_syntax.proofs.OneSide.{kept_by_a, kept_by_b}
 use Rattle.hpr_syntax.proofs.Raises.{one_side_spelled}
 use Rattle.hpr_text.proofs.Texts.{one_tree}
-use Rattle.hpr_app.specs.Request.{Request, integrate}
-use Rattle.hpr_app.specs.Decision.{Decision, prints, not_built, usage}
-use Rattle.hpr_app.specs.Integrate.{IsFileOf, IsOneSided, PrintsText, Prints, OneSideOutcome, IntegrateOutcome}
+use Rattle.hpr_words.specs.Request.{Request, integrate, run}
+use Rattle.hpr_app.specs.Decision.{Decision, prints, refuses, not_built, usage}
+use Rattle.hpr_app.specs.Integrate.{IsOneSided, OneSideOutcome, IntegrateOutcome}
+use Rattle.hpr_app.specs.Refusals.{IsFileOf}
 use Rattle.hpr_app.specs.Outcome.{RequestOutcome, OutcomeIfTold}
 use Rattle.hpr_app.specs.Ends.{Change, Ends, Decided, status_of, text_of}
 use Rattle.hpr_app.specs.Theorem.{IsKeepingText, KeepsMeaning}
@@ -33,9 +34,9 @@ module _ (base a b : List ℕ) (p q r : Tree) (hp : IsFileOf base p) (hq : IsFil
   -- what is kept of these three programs is kept of whatever the bytes spell
   of_spelled : (m : Tree) → Keeps p q r m → (p' q' r' : Tree) → Spells tagged base p' → Spells tagged a q' → Spells tagged b r' → Keeps p' q' r' m
   of_spelled m k p' q' r' sp sq sr =
-      let ep : p ≡ p' = one_tree base p p' hp.spelled sp in
-      let eq : q ≡ q' = one_tree a q q' hq.spelled sq in
-      let er : r ≡ r' = one_tree b r r' hr.spelled sr in
+      let ep : p ≡ p' = one_tree tagged base p p' hp.spelled sp in
+      let eq : q ≡ q' = one_tree tagged a q q' hq.spelled sq in
+      let er : r ≡ r' = one_tree tagged b r r' hr.spelled sr in
       subst (λ x. Keeps p' q' x m) er (subst (λ x. Keeps p' x r m) eq (subst (λ x. Keeps x q r m) ep k))
 
   keeping : (other m : Tree) (bytes : List ℕ) → (other ≡ q) ⊎ (other ≡ r) → IsOneSided p q r other m → Keeps p q r m → bytes ≡ text m → IsKeepingText base a b bytes
@@ -55,14 +56,17 @@ module _ (base a b : List ℕ) (p q r : Tree) (hp : IsFileOf base p) (hq : IsFil
       (subst (λ x. Keeps p x r m) (sym e) (kept_by_b p r m side.body side.names)) (same_text k _ bytes shown same ∙ is)
   one_side k bytes (inr (inr (_, _, same))) = absurd cc
 
-outcome_keeps : (base a b : List ℕ) (k : Kind) (bytes : List ℕ) → IntegrateOutcome base a b (prints k bytes) → IsKeepingText base a b bytes
-outcome_keeps base a b k bytes (inl (_, same)) = absurd cc
-outcome_keeps base a b k bytes (inr (p, hp, inl (_, same))) = absurd cc
-outcome_keeps base a b k bytes (inr (p, hp, inr (q, hq, inl (_, same)))) = absurd cc
-outcome_keeps base a b k bytes (inr (p, hp, inr (q, hq, inr (r, hr, o)))) = one_side base a b p q r hp hq hr k bytes o
+outcome_keeps : (fs : Files) (base a b : List ℕ) (k : Kind) (bytes : List ℕ) → IntegrateOutcome fs base a b (prints k bytes)
+    → IsKeepingText (bytes_of fs base) (bytes_of fs a) (bytes_of fs b) bytes
+outcome_keeps fs base a b k bytes (inl (_, _, same)) = absurd cc
+outcome_keeps fs base a b k bytes (inr (p, hp, inl (_, _, same))) = absurd cc
+outcome_keeps fs base a b k bytes (inr (p, hp, inr (q, hq, inl (_, _, same)))) = absurd cc
+outcome_keeps fs base a b k bytes (inr (p, hp, inr (q, hq, inr (r, hr, o)))) =
+    one_side (bytes_of fs base) (bytes_of fs a) (bytes_of fs b) p q r hp hq hr k bytes o
 
 request_keeps : (request : Request) (fs : Files) (k : Kind) (bytes : List ℕ) → RequestOutcome request fs (prints k bytes) → KeepsMeaning request fs bytes
-request_keeps (integrate base a b) fs k bytes h = outcome_keeps (bytes_of fs base) (bytes_of fs a) (bytes_of fs b) k bytes h
+request_keeps (integrate base a b tries) fs k bytes h = outcome_keeps fs base a b k bytes h
+request_keeps (run file words steps) fs k bytes h = tt
 
 abbrev pub Kept : Request → Files → List ℕ → Option (List ℕ) → Type 0
 Kept request fs old new = (bytes : List ℕ) × (new ≡ Some (old ++ bytes)) × KeepsMeaning request fs bytes
@@ -71,21 +75,22 @@ decision_keeps : (request : Request) (fs : Files) (old : List ℕ) (r : Decision
     → new ≡ taken_then taken (text_of r) → Kept request fs old new
 decision_keeps request fs old (prints k bytes) taken new e o told took =
     (bytes, took ∙ ap (λ t. taken_then t bytes) told, request_keeps request fs k bytes o)
+decision_keeps request fs old (refuses message) taken new e o told took = absurd cc
 decision_keeps request fs old not_built taken new e o told took = absurd cc
 decision_keeps request fs old usage taken new e o told took = absurd cc
 
-pub done_keeps : (request : Request) (fs : Files) (names : List (List ℕ)) (old : List ℕ) (s : Status) (before now : ℕ) (out err : Change) → s ≡ status.Done → out.old ≡ Some old
-    → Ends s (OutcomeIfTold (Some request) (Some fs)) names before now out err → Kept request fs old out.new
-done_keeps request fs names old s before now out err e told h =
+pub done_keeps : (request : Request) (fs : Files) (reads : List ℕ → Type 0) (old : List ℕ) (s : Status) (before now : ℕ) (out err : Change) → s ≡ status.Done → out.old ≡ Some old
+    → Ends s (OutcomeIfTold (Some request) (Some fs)) reads before now out err → Kept request fs old out.new
+done_keeps request fs reads old s before now out err e told h =
     let d : Decided status.Done (OutcomeIfTold (Some request) (Some fs)) before now out err =
-    subst (λ x. Ends x (OutcomeIfTold (Some request) (Some fs)) names before now out err) e h in
+    subst (λ x. Ends x (OutcomeIfTold (Some request) (Some fs)) reads before now out err) e h in
     decision_keeps request fs old d.r out.old out.new d.status_is (d.outcome fs refl) told d.took
 
 -- the same, for a request and files that are known by other names
-pub asked_keeps : (known request : Request) (taken : Option Request) (files : Option Files) (fs : Files) (names : List (List ℕ)) (old : List ℕ) (s : Status) (before now : ℕ) (out err : Change)
+pub asked_keeps : (known request : Request) (taken : Option Request) (files : Option Files) (fs : Files) (reads : List ℕ → Type 0) (old : List ℕ) (s : Status) (before now : ℕ) (out err : Change)
     → Some known ≡ taken → taken ≡ Some request → files ≡ Some fs → out.old ≡ Some old → s ≡ status.Done
-    → Ends s (OutcomeIfTold (Some known) files) names before now out err → Kept request fs old out.new
-asked_keeps known request taken files fs names old s before now out err is asked told took e h =
-    done_keeps request fs names old s before now out err e took
-    (subst (λ o. Ends s (OutcomeIfTold o (Some fs)) names before now out err) (is ∙ asked)
-    (subst (λ f. Ends s (OutcomeIfTold (Some known) f) names before now out err) told h))
+    → Ends s (OutcomeIfTold (Some known) files) reads before now out err → Kept request fs old out.new
+asked_keeps known request taken files fs reads old s before now out err is asked told took e h =
+    done_keeps request fs reads old s before now out err e took
+    (subst (λ o. Ends s (OutcomeIfTold o (Some fs)) reads before now out err) (is ∙ asked)
+    (subst (λ f. Ends s (OutcomeIfTold (Some known) f) reads before now out err) told h))

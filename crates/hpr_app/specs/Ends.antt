@@ -8,19 +8,19 @@
 -- Says message err     == `err` took a prefix of the message, and all of it where no put failed
 -- Decided s P .. err   == some decision r of P has the status s; no read and no write failed; `out` took the text of r, and `err` the message
 -- CutShort P .. err    == a write failed: `out` took a prefix of the text of some decision of P
--- ReadFailed names ..  == a read failed: `out` took nothing, and the message names one of the files
--- Ends s P names ..    == the call ends with the status s in the one case that s stands for
-use Rattle.std.specs.Prelude.{◌≡◌, ℕ, List, [], ◌++◌, Option, Some, None, codes, Contains}
+-- ReadFailed reads ..  == a read failed: `out` took nothing, and the message names a file that the call reads
+-- Ends s P reads ..    == the call ends with the status s in the one case that s stands for
+use Rattle.std.specs.Prelude.{◌≡◌, ℕ, List, [], ◌++◌, Option, Some, None, codes}
 use Rattle.hpr_io.specs.Counts.{Rose}
 use Rattle.hpr_io.specs.Taken.{taken_then, TookPrefix}
 use Rattle.hpr_app.specs.declared.answer.Kind.{Kind}
 use Rattle.hpr_app.specs.declared.answer.Kind.TheVariants as kind
 use Rattle.hpr_app.specs.declared.status.Status.{Status}
 use Rattle.hpr_app.specs.declared.status.Status.TheVariants as status
-use Rattle.hpr_app.specs.Decision.{Decision, prints, not_built, usage}
+use Rattle.hpr_app.specs.Decision.{Decision, prints, refuses, not_built, usage}
 
 abbrev pub usage_text : List ℕ
-usage_text = codes "usage: hpr integrate BASE A B\n"
+usage_text = codes "usage: hpr integrate BASE A B [--tries N]\n       hpr run FILE [STATE..] [--steps N]\n"
 
 abbrev pub not_built_text : List ℕ
 not_built_text = codes "hpr: not built yet\n"
@@ -45,9 +45,11 @@ IsUntouched c = (c.now ≡ c.before) × (c.new ≡ c.old)
 
 abbrev pub status_of_kind : Kind → Status
 status_of_kind kind.Done = status.Done
+status_of_kind kind.NotEnded = status.NotEnded
 
 abbrev pub status_of : Decision → Status
 status_of (prints k text) = status_of_kind k
+status_of (refuses message) = status.Refused
 status_of not_built = status.NotBuilt
 status_of usage = status.Words
 
@@ -61,6 +63,7 @@ has_text _ = ⊥
 
 abbrev pub message_of : Decision → Option (List ℕ)
 message_of (prints k text) = None
+message_of (refuses message) = Some message
 message_of not_built = Some not_built_text
 message_of usage = Some usage_text
 
@@ -90,16 +93,16 @@ pub record CutShort (P : Decision → Type 0) (shelf_before shelf_now : ℕ) (ou
   pub took : TookPrefix out.old out.new (text_of r)
   pub says : Says cannot_write err
 
-pub record ReadFailed (names : List (List ℕ)) (shelf_before shelf_now : ℕ) (out err : Change) : Type 0 where
+pub record ReadFailed (reads : List ℕ → Type 0) (shelf_before shelf_now : ℕ) (out err : Change) : Type 0 where
   pub count : Rose shelf_before shelf_now
   pub untouched : IsUntouched out
   pub file : List ℕ
-  pub named : Contains names file
+  pub named : reads file
   pub says : Says (cannot_read file) err
 
 -- Exactly one case holds, since the status picks it.
-abbrev pub Ends : Status → (Decision → Type 0) → List (List ℕ) → ℕ → ℕ → Change → Change → Type 0
-Ends status.ReadFault P names shelf_before shelf_now out err = ReadFailed names shelf_before shelf_now out err
-Ends status.WriteFault P names shelf_before shelf_now out err = CutShort P shelf_before shelf_now out err
-Ends status.Memory P names shelf_before shelf_now out err = IsUntouched out × Says no_memory err
-Ends s P names shelf_before shelf_now out err = Decided s P shelf_before shelf_now out err
+abbrev pub Ends : Status → (Decision → Type 0) → (List ℕ → Type 0) → ℕ → ℕ → Change → Change → Type 0
+Ends status.ReadFault P reads shelf_before shelf_now out err = ReadFailed reads shelf_before shelf_now out err
+Ends status.WriteFault P reads shelf_before shelf_now out err = CutShort P shelf_before shelf_now out err
+Ends status.Memory P reads shelf_before shelf_now out err = IsUntouched out × Says no_memory err
+Ends s P reads shelf_before shelf_now out err = Decided s P shelf_before shelf_now out err

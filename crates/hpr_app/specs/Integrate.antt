@@ -1,38 +1,25 @@
 -- What `integrate` decides.
 --
--- max_file                        == the longest file that is accepted, in bytes
--- IsFileOf bytes p                == the bytes are of an accepted length and spell the program p
--- IsNoFile bytes                  == they spell no program, or are longer
--- OnFile bytes next r             == r is what next says of the program that the bytes spell; where they spell none, the case is not built yet
--- IsOneSided base a b other m     == m is the variant `other` with its finals ascending and, for each author, the greatest issued number of the three
--- OneSideOutcome base a b r       == where b is the base, a is printed; else where a is the base, b is; else the case is not built yet
--- IntegrateOutcome base a b r     == that, of the programs that three files spell, read in order
-use Rattle.std.specs.Prelude.{◌≡◌, ℕ, ◌≤◌, ◌⊎◌, List, length}
+-- OnFile files file next r           == r is the refusal of the file; or the file spells a program, and r is what next says of it
+-- IsOneSided base a b other m        == m is the variant `other` with its finals ascending and, for each author, the greatest issued number of the three
+-- OneSideOutcome base a b r          == where b is the base, a is printed; else where a is the base, b is; else the case is not built yet
+-- IntegrateOutcome files base a b r == that, of the programs that three files spell, read in order
+use Rattle.std.specs.Prelude.{◌≡◌, ℕ, ◌⊎◌, List}
 use Rattle.std.specs.List.Sorted.{IsPermutation, IsSorted}
 use Rattle.std.specs.Ordering.{nat_cmp}
 use Rattle.std.specs.Cmp.Lexicographic.{slice_cmp}
+use Rattle.hpr_io.specs.Files.{Files, bytes_of}
 use Rattle.hpr_syntax.specs.Issued.{raised_by}
 use Rattle.hpr_syntax.specs.Tree.{Tree}
-use Rattle.hpr_syntax.specs.Shape.{IsProgram}
-use Rattle.hpr_syntax.specs.Grammar.{tagged}
-use Rattle.hpr_syntax.specs.Spelling.{Spells}
 use Rattle.hpr_syntax.specs.Print.{text}
 use Rattle.hpr_app.specs.declared.answer.Kind.TheVariants.{Done}
-use Rattle.hpr_app.specs.Decision.{Decision, prints, not_built}
+use Rattle.hpr_app.specs.Decision.{Decision, prints, refuses, not_built}
+use Rattle.hpr_app.specs.Refusals.{IsFileOf, IsRefused}
 
-abbrev pub max_file : ℕ
-max_file = 4194304
-
-pub record IsFileOf (bytes : List ℕ) (p : Tree) : Type 0 where
-  pub short : length bytes ≤ max_file
-  pub spelled : Spells tagged bytes p
-  pub program : IsProgram p
-
-abbrev pub IsNoFile : List ℕ → Type 0
-IsNoFile bytes = (p : Tree) → IsFileOf bytes p → ⊥
-
-abbrev pub OnFile : List ℕ → (Tree → Type 0) → Decision → Type 0
-OnFile bytes next r = (IsNoFile bytes × (r ≡ not_built)) ⊎ ((p : Tree) × IsFileOf bytes p × next p)
+abbrev pub OnFile : Files → List ℕ → (Tree → Type 0) → Decision → Type 0
+OnFile files file next r =
+    ((message : List ℕ) × IsRefused file (bytes_of files file) message × (r ≡ refuses message))
+    ⊎ ((p : Tree) × IsFileOf (bytes_of files file) p × next p)
 
 pub record IsOneSided (base a b other m : Tree) : Type 0 where
   pub issued : m.issued ≡ raised_by b.issued (raised_by a.issued base.issued)
@@ -52,5 +39,5 @@ OneSideOutcome base a b r =
     ⊎ (((b ≡ base → ⊥) × (a ≡ base) × Prints base a b b r)
     ⊎ ((b ≡ base → ⊥) × (a ≡ base → ⊥) × (r ≡ not_built)))
 
-abbrev pub IntegrateOutcome : List ℕ → List ℕ → List ℕ → Decision → Type 0
-IntegrateOutcome base a b r = OnFile base (λ p. OnFile a (λ q. OnFile b (λ s. OneSideOutcome p q s r) r) r) r
+abbrev pub IntegrateOutcome : Files → List ℕ → List ℕ → List ℕ → Decision → Type 0
+IntegrateOutcome files base a b r = OnFile files base (λ p. OnFile files a (λ q. OnFile files b (λ s. OneSideOutcome p q s r) r) r) r

@@ -1,11 +1,15 @@
-pub mod Request
-pub mod Asked
 pub mod Decision
+pub mod Refusals
+pub mod States
+pub mod Reads
 pub mod Integrate
+pub mod RunFile
+pub mod ReadsState
 pub mod Outcome
 pub mod Ends
 pub mod Answer
 pub mod Files
 pub mod Writes
 pub mod Number
+pub mod Complete
 pub mod Theorem

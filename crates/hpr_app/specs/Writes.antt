@@ -5,7 +5,7 @@
 -- PutsAll ..        == all of the text was put
 -- PutsPrefix ..     == a put failed, and a prefix of the text was put
 -- Writes answer s out err == the answer is written with the status s
-use Rattle.std.specs.Prelude.{◌≡◌, ◌⊎◌, ℕ, List, Result, Ok, Err}
+use Rattle.std.specs.Prelude.{◌≡◌, ◌⊎◌, ℕ, List, Result, Ok, Err, string_bytes}
 use Rattle.hpr_io.specs.Counts.{Rose}
 use Rattle.hpr_io.specs.Taken.{taken_then, TookPrefix}
 use Rattle.hpr_app.specs.Ends.{Change, IsUntouched, Says, cannot_write, no_memory, not_built_text, status_of_kind}
@@ -17,12 +17,14 @@ use Rattle.hpr_app.specs.declared.status.Status.TheVariants as status
 
 abbrev pub stop_status : Stop → Status
 stop_status stop.NotBuilt = status.NotBuilt
+stop_status (stop.Refused message) = status.Refused
 stop_status (stop.ReadFault message) = status.ReadFault
 stop_status stop.Memory = status.Memory
 
 abbrev pub stop_message : Stop → List ℕ
 stop_message stop.NotBuilt = not_built_text
-stop_message (stop.ReadFault message) = message.items
+stop_message (stop.Refused message) = string_bytes message
+stop_message (stop.ReadFault message) = string_bytes message
 stop_message stop.Memory = no_memory
 
 pub record PutsAll (normal : Status) (text : List ℕ) (s : Status) (out err : Change) : Type 0 where

@@ -6,14 +6,19 @@ ghost use Rattle.hpr_app.specs.Ends.{Says};
 use crate::status::Status;
 use hpr_io::{Sink, put_all};
 use hpr_syntax::NoMemory;
+use std::alloc::AllocError;
 
 /// The text for words that are no call.
-pub const USAGE: &[u8] = b"usage: hpr integrate BASE A B\n";
+pub const USAGE: &[u8] =
+    b"usage: hpr integrate BASE A B [--tries N]\n       hpr run FILE [STATE..] [--steps N]\n";
 
 /// The kinds of answers that have a text for `out`.
 #[derive(Clone, Copy)]
 pub enum Kind {
+    /// The command did what it is for.
     Done,
+    /// A run did not end normally.
+    NotEnded,
 }
 
 /// A decided answer with a text for `out`.
@@ -27,8 +32,20 @@ pub struct Report {
 #[derive(Drop)]
 pub enum Stop {
     NotBuilt,
-    ReadFault(Vec<u8>),
+    Refused(String),
+    ReadFault(String),
     Memory,
+}
+
+impl From<AllocError> for Stop {
+    ghost use Rattle.std.specs.Prelude.{◌≡◌};
+    ghost use Rattle.hpr_app.specs.declared.answer.Stop.TheVariants.{Memory};
+
+    ghost from_gives = { λ _ stop. stop ≡ Memory };
+
+    fn from(_error: AllocError) -> Stop {
+        Stop::Memory
+    }
 }
 
 impl From<NoMemory> for Stop {
@@ -51,6 +68,7 @@ impl Kind {
     {
         match self {
             Kind::Done => Status::Done,
+            Kind::NotEnded => Status::NotEnded,
         }
     }
 }
@@ -96,8 +114,12 @@ fn write_stop<E: Sink>(stop: &Stop, err: &mut E) -> Status
             write_message(b"hpr: not built yet\n", err);
             Status::NotBuilt
         }
+        Stop::Refused(message) => {
+            write_message(message.as_bytes(), err);
+            Status::Refused
+        }
         Stop::ReadFault(message) => {
-            write_message(message.as_slice(), err);
+            write_message(message.as_bytes(), err);
             Status::ReadFault
         }
         Stop::Memory => {

@@ -1,22 +1,33 @@
 //! The commands: each has its own decision.
 ghost use Rattle.std.specs.Prelude.{All, IsTrue, Some};
+ghost use Rattle.hpr_words.specs.Asked.{request};
 ghost use Rattle.hpr_app.specs.Outcome.{OutcomeIfTold};
-ghost use Rattle.hpr_app.specs.Request.{files_of};
-ghost use Rattle.hpr_app.specs.Asked.{request};
+ghost use Rattle.hpr_app.specs.Reads.{MayRead, files_of};
 ghost use Rattle.hpr_app.specs.Answer.{Decides};
 
 use crate::answer::{Report, Stop};
 use crate::integrate::integrate_files;
-use crate::words::Asked;
+use crate::run::run_file;
 use hpr_io::Shelf;
+use hpr_words::Asked;
 use std::alloc::Global;
 
 /// What a request comes to.
 pub fn decide<S: Shelf>(alloc: Global, asked: Asked<'_>, shelf: &mut S) -> Result<Report, Stop>
     requires { All (λ name. IsTrue (S.serves shelf.old name)) (files_of (request asked)) }
-    ensures { Decides (OutcomeIfTold (Some (request asked.entry)) (S.files shelf.old)) (files_of (request asked.entry)) (S.faults shelf.old) (S.faults shelf.new) result }
+    ensures { Decides (OutcomeIfTold (Some (request asked.entry)) (S.files shelf.old)) (MayRead (request asked.entry)) (S.faults shelf.old) (S.faults shelf.new) result }
 {
     match asked {
-        Asked::Integrate { base, a, b } => integrate_files(alloc, base, a, b, shelf),
+        Asked::Integrate {
+            base,
+            a,
+            b,
+            tries: _,
+        } => integrate_files(alloc, base, a, b, shelf),
+        Asked::Run {
+            file,
+            states,
+            steps,
+        } => run_file(alloc, file, states.as_slice(), steps, shelf),
     }
 }

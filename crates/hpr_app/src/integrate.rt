@@ -1,12 +1,8 @@
 //! The command `integrate`.
-ghost use Rattle.std.specs.Prelude.{◌≡◌, [], ◌∷◌, IsTrue, IfOk, OnOk, Some};
-ghost use Rattle.std.specs.List.Sorted.{IsPermutation, IsSorted};
-ghost use Rattle.std.specs.Ordering.{nat_cmp};
-ghost use Rattle.std.specs.Cmp.Lexicographic.{slice_cmp};
+ghost use Rattle.std.specs.Prelude.{◌≡◌, [], ◌∷◌, Contains, IsTrue, IfOk, OnOk};
 ghost use Rattle.hpr_syntax.specs.Issued.{raised_by};
-ghost use Rattle.hpr_app.specs.Outcome.{OutcomeIfTold};
-ghost use Rattle.hpr_app.specs.Integrate.{OneSideOutcome, PrintsText};
-ghost use Rattle.hpr_app.specs.Request.{integrate};
+ghost use Rattle.hpr_app.specs.Files.{IfTold};
+ghost use Rattle.hpr_app.specs.Integrate.{IntegrateOutcome, OneSideOutcome, PrintsText};
 ghost use Rattle.hpr_app.specs.Answer.{Decides, Merges};
 
 use crate::answer::{Kind, Report, Stop};
@@ -27,7 +23,7 @@ pub fn integrate_files<S: Shelf>(
     requires base { IsTrue (S.serves shelf.old base.now) }
     requires a { IsTrue (S.serves shelf.old a.now) }
     requires b { IsTrue (S.serves shelf.old b.now) }
-    ensures { Decides (OutcomeIfTold (Some (integrate base.now a.now b.now)) (S.files shelf.old)) (base.now ∷ a.now ∷ b.now ∷ []) (S.faults shelf.old) (S.faults shelf.new) result }
+    ensures { Decides (λ r. IfTold (S.files shelf.old) (λ fs. IntegrateOutcome fs base.now a.now b.now r)) (λ file. Contains (base.now ∷ a.now ∷ b.now ∷ []) file) (S.faults shelf.old) (S.faults shelf.new) result }
 {
     let base_program = read_program(alloc, base, shelf)?;
     let a_program = read_program(alloc, a, shelf)?;

@@ -6,28 +6,39 @@ mod answer;
 mod commands;
 mod files;
 mod integrate;
+pub mod laws;
+mod refusals;
+mod run;
+mod states;
 mod status;
-mod words;
 
 ghost use Rattle.std.specs.Prelude.{◌≡◌, ◌≢◌, ℕ, List, ◌++◌, ◌<◌, ◌⊎◌, ◌↔◌, All, None, IsTrue, map, string_bytes};
 ghost use Rattle.hpr_io.specs.Files.{Files};
 ghost use Rattle.hpr_io.specs.Counts.{Rose};
-ghost use Rattle.hpr_app.specs.Request.{Request, taken, files_of, files_of_taken};
-ghost use Rattle.hpr_app.specs.Asked.{request};
+ghost use Rattle.hpr_words.specs.Asked.{request};
+ghost use Rattle.hpr_words.specs.Plain.{plain};
+ghost use Rattle.hpr_words.specs.Request.{Request};
+ghost use Rattle.hpr_words.specs.Taken.{taken};
+ghost use Rattle.hpr_app.specs.Reads.{MayRead, MayReadIfTaken, files_of, files_of_taken};
 ghost use Rattle.hpr_app.specs.Outcome.{RequestOutcome, OutcomeIfTold};
-ghost use Rattle.hpr_app.specs.Decision.{not_built};
+ghost use Rattle.hpr_app.specs.Decision.{refuses};
+ghost use Rattle.hpr_app.specs.Complete.{RequestCompletes, IsRefusedCall};
 ghost use Rattle.hpr_app.specs.Theorem.{KeepsMeaning};
 ghost use Rattle.hpr_app.specs.Ends.{Ends};
 
-use crate::words::Asked;
+use crate::answer::Stop;
 use hpr_io::{Shelf, Sink};
+use hpr_words::{Asked, WordsError, read_words};
 pub use status::Status;
 use std::alloc::Global;
 
 /// Runs one command: reads its words, fetches the files that they name, and puts its text to `out`
 /// or its message to `err`.
 ///
-/// All text of `out` is made before its first byte is put. Faults of `err` change no status.
+/// The words of a state are judged from left to right, before any file is read; then each file
+/// before the next one is fetched: one that has more than 4,194,304 bytes, spells no tree, or spells
+/// a tree that is no program is refused. All text of `out` is made before its first byte is put.
+/// Faults of `err` change no status.
 pub fn hpr<S: Shelf, O: Sink, E: Sink>(
     alloc: Global,
     words: &[String],
@@ -39,33 +50,41 @@ pub fn hpr<S: Shelf, O: Sink, E: Sink>(
 
     // Exactly one of four cases holds, by the status.
     ensures ends { Ends result (OutcomeIfTold (taken (map string_bytes words.now)) (S.files shelf.old))
-        (files_of_taken (taken (map string_bytes words.now)))
+        (MayReadIfTaken (taken (map string_bytes words.now)))
         (S.faults shelf.old) (S.faults shelf.new)
         (record { before = O.faults out.old; now = O.faults out.new; old = O.taken out.old; new = O.taken out.new })
         (record { before = E.faults err.old; now = E.faults err.new; old = E.taken err.old; new = E.taken err.new }) }
 
-    // Each status has its cause.
+    // Each status has its cause, and plain words are a call.
     ensures words { result ≢ Status.Memory → ((result ≡ Status.Words) ↔ (taken (map string_bytes words.now) ≡ None)) }
+    ensures plain { (asked : Request) → plain (map string_bytes words.now) ≡ Some asked → result ≢ Status.Words }
     ensures read { result ≡ Status.ReadFault → Rose (S.faults shelf.old) (S.faults shelf.new) }
     ensures write { result ≡ Status.WriteFault → Rose (O.faults out.old) (O.faults out.new) }
     ensures read_grew { S.faults shelf.old < S.faults shelf.new → (result ≡ Status.ReadFault) ⊎ (result ≡ Status.Memory) }
     ensures write_grew { O.faults out.old < O.faults out.new → result ≡ Status.WriteFault }
 
-    // Where no read and no write failed and the case is built, the command does what it is for.
+    // Where no read and no write failed and each file spells a program, the command does what it is for, if memory was found.
     ensures complete { (asked : Request) (fs : Files) → taken (map string_bytes words.now) ≡ Some asked → S.files shelf.old ≡ Some fs
-        → ¬ RequestOutcome asked fs not_built → ¬ Rose (S.faults shelf.old) (S.faults shelf.new) → ¬ Rose (O.faults out.old) (O.faults out.new)
-        → (result ≡ Status.Done) ⊎ (result ≡ Status.Memory) }
+        → ¬ Rose (S.faults shelf.old) (S.faults shelf.new) → ¬ Rose (O.faults out.old) (O.faults out.new)
+        → (result ≡ Status.Memory) ⊎ RequestCompletes asked fs (O.taken out.old) (O.taken out.new) result }
+
+    // Where no read failed, a call with a file that is refused gives its message, if memory was found.
+    ensures refused { (asked : Request) (fs : Files) (message : List ℕ) → taken (map string_bytes words.now) ≡ Some asked → S.files shelf.old ≡ Some fs
+        → RequestOutcome asked fs (refuses message) → ¬ Rose (S.faults shelf.old) (S.faults shelf.new)
+        → IsRefusedCall message result
+        (record { before = E.faults err.old; now = E.faults err.new; old = E.taken err.old; new = E.taken err.new }) }
 
     // The integration theorem: the bytes that `out` took in this call spell a program that keeps the meaning of both variants.
     ensures keeps { (asked : Request) (fs : Files) (old : List ℕ) → taken (map string_bytes words.now) ≡ Some asked → S.files shelf.old ≡ Some fs
         → O.taken out.old ≡ Some old → result ≡ Status.Done → (new : List ℕ) × (O.taken out.new ≡ Some (old ++ new)) × KeepsMeaning asked fs new }
 {
-    match words::read_words(words) {
-        None => {
+    match read_words(alloc, words) {
+        Ok(asked) => run_asked(alloc, asked, shelf, out, err),
+        Err(WordsError::Refused) => {
             answer::write_message(answer::USAGE, err);
             Status::Words
         }
-        Some(asked) => run_asked(alloc, asked, shelf, out, err),
+        Err(WordsError::Memory) => answer::write_answer(Err(Stop::Memory), out, err),
     }
 }
 
@@ -78,7 +97,7 @@ fn run_asked<S: Shelf, O: Sink, E: Sink>(
 ) -> Status
     requires { All (λ name. IsTrue (S.serves shelf.old name)) (files_of (request asked)) }
     ensures ends { Ends result (OutcomeIfTold (Some (request asked.entry)) (S.files shelf.old))
-        (files_of (request asked.entry))
+        (MayRead (request asked.entry))
         (S.faults shelf.old) (S.faults shelf.new)
         (record { before = O.faults out.old; now = O.faults out.new; old = O.taken out.old; new = O.taken out.new })
         (record { before = E.faults err.old; now = E.faults err.new; old = E.taken err.old; new = E.taken err.new }) }

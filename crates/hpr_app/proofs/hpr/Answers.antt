@@ -1,10 +1,25 @@
+use Rattle.std.proofs.Common.{ap, map, string_bytes, sym, Err}
+use Rattle.hpr_app.proofs.Completeness.{asked_completes}
 use Rattle.hpr_app.proofs.EndsLemmas.{Ends-for}
+use Rattle.hpr_app.proofs.Once.{asked_refused}
 use Rattle.hpr_app.proofs.Theorem.{asked_keeps}
+use Rattle.hpr_app.proofs.WordLemmas.{plain_is_taken}
 use Rattle.hpr_app.proofs.hpr.Goals as goal
 
-pub returns-in-Some-clause-ends : goal.returns-in-Some-clause-ends
-returns-in-Some-clause-ends g c = Ends-for _ _ _ _ _ _ _ _ c.in-Some.ensures c.run_asked.ensures.ends
+pub returns-in-Ok-clause-ends : goal.returns-in-Ok-clause-ends
+returns-in-Ok-clause-ends g c = Ends-for _ _ _ _ _ _ _ _ (sym c.in-Ok.ensures.taken) c.run_asked.ensures.ends
 
-pub returns-in-Some-clause-keeps : goal.returns-in-Some-clause-keeps
-returns-in-Some-clause-keeps g c asked fs old is told took done =
-    asked_keeps _ asked _ (g.S.Shelf.files c.args.shelf.now) fs _ old _ _ _ _ _ c.in-Some.ensures is told took done c.run_asked.ensures.ends
+pub returns-in-Ok-clause-keeps : goal.returns-in-Ok-clause-keeps
+returns-in-Ok-clause-keeps g c asked fs old is told took done =
+    asked_keeps _ asked _ (g.S.Shelf.files c.args.shelf.now) fs _ old _ _ _ _ _ (sym c.in-Ok.ensures.taken) is told took done c.run_asked.ensures.ends
+
+pub returns-in-Ok-clause-complete : goal.returns-in-Ok-clause-complete
+returns-in-Ok-clause-complete g c asked fs is told read written =
+    asked_completes _ asked _ (g.S.Shelf.files c.args.shelf.now) fs _ _ _ _ _ _ (sym c.in-Ok.ensures.taken) is told read written c.run_asked.ensures.ends
+
+pub returns-in-Ok-clause-refused : goal.returns-in-Ok-clause-refused
+returns-in-Ok-clause-refused g c asked fs message is told refused read =
+    asked_refused _ asked _ (g.S.Shelf.files c.args.shelf.now) fs _ message _ _ _ _ _ (sym c.in-Ok.ensures.taken) is told refused read c.run_asked.ensures.ends
+
+pub returns-in-Err-Refused-clause-plain : goal.returns-in-Err-Refused-clause-plain
+returns-in-Err-Refused-clause-plain g c asked is = λ words. plain_is_taken (map string_bytes c.args.words.now) asked is (c.in-Err-Refused.ensures.refused (ap Err c.in-Err-Refused.field-0-is))

@@ -1,8 +1,8 @@
-use Rattle.std.proofs.Common.{◌≡◌, ◌∙◌}
+use Rattle.std.proofs.Common.{◌∙◌}
 use Rattle.std.proofs.lemmas.Result.{err_from_is_err_and}
 use Rattle.hpr_io.specs.Files.{bytes_of}
-use Rattle.hpr_app.specs.Integrate.{IsFileOf, IsNoFile}
-use Rattle.hpr_app.proofs.IntegrateLemmas.{NoFile, base_fails, a_fails, b_fails, decided, told_same, fails_same}
+use Rattle.hpr_app.specs.Refusals.{IsFileOf}
+use Rattle.hpr_app.proofs.IntegrateLemmas.{base_fails, a_fails, b_fails, decided, told_same, fails_same}
 use Rattle.hpr_app.proofs.integrate.integrate_files.Goals as goal
 
 pub returns-in_err-base_program : goal.returns-in_err-base_program
@@ -20,8 +20,7 @@ returns-in_err-a_program g c =
     rw (p.1, p.2) (a_fails told c.args.base.now name c.args.b.now
     (g.S.Shelf.faults c.args.shelf.now) (g.S.Shelf.faults c.read_program.new.shelf) (g.S.Shelf.faults c.read_program-2.new.shelf)
     c.in_ok-base_program.base_program _ base.reads.0 base.reads.1
-    (fails_same (NoFile (g.S.Shelf.files c.read_program.new.shelf) name) (NoFile told name) name _ _ _
-    (told_same told (g.S.Shelf.files c.read_program.new.shelf) (λ fs. IsNoFile (bytes_of fs name)) base.same_files) c.in_err-a_program.ensures.reads))
+    (fails_same told (g.S.Shelf.files c.read_program.new.shelf) name _ _ _ base.same_files c.in_err-a_program.ensures.reads))
 
 pub returns-in_err-b_program : goal.returns-in_err-b_program
 returns-in_err-b_program g c =
@@ -35,8 +34,7 @@ returns-in_err-b_program g c =
     c.in_ok-base_program.base_program c.in_ok-a_program.a_program _ base.reads.0
     (told_same told (g.S.Shelf.files c.read_program.new.shelf) (λ fs. IsFileOf (bytes_of fs c.args.a.now) c.in_ok-a_program.a_program) base.same_files a.reads.0)
     (a.reads.1 ∙ base.reads.1)
-    (fails_same (NoFile (g.S.Shelf.files c.read_program-2.new.shelf) name) (NoFile told name) name _ _ _
-    (told_same told (g.S.Shelf.files c.read_program-2.new.shelf) (λ fs. IsNoFile (bytes_of fs name)) (a.same_files ∙ base.same_files)) c.in_err-b_program.ensures.reads))
+    (fails_same told (g.S.Shelf.files c.read_program-2.new.shelf) name _ _ _ (a.same_files ∙ base.same_files) c.in_err-b_program.ensures.reads))
 
 pub returns : goal.returns
 returns g c =

@@ -1,4 +1,4 @@
-use Rattle.std.proofs.Common.{◌≡◌, List, ℕ, sym, subst}
+use Rattle.std.proofs.Common.{sym, subst}
 use Rattle.hpr_syntax.specs.Issued.{IsIssued}
 use Rattle.hpr_app.proofs.IssuedRows.{issued_number}
 use Rattle.hpr_app.proofs.integrate.raise_all.Goals as goal

@@ -1,0 +1,129 @@
+-- The words and the files make one decision.
+use Rattle.std.proofs.Common.{◌≡◌, ℕ, arith, List, refl, sym, ap, ◌∙◌, subst, inl, inr, Option, Some, None, Result, Ok, Err}
+use Rattle.hpr_io.specs.Counts.{Rose}
+use Rattle.hpr_io.specs.Files.{Files, bytes_of}
+use Rattle.hpr_scan.specs.Place.{IsPlace}
+use Rattle.hpr_syntax.specs.declared.shape.ShapeError.{ShapeError}
+use Rattle.hpr_syntax.specs.Grammar.{tagged}
+use Rattle.hpr_syntax.specs.Print.{text}
+use Rattle.hpr_syntax.specs.Shape.{shape}
+use Rattle.hpr_syntax.specs.Tree.{Tree}
+use Rattle.hpr_syntax.specs.Values.{Values}
+use Rattle.hpr_text.specs.Answers.{IsMisshapen}
+use Rattle.hpr_text.proofs.Texts.{one_tree}
+use Rattle.hpr_app.specs.Complete.{IsRefusedCall}
+use Rattle.hpr_app.specs.Decision.{Decision, prints, refuses}
+use Rattle.hpr_app.specs.Ends.{Change, Ends, Decided, SaysIfAny, has_text, message_of, status_of}
+use Rattle.hpr_app.specs.Integrate.{OnFile, IsOneSided, Prints, OneSideOutcome}
+use Rattle.hpr_app.specs.Outcome.{RequestOutcome, Outcome, OutcomeIfTold}
+use Rattle.hpr_app.specs.Refusals.{IsCause, IsRefused, refusal_text}
+use Rattle.hpr_app.specs.RunFile.{OnState}
+use Rattle.hpr_app.specs.States.{RefusedWord, states_of}
+use Rattle.hpr_words.specs.Request.{Request, integrate, run}
+use Rattle.hpr_app.specs.declared.answer.Kind.TheVariants.{Done}
+use Rattle.hpr_app.specs.declared.refusals.Refusal.{Refusal}
+use Rattle.hpr_app.specs.declared.refusals.Refusal.TheVariants as refusal
+use Rattle.hpr_app.specs.declared.status.Status.{Status}
+use Rattle.hpr_app.specs.declared.status.Status.TheVariants as status
+use Rattle.hpr_app.proofs.Ascending.{one_order}
+use Rattle.hpr_app.proofs.Completeness.{not_refused}
+
+one_place : (L : List ℕ → Type 0) (bytes : List ℕ) (m n : ℕ) → IsPlace L bytes m → IsPlace L bytes n → m ≡ n
+one_place L bytes m n h k = omega (arith, h.longest n k.within k.viable, k.longest m h.within h.viable)
+
+one_shape : (bytes : List ℕ) (d e : ShapeError) → IsMisshapen tagged bytes d → IsMisshapen tagged bytes e → d ≡ e
+one_shape bytes d e (t, spelled, is) (u, also, so) =
+    let same : Some d ≡ Some e = sym is ∙ ap shape (one_tree tagged bytes t u spelled also) ∙ so in
+    cc
+
+one_cause : (bytes : List ℕ) (r s : Refusal) → IsCause bytes r → IsCause bytes s → r ≡ s
+one_cause bytes refusal.Longer refusal.Longer h k = refl
+one_cause bytes refusal.Longer (refusal.Syntax n) h k = absurd (omega (arith, h, k.0))
+one_cause bytes refusal.Longer (refusal.Shape e) h k = absurd (omega (arith, h, k.0))
+one_cause bytes (refusal.Syntax m) refusal.Longer h k = absurd (omega (arith, h.0, k))
+one_cause bytes (refusal.Syntax m) (refusal.Syntax n) h k = ap refusal.Syntax (one_place _ bytes m n h.1 k.1)
+one_cause bytes (refusal.Syntax m) (refusal.Shape e) h (_, (t, spelled, _)) = absurd (h.1.unspelled (t, spelled))
+one_cause bytes (refusal.Shape d) refusal.Longer h k = absurd (omega (arith, h.0, k))
+one_cause bytes (refusal.Shape d) (refusal.Syntax n) (_, (t, spelled, _)) k = absurd (k.1.unspelled (t, spelled))
+one_cause bytes (refusal.Shape d) (refusal.Shape e) h k = ap refusal.Shape (one_shape bytes d e h.1 k.1)
+
+one_message : (file bytes m n : List ℕ) → IsRefused file bytes m → IsRefused file bytes n → m ≡ n
+one_message file bytes m n (r, h, is) (s, k, so) = is ∙ ap (refusal_text file) (one_cause bytes r s h k) ∙ sym so
+
+same_tree : (m n : Tree) → m.issued ≡ n.issued → m.body ≡ n.body → m.finals ≡ n.finals → m ≡ n
+same_tree m n issued body finals = λ i. record { issued = issued i; body = body i; finals = finals i }
+
+one_sided : (base a b other m n : Tree) → IsOneSided base a b other m → IsOneSided base a b other n → m ≡ n
+one_sided base a b other m n h k =
+    same_tree m n (h.issued ∙ sym k.issued) (sym h.body ∙ k.body) (one_order other.finals m.finals n.finals h.names k.names h.ascending k.ascending)
+
+one_text : (base a b other : Tree) (r s : Decision) → Prints base a b other r → Prints base a b other s → r ≡ s
+one_text base a b other r s (bytes, (m, h, is), prints_it) (more, (n, k, so), prints_too) =
+    let same : bytes ≡ more = is ∙ ap text (one_sided base a b other m n h k) ∙ sym so in
+    prints_it ∙ ap (prints Done) same ∙ sym prints_too
+
+one_side : (base a b : Tree) (r s : Decision) → OneSideOutcome base a b r → OneSideOutcome base a b s → r ≡ s
+one_side base a b r s (inl (_, h)) (inl (_, k)) = one_text base a b a r s h k
+one_side base a b r s (inl (e, _)) (inr (inl (n, _, _))) = absurd (n e)
+one_side base a b r s (inl (e, _)) (inr (inr (n, _, _))) = absurd (n e)
+one_side base a b r s (inr (inl (n, _, _))) (inl (e, _)) = absurd (n e)
+one_side base a b r s (inr (inl (_, _, h))) (inr (inl (_, _, k))) = one_text base a b b r s h k
+one_side base a b r s (inr (inl (_, e, _))) (inr (inr (_, n, _))) = absurd (n e)
+one_side base a b r s (inr (inr (n, _, _))) (inl (e, _)) = absurd (n e)
+one_side base a b r s (inr (inr (_, n, _))) (inr (inl (_, e, _))) = absurd (n e)
+one_side base a b r s (inr (inr (_, _, is))) (inr (inr (_, _, so))) = is ∙ sym so
+
+module _ (fs : Files) (r s : Decision) where
+  one_on_file : (file : List ℕ) (next also : Tree → Type 0) → ((p : Tree) → next p → also p → r ≡ s) → OnFile fs file next r → OnFile fs file also s → r ≡ s
+  one_on_file file next also rest (inl (k, h, is)) (inl (l, g, so)) = is ∙ ap refuses (one_message file (bytes_of fs file) k l h g) ∙ sym so
+  one_on_file file next also rest (inl (_, (why, cause, _), _)) (inr (q, hq, _)) = absurd (not_refused (bytes_of fs file) why q cause hq)
+  one_on_file file next also rest (inr (p, hp, _)) (inl (_, (why, cause, _), _)) = absurd (not_refused (bytes_of fs file) why p cause hp)
+  one_on_file file next also rest (inr (p, hp, h)) (inr (q, hq, k)) = rest p h (subst also (one_tree tagged (bytes_of fs file) q p hq.spelled hp.spelled) k)
+
+  one_on_state : (told : Result Values RefusedWord) (next also : Values → Type 0) → ((state : Values) → next state → also state → r ≡ s) → OnState told next r → OnState told also s → r ≡ s
+  one_on_state (Ok state) next also rest h k = rest state h k
+  one_on_state (Err refused) next also rest h k = h ∙ sym k
+
+  one_outcome : (request : Request) → RequestOutcome request fs r → RequestOutcome request fs s → r ≡ s
+  one_outcome (integrate base a b tries) h k =
+      one_on_file base _ _ (λ p h k. one_on_file a _ _ (λ q h k. one_on_file b _ _ (λ o h k. one_side p q o r s h k) h k) h k) h k
+  one_outcome (run file words steps) h k = one_on_state (states_of words) _ _ (λ state h k. one_on_file file _ _ (λ p h k. h ∙ sym k) h k) h k
+
+pub one_decision : (request : Option Request) (fs : Files) (r s : Decision) → Outcome request fs r → Outcome request fs s → r ≡ s
+one_decision None fs r s h k = h ∙ sym k
+one_decision (Some request) fs r s h k = one_outcome fs r s request h k
+
+module _ (request : Request) (fs : Files) (reads : List ℕ → Type 0) (before now : ℕ) (out err : Change) (m : List ℕ)
+    (refused : RequestOutcome request fs (refuses m)) (read : Rose before now → ⊥) where
+  abbrev Told : Decision → Type 0
+  Told = OutcomeIfTold (Some request) (Some fs)
+
+  is_refused : (r : Decision) → Told r → r ≡ refuses m
+  is_refused r o = one_decision (Some request) fs r (refuses m) (o fs refl) refused
+
+  decided : (s : Status) → Decided s Told before now out err → IsRefusedCall m s err
+  decided s d =
+      let is : d.r ≡ refuses m = is_refused d.r d.outcome in
+      inr (d.status_is ∙ ap status_of is, subst (λ r. SaysIfAny (message_of r) err) is d.says)
+
+  pub refused_ends : (s : Status) → Ends s Told reads before now out err → IsRefusedCall m s err
+  refused_ends status.ReadFault h = absurd (read h.count)
+  refused_ends status.WriteFault h = absurd (subst has_text (is_refused h.r h.outcome) h.text)
+  refused_ends status.Memory h = inl refl
+  refused_ends status.Done h = decided status.Done h
+  refused_ends status.Interference h = decided status.Interference h
+  refused_ends status.NoProgram h = decided status.NoProgram h
+  refused_ends status.Spent h = decided status.Spent h
+  refused_ends status.Refused h = decided status.Refused h
+  refused_ends status.Words h = decided status.Words h
+  refused_ends status.NotEnded h = decided status.NotEnded h
+  refused_ends status.NotBuilt h = decided status.NotBuilt h
+
+-- the same, for a request and files that are known by other names
+pub asked_refused : (known request : Request) (taken : Option Request) (files : Option Files) (fs : Files) (reads : List ℕ → Type 0) (m : List ℕ) (s : Status) (before now : ℕ) (out err : Change)
+    → Some known ≡ taken → taken ≡ Some request → files ≡ Some fs → RequestOutcome request fs (refuses m) → (Rose before now → ⊥)
+    → Ends s (OutcomeIfTold (Some known) files) reads before now out err → IsRefusedCall m s err
+asked_refused known request taken files fs reads m s before now out err is asked told refused read h =
+    refused_ends request fs reads before now out err m refused read s
+    (subst (λ o. Ends s (OutcomeIfTold o (Some fs)) reads before now out err) (is ∙ asked)
+    (subst (λ f. Ends s (OutcomeIfTold (Some known) f) reads before now out err) told h))

@@ -1,0 +1,44 @@
+-- What a call is sure to do where nothing fails.
+--
+-- DonePrinting base a b other old new s == the status is Done, and `out` took the text of the variant `other` in full
+-- Completes base a b old new s          == so it is with a where b is the base, and else with b where a is; else the case is not built yet
+-- Runs p state steps old new s          == the status is that of how the run went, and `out` took its text in full
+-- RequestCompletes request files ..     == that, where no state word is refused, and each file of the request is of an accepted length and spells a program
+-- IsRefusedCall message s err           == the status is Refused, and `err` got the message; or memory ran out
+use Rattle.std.specs.Prelude.{◌≡◌, ◌⊎◌, ℕ, List, Option, Ok}
+use Rattle.hpr_io.specs.Files.{Files, bytes_of}
+use Rattle.hpr_io.specs.Taken.{taken_then}
+use Rattle.hpr_syntax.specs.Run as means
+use Rattle.hpr_syntax.specs.Tree.{Tree}
+use Rattle.hpr_syntax.specs.Values.{Values}
+use Rattle.hpr_report.specs.Texts.{outcome_text}
+use Rattle.hpr_app.specs.Ends.{Change, Says, status_of_kind}
+use Rattle.hpr_app.specs.Integrate.{PrintsText}
+use Rattle.hpr_app.specs.Refusals.{IsFileOf}
+use Rattle.hpr_app.specs.RunFile.{kind_of}
+use Rattle.hpr_app.specs.States.{states_of}
+use Rattle.hpr_words.specs.Request.{Request, integrate, run}
+use Rattle.hpr_app.specs.declared.status.Status.{Status}
+use Rattle.hpr_app.specs.declared.status.Status.TheVariants.{Done, Refused, Memory, NotBuilt}
+
+abbrev pub DonePrinting : Tree → Tree → Tree → Tree → Option (List ℕ) → Option (List ℕ) → Status → Type 0
+DonePrinting base a b other old new s = (s ≡ Done) × (bytes : List ℕ) × PrintsText base a b other bytes × (new ≡ taken_then old bytes)
+
+abbrev pub Completes : Tree → Tree → Tree → Option (List ℕ) → Option (List ℕ) → Status → Type 0
+Completes base a b old new s =
+    ((b ≡ base) × DonePrinting base a b a old new s)
+    ⊎ (((b ≡ base → ⊥) × (a ≡ base) × DonePrinting base a b b old new s)
+    ⊎ ((b ≡ base → ⊥) × (a ≡ base → ⊥) × (s ≡ NotBuilt)))
+
+abbrev pub Runs : Tree → Values → ℕ → Option (List ℕ) → Option (List ℕ) → Status → Type 0
+Runs p state steps old new s =
+    (s ≡ status_of_kind (kind_of (means.run p state steps))) × (new ≡ taken_then old (outcome_text (means.run p state steps)))
+
+abbrev pub RequestCompletes : Request → Files → Option (List ℕ) → Option (List ℕ) → Status → Type 0
+RequestCompletes (integrate base a b tries) files old new s =
+    (p q r : Tree) → IsFileOf (bytes_of files base) p → IsFileOf (bytes_of files a) q → IsFileOf (bytes_of files b) r → Completes p q r old new s
+RequestCompletes (run file states steps) files old new s =
+    (state : Values) (p : Tree) → states_of states ≡ Ok state → IsFileOf (bytes_of files file) p → Runs p state steps old new s
+
+abbrev pub IsRefusedCall : List ℕ → Status → Change → Type 0
+IsRefusedCall message s err = (s ≡ Memory) ⊎ ((s ≡ Refused) × Says message err)

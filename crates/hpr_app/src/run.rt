@@ -1,0 +1,57 @@
+//! The command `run`.
+ghost use Rattle.std.specs.Prelude.{◌≡◌, IsTrue, IfOk, Some, map};
+ghost use Rattle.hpr_words.specs.Request.{run};
+ghost use Rattle.hpr_syntax.specs.Run as means;
+ghost use Rattle.hpr_report.specs.Texts.{outcome_text};
+ghost use Rattle.hpr_run.specs.Outcomes.{outcome_of};
+ghost use Rattle.hpr_app.specs.Outcome.{OutcomeIfTold};
+ghost use Rattle.hpr_app.specs.Reads.{MayRead};
+ghost use Rattle.hpr_app.specs.RunFile.{Ran, kind_of};
+ghost use Rattle.hpr_app.specs.Answer.{Decides, Merges};
+
+use crate::answer::{Kind, Report, Stop};
+use crate::files::read_program;
+use crate::states::read_state;
+use hpr_io::Shelf;
+use hpr_report::outcome_text;
+use hpr_run::{Outcome, State, run};
+use hpr_syntax::Program;
+use std::alloc::Global;
+
+/// Runs the program of a file from the state that the words tell, for at most so many steps. The
+/// words are judged before the file is read.
+pub fn run_file<S: Shelf>(
+    alloc: Global,
+    file: &str,
+    words: &[&str],
+    steps: u64,
+    shelf: &mut S,
+) -> Result<Report, Stop>
+    requires { IsTrue (S.serves shelf.old file.now) }
+    ensures { Decides (OutcomeIfTold (Some (run file.now (map (λ w. w.now) words.now) steps)) (S.files shelf.old)) (MayRead (run file.now (map (λ w. w.now) words.now) steps)) (S.faults shelf.old) (S.faults shelf.new) result }
+{
+    let state = read_state(alloc, words)?;
+    let program = read_program(alloc, file, shelf)?;
+    run_program(alloc, &program, &state, steps)
+}
+
+/// The answer for a program and a state.
+fn run_program(alloc: Global, program: &Program, state: &State, steps: u64) -> Result<Report, Stop>
+    ensures { Merges (Ran program.now state.now steps) result }
+{
+    let outcome = run(alloc, program, state, steps)?;
+    let text = outcome_text(alloc, &outcome)?;
+    Ok(Report {
+        kind: kind_of(&outcome),
+        text,
+    })
+}
+
+fn kind_of(outcome: &Outcome) -> Kind
+    ensures { result ≡ kind_of (outcome_of outcome.now) }
+{
+    match outcome {
+        Outcome::Ends { .. } => Kind::Done,
+        Outcome::Faults { .. } | Outcome::More { .. } => Kind::NotEnded,
+    }
+}
