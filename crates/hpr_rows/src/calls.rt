@@ -23,7 +23,50 @@ pub struct Ending {
     pub err: Vec<u8>,
 }
 
-fn words_of(alloc: Global, words: &[&str]) -> Result<Vec<String>, Fail> {
+/// The text for words that are no call.
+pub(crate) const USAGE: &[u8] =
+    b"usage: hpr integrate BASE A B [--tries N]\n       hpr run FILE [STATE..] [--steps N]\n";
+
+/// A call where the file F has this text, and what comes of it.
+pub(crate) struct Row {
+    pub shows: &'static str,
+    pub words: &'static [&'static str],
+    pub text: &'static [u8],
+    pub status: Status,
+    pub out: &'static [u8],
+    pub err: &'static [u8],
+}
+
+/// What the first call shows that doesn't end with its status and its texts.
+pub(crate) fn first_wrong(alloc: Global, rows: &[Row]) -> Result<Option<&'static str>, Fail> {
+    for row in rows {
+        let bytes = Vec::from_slice(alloc, row.text)?;
+        let ending = ending_with_file(alloc, row.words, "F", bytes)?;
+        if ending.status != row.status
+            || ending.out.as_slice() != row.out
+            || ending.err.as_slice() != row.err
+        {
+            return Ok(Some(row.shows));
+        }
+    }
+    Ok(None)
+}
+
+/// Makes the call with these words where there is one file.
+pub(crate) fn ending_with_file(
+    alloc: Global,
+    words: &[&str],
+    name: &str,
+    bytes: Vec<u8>,
+) -> Result<Ending, Fail> {
+    let mut files = Vec::new(alloc);
+    files.push((String::from_str(alloc, name)?, bytes))?;
+    let shelf = MemoryShelf::new(files, Vec::new(alloc));
+    let out = MemorySink::new(alloc, 4096, 4096, Vec::new(alloc))?;
+    ending_over(alloc, words, shelf, out)
+}
+
+pub(crate) fn words_of(alloc: Global, words: &[&str]) -> Result<Vec<String>, Fail> {
     let mut all = Vec::new(alloc);
     for word in words {
         all.push(String::from_str(alloc, word)?)?;

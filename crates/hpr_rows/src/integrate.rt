@@ -1,5 +1,5 @@
 //! The command `integrate`.
-use crate::calls::{Call, ending_of};
+use crate::calls::{Call, USAGE, ending_of};
 use hpr_app::Status;
 use std::test::Fail;
 
@@ -34,16 +34,22 @@ const EMPTY_PROGRAMS: Files = &[
     ("B", b"program end()"),
 ];
 
-const UNTAGGED_BASE: Files = &[
-    ("BASE", b"program x := 1; end(x)"),
-    ("A", b"program end()"),
+const FINALS_ADDED: Files = &[
+    ("BASE", b"program end()"),
+    ("A", b"program end(b, B, _a)"),
     ("B", b"program end()"),
 ];
 
-const TAG_TWICE_IN_B: Files = &[
-    ("BASE", b"program end()"),
-    ("A", b"program end()"),
-    ("B", b"program 1.1: x := 1; 1.1: x := 2; end()"),
+const SUM: &[u8] =
+    b"program\nissued 1:5\n1.1: sum := 0;\n1.2: x := 1;\n1.3: while x < 11 do\n  1.4: sum := sum + x;\n  1.5: x := x + 1;\nod\nend(sum)\n";
+
+const FINALS_IN_ANOTHER_ORDER: Files = &[
+    ("BASE", SUM),
+    (
+        "A",
+        b"program\nissued 1:5, 2:1\n1.1: sum := 0;\n1.2: x := 1;\n1.3: while x < 11 do\n  1.4: sum := sum + x;\n  1.5: x := x + 1;\nod\n2.1: mean := sum / 10;\nend(sum, mean)\n",
+    ),
+    ("B", SUM),
 ];
 
 const NO_A: Files = &[("BASE", b"program end()"), ("B", b"program end()")];
@@ -52,8 +58,6 @@ const MERGED: &[u8] = b"program\nissued 1:1, 2:1\n1.1: x := 1;\n2.1: y := x + 1;
 
 const MERGED_B: &[u8] =
     b"program\nissued 1:3, 2:4\n1.1: x := 1;\n2.3: c := 7;\nend(A, a_1, c, x)\n";
-
-const USAGE: &[u8] = b"usage: hpr integrate BASE A B\n";
 
 const NOT_BUILT: &[u8] = b"hpr: not built yet\n";
 
@@ -69,7 +73,7 @@ struct Row {
     err: &'static [u8],
 }
 
-static ROWS: [Row; 13] = [
+static ROWS: [Row; 14] = [
     Row {
         shows: "one variant adds a part",
         words: WORDS,
@@ -87,6 +91,14 @@ static ROWS: [Row; 13] = [
         err: b"",
     },
     Row {
+        shows: "finals ascending by bytes",
+        words: WORDS,
+        files: FINALS_ADDED,
+        status: Status::Done,
+        out: b"program\nend(B, _a, b)\n",
+        err: b"",
+    },
+    Row {
         shows: "empty programs",
         words: WORDS,
         files: EMPTY_PROGRAMS,
@@ -98,22 +110,6 @@ static ROWS: [Row; 13] = [
         shows: "not built yet: both variants change an assignment",
         words: WORDS,
         files: BOTH_CHANGED,
-        status: Status::NotBuilt,
-        out: b"",
-        err: NOT_BUILT,
-    },
-    Row {
-        shows: "not built yet: a part without a tag",
-        words: WORDS,
-        files: UNTAGGED_BASE,
-        status: Status::NotBuilt,
-        out: b"",
-        err: NOT_BUILT,
-    },
-    Row {
-        shows: "not built yet: a tag stands twice",
-        words: WORDS,
-        files: TAG_TWICE_IN_B,
         status: Status::NotBuilt,
         out: b"",
         err: NOT_BUILT,
@@ -159,12 +155,28 @@ static ROWS: [Row; 13] = [
         err: USAGE,
     },
     Row {
-        shows: "an empty word",
-        words: &["integrate", "BASE", "", "B"],
+        shows: "tries of 0",
+        words: &["integrate", "BASE", "A", "B", "--tries", "0"],
         files: EMPTY_PROGRAMS,
         status: Status::Words,
         out: b"",
         err: USAGE,
+    },
+    Row {
+        shows: "finals in another order, and one try",
+        words: &["integrate", "BASE", "A", "B", "--tries", "1"],
+        files: FINALS_IN_ANOTHER_ORDER,
+        status: Status::Done,
+        out: b"program\nissued 1:5, 2:1\n1.1: sum := 0;\n1.2: x := 1;\n1.3: while x < 11 do\n  1.4: sum := sum + x;\n  1.5: x := x + 1;\nod\n2.1: mean := sum / 10;\nend(mean, sum)\n",
+        err: b"",
+    },
+    Row {
+        shows: "an empty word is a file that is absent",
+        words: &["integrate", "BASE", "", "B"],
+        files: EMPTY_PROGRAMS,
+        status: Status::ReadFault,
+        out: b"",
+        err: b"hpr: cannot read \n",
     },
     Row {
         shows: "a word that begins like an option",

@@ -8,3 +8,11 @@ mod calls;
 mod integrate;
 #[cfg(test)]
 mod programs;
+#[cfg(test)]
+mod refusals;
+#[cfg(test)]
+mod run;
+#[cfg(test)]
+mod run_texts;
+#[cfg(test)]
+mod steady;

@@ -178,6 +178,119 @@ fn ending_with_itself(alloc: Global, text: &str) -> Result<Ending, Fail> {
     ending_over(alloc, &["integrate", "BASE", "A", "B"], shelf, out)
 }
 
+/// A text as all three files, and its canonical text.
+struct TextRow {
+    shows: &'static str,
+    text: &'static str,
+    out: &'static [u8],
+}
+
+static TEXT_ROWS: [TextRow; 13] = [
+    TextRow {
+        shows: "an author that stands twice counts with its greatest number, and authors are in order of numbers",
+        text: "program issued 10:1, 2:1, 2:7, 2:3 end()",
+        out: b"program\nissued 2:7, 10:1\nend()\n",
+    },
+    TextRow {
+        shows: "the greatest issued number",
+        text: "program issued 1:4294967295 end()",
+        out: b"program\nissued 1:4294967295\nend()\n",
+    },
+    TextRow {
+        shows: "an `else` behind an empty block, and one without parts",
+        text: "program 1.1: if a then else 1.2: x := 1; fi 1.3: if b then else fi end()",
+        out: b"program\nissued 1:3\n1.1: if a then\nelse\n  1.2: x := 1;\nfi\n1.3: if b then\nfi\nend()\n",
+    },
+    TextRow {
+        shows: "right operands of an equal level keep their brackets, and both sides of a comparison",
+        text: "program 1.1: x := a + (b + c) - ((d - e) - f); 1.2: y := (a = b) = (c = d); 1.3: z := (a and b) and (c and d); end()",
+        out: b"program\nissued 1:3\n1.1: x := a + (b + c) - (d - e - f);\n1.2: y := (a = b) = (c = d);\n1.3: z := a and b and (c and d);\nend()\n",
+    },
+    TextRow {
+        shows: "`not` has a blank and `-` none",
+        text: "program 1.1: x := not(not -(-a)) ; 1.2: y := -(a*b) - (-a)*b; 1.3: z := -(5) - (-5); end()",
+        out: b"program\nissued 1:3\n1.1: x := not not --a;\n1.2: y := -(a * b) - -a * b;\n1.3: z := -5 - -5;\nend()\n",
+    },
+    TextRow {
+        shows: "names that begin like keywords",
+        text: "program 1.1: endx := iff; end(endx)",
+        out: b"program\nissued 1:1\n1.1: endx := iff;\nend(endx)\n",
+    },
+    TextRow {
+        shows: "a keyword with a capital letter is a name",
+        text: "program 1.1: While := 1; end(While)",
+        out: b"program\nissued 1:1\n1.1: While := 1;\nend(While)\n",
+    },
+    TextRow {
+        shows: "blanks and comments inside a tag and a pair",
+        text: "program issued 1 : 2 1 . #\n2 : x := 3; end(x)",
+        out: b"program\nissued 1:2\n1.2: x := 3;\nend(x)\n",
+    },
+    TextRow {
+        shows: "brackets part numbers and words",
+        text: "program 1.1: x := (1)or(2); end(x)",
+        out: b"program\nissued 1:1\n1.1: x := 1 or 2;\nend(x)\n",
+    },
+    TextRow {
+        shows: "author 0",
+        text: "program 0.1: x := 4; end(x)",
+        out: b"program\nissued 0:1\n0.1: x := 4;\nend(x)\n",
+    },
+    TextRow {
+        shows: "signs that need no blanks",
+        text: "program 1.1: x := a--1; 1.2: y := a<-1; end(x, y)",
+        out: b"program\nissued 1:2\n1.1: x := a - -1;\n1.2: y := a < -1;\nend(x, y)\n",
+    },
+    TextRow {
+        shows: "comparisons under `and` and `or`, and in brackets",
+        text: "program 1.1: x := a = b and c < d or (a = b) = c; end(x)",
+        out: b"program\nissued 1:1\n1.1: x := a = b and c < d or (a = b) = c;\nend(x)\n",
+    },
+    TextRow {
+        shows: "a comment at the end",
+        text: "program end() # the end\x00",
+        out: b"program\nend()\n",
+    },
+];
+
+#[test]
+fn texts_are_printed_in_canonical_form(rt: HostRuntime) -> Result<(), Fail> {
+    for row in TEXT_ROWS.iter() {
+        let ending = ending_with_itself(rt.alloc(), row.text)?;
+        let shows = row.shows;
+        assert_eq!(rt; ending.status, Status::Done, "{shows}");
+        assert_eq!(rt; ending.out.as_slice(), row.out, "{shows}");
+        assert!(rt; ending.err.is_empty(), "{shows}");
+    }
+    Ok(())
+}
+
+// 256 brackets, one in another
+fn bracketed(alloc: Global) -> Result<String, AllocError> {
+    let mut text = String::from_str(alloc, "program 1.1: x := ")?;
+    for _ in 0..256 {
+        text.push_str("(")?;
+    }
+    text.push_str("1")?;
+    for _ in 0..256 {
+        text.push_str(")")?;
+    }
+    text.push_str("; end(x)")?;
+    Ok(text)
+}
+
+#[test]
+fn the_most_brackets_are_read(rt: HostRuntime) -> Result<(), Fail> {
+    let text = bracketed(rt.alloc())?;
+    let ending = ending_with_itself(rt.alloc(), text.as_str())?;
+    assert_eq!(rt; ending.status, Status::Done);
+    assert_eq!(rt;
+        ending.out.as_slice(),
+        b"program\nissued 1:1\n1.1: x := 1;\nend(x)\n".as_slice()
+    );
+    Ok(())
+}
+
 fn indent(text: &mut String, level: u32) -> Result<(), AllocError> {
     for _ in 1..level {
         text.push_str("  ")?;

@@ -1,0 +1,85 @@
+//! Calls over a shelf that never fails, and untagged texts, which no command reads yet.
+use crate::calls::words_of;
+use hpr_app::{Status, hpr};
+use hpr_io::{MemorySink, SteadyShelf, SteadySink};
+use hpr_print::text_of;
+use hpr_text::{Mode, parse};
+use std::alloc::Global;
+use std::test::Fail;
+
+const TEXT: &[u8] = b"program 1.1: x := 1; end(x)";
+
+const PRINTED: &[u8] = b"program\nissued 1:1\n1.1: x := 1;\nend(x)\n";
+
+const NO_TEXT: &[u8] = b"hpr: B: syntax at byte 0\n";
+
+fn shelf_of(alloc: Global, names: &[&str]) -> Result<SteadyShelf, Fail> {
+    let mut files = Vec::new(alloc);
+    for name in names {
+        files.push((
+            String::from_str(alloc, name)?,
+            Vec::from_slice(alloc, TEXT)?,
+        ))?;
+    }
+    Ok(SteadyShelf::new(files))
+}
+
+/// What `integrate` says on these files, and its status: on standard output, or else on the other.
+fn said(alloc: Global, names: &[&str]) -> Result<(Status, Vec<u8>), Fail> {
+    let words = words_of(alloc, &["integrate", "BASE", "A", "B"])?;
+    let mut shelf = shelf_of(alloc, names)?;
+    let mut out = MemorySink::new(alloc, 1, 64, Vec::new(alloc))?;
+    let mut err = MemorySink::new(alloc, 1, 64, Vec::new(alloc))?;
+    let status = hpr(alloc, words.as_slice(), &mut shelf, &mut out, &mut err);
+    let sink = if status == Status::Done { out } else { err };
+    Ok((status, Vec::from_slice(alloc, sink.bytes())?))
+}
+
+#[test]
+fn files_that_are_there(rt: HostRuntime) -> Result<(), Fail> {
+    let (status, bytes) = said(rt.alloc(), &["BASE", "A", "B"])?;
+    assert_eq!(rt; status, Status::Done);
+    assert_eq!(rt; bytes.as_slice(), PRINTED);
+    Ok(())
+}
+
+#[test]
+fn an_absent_file_has_no_bytes(rt: HostRuntime) -> Result<(), Fail> {
+    let (status, bytes) = said(rt.alloc(), &["BASE", "A"])?;
+    assert_eq!(rt; status, Status::Refused);
+    assert_eq!(rt; bytes.as_slice(), NO_TEXT);
+    Ok(())
+}
+
+#[test]
+fn output_that_is_not_kept(rt: HostRuntime) -> Result<(), Fail> {
+    let words = words_of(rt.alloc(), &["integrate", "BASE", "A", "B"])?;
+    let mut shelf = shelf_of(rt.alloc(), &["BASE", "A", "B"])?;
+    let status = hpr(
+        rt.alloc(),
+        words.as_slice(),
+        &mut shelf,
+        &mut SteadySink::new(),
+        &mut SteadySink::new(),
+    );
+    assert_eq!(rt; status, Status::Done);
+    Ok(())
+}
+
+/// The canonical text of the program that an untagged text spells, with the tags of author 4.
+fn printed(alloc: Global, text: &str) -> Option<Vec<u8>> {
+    match parse(alloc, text.as_bytes(), Mode::Untagged(4)) {
+        Ok(program) => text_of(alloc, &program).ok(),
+        Err(_) => None,
+    }
+}
+
+#[test]
+fn untagged_text_read_and_printed(rt: HostRuntime) -> Result<(), Fail> {
+    let text = "program if a then b := 1; else fi while a do od end(b)";
+    let bytes = printed(rt.alloc(), text).ok_or("not printed")?;
+    let want =
+        "program\nissued 4:3\n4.1: if a then\n  4.2: b := 1;\nfi\n4.3: while a do\nod\nend(b)\n";
+    assert_eq!(rt; bytes.as_slice(), want.as_bytes());
+    Ok(())
+}
