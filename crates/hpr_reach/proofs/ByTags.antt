@@ -8,7 +8,7 @@ use Rattle.hpr_syntax.specs.Skeleton as points
 use Rattle.hpr_syntax.specs.Paths.{DefinesAt, IsUndisturbed}
 use Rattle.hpr_syntax.specs.Shape.{IsProgram}
 use Rattle.hpr_paths.specs.declared.spot.Step.{Step}
-use Rattle.hpr_paths.specs.Spots.{Role, enter, part, exit, point_of, loops_of, role_at, nest_at, defined_at, RoleUses, UsesAt}
+use Rattle.hpr_paths.specs.Spots.{Role, enter, part, exit, point_of, loops_of, role_at, tag_at, nest_at, defined_at, RoleUses, UsesAt}
 use Rattle.hpr_paths.specs.Successors.{spot_of, spots}
 use Rattle.hpr_paths.specs.Numbers.{IsNumberOf, HaveTags, marks_of, NumberUndisturbed}
 use Rattle.hpr_paths.proofs.Stands.{get_of_whole}
@@ -17,10 +17,11 @@ use Rattle.hpr_paths.proofs.Tags.{number_once}
 use Rattle.hpr_paths.proofs.Nested.{number_of_nest, says_of_number, number_of_says}
 use Rattle.hpr_paths.proofs.Defines.{defines_of_number, number_of_defines}
 use Rattle.hpr_paths.proofs.PathLaws.{path_of_numbers, numbers_of_path}
-use Rattle.hpr_reach.specs.Reaches.{Reaches}
+use Rattle.hpr_reach.specs.Reaches.{back_to, AvoidsLoops, Reaches}
 use Rattle.hpr_reach.specs.Live.{IsLive}
-use Rattle.hpr_reach.specs.ByTags.{NestOf, AvoidsTags, UsedBy, IsInitial}
-use Rattle.hpr_reach.proofs.Marked.{tags_taken, avoids_by_tags}
+use Rattle.hpr_reach.specs.Flows.{AvoidsCommon}
+use Rattle.hpr_reach.specs.ByTags.{NestOf, AvoidsTags, AvoidsShared, UsedBy, IsInitial}
+use Rattle.hpr_reach.proofs.Marked.{tags_taken, step_of_mark, mark_of_step, tag_of_number, tags_once, avoids_by_tags, shared_by_tags}
 
 abbrev Marks : Type 0
 Marks = List (Option Tag)
@@ -61,20 +62,40 @@ module _ (t : Tree) (prog : IsProgram t) where
   path_to_numbers x p a z marks na path =
       numbers_of_path t (λ b. defined_at (spots t) b ≡ Some x) (DefinesAt t.body x) prog (λ b y nb h. defines_of_number t b y x nb h) p na path
 
+  -- paths by number with Q are those of the program with R
+  paths_with : (x : List ℕ) (p q : ℕ) (a z : Point) (Q : List Step → Type 0) (R : Marks → Type 0) → IsNumberOf (spots t) p a → IsNumberOf (spots t) q z → ((steps : List Step) → Q steps ↔ R (marks_of (spots t) steps))
+      → ((steps : List Step) × NumberUndisturbed (spots t) x p q steps × Q steps) ↔ ((marks : Marks) × IsUndisturbed t.body x a z marks × R marks)
+  paths_with x p q a z Q R na nz same = (
+    (λ (steps, path, has). (marks_of (spots t) steps, path_to_tags x p q a z steps path na nz, (same steps).0 has)),
+    (λ (marks, path, has).
+        let k = path_to_numbers x p a z marks na path in
+        let place : k.0 ≡ q = number_once t k.0 q z prog k.3 nz in
+        (k.1, subst (λ (n : ℕ). NumberUndisturbed (spots t) x p n k.1) place k.2, (same k.1).1 (subst R k.4 has))),
+  )
+
   pub reach_tags : (x : List ℕ) (p q cut : ℕ) (a z : Point) (loops : List Tag) → IsNumberOf (spots t) p a → IsNumberOf (spots t) q z → NestOf t.body a loops
       → Reaches (spots t) x (take cut (nest_at (spots t) p)) p q ↔ ((marks : Marks) × IsUndisturbed t.body x a z marks × AvoidsTags (take cut loops) marks)
   reach_tags x p q cut a z loops na nz nest =
-      let have : HaveTags (spots t) (take cut (nest_at (spots t) p)) (take cut loops) = tags_taken (spots t) cut (nest_at (spots t) p) loops (nest_tags p a loops na nest) in (
-        (λ (steps, path, avoids).
-            (marks_of (spots t) steps, path_to_tags x p q a z steps path na nz, (avoids_by_tags t prog (take cut (nest_at (spots t) p)) (take cut loops) steps have).0 avoids)),
-        (λ (marks, path, avoids).
-            let k = path_to_numbers x p a z marks na path in
-            let same : k.0 ≡ q = number_once t k.0 q z prog k.3 nz in (
-              k.1,
-              subst (λ (n : ℕ). NumberUndisturbed (spots t) x p n k.1) same k.2,
-              (avoids_by_tags t prog (take cut (nest_at (spots t) p)) (take cut loops) k.1 have).1 (subst (AvoidsTags (take cut loops)) k.4 avoids),
-            )),
-      )
+      let here : List ℕ = take cut (nest_at (spots t) p) in
+      let have : HaveTags (spots t) here (take cut loops) = tags_taken (spots t) cut (nest_at (spots t) p) loops (nest_tags p a loops na nest) in
+      paths_with x p q a z (AvoidsLoops here) (AvoidsTags (take cut loops)) na nz (λ steps. avoids_by_tags t prog here (take cut loops) steps have)
+
+  pub carried_tags : (x : List ℕ) (p q l : ℕ) (a z : Point) (w : Tag) → IsNumberOf (spots t) p a → IsNumberOf (spots t) q z → IsNumberOf (spots t) l (points.at w)
+      → ((steps : List Step) × NumberUndisturbed (spots t) x p q steps × Contains steps (back_to l)) ↔ ((marks : Marks) × IsUndisturbed t.body x a z marks × Contains marks (Some w))
+  carried_tags x p q l a z w na nz nl =
+      let tag : tag_at (spots t) l ≡ Some w = tag_of_number (spots t) l w nl in
+      paths_with x p q a z (λ steps. Contains steps (back_to l)) (λ marks. Contains marks (Some w)) na nz (λ steps. (
+        (λ h. mark_of_step (spots t) steps l w h tag),
+        (λ h.
+            let s = step_of_mark (spots t) steps w h in
+            subst (λ (n : ℕ). Contains steps (back_to n)) (tags_once t prog s.0 l w s.2 tag) s.1),
+      ))
+
+  pub independent_tags : (x : List ℕ) (p q : ℕ) (a z : Point) (loops others : List Tag) → IsNumberOf (spots t) p a → IsNumberOf (spots t) q z → NestOf t.body a loops → NestOf t.body z others
+      → ((steps : List Step) × NumberUndisturbed (spots t) x p q steps × AvoidsCommon (spots t) p q steps) ↔ ((marks : Marks) × IsUndisturbed t.body x a z marks × AvoidsShared loops others marks)
+  independent_tags x p q a z loops others na nz nest beside =
+      paths_with x p q a z (AvoidsCommon (spots t) p q) (AvoidsShared loops others) na nz
+      (λ steps. shared_by_tags t prog (nest_at (spots t) p) (nest_at (spots t) q) loops others steps (nest_tags p a loops na nest) (nest_tags q z others nz beside))
 
   role_one : (p : ℕ) (r s : Role) → role_at (spots t) p ≡ Some r → role_at (spots t) p ≡ Some s → r ≡ s
   role_one p r s a b = let e : Some r ≡ Some s = sym a ∙ b in cc

@@ -1,10 +1,12 @@
 -- A path that takes a back edge is a path to its source, and one from its loop.
-use Rattle.std.proofs.Common.{◌≡◌, ℕ, Some, None, List, [], ◌∷◌, ◌++◌, Contains, inl, inr, refl, sym, ap, ◌∙◌, subst}
+use Rattle.std.proofs.Common.{◌≡◌, ℕ, ◌<◌, length, Some, None, List, [], ◌∷◌, ◌++◌, Contains, inl, inr, Option, refl, sym, ap, ◌∙◌, subst}
 use Rattle.std.specs.Option.{option_and_then}
+use Rattle.std.proofs.lemmas.Bool.{cases_lt}
+use Rattle.std.proofs.lemmas.Option.{slice_get_past}
 use Rattle.std.proofs.lemmas.List.Elements.{Contains-append_right}
 use Rattle.hpr_syntax.specs.Paths.{one, step}
 use Rattle.hpr_paths.specs.declared.spot.Step.{Step}
-use Rattle.hpr_paths.specs.Spots.{Spot, defined, next_at, defined_at, IsLoopAt}
+use Rattle.hpr_paths.specs.Spots.{Spot, defined, steps_of, next_at, defined_at, IsLoopAt}
 use Rattle.hpr_paths.specs.Numbers.{Leads, NumberUndisturbed}
 use Rattle.hpr_reach.specs.Reaches.{back_to}
 use Rattle.hpr_reach.specs.Flows.{Leaves, ComesRound, GoesOn}
@@ -14,6 +16,13 @@ use Rattle.hpr_reach.proofs.Avoids.{avoids_nothing}
 -- a loop's predicate defines nothing
 pub loop_calm : (spots : List Spot) (w : ℕ) (x : List ℕ) → IsLoopAt spots w → ¬ (defined_at spots w ≡ Some x)
 loop_calm spots w x (t, e, is) h = let none : None ≡ Some x = sym (ap (option_and_then defined) is) ∙ h in cc
+
+-- a number from which a step leads is that of a point
+pub step_within : (spots : List Spot) (p : ℕ) (s : Step) → Contains (next_at spots p) s → p < length spots
+step_within spots p s h = elim (cases_lt p (length spots)) [
+  | inl l ↦ l
+  | inr past ↦ absurd (contains_none s (subst (λ (o : Option Spot). Contains (steps_of o) s) (slice_get_past spots p past) h))
+]
 
 module _ (spots : List Spot) (x : List ℕ) where
   abbrev Stop : ℕ → Type 0

@@ -7,12 +7,12 @@ use Rattle.hpr_syntax.specs.Skeleton.{at}
 use Rattle.hpr_syntax.specs.Tree.{Tree}
 use Rattle.hpr_syntax.specs.Shape.{IsProgram}
 use Rattle.hpr_paths.specs.declared.spot.Step.{Step}
-use Rattle.hpr_paths.specs.Spots.{Role, enter, part, exit, Spot, tag_of, role_at, tag_at}
+use Rattle.hpr_paths.specs.Spots.{Role, enter, part, exit, Spot, point_of, tag_of, role_at, tag_at}
 use Rattle.hpr_paths.specs.Successors.{spots}
 use Rattle.hpr_paths.specs.Numbers.{IsNumberOf, HaveTags, mark_of, marks_of}
 use Rattle.hpr_paths.proofs.Tags.{number_once}
 use Rattle.hpr_reach.specs.Reaches.{back_to, AvoidsLoops}
-use Rattle.hpr_reach.specs.ByTags.{AvoidsTags}
+use Rattle.hpr_reach.specs.ByTags.{AvoidsTags, AvoidsShared}
 use Rattle.hpr_reach.proofs.Lists.{contains_none, contains_here, contains_later, contains_cases}
 
 module _ (S : List Spot) where
@@ -60,6 +60,18 @@ module _ (S : List Spot) where
   tags_taken cut loops tags have =
       sym (take-map (tag_at S) cut loops) ∙ ap (take cut) have ∙ take-map (λ (t : Tag). Some t) cut tags
 
+  tag_one : (p : ℕ) (v w : Tag) → tag_at S p ≡ Some v → tag_at S p ≡ Some w → v ≡ w
+  tag_one p v w a b = let e : Some v ≡ Some w = sym a ∙ b in cc
+
+  tag_by : (p : ℕ) (r : Role) (w : Tag) → role_at S p ≡ Some r → at w ≡ point_of r → tag_at S p ≡ Some w
+  tag_by p enter w is h = absurd cc
+  tag_by p (part v c) w is h = let e : v ≡ w = cc in ap (option_and_then tag_of) is ∙ ap (λ (u : Tag). Some u) e
+  tag_by p (exit finals) w is h = absurd cc
+
+  -- the tag at the number of a part
+  pub tag_of_number : (p : ℕ) (w : Tag) → IsNumberOf S p (at w) → tag_at S p ≡ Some w
+  tag_of_number p w (r, is, h) = tag_by p r w is h
+
   part_by : (p : ℕ) (r : Option Role) (w : Tag) → role_at S p ≡ r → option_and_then tag_of r ≡ Some w → IsNumberOf S p (at w)
   part_by p None w is h = absurd cc
   part_by p (Some enter) w is h = absurd cc
@@ -80,4 +92,20 @@ module _ (t : Tree) (prog : IsProgram t) where
     (λ avoids l h there.
         let w = tag_of_loop (spots t) loops tags l have h in
         avoids w.0 w.1 (mark_of_step (spots t) steps l w.0 there w.2)),
+  )
+
+  pub shared_by_tags : (loops others : List ℕ) (tags extra : List Tag) (steps : List Step) → HaveTags (spots t) loops tags → HaveTags (spots t) others extra
+      → ((w : ℕ) → Contains loops w → Contains others w → ¬ Contains steps (back_to w)) ↔ AvoidsShared tags extra (marks_of (spots t) steps)
+  shared_by_tags loops others tags extra steps have also = (
+    (λ avoids w h k there.
+        let l = loop_of_tag (spots t) loops tags w have h in
+        let m = loop_of_tag (spots t) others extra w also k in
+        let s = step_of_mark (spots t) steps w there in
+        avoids l.0 l.1 (subst (Contains others) (tags_once m.0 l.0 w m.2 l.2) m.1)
+        (subst (λ (n : ℕ). Contains steps (back_to n)) (tags_once s.0 l.0 w s.2 l.2) s.1)),
+    (λ avoids l h k there.
+        let w = tag_of_loop (spots t) loops tags l have h in
+        let v = tag_of_loop (spots t) others extra l also k in
+        let same : v.0 ≡ w.0 = tag_one (spots t) l v.0 w.0 v.2 w.2 in
+        avoids w.0 w.1 (subst (Contains extra) same v.1) (mark_of_step (spots t) steps l w.0 there w.2)),
   )

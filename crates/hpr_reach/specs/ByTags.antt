@@ -2,6 +2,7 @@
 --
 -- NestOf body a loops       == these loops enclose the point a, from the outermost on; none encloses Enter and Exit
 -- AvoidsTags loops marks    == none of the marks is of a back edge to one of these loops
+-- AvoidsShared loops others marks == none of the marks is of a back edge to a loop of both lists
 -- UsedBy tree x a           == the point a uses x: a part by its expression, Exit by the names of `end`
 -- IsInitial tree x          == an undisturbed path for x goes from Enter to a point that uses x
 use Rattle.std.specs.Prelude.{◌≡◌, ℕ, Option, Some, List, [], Contains}
@@ -22,6 +23,9 @@ NestOf body exit loops = loops ≡ []
 
 abbrev pub AvoidsTags : List Tag → List (Option Tag) → Type 0
 AvoidsTags loops marks = (w : Tag) → Contains loops w → ¬ Contains marks (Some w)
+
+abbrev pub AvoidsShared : List Tag → List Tag → List (Option Tag) → Type 0
+AvoidsShared loops others marks = (w : Tag) → Contains loops w → Contains others w → ¬ Contains marks (Some w)
 
 abbrev pub UsedBy : Tree → List ℕ → Point → Type 0
 UsedBy tree x enter = ⊥

@@ -1,9 +1,9 @@
 //! Laws of undisturbed reach, by tags and through the back edges of loops: each function's contract
 //! is the law, for all values.
-ghost use Rattle.std.specs.Prelude.{◌≡◌, ◌↔◌, ℕ, List, Option, Contains, take};
+ghost use Rattle.std.specs.Prelude.{◌≡◌, ◌↔◌, ℕ, List, Option, Some, Contains, take};
 ghost use Rattle.hpr_terms.specs.declared.tag.Tag.{Tag};
 ghost use Rattle.hpr_syntax.specs.Tree.{Tree};
-ghost use Rattle.hpr_syntax.specs.Skeleton.{Point};
+ghost use Rattle.hpr_syntax.specs.Skeleton.{Point, at};
 ghost use Rattle.hpr_syntax.specs.Paths.{IsUndisturbed};
 ghost use Rattle.hpr_syntax.specs.Shape.{IsProgram};
 ghost use Rattle.hpr_paths.specs.declared.spot.Step.{Step};
@@ -13,7 +13,7 @@ ghost use Rattle.hpr_paths.specs.Numbers.{IsNumberOf, NumberUndisturbed};
 ghost use Rattle.hpr_reach.specs.Reaches.{back_to, Reaches};
 ghost use Rattle.hpr_reach.specs.Live.{IsLive};
 ghost use Rattle.hpr_reach.specs.Flows.{ComesRound, GoesOn, PartsAt, AvoidsCommon};
-ghost use Rattle.hpr_reach.specs.ByTags.{NestOf, AvoidsTags, IsInitial};
+ghost use Rattle.hpr_reach.specs.ByTags.{NestOf, AvoidsTags, AvoidsShared, IsInitial};
 
 /// What is reached by number is what an undisturbed path of the program reaches, with no back edge
 /// to one of the first loops around the start.
@@ -27,6 +27,19 @@ pub fn reach_by_tags()
 /// The names that are live by number are those of the program's initial definitions.
 pub fn live_by_tags()
     ensures { (t : Tree) (x : List ℕ) → IsProgram t → IsLive (spots t) x ↔ IsInitial t x }
+{}
+
+/// The undisturbed paths by number that take the back edge to a loop, and those that take none to a
+/// loop that encloses both ends, are those of the program.
+pub fn flows_by_tags()
+    ensures carried { (t : Tree) (x : List ℕ) (p q l : ℕ) (a z : Point) (w : Tag) → IsProgram t → IsNumberOf (spots t) p a → IsNumberOf (spots t) q z
+        → IsNumberOf (spots t) l (at w)
+        → ((steps : List Step) × NumberUndisturbed (spots t) x p q steps × Contains steps (back_to l))
+        ↔ ((marks : List (Option Tag)) × IsUndisturbed t.body x a z marks × Contains marks (Some w)) }
+    ensures independent { (t : Tree) (x : List ℕ) (p q : ℕ) (a z : Point) (loops others : List Tag) → IsProgram t → IsNumberOf (spots t) p a
+        → IsNumberOf (spots t) q z → NestOf t.body a loops → NestOf t.body z others
+        → ((steps : List Step) × NumberUndisturbed (spots t) x p q steps × AvoidsCommon (spots t) p q steps)
+        ↔ ((marks : List (Option Tag)) × IsUndisturbed t.body x a z marks × AvoidsShared loops others marks) }
 {}
 
 /// An undisturbed path takes the back edge to a loop exactly where it comes round to the end of the
