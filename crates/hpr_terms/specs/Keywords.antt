@@ -3,8 +3,7 @@
 -- keyword_text k == the keyword as it stands in a text
 -- keywords       == all keywords
 -- keyword_of w   == the keyword whose text w is, if there is one
--- is_keyword w   == w is the text of a keyword
-use Rattle.std.specs.Prelude.{ℕ, Bool, List, [], ◌∷◌, Option, codes, find, is_some}
+use Rattle.std.specs.Prelude.{ℕ, List, [], ◌∷◌, Option, codes, find}
 use Rattle.std.specs.Str.{bytes_eq}
 use Rattle.hpr_terms.specs.declared.keyword.Keyword.{Keyword}
 use Rattle.hpr_terms.specs.declared.keyword.Keyword.TheVariants.{Program, Issued, If, Then, Else, Fi, While, Do, Od, End, And, Or, Not, Write, Out}
@@ -31,6 +30,3 @@ keywords = Program ∷ Issued ∷ If ∷ Then ∷ Else ∷ Fi ∷ While ∷ Do �
 
 unfoldable pub keyword_of : List ℕ → Option Keyword
 keyword_of w = find (λ k. bytes_eq (keyword_text k) w) keywords
-
-abbrev pub is_keyword : List ℕ → Bool
-is_keyword w = is_some (keyword_of w)

@@ -23,7 +23,8 @@ pub enum Keyword {
     Out,
 }
 
-const KEYWORDS: [Keyword; 15] = [
+/// All keywords, in the declared order.
+pub const KEYWORDS: [Keyword; 15] = [
     Keyword::Program,
     Keyword::Issued,
     Keyword::If,

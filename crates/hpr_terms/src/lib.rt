@@ -10,9 +10,9 @@ mod tag;
 mod token;
 
 pub use expr::{Binary, Expr, Literal, Operand, Unary};
-pub use keyword::Keyword;
+pub use keyword::{KEYWORDS, Keyword};
 pub use memory::NoMemory;
-pub use name::{Name, NameError, is_name, is_name_byte};
+pub use name::{Name, NameError, copy_names, is_name, is_name_byte};
 pub use tag::Tag;
 pub use token::{Sign, Token};
 

@@ -130,6 +130,17 @@ impl Name {
     }
 }
 
+/// Copies of the names, in their order.
+pub fn copy_names(alloc: Global, names: &[Name]) -> Result<Vec<Name>, NoMemory>
+    ensures { IfOk result (λ v. v.items ≡ names.now) }
+{
+    let mut copies = Vec::new(alloc);
+    for name in names {
+        copies.push(name.copy(alloc)?)?;
+    }
+    Ok(copies)
+}
+
 impl PartialEq for Name {
     ghost eq = { pointwise ◌==◌ };
 

@@ -1,7 +1,7 @@
 //! Each public call, against what the rules of the language say.
 use crate::{
-    Binary, Expr, Keyword, Literal, Name, NameError, Operand, Sign, Token, Unary, is_name,
-    is_name_byte,
+    Binary, Expr, Keyword, Literal, Name, NameError, Operand, Sign, Token, Unary, copy_names,
+    is_name, is_name_byte,
 };
 use std::alloc::Global;
 use std::test::Fail;
@@ -24,6 +24,16 @@ fn takes_names(rt: HostRuntime) -> Result<(), Fail> {
         assert!(rt; !is_name(text.as_bytes()), "at {text}");
     }
     assert!(rt; is_name_byte(b'_') && !is_name_byte(b'-'));
+    Ok(())
+}
+
+#[test]
+fn copies_names(rt: HostRuntime) -> Result<(), Fail> {
+    let mut names = Vec::new(rt.alloc());
+    for text in ["b", "a", "b"] {
+        names.push(Name::new(rt.alloc(), text)?)?;
+    }
+    assert!(rt; copy_names(rt.alloc(), &names)? == names);
     Ok(())
 }
 
