@@ -1,5 +1,5 @@
 -- What it means that a tree has no refusal, test by test.
-use Rattle.std.proofs.Common.{◌≡◌, List, [], Option, Some, None, refl}
+use Rattle.std.proofs.Common.{◌≡◌, [], Option, Some, None, refl}
 use Rattle.std.specs.Option.{option_or, option_map}
 use Rattle.hpr_syntax.specs.declared.shape.ShapeError.{ShapeError}
 use Rattle.hpr_syntax.specs.declared.shape.ShapeError.TheVariants.{DuplicateTag, Unissued, TooDeep, ExprTooLarge, DuplicateFinal}

@@ -3,7 +3,7 @@ use Rattle.std.proofs.Common.{◌≡◌, ℕ, List, refl, ap, inl, inr, Ok}
 use Rattle.hpr_terms.specs.Term.{Term, num, var, prefix, infix'}
 use Rattle.hpr_terms.specs.Uses.{TermUses}
 use Rattle.hpr_syntax.specs.Values.{Values, value_at}
-use Rattle.hpr_syntax.specs.Value.{term_value, with_value, apply_unary, apply_binary}
+use Rattle.hpr_syntax.specs.Value.{term_value, with_value, apply_unary}
 
 pub value_by_uses : (e : Term) (s t : Values) → ((x : List ℕ) → TermUses e x → value_at s x ≡ value_at t x) → term_value e s ≡ term_value e t
 value_by_uses (num n) s t same = refl

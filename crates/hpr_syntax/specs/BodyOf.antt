@@ -1,8 +1,7 @@
--- A list of statements as a plain tree, and back.
+-- A list of statements as a plain tree.
 --
 -- before stmt rest == the block that begins with this statement
 -- body_of stmts    == the block of these statements
--- stmts_of body    == the statements of a block
 use Rattle.std.specs.Prelude.{List, [], ◌∷◌}
 use Rattle.hpr_syntax.specs.declared.tree.Stmt.{Stmt}
 use Rattle.hpr_syntax.specs.declared.tree.Stmt.TheVariants.{Assign, If, While}
@@ -16,9 +15,3 @@ before (While t e b) rest = loop t e b rest
 abbrev pub body_of : List Stmt → Body
 body_of [] = done
 body_of (s ∷ rest) = before s (body_of rest)
-
-abbrev pub stmts_of : Body → List Stmt
-stmts_of done = []
-stmts_of (assign t x e rest) = Assign t x e ∷ stmts_of rest
-stmts_of (branch t e a b rest) = If t e a b ∷ stmts_of rest
-stmts_of (loop t e b rest) = While t e b ∷ stmts_of rest

@@ -16,6 +16,7 @@ pub mod Pairs
 pub mod Places
 pub mod Nests
 pub mod Paths
+pub mod Initial
 pub mod Values
 pub mod Value
 pub mod Run

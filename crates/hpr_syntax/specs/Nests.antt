@@ -5,18 +5,19 @@
 -- StandsAs loops parent body t s  == the part t of a block inside these loops, right under this parent, stands so
 -- StandsAsIn body t s             == the part t of a program stands so
 -- Says body t c                   == the part t says the content c
-use Rattle.std.specs.Prelude.{◌≡◌, Bool, true, false, ◌⊎◌, List, [], ◌∷◌, ◌++◌, Option, Some, None}
+use Rattle.std.specs.Prelude.{◌≡◌, true, false, ◌⊎◌, List, [], ◌∷◌, ◌++◌, Some, None}
 use Rattle.hpr_terms.specs.declared.tag.Tag.{Tag}
 use Rattle.hpr_syntax.specs.declared.rows.Content.{Content}
 use Rattle.hpr_syntax.specs.declared.rows.Content.TheVariants.{Assign, If, While}
 use Rattle.hpr_syntax.specs.Body.{Body, done, assign, branch, loop}
+use Rattle.hpr_syntax.specs.Rows.{Parent}
 
 pub record Standing : Type 0 where
   pub content : Content
   pub nest : List Tag
-  pub parent : Option (Tag × Bool)
+  pub parent : Parent
 
-abbrev pub StandsAs : List Tag → Option (Tag × Bool) → Body → Tag → Standing → Type 0
+abbrev pub StandsAs : List Tag → Parent → Body → Tag → Standing → Type 0
 StandsAs nest up done v s = ⊥
 StandsAs nest up (assign t x e rest) v s =
     ((v ≡ t) × (s ≡ record { content = Assign x e; nest = nest; parent = up })) ⊎ StandsAs nest up rest v s

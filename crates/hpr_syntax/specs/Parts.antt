@@ -7,11 +7,13 @@
 -- find_stmt t body    == the first statement with this tag, in preorder
 -- tags_of body after  == the tags of the block's parts in preorder, and then these
 use Rattle.std.specs.Prelude.{ℕ, Bool, ◌==◌, ◌&&◌, if◌then◌else◌, Option, Some, None, List, ◌∷◌}
+use Rattle.std.specs.Option.{option_or}
 use Rattle.hpr_terms.specs.declared.tag.Tag.{Tag}
 use Rattle.hpr_terms.specs.declared.expr.Expr.{Expr}
 use Rattle.hpr_syntax.specs.declared.tree.Stmt.{Stmt}
 use Rattle.hpr_syntax.specs.declared.tree.Stmt.TheVariants.{Assign, If, While}
 use Rattle.hpr_syntax.specs.Body.{Body, done, assign, branch, loop}
+use Rattle.hpr_syntax.specs.Rows.{content_of, assigned, expr_in}
 
 abbrev pub tag_of : Stmt → Tag
 tag_of (Assign t x e) = t
@@ -19,30 +21,21 @@ tag_of (If t e a b) = t
 tag_of (While t e b) = t
 
 abbrev pub expr_of : Stmt → Expr
-expr_of (Assign t x e) = e
-expr_of (If t e a b) = e
-expr_of (While t e b) = e
+expr_of s = expr_in (content_of s)
 
 abbrev pub defines : Stmt → Option (List ℕ)
-defines (Assign t x e) = Some x
-defines (If t e a b) = None
-defines (While t e b) = None
+defines s = assigned (content_of s)
 
 abbrev pub same_tag : Tag → Tag → Bool
 same_tag a b = (a.author == b.author) && (a.serial == b.serial)
-
--- the first if there is one, and else the second
-abbrev pub first_of_two : Option Stmt → Option Stmt → Option Stmt
-first_of_two None other = other
-first_of_two (Some s) other = Some s
 
 -- the first statement with this tag, in preorder
 abbrev pub find_stmt : Tag → Body → Option Stmt
 find_stmt t done = None
 find_stmt t (assign u x e rest) = if same_tag u t then Some (Assign u x e) else find_stmt t rest
 find_stmt t (branch u e a b rest) =
-    if same_tag u t then Some (If u e a b) else first_of_two (find_stmt t a) (first_of_two (find_stmt t b) (find_stmt t rest))
-find_stmt t (loop u e b rest) = if same_tag u t then Some (While u e b) else first_of_two (find_stmt t b) (find_stmt t rest)
+    if same_tag u t then Some (If u e a b) else option_or (find_stmt t a) (option_or (find_stmt t b) (find_stmt t rest))
+find_stmt t (loop u e b rest) = if same_tag u t then Some (While u e b) else option_or (find_stmt t b) (find_stmt t rest)
 
 -- the tags of a block's parts in preorder, and then these
 abbrev pub tags_of : Body → List Tag → List Tag

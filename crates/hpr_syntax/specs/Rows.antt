@@ -4,8 +4,11 @@
 -- row_of t p i c   == the row of these four
 -- rows_of p i body == the rows of a block's parts, of which the first stands at the place i
 -- content_of stmt  == what the part says
-use Rattle.std.specs.Prelude.{ℕ, ◌+◌, Bool, true, false, Option, Some, List, [], ◌∷◌, ◌++◌}
+-- assigned content == the name that is assigned; none for a predicate
+-- expr_in content  == the expression that is assigned or tested
+use Rattle.std.specs.Prelude.{ℕ, ◌+◌, Bool, true, false, Option, Some, None, List, [], ◌∷◌, ◌++◌}
 use Rattle.hpr_terms.specs.declared.tag.Tag.{Tag}
+use Rattle.hpr_terms.specs.declared.expr.Expr.{Expr}
 use Rattle.hpr_syntax.specs.declared.tree.Stmt.{Stmt}
 use Rattle.hpr_syntax.specs.declared.rows.Row.{Row}
 use Rattle.hpr_syntax.specs.declared.rows.Content.{Content}
@@ -32,3 +35,13 @@ abbrev pub content_of : Stmt → Content
 content_of (stmt.Assign t x e) = Assign x e
 content_of (stmt.If t e a b) = If e
 content_of (stmt.While t e b) = While e
+
+abbrev pub assigned : Content → Option (List ℕ)
+assigned (Assign x e) = Some x
+assigned (If e) = None
+assigned (While e) = None
+
+abbrev pub expr_in : Content → Expr
+expr_in (Assign x e) = e
+expr_in (If e) = e
+expr_in (While e) = e

@@ -16,7 +16,7 @@ use crate::proper::read_tree;
 use crate::rows::{Row, preorder};
 use crate::shape::{ShapeError, refusal};
 use crate::tree::{Block, Stmt};
-use hpr_terms::{Name, NoMemory, Tag};
+use hpr_terms::{Name, NoMemory, Tag, copy_names};
 use std::alloc::Global;
 use std::cmp::Ordering;
 use std::marker::Model;
@@ -169,16 +169,6 @@ impl Program {
             finals: copy_names(alloc, &self.finals)?,
         })
     }
-}
-
-fn copy_names(alloc: Global, names: &[Name]) -> Result<Vec<Name>, NoMemory>
-    ensures { IfOk result (λ v. v.items ≡ names.now) }
-{
-    let mut copies = Vec::new(alloc);
-    for name in names {
-        copies.push(name.copy(alloc)?)?;
-    }
-    Ok(copies)
 }
 
 impl PartialEq for Program {

@@ -19,6 +19,22 @@ pub enum Content {
     While(Expr),
 }
 
+impl Content {
+    /// A copy.
+    pub fn copy(&self, alloc: Global) -> Result<Content, NoMemory>
+        ensures { IfOk result (λ c. c ≡ self.now) }
+    {
+        match self {
+            Content::Assign(name, value) => Ok(Content::Assign(
+                name.copy(alloc)?,
+                value.copy(alloc)?,
+            )),
+            Content::If(test) => Ok(Content::If(test.copy(alloc)?)),
+            Content::While(test) => Ok(Content::While(test.copy(alloc)?)),
+        }
+    }
+}
+
 /// A part by itself, with where it stands.
 #[derive(Debug, PartialEq, Eq, PartialOrd, Ord, Drop)]
 pub struct Row {

@@ -221,6 +221,7 @@ fn finds_an_assignment(rt: HostRuntime) -> Result<(), Fail> {
     let says = Content::Assign(Name::new(rt.alloc(), "x")?, num(1)?);
     assert!(rt; found.tag() == tag(4) && has_content(found, &says));
     assert!(rt; same_content(&content_of(rt.alloc(), found)?, &says));
+    assert!(rt; same_content(&says.copy(rt.alloc())?, &says));
     assert!(rt; program.find(tag(6)).is_none());
     Ok(())
 }
