@@ -8,7 +8,8 @@ use Rattle.hpr_terms.specs.Term.{Term, num, var, prefix, infix'}
 use Rattle.hpr_terms.specs.TermOf.{term_of}
 use Rattle.hpr_terms.specs.Uses.{TermUses}
 use Rattle.hpr_paths.specs.declared.spot.Step.{Step}
-use Rattle.hpr_paths.specs.Spots.{Role, enter, part, exit, Spot, expr_in, names_in, names_of, RoleUses, steps_of, loops_of, nest_at, role_at, UsesAt, IsLoopAt}
+use Rattle.hpr_paths.specs.Spots.{Role, enter, part, exit, Spot, names_in, names_of, RoleUses, steps_of, loops_of, nest_at, role_at, UsesAt, IsLoopAt}
+use Rattle.hpr_syntax.specs.Rows.{expr_in}
 use Rattle.hpr_paths.specs.Successors.{AreSpots}
 use Rattle.hpr_syntax.specs.declared.rows.Content.TheVariants.{While}
 use Rattle.hpr_paths.proofs.Names.{get_of_role}

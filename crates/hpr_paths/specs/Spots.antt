@@ -6,9 +6,7 @@
 -- tag_of role       == the part's tag; none at Enter and at Exit
 -- names_in term     == the names in a term, from left to right
 -- names_of role     == the names that the part's expression uses; at Exit the names of `end`
--- assigned content  == the name that is assigned; none for a predicate
 -- defined role      == the name that an assignment defines; none at a predicate, at Enter and at Exit
--- expr_in content   == the expression that is assigned or tested
 -- RoleUses role x   == the part's expression uses x; Exit uses the names of `end`
 -- steps_of spot     == the steps from the point, if there is one
 -- loops_of spot     == the loops that enclose the point, if there is one
@@ -28,8 +26,9 @@ use Rattle.hpr_terms.specs.Term.{Term, num, var, prefix, infix'}
 use Rattle.hpr_terms.specs.TermOf.{term_of}
 use Rattle.hpr_terms.specs.Uses.{Uses}
 use Rattle.hpr_syntax.specs.declared.rows.Content.{Content}
-use Rattle.hpr_syntax.specs.declared.rows.Content.TheVariants.{Assign, If, While}
+use Rattle.hpr_syntax.specs.declared.rows.Content.TheVariants.{While}
 use Rattle.hpr_syntax.specs.Skeleton as points
+use Rattle.hpr_syntax.specs.Rows.{assigned, expr_in}
 use Rattle.hpr_paths.specs.declared.spot.Step.{Step}
 
 pub data Role : Type 0 where
@@ -52,20 +51,10 @@ tag_of enter = None
 tag_of (part t c) = Some t
 tag_of (exit finals) = None
 
-abbrev pub assigned : Content → Option (List ℕ)
-assigned (Assign x e) = Some x
-assigned (If e) = None
-assigned (While e) = None
-
 abbrev pub defined : Role → Option (List ℕ)
 defined enter = None
 defined (part t c) = assigned c
 defined (exit finals) = None
-
-abbrev pub expr_in : Content → Expr
-expr_in (Assign x e) = e
-expr_in (If e) = e
-expr_in (While e) = e
 
 abbrev pub names_in : Term → List (List ℕ)
 names_in (num n) = []

@@ -8,9 +8,8 @@ ghost use Rattle.hpr_paths.specs.Successors.{first_step, step_to, spot_of, spots
 
 use crate::spot::{Role, Spot, Step};
 use crate::succ::Succ;
-use crate::used::copy_names;
 use hpr_syntax::{Block, Content, Program, Stmt, content_of};
-use hpr_terms::NoMemory;
+use hpr_terms::{NoMemory, copy_names};
 use std::alloc::Global;
 
 /// The points of a program with the pairs of points that may follow one another.

@@ -1,24 +1,14 @@
 //! The names that points use.
 ghost use Rattle.std.specs.Prelude.{◌≡◌, ◌++◌, [], IfOk, OnOk};
 ghost use Rattle.hpr_terms.specs.TermOf.{term_of};
-ghost use Rattle.hpr_paths.specs.Spots.{expr_in, names_in, names_of};
+ghost use Rattle.hpr_syntax.specs.Rows.{expr_in};
+ghost use Rattle.hpr_paths.specs.Spots.{names_in, names_of};
 ghost use Rattle.hpr_paths.specs.Roles.{role_of};
 
 use crate::spot::Role;
 use hpr_syntax::Content;
-use hpr_terms::{Expr, Name, NoMemory};
+use hpr_terms::{Expr, Name, NoMemory, copy_names};
 use std::alloc::Global;
-
-/// Copies of the names.
-pub(crate) fn copy_names(alloc: Global, names: &[Name]) -> Result<Vec<Name>, NoMemory>
-    ensures { IfOk result (λ v. v.items ≡ names.now) }
-{
-    let mut copies = Vec::new(alloc);
-    for name in names {
-        copies.push(name.copy(alloc)?)?;
-    }
-    Ok(copies)
-}
 
 /// The expression in what a part says.
 pub(crate) fn expr_in(content: &Content) -> &Expr

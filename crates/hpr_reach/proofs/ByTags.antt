@@ -20,7 +20,8 @@ use Rattle.hpr_paths.proofs.PathLaws.{path_of_numbers, numbers_of_path}
 use Rattle.hpr_reach.specs.Reaches.{back_to, AvoidsLoops, Reaches}
 use Rattle.hpr_reach.specs.Live.{IsLive}
 use Rattle.hpr_reach.specs.Flows.{AvoidsCommon}
-use Rattle.hpr_reach.specs.ByTags.{NestOf, AvoidsTags, AvoidsShared, UsedBy, IsInitial}
+use Rattle.hpr_reach.specs.ByTags.{NestOf, AvoidsTags, AvoidsShared}
+use Rattle.hpr_syntax.specs.Initial.{UsedBy, IsInitial}
 use Rattle.hpr_reach.proofs.Marked.{tags_taken, step_of_mark, mark_of_step, tag_of_number, tags_once, avoids_by_tags, shared_by_tags}
 
 abbrev Marks : Type 0

@@ -5,6 +5,7 @@ ghost use Rattle.hpr_terms.specs.declared.tag.Tag.{Tag};
 ghost use Rattle.hpr_syntax.specs.Tree.{Tree};
 ghost use Rattle.hpr_syntax.specs.Skeleton.{Point, at};
 ghost use Rattle.hpr_syntax.specs.Paths.{IsUndisturbed};
+ghost use Rattle.hpr_syntax.specs.Initial.{IsInitial};
 ghost use Rattle.hpr_syntax.specs.Shape.{IsProgram};
 ghost use Rattle.hpr_paths.specs.declared.spot.Step.{Step};
 ghost use Rattle.hpr_paths.specs.Spots.{Spot, nest_at, IsLoopAt};
@@ -13,7 +14,7 @@ ghost use Rattle.hpr_paths.specs.Numbers.{IsNumberOf, NumberUndisturbed};
 ghost use Rattle.hpr_reach.specs.Reaches.{back_to, Reaches};
 ghost use Rattle.hpr_reach.specs.Live.{IsLive};
 ghost use Rattle.hpr_reach.specs.Flows.{ComesRound, GoesOn, PartsAt, AvoidsCommon};
-ghost use Rattle.hpr_reach.specs.ByTags.{NestOf, AvoidsTags, AvoidsShared, IsInitial};
+ghost use Rattle.hpr_reach.specs.ByTags.{NestOf, AvoidsTags, AvoidsShared};
 
 /// What is reached by number is what an undisturbed path of the program reaches, with no back edge
 /// to one of the first loops around the start.

@@ -7,7 +7,7 @@ ghost use Rattle.hpr_terms.specs.Names.{is_name_byte};
 ghost use Rattle.hpr_scan.specs.Words.{is_digit, is_name_like, is_numeral, value_after, number_token, other_token, word_token, IsNoToken, ReadsWord, begins_name, begins_number, begins_keyword, begins};
 
 use crate::machine::{Fault, TokenMachine};
-use hpr_terms::{Keyword, Name, NameError, Token, is_name_byte};
+use hpr_terms::{KEYWORDS, Keyword, Name, NameError, Token, is_name_byte};
 use std::alloc::{AllocError, Global};
 use std::marker::Model;
 
@@ -144,24 +144,6 @@ pub fn word_token(alloc: Global, letters: &Letters) -> Result<Token, Fault>
         None => other_token(alloc, word),
     }
 }
-
-const KEYWORDS: [Keyword; 15] = [
-    Keyword::Program,
-    Keyword::Issued,
-    Keyword::If,
-    Keyword::Then,
-    Keyword::Else,
-    Keyword::Fi,
-    Keyword::While,
-    Keyword::Do,
-    Keyword::Od,
-    Keyword::End,
-    Keyword::And,
-    Keyword::Or,
-    Keyword::Not,
-    Keyword::Write,
-    Keyword::Out,
-];
 
 fn begins_keyword<M: TokenMachine>(machine: &M, word: &[u8], keyword: Keyword) -> bool
     ensures { result ≡ begins_keyword M.next machine.now word.now keyword }
