@@ -1,7 +1,7 @@
 -- A content goes on where its expression does, and ends where its expression can end.
 use Rattle.std.proofs.Common.{◌≡◌, Option, Some, None, is_some, refl}
 use Rattle.hpr_terms.specs.declared.expr.Expr.{Expr}
-use Rattle.hpr_text.specs.declared.expression.Reading.{Reading}
+use Rattle.hpr_expressions.specs.declared.expression.Reading.{Reading}
 use Rattle.hpr_text.specs.declared.content.Aim.{Aim}
 use Rattle.hpr_text.specs.ContentMachine.{content_goes_on, content_ends}
 

@@ -13,19 +13,20 @@ use Rattle.hpr_scan.specs.Place.{IsPlace, BeginsWith, Accepts}
 use Rattle.hpr_scan.specs.Steps.{and_then, runs, IsReading}
 use Rattle.hpr_scan.proofs.Place.{same_place}
 use Rattle.hpr_scan.proofs.Words.{some_is}
-use Rattle.hpr_text.specs.declared.expression.Reading.{Reading}
-use Rattle.hpr_text.specs.declared.expression.Reading.TheVariants.{Before, After}
+use Rattle.hpr_expressions.specs.declared.expression.Reading.{Reading}
 use Rattle.hpr_text.specs.declared.content.Aim.{Aim}
 use Rattle.hpr_text.specs.declared.content.Aim.TheVariants.{Assign, Test, Guard}
 use Rattle.hpr_text.specs.declared.content.ContentState.{ContentState}
 use Rattle.hpr_text.specs.declared.content.ContentState.TheVariants.{Start, AfterTarget, InExpression, Ended}
-use Rattle.hpr_text.specs.Expression.{start, read, ended}
+use Rattle.hpr_expressions.specs.Expression.{start, read, ended}
 use Rattle.hpr_text.specs.Contents as contents
-use Rattle.hpr_text.specs.Contents.{SpellsContent, IsContentText, HasContent, IsPlaceFrom}
+use Rattle.hpr_text.specs.Contents.{SpellsContent, IsContentText, HasContent, IsPlaceFrom, OneContent}
 use Rattle.hpr_text.specs.ContentMachine.{content_of, content_ends, content_goes_on, content_next, content_may_end, content_read}
+use Rattle.hpr_text.specs.ContentLaws.{content_goes_read, content_is_token_machine}
+use Rattle.hpr_text.proofs.Once.{text_once}
 use Rattle.hpr_text.proofs.LastSign.{last_is_sign}
-use Rattle.hpr_text.proofs.SoundExpression.{ReadingIs, start_is, read_is, ended_is}
-use Rattle.hpr_text.proofs.WholeExpression.{expression_read}
+use Rattle.hpr_expressions.proofs.SoundExpression.{ReadingIs, start_is, read_is, ended_is}
+use Rattle.hpr_expressions.proofs.WholeExpression.{expression_read}
 
 -- ---- what was read, said of each state
 
@@ -81,16 +82,6 @@ runs_is s past (t ∷ ts) n h e = runs_at s t past ts (content_next s t) n h ref
 
 -- ---- what is spelled is read
 
-no_semicolon : (r n : Reading) → read r (Mark Semicolon) ≡ Some n → ⊥
-unfolding read
-no_semicolon (Before c) n e = absurd cc
-no_semicolon (After c v) n e = absurd cc
-
-read_step : (aim : Aim) (r n : Reading) (t : Token) → read r t ≡ Some n → content_next (InExpression aim r) t ≡ Some (InExpression aim n)
-unfolding content_next
-read_step aim r n (Mark Semicolon) e = absurd (no_semicolon r n e)
-read_step aim r n t e = ap (content_goes_on aim) e
-
 end_step : (aim : Aim) (r : Reading) (v : Expr) → ended r ≡ Some v → content_next (InExpression aim r) (Mark Semicolon) ≡ Some (Ended (content_of aim v))
 unfolding content_next
 end_step aim r v e = ap (content_ends aim) e
@@ -101,7 +92,7 @@ run_one s n t ts e = ap (λ (o : Option ContentState). and_then o (λ m. runs co
 reads_at : (aim : Aim) (r n : Reading) (t : Token) (ts rest : List Token) (o : Option Reading) → read r t ≡ o → and_then o (λ m. runs read m ts) ≡ Some n
     → ((m : Reading) → runs read m ts ≡ Some n → runs content_next (InExpression aim m) (ts ++ rest) ≡ runs content_next (InExpression aim n) rest) → runs content_next (InExpression aim r) (t ∷ (ts ++ rest)) ≡ runs content_next (InExpression aim n) rest
 reads_at aim r n t ts rest None e q go = absurd cc
-reads_at aim r n t ts rest (Some m) e q go = run_one _ (InExpression aim m) t (ts ++ rest) (read_step aim r m t e) ∙ go m q
+reads_at aim r n t ts rest (Some m) e q go = run_one _ (InExpression aim m) t (ts ++ rest) (content_goes_read aim r m t e) ∙ go m q
 
 lift : (aim : Aim) (r n : Reading) (ts rest : List Token) → runs read r ts ≡ Some n → runs content_next (InExpression aim r) (ts ++ rest) ≡ runs content_next (InExpression aim n) rest
 lift aim r n [] rest e = ap (λ (m : Reading). runs content_next (InExpression aim m) rest) (some_is _ _ e)
@@ -176,3 +167,11 @@ sign_at bytes start at s c lt r e go =
     let rest : List ℕ = slice_range bytes start (length bytes) in
     let h : get_or rest at 0 ≡ 59 = last_is_sign rest at lt (c, reading_content (take (at + 1) rest) s c r e) (λ n le k. go n le (content_accepts (take n rest) k)) in
     sym (get_or-drop start bytes at 0) ∙ ap (λ (x : List ℕ). get_or x at 0) (sym (rest_is bytes start)) ∙ h
+
+-- the same bytes lead to the same end
+pub one_content : OneContent
+one_content bytes c d h k =
+    let behind : List Token = Mark Semicolon ∷ [] in
+    let same : Ended c ≡ Ended d =
+    text_once content_next content_is_token_machine Start bytes (h.tokens ++ behind) (k.tokens ++ behind) (Ended c) (Ended d) h.text (spelled_runs h.tokens c h.spelled) k.text (spelled_runs k.tokens d k.spelled) in
+    some_is c d (ap content_read same)

@@ -1,7 +1,7 @@
 -- An expression goes on where its reading does, and ends where its reading can end.
 use Rattle.std.proofs.Common.{◌≡◌, ℕ, Option, Some, None, is_some, refl}
 use Rattle.hpr_terms.specs.declared.expr.Expr.{Expr}
-use Rattle.hpr_text.specs.declared.expression.Reading.{Reading}
+use Rattle.hpr_expressions.specs.declared.expression.Reading.{Reading}
 use Rattle.hpr_text.specs.declared.found.Found.{Found}
 use Rattle.hpr_text.specs.declared.state.Purpose.{Purpose}
 use Rattle.hpr_text.specs.declared.state.Purpose.TheVariants.{Assign, Test, Guard}

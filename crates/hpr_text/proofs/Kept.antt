@@ -16,7 +16,7 @@ use Rattle.hpr_scan.proofs.SoundText.{then_of}
 use Rattle.hpr_text.specs.declared.blocks.Around.{Around}
 use Rattle.hpr_text.specs.declared.blocks.Begun.{Begun}
 use Rattle.hpr_text.specs.declared.blocks.Begun.TheVariants as begun
-use Rattle.hpr_text.specs.declared.expression.Reading.{Reading}
+use Rattle.hpr_expressions.specs.declared.expression.Reading.{Reading}
 use Rattle.hpr_text.specs.declared.form.Mode.{Mode}
 use Rattle.hpr_text.specs.declared.form.Mode.TheVariants.{Tagged, Untagged}
 use Rattle.hpr_text.specs.declared.found.Found.{Found}
@@ -25,7 +25,7 @@ use Rattle.hpr_text.specs.declared.state.Purpose.TheVariants.{Assign, Test, Guar
 use Rattle.hpr_text.specs.declared.state.Place.{Place}
 use Rattle.hpr_text.specs.declared.state.Place.TheVariants.{Start, AfterProgram, BeforePair, AfterPairAuthor, AfterPairColon, AfterPair, AtPart, AfterAuthor, AfterDot, AfterSerial, AfterColon, AfterTarget, InExpression, AfterEnd, AfterOpen, AfterName, AfterComma, AtEnd}
 use Rattle.hpr_text.specs.declared.state.State.{State}
-use Rattle.hpr_text.specs.Expression.{start, read, ended}
+use Rattle.hpr_expressions.specs.Expression.{start, read, ended}
 use Rattle.hpr_text.specs.Machine.{limit, counted, tag_given, then_kept, with_number, with_header, with_tag, given, begun_in, with_part, in_then, in_loop, block_ended, else_in, fi_in, od_in, with_name, state_at, at_part, ends_parts, colon_next, first_next, tag_next, part_next, header_next, goes_on, ends_here, expression_next, next_at, next}
 
 -- ---- what shows where parts are not kept

@@ -1,9 +1,7 @@
 pub mod Innermost
 pub mod Going
 pub mod Parts
-pub mod SoundExpression
 pub mod Sound
-pub mod WholeExpression
 pub mod Whole
 pub mod Kept
 pub mod Lengths

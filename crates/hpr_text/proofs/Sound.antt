@@ -15,8 +15,9 @@ use Rattle.hpr_syntax.specs.Tree.{Tree}
 use Rattle.hpr_syntax.specs.Grammar as grammar
 use Rattle.hpr_syntax.specs.Grammar.{Form, IsAuthor, IsSerial, IsTag, IsPair, Labels, SpellsExpr, SpellsParts, SpellsPairs, SpellsHeader, SpellsNames, SpellsProgram, tag_pair, pair_then, issued_of}
 use Rattle.hpr_scan.specs.Steps.{and_then, runs}
+use Rattle.hpr_scan.proofs.SoundText.{guard_is}
 use Rattle.hpr_scan.proofs.Words.{some_is}
-use Rattle.hpr_text.specs.declared.expression.Reading.{Reading}
+use Rattle.hpr_expressions.specs.declared.expression.Reading.{Reading}
 use Rattle.hpr_text.specs.declared.blocks.Around.{Around}
 use Rattle.hpr_text.specs.declared.blocks.Begun.{Begun}
 use Rattle.hpr_text.specs.declared.blocks.Begun.TheVariants as begun
@@ -28,10 +29,10 @@ use Rattle.hpr_text.specs.declared.state.Purpose.TheVariants.{Assign, Test, Guar
 use Rattle.hpr_text.specs.declared.state.Place.{Place}
 use Rattle.hpr_text.specs.declared.state.Place.TheVariants.{Start, AfterProgram, BeforePair, AfterPairAuthor, AfterPairColon, AfterPair, AtPart, AfterAuthor, AfterDot, AfterSerial, AfterColon, AfterTarget, InExpression, AfterEnd, AfterOpen, AfterName, AfterComma, AtEnd}
 use Rattle.hpr_text.specs.declared.state.State.{State}
-use Rattle.hpr_text.specs.Expression.{read, ended, start}
+use Rattle.hpr_expressions.specs.Expression.{read, ended, start}
 use Rattle.hpr_text.specs.Forms.{form_of}
 use Rattle.hpr_text.specs.Machine.{then_parts, with_number, with_header, with_tag, with_count, tag_raised, given, tag_given, begun_in, first_next, tag_next, header_next, colon_next, with_part, in_then, in_loop, else_in, fi_in, od_in, at_part, ends_parts, with_name, state_at, part_next, goes_on, ends_here, expression_next, next_at, next, nothing_found, initially, accepted, accepted_at, tag_read}
-use Rattle.hpr_text.proofs.SoundExpression.{guard_is, ReadingIs, start_is, read_is, ended_is}
+use Rattle.hpr_expressions.proofs.SoundExpression.{ReadingIs, start_is, read_is, ended_is}
 use Rattle.hpr_text.proofs.Parts.{raised_after, tags_read, read_then, tag_raises, parts_then, tally}
 
 -- ---- what is taken

@@ -20,8 +20,7 @@ use Rattle.hpr_scan.proofs.Words.{some_is}
 use Rattle.hpr_text.specs.declared.blocks.Around.{Around}
 use Rattle.hpr_text.specs.declared.blocks.Begun.{Begun}
 use Rattle.hpr_text.specs.declared.blocks.Begun.TheVariants as begun
-use Rattle.hpr_text.specs.declared.expression.Reading.{Reading}
-use Rattle.hpr_text.specs.declared.expression.Reading.TheVariants.{Before, After}
+use Rattle.hpr_expressions.specs.declared.expression.Reading.{Reading}
 use Rattle.hpr_text.specs.declared.form.Mode.{Mode}
 use Rattle.hpr_text.specs.declared.form.Mode.TheVariants.{Tagged, Untagged}
 use Rattle.hpr_text.specs.declared.found.Found.{Found}
@@ -30,11 +29,12 @@ use Rattle.hpr_text.specs.declared.state.Purpose.TheVariants.{Assign, Test, Guar
 use Rattle.hpr_text.specs.declared.state.Place.{Place}
 use Rattle.hpr_text.specs.declared.state.Place.TheVariants.{AfterProgram, BeforePair, AfterPairAuthor, AfterPairColon, AfterPair, AtPart, AfterAuthor, AfterDot, AfterSerial, AfterColon, AfterTarget, InExpression, AfterEnd, AfterOpen, AfterName, AfterComma, AtEnd}
 use Rattle.hpr_text.specs.declared.state.State.{State}
-use Rattle.hpr_text.specs.Expression.{start, read, ended}
+use Rattle.hpr_expressions.specs.Expression.{start, read, ended}
 use Rattle.hpr_text.specs.Forms.{form_of}
 use Rattle.hpr_text.specs.Machine.{then_parts, with_number, with_header, with_tag, with_count, tag_raised, given, tag_given, begun_in, first_next, tag_next, colon_next, with_part, around, in_then, in_loop, with_name, state_at, next, nothing_found, initially, accepted, may_end}
+use Rattle.hpr_text.specs.Laws.{goes_read}
 use Rattle.hpr_text.proofs.Parts.{then_assoc, then_done, tags_raise, tally}
-use Rattle.hpr_text.proofs.WholeExpression.{expression_read}
+use Rattle.hpr_expressions.proofs.WholeExpression.{expression_read}
 
 -- a token that is taken
 run_one : (s n : State) (t : Token) (ts : List Token) → next None s t ≡ Some n → runs (next None) s (t ∷ ts) ≡ runs (next None) n ts
@@ -45,32 +45,10 @@ run_one s n t ts e = rw e refl
 abbrev reading : Found → Purpose → Reading → State
 reading f p r = state_at f (InExpression p r)
 
-no_semicolon : (r n : Reading) → read r (Mark Semicolon) ≡ Some n → ⊥
-unfolding read
-no_semicolon (Before c) n e = absurd cc
-no_semicolon (After c v) n e = absurd cc
-
-no_then : (r n : Reading) → read r (Word Then) ≡ Some n → ⊥
-unfolding read
-no_then (Before c) n e = absurd cc
-no_then (After c v) n e = absurd cc
-
-no_do : (r n : Reading) → read r (Word Do) ≡ Some n → ⊥
-unfolding read
-no_do (Before c) n e = absurd cc
-no_do (After c v) n e = absurd cc
-
-read_step : (f : Found) (p : Purpose) (r n : Reading) (t : Token) → read r t ≡ Some n → next None (reading f p r) t ≡ Some (reading f p n)
-unfolding next
-read_step f (Assign g x) r n (Mark Semicolon) e = absurd (no_semicolon r n e)
-read_step f (Test g) r n (Word Then) e = absurd (no_then r n e)
-read_step f (Guard g) r n (Word Do) e = absurd (no_do r n e)
-read_step f p r n t e = rw e refl
-
 reads_at : (f : Found) (p : Purpose) (r n : Reading) (t : Token) (ts rest : List Token) (o : Option Reading) → read r t ≡ o → and_then o (λ m. runs read m ts) ≡ Some n
     → ((m : Reading) → runs read m ts ≡ Some n → runs (next None) (reading f p m) (ts ++ rest) ≡ runs (next None) (reading f p n) rest) → runs (next None) (reading f p r) (t ∷ (ts ++ rest)) ≡ runs (next None) (reading f p n) rest
 reads_at f p r n t ts rest None e q go = absurd cc
-reads_at f p r n t ts rest (Some m) e q go = run_one _ (reading f p m) t (ts ++ rest) (read_step f p r m t e) ∙ go m q
+reads_at f p r n t ts rest (Some m) e q go = run_one _ (reading f p m) t (ts ++ rest) (goes_read None f p r m t e) ∙ go m q
 
 -- where a reading leads, the machine of programs is led
 lift : (f : Found) (p : Purpose) (r n : Reading) (ts rest : List Token) → runs read r ts ≡ Some n → runs (next None) (reading f p r) (ts ++ rest) ≡ runs (next None) (reading f p n) rest

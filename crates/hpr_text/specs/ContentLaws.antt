@@ -1,32 +1,25 @@
 -- What the machine of contents keeps for the reader of bytes.
 --
+-- content_goes_read        == where an expression reads the token, the content goes on in it
 -- content_is_token_machine == the laws of a machine of tokens hold for `content_next`
 -- content_live             == from every state some tokens lead to the end of a content
 -- content_ends_at_once     == a content ends with its `;`
-use Rattle.std.proofs.Common.{◌≡◌, ℕ, ◌≤◌, ◌^◌, List, [], ◌∷◌, Bool, true, false, cond, nat_lt, Option, Some, None, is_some, refl, sym, ap, subst, ◌∙◌, lit<}
+use Rattle.std.proofs.Common.{◌≡◌, ℕ, ◌≤◌, ◌^◌, List, true, false, Option, Some, None, is_some, refl, sym, ap, subst, ◌∙◌}
 use Rattle.hpr_terms.specs.declared.expr.Expr.{Expr}
-use Rattle.hpr_terms.specs.declared.expr.Expr.TheVariants.{Num}
-use Rattle.hpr_terms.specs.declared.expr.Binary.{Binary}
-use Rattle.hpr_terms.specs.declared.expr.Binary.TheVariants as binary
 use Rattle.hpr_terms.specs.declared.keyword.Keyword.TheVariants as keyword
+use Rattle.hpr_terms.specs.declared.token.Sign.{Sign}
 use Rattle.hpr_terms.specs.declared.token.Sign.TheVariants as sign
 use Rattle.hpr_terms.specs.declared.token.Token.{Token}
 use Rattle.hpr_terms.specs.declared.token.Token.TheVariants.{Word, Name, Number, Mark}
-use Rattle.hpr_syntax.specs.Shape.{max_operators}
 use Rattle.hpr_scan.specs.Machine.{IsTokenMachine, Live, ends, goes, EndsAtOnce}
-use Rattle.hpr_text.specs.declared.pending.Left.{Left}
-use Rattle.hpr_text.specs.declared.pending.Pending.{Pending}
-use Rattle.hpr_text.specs.declared.expression.Context.{Context}
-use Rattle.hpr_text.specs.declared.expression.Reading.{Reading}
-use Rattle.hpr_text.specs.declared.expression.Reading.TheVariants.{Before, After}
+use Rattle.hpr_expressions.specs.declared.expression.Reading.{Reading}
 use Rattle.hpr_text.specs.declared.content.Aim.{Aim}
 use Rattle.hpr_text.specs.declared.content.Aim.TheVariants.{Assign, Test, Guard}
 use Rattle.hpr_text.specs.declared.content.ContentState.{ContentState}
 use Rattle.hpr_text.specs.declared.content.ContentState.TheVariants.{Start, AfterTarget, InExpression, Ended}
-use Rattle.hpr_text.specs.Pending.{whole}
-use Rattle.hpr_text.specs.Expression.{start, read, compare_next}
-use Rattle.hpr_text.specs.ContentMachine.{content_of, content_goes_on, content_next, content_may_end}
-use Rattle.hpr_text.specs.Laws.{names_read, smaller_read, bounded_read}
+use Rattle.hpr_expressions.specs.Expression.{start, read, ended, can_end}
+use Rattle.hpr_expressions.specs.Laws.{reading_is_token_machine, reading_live, no_semicolon}
+use Rattle.hpr_text.specs.ContentMachine.{content_of, content_ends, content_goes_on, content_next, content_may_end}
 use Rattle.hpr_text.specs.Live.{x_text, x_is_name}
 
 some_is : {A : Type 0} (x y : A) → Some x ≡ Some y → x ≡ y
@@ -38,106 +31,101 @@ some_goes : (aim : Aim) (o : Option Reading) → is_some (content_goes_on aim o)
 some_goes aim None = refl
 some_goes aim (Some r) = refl
 
+pub content_goes_read : (aim : Aim) (r n : Reading) (t : Token) → read r t ≡ Some n → content_next (InExpression aim r) t ≡ Some (InExpression aim n)
+unfolding content_next
+content_goes_read aim r n (Mark sign.Semicolon) e = absurd (no_semicolon r n e)
+content_goes_read aim r n t e = ap (content_goes_on aim) e
+
 names_alike : (s : ContentState) (x y : List ℕ) → is_some (content_next s (Name x)) ≡ is_some (content_next s (Name y))
 unfolding content_next
 names_alike Start x y = refl
 names_alike (AfterTarget z) x y = refl
-names_alike (InExpression aim r) x y = some_goes aim (read r (Name x)) ∙ names_read r x y ∙ sym (some_goes aim (read r (Name y)))
+names_alike (InExpression aim r) x y = some_goes aim (read r (Name x)) ∙ reading_is_token_machine.names r x y ∙ sym (some_goes aim (read r (Name y)))
 names_alike (Ended c) x y = refl
 
-smaller_next : (s : ContentState) (m n : ℕ) → m ≤ n → is_some (content_next s (Number n)) ≡ true → is_some (content_next s (Number m)) ≡ true
+smaller_next : (s : ContentState) (m n : ℕ) → 1 ≤ m → m ≤ n → is_some (content_next s (Number n)) ≡ true → is_some (content_next s (Number m)) ≡ true
 unfolding content_next
-smaller_next Start m n le e = absurd cc
-smaller_next (AfterTarget x) m n le e = absurd cc
-smaller_next (InExpression aim r) m n le e = some_goes aim (read r (Number m)) ∙ smaller_read r m n le (sym (some_goes aim (read r (Number n))) ∙ e)
-smaller_next (Ended c) m n le e = absurd cc
+smaller_next Start m n one le e = absurd cc
+smaller_next (AfterTarget x) m n one le e = absurd cc
+smaller_next (InExpression aim r) m n one le e = some_goes aim (read r (Number m)) ∙ reading_is_token_machine.smaller r m n one le (sym (some_goes aim (read r (Number n))) ∙ e)
+smaller_next (Ended c) m n one le e = absurd cc
 
 bounded_next : (s : ContentState) (n : ℕ) → 2 ^ 64 ≤ n → content_next s (Number n) ≡ None
 unfolding content_next
 bounded_next Start n le = refl
 bounded_next (AfterTarget x) n le = refl
-bounded_next (InExpression aim r) n le = ap (content_goes_on aim) (bounded_read r n le)
+bounded_next (InExpression aim r) n le = ap (content_goes_on aim) (reading_is_token_machine.bounded r n le)
 bounded_next (Ended c) n le = refl
 
 -- ---- signs that may be the front of a longer one
 
--- no sign that begins with `=` or `>` can stand next
-record NoOperator (r : Reading) : Type 0 where
-  equal : read r (Mark sign.Equal) ≡ None
-  greater : read r (Mark sign.Greater) ≡ None
-  greater_equal : read r (Mark sign.GreaterEqual) ≡ None
+-- the sign cannot stand next
+abbrev Stops : Sign → ContentState → Type 0
+Stops x s = content_next s (Mark x) ≡ None
 
-before_operand : (c : Context) → NoOperator (Before c)
-unfolding read
-before_operand c = record { equal = refl; greater = refl; greater_equal = refl }
+-- where an expression goes on, it has read the token
+goes_to : (aim : Aim) (o : Option Reading) (n : ContentState) → content_goes_on aim o ≡ Some n → (m : Reading) × (o ≡ Some m) × (InExpression aim m ≡ n)
+goes_to aim None n e = absurd cc
+goes_to aim (Some m) n e = (m, refl, some_is _ _ e)
 
-counted_on : (b : Bool) (c : Context) (n : Reading) → cond b (Some (Before c)) None ≡ Some n → NoOperator n
-counted_on true c n e = subst NoOperator (some_is _ _ e) (before_operand c)
-counted_on false c n e = absurd cc
+stops_in : (aim : Aim) (x : Sign) (m : Reading) (n : ContentState) → content_next (InExpression aim m) (Mark x) ≡ content_goes_on aim (read m (Mark x)) → read m (Mark x) ≡ None → InExpression aim m ≡ n → Stops x n
+stops_in aim x m n go none e = subst (Stops x) e (go ∙ ap (content_goes_on aim) none)
 
-compared_on : (o : Option Left) (c : Context) (op : Binary) (v : Expr) (n : Reading) → compare_next o c op v ≡ Some n → NoOperator n
-compared_on None c op v n e = counted_on (nat_lt c.count max_operators) _ n e
-compared_on (Some l) c op v n e = absurd cc
-
-less_read : (r n : Reading) → read r (Mark sign.Less) ≡ Some n → NoOperator n
-unfolding read
-less_read (Before c) n e = absurd cc
-less_read (After c v) n e = compared_on c.here.compared c binary.Less v n e
-
-greater_read : (r n : Reading) → read r (Mark sign.Greater) ≡ Some n → NoOperator n
-unfolding read
-greater_read (Before c) n e = absurd cc
-greater_read (After c v) n e = compared_on c.here.compared c binary.Greater v n e
-
-colon_read : (r n : Reading) → read r (Mark sign.Colon) ≡ Some n → NoOperator n
-unfolding read
-colon_read (Before c) n e = absurd cc
-colon_read (After c v) n e = absurd cc
-
-record NoSecond (s : ContentState) : Type 0 where
-  equal : content_next s (Mark sign.Equal) ≡ None
-  greater : content_next s (Mark sign.Greater) ≡ None
-  greater_equal : content_next s (Mark sign.GreaterEqual) ≡ None
-
-inside : (aim : Aim) (r : Reading) → NoOperator r → NoSecond (InExpression aim r)
+colon_equal : (s n : ContentState) → content_next s (Mark sign.Colon) ≡ Some n → Stops sign.Equal n
 unfolding content_next
-inside aim r h = record { equal = ap (content_goes_on aim) h.equal; greater = ap (content_goes_on aim) h.greater; greater_equal = ap (content_goes_on aim) h.greater_equal }
+colon_equal (InExpression aim r) n e =
+    let m = goes_to aim (read r (Mark sign.Colon)) n e in
+    stops_in aim sign.Equal m.0 n refl (reading_is_token_machine.colon r m.0 m.1) m.2
+colon_equal Start n e = absurd cc
+colon_equal (AfterTarget x) n e = absurd cc
+colon_equal (Ended c) n e = absurd cc
 
-goes_inside : (aim : Aim) (o : Option Reading) (n : ContentState) → ((m : Reading) → o ≡ Some m → NoOperator m) → content_goes_on aim o ≡ Some n → NoSecond n
-goes_inside aim None n go e = absurd cc
-goes_inside aim (Some m) n go e = subst NoSecond (some_is _ _ e) (inside aim m (go m refl))
-
-after_colon : (s n : ContentState) → content_next s (Mark sign.Colon) ≡ Some n → NoSecond n
+less_equal : (s n : ContentState) → content_next s (Mark sign.Less) ≡ Some n → Stops sign.Equal n
 unfolding content_next
-after_colon (InExpression aim r) n e = goes_inside aim (read r (Mark sign.Colon)) n (colon_read r) e
-after_colon Start n e = absurd cc
-after_colon (AfterTarget x) n e = absurd cc
-after_colon (Ended c) n e = absurd cc
+less_equal (InExpression aim r) n e =
+    let m = goes_to aim (read r (Mark sign.Less)) n e in
+    stops_in aim sign.Equal m.0 n refl (reading_is_token_machine.less_equal r m.0 m.1) m.2
+less_equal Start n e = absurd cc
+less_equal (AfterTarget x) n e = absurd cc
+less_equal (Ended c) n e = absurd cc
 
-after_less : (s n : ContentState) → content_next s (Mark sign.Less) ≡ Some n → NoSecond n
+less_greater : (s n : ContentState) → content_next s (Mark sign.Less) ≡ Some n → Stops sign.Greater n
 unfolding content_next
-after_less (InExpression aim r) n e = goes_inside aim (read r (Mark sign.Less)) n (less_read r) e
-after_less Start n e = absurd cc
-after_less (AfterTarget x) n e = absurd cc
-after_less (Ended c) n e = absurd cc
+less_greater (InExpression aim r) n e =
+    let m = goes_to aim (read r (Mark sign.Less)) n e in
+    stops_in aim sign.Greater m.0 n refl (reading_is_token_machine.less_greater r m.0 m.1) m.2
+less_greater Start n e = absurd cc
+less_greater (AfterTarget x) n e = absurd cc
+less_greater (Ended c) n e = absurd cc
 
-after_greater : (s n : ContentState) → content_next s (Mark sign.Greater) ≡ Some n → NoSecond n
+less_greater_equal : (s n : ContentState) → content_next s (Mark sign.Less) ≡ Some n → Stops sign.GreaterEqual n
 unfolding content_next
-after_greater (InExpression aim r) n e = goes_inside aim (read r (Mark sign.Greater)) n (greater_read r) e
-after_greater Start n e = absurd cc
-after_greater (AfterTarget x) n e = absurd cc
-after_greater (Ended c) n e = absurd cc
+less_greater_equal (InExpression aim r) n e =
+    let m = goes_to aim (read r (Mark sign.Less)) n e in
+    stops_in aim sign.GreaterEqual m.0 n refl (reading_is_token_machine.less_greater_equal r m.0 m.1) m.2
+less_greater_equal Start n e = absurd cc
+less_greater_equal (AfterTarget x) n e = absurd cc
+less_greater_equal (Ended c) n e = absurd cc
+
+greater_equal : (s n : ContentState) → content_next s (Mark sign.Greater) ≡ Some n → Stops sign.Equal n
+unfolding content_next
+greater_equal (InExpression aim r) n e =
+    let m = goes_to aim (read r (Mark sign.Greater)) n e in
+    stops_in aim sign.Equal m.0 n refl (reading_is_token_machine.greater r m.0 m.1) m.2
+greater_equal Start n e = absurd cc
+greater_equal (AfterTarget x) n e = absurd cc
+greater_equal (Ended c) n e = absurd cc
 
 pub content_is_token_machine : IsTokenMachine content_next
 content_is_token_machine = record {
   names = names_alike;
-  smaller = λ s m n one le e. smaller_next s m n le e;
+  smaller = smaller_next;
   bounded = bounded_next;
-  colon = λ s n e. (after_colon s n e).equal;
-  less_equal = λ s n e. (after_less s n e).equal;
-  less_greater = λ s n e. (after_less s n e).greater;
-  less_greater_equal = λ s n e. (after_less s n e).greater_equal;
-  greater = λ s n e. (after_greater s n e).equal;
+  colon = colon_equal;
+  less_equal = less_equal;
+  less_greater = less_greater;
+  less_greater_equal = less_greater_equal;
+  greater = greater_equal;
 }
 
 -- ---- the end
@@ -145,19 +133,17 @@ content_is_token_machine = record {
 abbrev IsLive : ContentState → Type 0
 IsLive s = Live content_next content_may_end s
 
--- behind an operand, in these brackets
-abbrev behind : Aim → List Pending → Pending → ℕ → Expr → ContentState
-behind aim outer here n v = InExpression aim (After (record { outer = outer; here = here; count = n }) v)
+live_ends : (aim : Aim) (r : Reading) (o : Option Expr) → ended r ≡ o → is_some o ≡ true → IsLive (InExpression aim r)
+unfolding content_next
+live_ends aim r None q e = absurd cc
+live_ends aim r (Some v) q e = goes (Mark sign.Semicolon) (Ended (content_of aim v)) tt (ap (content_ends aim) q) (ends refl)
 
-live_behind : (aim : Aim) (outer : List Pending) (here : Pending) (n : ℕ) (v : Expr) → IsLive (behind aim outer here n v)
-unfolding content_next read
-live_behind aim [] here n v = goes (Mark sign.Semicolon) (Ended (content_of aim (whole here v))) tt refl (ends refl)
-live_behind aim (q ∷ outer) here n v = goes (Mark sign.Close) (behind aim outer q n (whole here v)) tt refl (live_behind aim outer q n (whole here v))
+live_in : (aim : Aim) {r : Reading} → Live read can_end r → IsLive (InExpression aim r)
+live_in aim (ends {s = r} e) = live_ends aim r (ended r) refl e
+live_in aim (goes {s = r} t n h e k) = goes t (InExpression aim n) h (content_goes_read aim r n t e) (live_in aim k)
 
 live_inside : (aim : Aim) (r : Reading) → IsLive (InExpression aim r)
-unfolding content_next read
-live_inside aim (Before c) = goes (Number 0) (behind aim c.outer c.here c.count (Num 0)) (lit< tt) refl (live_behind aim c.outer c.here c.count (Num 0))
-live_inside aim (After c v) = live_behind aim c.outer c.here c.count v
+live_inside aim r = live_in aim (reading_live r)
 
 live_target : (x : List ℕ) → IsLive (AfterTarget x)
 unfolding content_next

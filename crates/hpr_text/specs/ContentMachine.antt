@@ -15,12 +15,12 @@ use Rattle.hpr_terms.specs.declared.token.Token.{Token}
 use Rattle.hpr_terms.specs.declared.token.Token.TheVariants.{Word, Name, Mark}
 use Rattle.hpr_syntax.specs.declared.rows.Content.{Content}
 use Rattle.hpr_syntax.specs.declared.rows.Content.TheVariants as content
-use Rattle.hpr_text.specs.declared.expression.Reading.{Reading}
+use Rattle.hpr_expressions.specs.declared.expression.Reading.{Reading}
 use Rattle.hpr_text.specs.declared.content.Aim.{Aim}
 use Rattle.hpr_text.specs.declared.content.Aim.TheVariants.{Assign, Test, Guard}
 use Rattle.hpr_text.specs.declared.content.ContentState.{ContentState}
 use Rattle.hpr_text.specs.declared.content.ContentState.TheVariants.{Start, AfterTarget, InExpression, Ended}
-use Rattle.hpr_text.specs.Expression.{start, read, ended}
+use Rattle.hpr_expressions.specs.Expression.{start, read, ended}
 
 abbrev pub content_of : Aim → Expr → Content
 content_of (Assign x) e = content.Assign x e

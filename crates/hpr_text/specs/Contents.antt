@@ -5,6 +5,7 @@
 -- SpellsContent ts c          == the tokens spell the content
 -- IsContentText bytes c       == the bytes are the text of the content and of a `;` behind it
 -- HasContent bytes            == the bytes are such a text of some content
+-- OneContent                  == bytes are the text of at most one content
 -- IsPlaceFrom start L bytes n == n is the place of a refusal in the bytes from start on, counted from the start of all bytes
 use Rattle.std.specs.Prelude.{◌≡◌, ℕ, ◌+◌, false, List, [], ◌∷◌, ◌++◌, drop}
 use Rattle.hpr_terms.specs.declared.expr.Expr.{Expr}
@@ -30,6 +31,9 @@ pub record IsContentText (bytes : List ℕ) (c : Content) : Type 0 where
 
 abbrev pub HasContent : List ℕ → Type 0
 HasContent bytes = (c : Content) × IsContentText bytes c
+
+abbrev pub OneContent : Type 0
+OneContent = (bytes : List ℕ) (c d : Content) → IsContentText bytes c → IsContentText bytes d → c ≡ d
 
 abbrev pub IsPlaceFrom : ℕ → (List ℕ → Type 0) → List ℕ → ℕ → Type 0
 IsPlaceFrom start L bytes n = (k : ℕ) × (n ≡ start + k) × IsPlace L (drop start bytes) k

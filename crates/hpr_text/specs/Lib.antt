@@ -1,5 +1,3 @@
-pub mod Pending
-pub mod Expression
 pub mod Blocks
 pub mod Forms
 pub mod Machine

@@ -2,12 +2,11 @@
 --
 -- x_text    == the name `x`
 -- x_is_name == it is a name
--- live      == an operand is put where one must stand, open brackets and blocks are closed, and then the program ends
-use Rattle.std.proofs.Common.{◌≡◌, ℕ, List, [], ◌∷◌, Some, refl, ap, ◌∙◌, lit<}
+-- live      == an open expression is brought to an end, open blocks are closed, and then the program ends
+use Rattle.std.proofs.Common.{◌≡◌, ℕ, true, List, [], ◌∷◌, Option, Some, None, is_some, refl, ap, ◌∙◌, lit<}
 use Rattle.hpr_terms.specs.declared.keyword.Keyword.{Keyword}
 use Rattle.hpr_terms.specs.declared.keyword.Keyword.TheVariants as keyword
 use Rattle.hpr_terms.specs.declared.expr.Expr.{Expr}
-use Rattle.hpr_terms.specs.declared.expr.Expr.TheVariants.{Num}
 use Rattle.hpr_terms.specs.declared.tag.Tag.{Tag}
 use Rattle.hpr_terms.specs.declared.token.Sign.{Sign}
 use Rattle.hpr_terms.specs.declared.token.Sign.TheVariants as sign
@@ -17,18 +16,17 @@ use Rattle.hpr_terms.specs.Names.{IsName, is_name, is_name_byte}
 use Rattle.hpr_scan.specs.Machine.{Live, ends, goes}
 use Rattle.hpr_text.specs.declared.blocks.Begun.{Begun}
 use Rattle.hpr_text.specs.declared.blocks.Begun.TheVariants as begun
-use Rattle.hpr_text.specs.declared.pending.Pending.{Pending}
-use Rattle.hpr_text.specs.declared.expression.Reading.{Reading}
-use Rattle.hpr_text.specs.declared.expression.Reading.TheVariants.{Before, After}
+use Rattle.hpr_expressions.specs.declared.expression.Reading.{Reading}
 use Rattle.hpr_text.specs.declared.found.Found.{Found}
 use Rattle.hpr_text.specs.declared.state.Purpose.{Purpose}
 use Rattle.hpr_text.specs.declared.state.Purpose.TheVariants.{Assign, Test, Guard}
 use Rattle.hpr_text.specs.declared.state.Place.{Place}
 use Rattle.hpr_text.specs.declared.state.Place.TheVariants.{Start, AfterProgram, BeforePair, AfterPairAuthor, AfterPairColon, AfterPair, AtPart, AfterAuthor, AfterDot, AfterSerial, AfterColon, AfterTarget, InExpression, AfterEnd, AfterOpen, AfterName, AfterComma, AtEnd}
 use Rattle.hpr_text.specs.declared.state.State.{State}
-use Rattle.hpr_text.specs.Pending.{whole}
-use Rattle.hpr_text.specs.Expression.{start, read}
-use Rattle.hpr_text.specs.Machine.{limit, with_number, with_tag, with_part, in_then, in_loop, fi_in, od_in, at_part, ends_parts, with_name, state_at, goes_on, expression_next, next_at, next, may_end}
+use Rattle.hpr_expressions.specs.Expression.{start, read, ended, can_end}
+use Rattle.hpr_expressions.specs.Laws.{reading_live}
+use Rattle.hpr_text.specs.Laws.{goes_read}
+use Rattle.hpr_text.specs.Machine.{limit, with_number, with_tag, with_part, in_then, in_loop, fi_in, od_in, at_part, ends_parts, with_name, state_at, ends_here, next_at, next, may_end}
 
 abbrev IsLive : State → Type 0
 IsLive s = Live (next limit) may_end s
@@ -99,31 +97,19 @@ live_part f = live_parts f.blocks f AtPart at_parts refl
 
 -- ---- expressions
 
-close_goes : (f : Found) (p : Purpose) (r : Reading) → expression_next limit f p r (Mark sign.Close) ≡ goes_on f p (read r (Mark sign.Close))
-close_goes f (Assign t x) r = refl
-close_goes f (Test t) r = refl
-close_goes f (Guard t) r = refl
+live_ends : (f : Found) (p : Purpose) (r : Reading) (o : Option Expr) → ended r ≡ o → is_some o ≡ true → IsLive (state_at f (InExpression p r))
+unfolding next
+live_ends f p r None q e = absurd cc
+live_ends f (Assign t x) r (Some v) q e = mark _ (state_at (with_part limit t x v f) AtPart) sign.Semicolon (ap (ends_here limit f (Assign t x)) q) (live_part _)
+live_ends f (Test t) r (Some v) q e = word _ (state_at (in_then t v f) AtPart) keyword.Then (ap (ends_here limit f (Test t)) q) (live_part _)
+live_ends f (Guard t) r (Some v) q e = word _ (state_at (in_loop t v f) AtPart) keyword.Do (ap (ends_here limit f (Guard t)) q) (live_part _)
 
-zero_goes : (f : Found) (p : Purpose) (r : Reading) → expression_next limit f p r (Number 0) ≡ goes_on f p (read r (Number 0))
-zero_goes f (Assign t x) r = refl
-zero_goes f (Test t) r = refl
-zero_goes f (Guard t) r = refl
-
--- behind an operand, in these brackets
-abbrev behind : Found → Purpose → List Pending → Pending → ℕ → Expr → State
-behind f p outer here n v = state_at f (InExpression p (After (record { outer = outer; here = here; count = n }) v))
-
-live_behind : (f : Found) (p : Purpose) (outer : List Pending) (here : Pending) (n : ℕ) (v : Expr) → IsLive (behind f p outer here n v)
-unfolding next read
-live_behind f (Assign t x) [] here n v = mark _ (state_at (with_part limit t x (whole here v) f) AtPart) sign.Semicolon refl (live_part _)
-live_behind f (Test t) [] here n v = word _ (state_at (in_then t (whole here v) f) AtPart) keyword.Then refl (live_part _)
-live_behind f (Guard t) [] here n v = word _ (state_at (in_loop t (whole here v) f) AtPart) keyword.Do refl (live_part _)
-live_behind f p (q ∷ outer) here n v = mark _ (behind f p outer q n (whole here v)) sign.Close (close_goes f p _) (live_behind f p outer q n (whole here v))
+live_in : (f : Found) (p : Purpose) {r : Reading} → Live read can_end r → IsLive (state_at f (InExpression p r))
+live_in f p (ends {s = r} e) = live_ends f p r (ended r) refl e
+live_in f p (goes {s = r} t n h e k) = goes t (state_at f (InExpression p n)) h (goes_read limit f p r n t e) (live_in f p k)
 
 live_reading : (f : Found) (p : Purpose) (r : Reading) → IsLive (state_at f (InExpression p r))
-unfolding next read
-live_reading f p (Before c) = zero_next _ (behind f p c.outer c.here c.count (Num 0)) (zero_goes f p (Before c)) (live_behind f p c.outer c.here c.count (Num 0))
-live_reading f p (After c v) = live_behind f p c.outer c.here c.count v
+live_reading f p r = live_in f p (reading_live r)
 
 -- ---- parts
 

@@ -6,10 +6,10 @@ ghost use Rattle.hpr_scan.specs.Steps.{Steps};
 ghost use Rattle.hpr_text.specs.Answers.{IfSyntax, IfShape};
 ghost use Rattle.hpr_text.specs.Contents.{IsContentText, HasContent, IsPlaceFrom};
 ghost use Rattle.hpr_text.specs.ContentMachine as machine;
-ghost use Rattle.hpr_text.specs.Expression as expression;
+ghost use Rattle.hpr_expressions.specs.Expression as expression;
 
-use crate::expression::Reading;
 use crate::reader::TextError;
+use hpr_expressions::Reading;
 use hpr_scan::{Fault, FrontMachine, Refusal, TokenMachine, read_front};
 use hpr_syntax::Content;
 use hpr_terms::{Expr, Keyword, Name, Sign, Token};
@@ -85,7 +85,7 @@ fn ends(alloc: Global, aim: Aim, reading: Reading) -> Result<ContentState, Fault
 fn goes_on(alloc: Global, aim: Aim, reading: Reading, token: Token) -> Result<ContentState, Fault>
     ensures { Steps (machine.content_goes_on aim (expression.read reading token)) result }
 {
-    let reading = reading.read(alloc, token)?;
+    let reading = reading.step(alloc, token)?;
     Ok(ContentState::InExpression(aim, reading))
 }
 
@@ -187,7 +187,8 @@ impl ContentState {
     }
 }
 
-/// The content at `start`, which `;` follows, and the place of that `;`.
+/// The content at `start`, which `;` follows, and the place of that `;`. Places are counted in bytes
+/// from the start of all bytes, and `start` is at most their length.
 ///
 /// What follows the `;` is not read. A content is what a part says without its tag and its blocks:
 /// `name := expr`, `if expr` or `while expr`, with the limits of an expression. `Syntax` comes

@@ -1,4 +1,5 @@
 //! Laws of texts.
+ghost use Rattle.hpr_text.specs.Contents.{OneContent};
 ghost use Rattle.hpr_text.specs.Spelled.{OneTree, TagsInOrder};
 
 /// Bytes spell at most one tree in one form.
@@ -10,4 +11,9 @@ pub fn one_tree()
 /// numbers are the author with the number of parts, or none where there are no parts.
 pub fn tags_in_order()
     ensures { TagsInOrder }
+{}
+
+/// Bytes are the text of at most one content.
+pub fn one_content()
+    ensures { OneContent }
 {}

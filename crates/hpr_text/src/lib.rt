@@ -1,17 +1,16 @@
 //! Reads the text of a program, with the tag of each part or without tags, or of a content.
 //!
-//! A machine of tokens says where each token leads, by one function for each place of the grammar;
-//! the reader of bytes finds the tokens for it, and names the exact place of a refusal.
+//! A machine of tokens says where each token leads, by one function for each place of the grammar,
+//! and hands the tokens of an expression to the machine of hpr_expressions; the reader of bytes
+//! finds the tokens, and names the exact place of a refusal.
 #![tactic(auto)]
 
 mod blocks;
 mod content;
-mod expression;
 mod form;
 mod found;
 pub mod laws;
 mod machine;
-mod pending;
 mod places;
 mod reader;
 mod state;

@@ -2,17 +2,17 @@
 ghost use Rattle.std.specs.Prelude.{◌≡◌, ◌^◌, nat_lt, nat_le, ◌&&◌, is_some};
 ghost use Rattle.hpr_scan.specs.Steps.{Steps};
 ghost use Rattle.hpr_text.specs.Machine as machine;
-ghost use Rattle.hpr_text.specs.Expression as expression;
+ghost use Rattle.hpr_expressions.specs.Expression as expression;
 ghost use Rattle.hpr_text.specs.declared.state.Place.TheVariants.{AtPart};
 ghost use Rattle.hpr_text.specs.declared.state.Purpose.TheVariants.{Assign, Test, Guard};
 ghost use Rattle.hpr_terms.specs.declared.token.Token.TheVariants as tokens;
 
 use crate::blocks::Kind;
-use crate::expression::Reading;
 use crate::form::Mode;
 use crate::found::Found;
 use crate::state::{Place, Purpose, State};
-use hpr_scan::Fault;
+use hpr_expressions::Reading;
+use hpr_scan::{Fault, TokenMachine};
 use hpr_terms::{Keyword, Name, Sign, Tag, Token};
 use std::alloc::Global;
 
@@ -351,7 +351,7 @@ fn expression_goes_on(
 ) -> Result<State, Fault>
     ensures { Steps (machine.goes_on found purpose (expression.read reading token)) result }
 {
-    let reading = reading.read(alloc, token)?;
+    let reading = reading.step(alloc, token)?;
     Ok(State {
         found,
         place: Place::InExpression(purpose, reading),

@@ -63,13 +63,15 @@ fn built(alloc: Global, state: State) -> Result<Program, TextError>
 /// In a tagged text authors are at most 4,294,967,295, and serials are 1 to 4,294,967,295. In an
 /// untagged one the parts get the tags of the author from 1 on, in preorder, and the issued numbers
 /// are the author with the number of parts, or none where there are no parts; the author is at
-/// least 1. In either one literals are at most 9,223,372,036,854,775,807, a name has 1 to 64 bytes,
-/// a part stands at most 64 levels deep, and an expression has at most 256 operators, and 256
-/// brackets in one another. `Syntax` comes exactly where the bytes spell no tree in this form, with
-/// the length of their longest front that some further bytes complete; `Shape` exactly where they
-/// spell a tree that is no program, with the first test that it fails; `Memory` where memory ran
-/// out. Of an untagged text with more than 1,000 parts no part past these is kept, and the refusal
-/// has the number of them all. The rules of texts, and their limits, are our profile.
+/// least 1, since author 0 is kept for the product. In either one literals are at most
+/// 9,223,372,036,854,775,807, a name has 1 to 64 bytes, a part stands at most 64 levels deep, and an
+/// expression has at most 256 operators, and 256 brackets in one another.
+///
+/// `Syntax` comes exactly where the bytes spell no tree in this form, with the length of their
+/// longest front that some further bytes complete; `Shape` exactly where they spell a tree that is
+/// no program, with the first test that it fails; `Memory` where memory ran out. Of an untagged text
+/// with more than 1,000 parts no part past these is kept, and the refusal has the number of them
+/// all. The rules of texts, and their limits, are our profile.
 pub fn parse(alloc: Global, bytes: &[u8], mode: Mode) -> Result<Program, TextError>
     requires author { HasAuthor mode }
     ensures spelled { IfOk result (λ p. Spells (form_of mode) bytes.now p) }

@@ -2,9 +2,9 @@
 ghost use Rattle.std.specs.Prelude.{◌≡◌};
 ghost use Rattle.hpr_text.specs.Machine as machine;
 
-use crate::expression::Reading;
 use crate::form::Mode;
 use crate::found::Found;
+use hpr_expressions::Reading;
 use hpr_terms::{Name, Tag};
 use std::alloc::Global;
 

@@ -16,13 +16,13 @@ use Rattle.hpr_syntax.specs.Shape.{max_operators}
 use Rattle.hpr_syntax.specs.Grammar as grammar
 use Rattle.hpr_syntax.specs.Grammar.{max_brackets, expr, conj, comp, sum, term, atom, expr_conj, conj_comp, comp_sum, sum_term, term_prefixed, prefixed_atom, Joins, Compares, Prefixes, SpellsTerm, SpellsExpr}
 use Rattle.hpr_scan.specs.Steps.{runs}
-use Rattle.hpr_text.specs.declared.pending.Left.{Left}
-use Rattle.hpr_text.specs.declared.pending.Pending.{Pending}
-use Rattle.hpr_text.specs.declared.expression.Context.{Context}
-use Rattle.hpr_text.specs.declared.expression.Reading.{Reading}
-use Rattle.hpr_text.specs.declared.expression.Reading.TheVariants.{Before, After}
-use Rattle.hpr_text.specs.Pending.{joined, prefixed, whole, left_of, with_or, with_and, with_comparison, with_sum, with_term, with_prefix}
-use Rattle.hpr_text.specs.Expression.{start, counted, opened, read, ended}
+use Rattle.hpr_expressions.specs.declared.pending.Left.{Left}
+use Rattle.hpr_expressions.specs.declared.pending.Pending.{Pending}
+use Rattle.hpr_expressions.specs.declared.expression.Context.{Context}
+use Rattle.hpr_expressions.specs.declared.expression.Reading.{Reading}
+use Rattle.hpr_expressions.specs.declared.expression.Reading.TheVariants.{Before, After}
+use Rattle.hpr_expressions.specs.Pending.{joined, prefixed, whole, left_of, with_or, with_and, with_comparison, with_sum, with_term, with_prefix}
+use Rattle.hpr_expressions.specs.Expression.{start, counted, opened, read, ended}
 
 term_of-expr_of : (v : Term) → term_of (expr_of v) ≡ v
 term_of-expr_of (num n) = refl

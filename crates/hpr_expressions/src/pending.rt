@@ -1,7 +1,7 @@
 //! What waits for an operand, within one bracket of an expression.
 ghost use Rattle.std.specs.Prelude.{◌≡◌, ◌∷◌, [], IfOk};
 ghost use Rattle.hpr_terms.specs.TermOf.{term_of};
-ghost use Rattle.hpr_text.specs.Pending as pending;
+ghost use Rattle.hpr_expressions.specs.Pending as pending;
 
 use hpr_terms::{Binary, Expr, NoMemory, Operand, Unary};
 use std::alloc::Global;

@@ -8,6 +8,7 @@
 -- last_comparison p e  == the comparison that ends with e
 -- last_and p e         == the operand of `or` that ends with e
 -- whole p e            == all that stands in the bracket, where it ends with e
+-- left_of op e         == the left operand e with the sign op behind it
 -- with_LEVEL p op e    == what waits behind e and a sign of this level
 -- with_prefix p op     == what waits behind one more prefix
 use Rattle.std.specs.Prelude.{List, [], ◌∷◌, Option, Some, None}
@@ -16,8 +17,8 @@ use Rattle.hpr_terms.specs.declared.expr.Expr.TheVariants.{Prefix, Infix}
 use Rattle.hpr_terms.specs.declared.expr.Unary.{Unary}
 use Rattle.hpr_terms.specs.declared.expr.Binary.{Binary}
 use Rattle.hpr_terms.specs.TermOf.{term_of}
-use Rattle.hpr_text.specs.declared.pending.Left.{Left}
-use Rattle.hpr_text.specs.declared.pending.Pending.{Pending}
+use Rattle.hpr_expressions.specs.declared.pending.Left.{Left}
+use Rattle.hpr_expressions.specs.declared.pending.Pending.{Pending}
 
 abbrev pub nothing_pending : Pending
 nothing_pending = record { ors = None; ands = None; compared = None; summed = None; multiplied = None; prefixes = [] }

@@ -5,11 +5,11 @@ ghost use Rattle.hpr_scan.specs.Steps.{Steps};
 ghost use Rattle.hpr_terms.specs.declared.token.Token.TheVariants as tokens;
 ghost use Rattle.hpr_syntax.specs.Shape.{max_operators};
 ghost use Rattle.hpr_syntax.specs.Grammar.{max_brackets};
-ghost use Rattle.hpr_text.specs.Expression as expression;
-ghost use Rattle.hpr_text.specs.Pending as pending;
+ghost use Rattle.hpr_expressions.specs.Expression as expression;
+ghost use Rattle.hpr_expressions.specs.Pending as pending;
 
 use crate::pending::Pending;
-use hpr_scan::Fault;
+use hpr_scan::{Fault, TokenMachine};
 use hpr_terms::{Binary, Expr, Keyword, Literal, NoMemory, Sign, Token, Unary};
 use std::alloc::Global;
 use std::marker::Model;
@@ -30,7 +30,7 @@ impl Model for Brackets {
     ghost use Rattle.std.specs.Prelude.{List, reverse};
     ghost use Rattle.std.specs.Coded.{codes};
     ghost use Rattle.hpr_terms.specs.TermCode.{term_coded};
-    ghost use Rattle.hpr_text.specs.declared.pending.Pending.{Pending};
+    ghost use Rattle.hpr_expressions.specs.declared.pending.Pending.{Pending};
 
     ghost Value = { List Pending };
 
@@ -77,17 +77,23 @@ impl Brackets {
 /// many operators there are.
 #[derive(Debug, Drop)]
 pub struct Context {
-    pub outer: Brackets,
-    pub here: Pending,
-    pub count: usize,
+    outer: Brackets,
+    here: Pending,
+    count: usize,
 }
 
-/// How far an expression was read.
+/// How far an expression was read: a machine of its tokens.
+///
+/// A token can stand next exactly where the grammar of expressions lets it: operands are names,
+/// literals up to 9,223,372,036,854,775,807 and brackets, at most 256 of these in one another;
+/// there are at most 256 operators; and at most one comparison stands between two brackets, `and`s
+/// or `or`s. The operators and their levels are our profile.
 #[derive(Debug, Drop)]
 pub enum Reading {
-    /// An operand must stand next.
+    /// An operand, a prefix or an opening bracket must stand next.
     Before(Context),
-    /// An operand was read.
+    /// An operand was read: an operator or a closing bracket may stand next, or the expression may
+    /// end.
     After(Context, Expr),
 }
 
@@ -308,6 +314,62 @@ impl Context {
     }
 }
 
+impl TokenMachine for Reading {
+    ghost use Rattle.hpr_expressions.specs.Expression as expression;
+    ghost use Rattle.hpr_expressions.specs.Laws.{reading_is_token_machine, reading_live};
+
+    ghost next = { expression.read };
+
+    ghost may_end = { expression.can_end };
+
+    ghost laws = { reading_is_token_machine };
+
+    ghost live = { reading_live };
+
+    #[tactic(auto, unfolding(crate::specs::Expression::read))]
+    fn step(self, alloc: Global, token: Token) -> Result<Reading, Fault> {
+        match self {
+            Reading::Before(context) => operand_next(alloc, context, token),
+            Reading::After(context, value) => operator_next(alloc, context, value, token),
+        }
+    }
+
+    #[tactic(auto, unfolding(crate::specs::Expression::read))]
+    fn takes_keyword(&self, keyword: Keyword) -> bool {
+        match self {
+            Reading::Before(context) => matches!(keyword, Keyword::Not) && context.counts(),
+            Reading::After(context, _) => {
+                matches!(keyword, Keyword::Or | Keyword::And) && context.counts()
+            }
+        }
+    }
+
+    #[tactic(auto, unfolding(crate::specs::Expression::read))]
+    fn takes_name(&self) -> bool {
+        matches!(self, Reading::Before(_))
+    }
+
+    #[tactic(auto, unfolding(crate::specs::Expression::read))]
+    fn takes_number(&self, number: u64) -> bool {
+        matches!(self, Reading::Before(_)) && number <= i64::MAX as u64
+    }
+
+    #[tactic(auto, unfolding(crate::specs::Expression::read))]
+    fn takes_sign(&self, sign: Sign) -> bool {
+        match self {
+            Reading::Before(context) => context.operand_sign(sign),
+            Reading::After(context, _) => context.operator_sign(sign),
+        }
+    }
+
+    fn can_end(&self) -> bool {
+        match self {
+            Reading::Before(_) => false,
+            Reading::After(context, _) => context.outer.len() == 0,
+        }
+    }
+}
+
 impl Reading {
     /// Nothing of the expression was read.
     pub fn start(alloc: Global) -> Reading
@@ -320,18 +382,10 @@ impl Reading {
         })
     }
 
-    /// The reading after the token. `Refused` comes exactly where the token cannot stand next.
-    #[tactic(auto, unfolding(crate::specs::Expression::read))]
-    pub fn read(self, alloc: Global, token: Token) -> Result<Reading, Fault>
-        ensures { Steps (expression.read self token) result }
-    {
-        match self {
-            Reading::Before(context) => operand_next(alloc, context, token),
-            Reading::After(context, value) => operator_next(alloc, context, value, token),
-        }
-    }
-
-    /// The expression. `Refused` comes exactly where it cannot end here.
+    /// The expression whose tokens were read.
+    ///
+    /// `Refused` comes exactly where the expression cannot end: an operand must stand next, or a
+    /// bracket is open. `Memory` comes where memory ran out.
     pub fn ended(self, alloc: Global) -> Result<Expr, Fault>
         ensures { Steps (expression.ended self) result }
     {
@@ -348,56 +402,6 @@ impl Reading {
                     Some(_) => Err(Fault::Refused),
                 }
             }
-        }
-    }
-
-    /// Whether the keyword can stand next.
-    #[tactic(auto, unfolding(crate::specs::Expression::read))]
-    pub fn takes_keyword(&self, keyword: Keyword) -> bool
-        ensures { result ≡ is_some (expression.read self.now (tokens.Word keyword)) }
-    {
-        match self {
-            Reading::Before(context) => matches!(keyword, Keyword::Not) && context.counts(),
-            Reading::After(context, _) => {
-                matches!(keyword, Keyword::Or | Keyword::And) && context.counts()
-            }
-        }
-    }
-
-    /// Whether a name can stand next.
-    #[tactic(auto, unfolding(crate::specs::Expression::read))]
-    pub fn takes_name(&self) -> bool
-        ensures { (x : _) → result ≡ is_some (expression.read self.now (tokens.Name x)) }
-    {
-        matches!(self, Reading::Before(_))
-    }
-
-    /// Whether the number can stand next.
-    #[tactic(auto, unfolding(crate::specs::Expression::read))]
-    pub fn takes_number(&self, number: u64) -> bool
-        ensures { result ≡ is_some (expression.read self.now (tokens.Number number)) }
-    {
-        matches!(self, Reading::Before(_)) && number <= i64::MAX as u64
-    }
-
-    /// Whether the sign can stand next.
-    #[tactic(auto, unfolding(crate::specs::Expression::read))]
-    pub fn takes_sign(&self, sign: Sign) -> bool
-        ensures { result ≡ is_some (expression.read self.now (tokens.Mark sign)) }
-    {
-        match self {
-            Reading::Before(context) => context.operand_sign(sign),
-            Reading::After(context, _) => context.operator_sign(sign),
-        }
-    }
-
-    /// Whether the expression can end here.
-    pub fn can_end(&self) -> bool
-        ensures { result ≡ is_some (expression.ended self.now) }
-    {
-        match self {
-            Reading::Before(_) => false,
-            Reading::After(context, _) => context.outer.len() == 0,
         }
     }
 }

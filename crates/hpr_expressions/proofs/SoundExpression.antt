@@ -1,5 +1,5 @@
 -- What was read so far of an expression, said of each reading.
-use Rattle.std.proofs.Common.{◌≡◌, ℕ, zero, suc, ◌+◌, ◌≤◌, ◌<◌, ◌^◌, List, [], ◌∷◌, ◌++◌, length, Bool, true, false, cond, nat_lt, Option, Some, None, refl, sym, ap, subst, ◌∙◌, append_assoc, arith}
+use Rattle.std.proofs.Common.{◌≡◌, ℕ, zero, suc, ◌+◌, ◌≤◌, ◌<◌, ◌^◌, List, [], ◌∷◌, ◌++◌, length, nat_lt, Option, Some, None, refl, sym, ap, subst, ◌∙◌, append_assoc, arith}
 use Rattle.std.proofs.lemmas.Bool.{ltb-true}
 use Rattle.std.proofs.lemmas.List.{append-nil}
 use Rattle.hpr_terms.specs.declared.expr.Expr.{Expr}
@@ -17,14 +17,15 @@ use Rattle.hpr_terms.specs.TermOf.{term_of}
 use Rattle.hpr_syntax.specs.Shape.{max_operators}
 use Rattle.hpr_syntax.specs.Grammar as grammar
 use Rattle.hpr_syntax.specs.Grammar.{max_brackets, Rule, expr, conj, comp, sum, term, atom, On, expr_conj, conj_comp, comp_sum, sum_term, term_prefixed, prefixed_atom, Joins, Compares, Prefixes, SpellsTerm, SpellsExpr}
+use Rattle.hpr_scan.proofs.SoundText.{guard_is}
 use Rattle.hpr_scan.proofs.Words.{some_is}
-use Rattle.hpr_text.specs.declared.pending.Left.{Left}
-use Rattle.hpr_text.specs.declared.pending.Pending.{Pending}
-use Rattle.hpr_text.specs.declared.expression.Context.{Context}
-use Rattle.hpr_text.specs.declared.expression.Reading.{Reading}
-use Rattle.hpr_text.specs.declared.expression.Reading.TheVariants.{Before, After}
-use Rattle.hpr_text.specs.Pending.{nothing_pending, joined, prefixed, last_term, last_sum, last_comparison, last_and, whole, with_or, with_and, with_comparison, with_sum, with_term, with_prefix}
-use Rattle.hpr_text.specs.Expression.{start, counted, compare_next, close_next, opened, operand_next, operator_next, read, ended, ended_in}
+use Rattle.hpr_expressions.specs.declared.pending.Left.{Left}
+use Rattle.hpr_expressions.specs.declared.pending.Pending.{Pending}
+use Rattle.hpr_expressions.specs.declared.expression.Context.{Context}
+use Rattle.hpr_expressions.specs.declared.expression.Reading.{Reading}
+use Rattle.hpr_expressions.specs.declared.expression.Reading.TheVariants.{Before, After}
+use Rattle.hpr_expressions.specs.Pending.{nothing_pending, joined, prefixed, last_term, last_sum, last_comparison, last_and, whole, with_or, with_and, with_comparison, with_sum, with_term, with_prefix}
+use Rattle.hpr_expressions.specs.Expression.{start, counted, compare_next, close_next, opened, operand_next, operator_next, read, ended, ended_in}
 
 abbrev pub Spelled : Rule → ℕ → List Token → Expr → Type 0
 Spelled r d ts e = SpellsTerm r d ts (term_of e)
@@ -157,10 +158,6 @@ pub record AfterIs (c : Context) (v : Expr) (ts : List Token) : Type 0 where
 abbrev pub ReadingIs : Reading → List Token → Type 0
 ReadingIs (Before c) ts = BeforeIs c ts
 ReadingIs (After c v) ts = AfterIs c v ts
-
-pub guard_is : {A : Type 0} (b : Bool) (x y : A) → cond b (Some x) None ≡ Some y → (b ≡ true) × (x ≡ y)
-guard_is true x y e = (refl, cc)
-guard_is false x y e = absurd cc
 
 -- a new operator: its waiting operands, where they are right, make the new context right
 counted_is : (c : Context) (d : ℕ) (p : Pending) (around inside ts : List Token) (n : Reading) → OuterIs d c.outer around → PendingIs d p inside → ts ≡ around ++ inside → c.count + 1 ≡ outer_count c.outer + pending_count p

@@ -1,6 +1,6 @@
 use Rattle.std.proofs.Common.{◌≡◌, reverse, vec_len}
-use Rattle.hpr_text.specs.Pending as pending
-use Rattle.hpr_text.proofs.pending.Prefixes.before.Given as goal
+use Rattle.hpr_expressions.specs.Pending as pending
+use Rattle.hpr_expressions.proofs.pending.Prefixes.before.Given as goal
 
 abbrev pub invariant-loop-op : goal.invariant-loop-op
 invariant-loop-op l = pending.prefixed (reverse l.ops.items) l.value ≡ pending.prefixed l.fn.self l.fn.value

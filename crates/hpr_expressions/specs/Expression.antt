@@ -1,14 +1,22 @@
 -- How the tokens of an expression are read.
 --
--- Before context       == an operand must stand next
--- After context value  == the operand value was read
--- start                == nothing was read
--- counted c            == the reading before an operand, behind one more operator, where there may be one
--- operand_next c t     == the reading after the token, where an operand must stand next
--- operator_next c e t  == the reading after the token, where the operand e was read
--- read reading t       == the reading after the token, if the token can stand next
--- ended reading        == the expression, if it can end here
-use Rattle.std.specs.Prelude.{ℕ, ◌+◌, ◌^◌, nat_lt, if◌then◌else◌, List, [], ◌∷◌, length, Option, Some, None}
+-- A context is what stands before an operand: what waits outside of each open bracket, the innermost first; what waits within it; and the count of operators.
+--
+-- Before context         == an operand must stand next
+-- After context value    == the operand value was read
+-- start                  == nothing was read
+-- counted c p            == the reading before an operand behind one more operator, with p waiting, where there may be one more
+-- compare_next o c op e  == the reading behind the comparison op and its left operand e, where no comparison o waits yet
+-- close_next ps p n e    == the reading behind a closing bracket, where one of ps is open
+-- opened c               == the context behind an opening bracket
+-- open_next c            == the reading behind it, where one more bracket may be open
+-- operand_next c t       == the reading after the token, where an operand must stand next
+-- operator_next c e t    == the reading after the token, where the operand e was read
+-- read reading t         == the reading after the token, if the token can stand next
+-- ended_in ps p e        == the expression that ends with e, where no bracket of ps is open
+-- ended reading          == the expression, if it can end here
+-- can_end reading        == the expression can end here
+use Rattle.std.specs.Prelude.{ℕ, ◌+◌, ◌^◌, Bool, nat_lt, if◌then◌else◌, List, [], ◌∷◌, length, Option, Some, None, is_some}
 use Rattle.hpr_terms.specs.declared.expr.Expr.{Expr}
 use Rattle.hpr_terms.specs.declared.expr.Expr.TheVariants.{Num, Var}
 use Rattle.hpr_terms.specs.declared.expr.Unary.TheVariants as unary
@@ -20,12 +28,12 @@ use Rattle.hpr_terms.specs.declared.token.Token.{Token}
 use Rattle.hpr_terms.specs.declared.token.Token.TheVariants.{Word, Name, Number, Mark}
 use Rattle.hpr_syntax.specs.Shape.{max_operators}
 use Rattle.hpr_syntax.specs.Grammar.{max_brackets}
-use Rattle.hpr_text.specs.declared.pending.Left.{Left}
-use Rattle.hpr_text.specs.declared.pending.Pending.{Pending}
-use Rattle.hpr_text.specs.declared.expression.Context.{Context}
-use Rattle.hpr_text.specs.declared.expression.Reading.{Reading}
-use Rattle.hpr_text.specs.declared.expression.Reading.TheVariants.{Before, After}
-use Rattle.hpr_text.specs.Pending.{nothing_pending, whole, with_or, with_and, with_comparison, with_sum, with_term, with_prefix}
+use Rattle.hpr_expressions.specs.declared.pending.Left.{Left}
+use Rattle.hpr_expressions.specs.declared.pending.Pending.{Pending}
+use Rattle.hpr_expressions.specs.declared.expression.Context.{Context}
+use Rattle.hpr_expressions.specs.declared.expression.Reading.{Reading}
+use Rattle.hpr_expressions.specs.declared.expression.Reading.TheVariants.{Before, After}
+use Rattle.hpr_expressions.specs.Pending.{nothing_pending, whole, with_or, with_and, with_comparison, with_sum, with_term, with_prefix}
 
 abbrev pub start : Reading
 start = Before (record { outer = []; here = nothing_pending; count = 0 })
@@ -83,3 +91,6 @@ ended_in (p ∷ ps) here e = None
 abbrev pub ended : Reading → Option Expr
 ended (Before c) = None
 ended (After c e) = ended_in c.outer c.here e
+
+abbrev pub can_end : Reading → Bool
+can_end r = is_some (ended r)

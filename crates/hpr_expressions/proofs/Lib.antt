@@ -1,0 +1,3 @@
+pub mod SoundExpression
+pub mod WholeExpression
+pub mod Spelled

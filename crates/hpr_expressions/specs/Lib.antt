@@ -1,0 +1,4 @@
+pub mod Pending
+pub mod Expression
+pub mod Laws
+pub mod Read
