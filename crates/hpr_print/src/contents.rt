@@ -7,7 +7,8 @@ use crate::put::put;
 use hpr_syntax::{Content, Expr, NoMemory};
 use std::alloc::Global;
 
-/// The text of an expression.
+/// The canonical text of an expression: one blank around each infix sign, and the brackets that its
+/// tree needs and no others. It fails only for want of memory.
 pub fn expr_text(alloc: Global, expr: &Expr) -> Result<Vec<u8>, NoMemory>
     ensures { IfOk result (λ v. v.items ≡ print.expr_text expr.now) }
 {
@@ -16,7 +17,8 @@ pub fn expr_text(alloc: Global, expr: &Expr) -> Result<Vec<u8>, NoMemory>
     Ok(out)
 }
 
-/// What a part says: an assignment, or the predicate of a conditional or a loop.
+/// The canonical text of what a part says, without its tag and its blocks: `NAME := EXPR`,
+/// `if EXPR` or `while EXPR`. It fails only for want of memory.
 pub fn content_text(alloc: Global, content: &Content) -> Result<Vec<u8>, NoMemory>
     ensures { IfOk result (λ v. v.items ≡ print.content_text content.now) }
 {

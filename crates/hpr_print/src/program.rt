@@ -62,7 +62,9 @@ fn put_names(out: &mut Vec<u8>, names: &[Name]) -> Result<(), NoMemory>
     Ok(())
 }
 
-/// The canonical text of a program.
+/// The canonical text of a program: its lines `program` and `issued`, a line for each part and for
+/// each `else`, `fi` and `od`, indented by two spaces a level, and the line `end(..)`. It fails only
+/// for want of memory. The text is our profile.
 #[tactic(auto, using(hpr_syntax::proofs::DepthBound::shallow))]
 pub fn text_of(alloc: Global, program: &Program) -> Result<Vec<u8>, NoMemory>
     ensures { IfOk result (λ v. v.items ≡ text program.now) }
@@ -70,7 +72,9 @@ pub fn text_of(alloc: Global, program: &Program) -> Result<Vec<u8>, NoMemory>
     text_of_parts(alloc, program.issued(), program.body(), program.finals())
 }
 
-/// The canonical text of the program of these parts.
+/// The canonical text of the program of these parts, as `text_of` gives it, where the caller has
+/// them apart. They need not make a program; only their blocks stand less than 2^32 levels deep. It
+/// fails only for want of memory.
 #[tactic(auto, unfolding(hpr_syntax::specs::Print::text))]
 pub fn text_of_parts(
     alloc: Global,

@@ -5,6 +5,7 @@ ghost use Rattle.std.specs.Fmt.{decimal};
 use hpr_syntax::NoMemory;
 use std::alloc::Global;
 
+/// Puts the bytes at the end.
 pub fn put(out: &mut Vec<u8>, bytes: &[u8]) -> Result<(), NoMemory>
     ensures { OnOk result (out.new.items ≡ out.old.items ++ bytes.now) }
 {
@@ -12,6 +13,7 @@ pub fn put(out: &mut Vec<u8>, bytes: &[u8]) -> Result<(), NoMemory>
     Ok(())
 }
 
+/// Puts the number in decimal digits at the end.
 pub fn put_number(alloc: Global, out: &mut Vec<u8>, number: u64) -> Result<(), NoMemory>
     ensures { OnOk result (out.new.items ≡ out.old.items ++ decimal number) }
 {
