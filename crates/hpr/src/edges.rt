@@ -1,5 +1,5 @@
 //! Real files and streams, which tell nothing of their content. Nothing is proved of what the system itself does.
-ghost use Rattle.std.specs.Prelude.{◌≡◌, ◌≤◌, ◌↔◌, true, None, length, take, vec_len, IfOk, IfSome};
+ghost use Rattle.std.specs.Prelude.{◌≡◌, ◌≤◌, ◌↔◌, true, None, length, take, vec_len, IfOk, IfErr, IfSome, IsErr, IsErrOf};
 ghost use Rattle.std.specs.IoError.{error_kind};
 ghost use Rattle.std.specs.Io.KnownBytes.{ReadConsumes, WriteAppends};
 
@@ -71,7 +71,21 @@ fn read_file<R: Files>(
 ) -> Result<Vec<u8>, FetchError>
     ensures { IfOk result (λ v. vec_len v ≤ most) }
 {
-    match fs::open(rt, name) {
+    read_opened(fs::open(rt, name), alloc, most)
+}
+
+/// The first `most` bytes of what was opened, or all where it has fewer. What was not opened is not read as empty.
+fn read_opened<R: Read + Drop>(
+    opened: io::Result<R>,
+    alloc: Global,
+    most: usize,
+) -> Result<Vec<u8>, FetchError>
+    ensures short { IfOk result (λ v. vec_len v ≤ most) }
+    ensures front { IfOk opened (λ file. IfOk result (λ v. IfSome (R.remaining file) (λ xs. v.items ≡ take most xs))) }
+    ensures unopened { IfErr opened (λ _. IsErr result) }
+    ensures cause { IfErr opened (λ error. IsErrOf result FetchError.Memory ↔ (error_kind error ≡ ErrorKind.OutOfMemory)) }
+{
+    match opened {
         Ok(mut file) => read_front(&mut file, alloc, most),
         Err(error) => Err(cause_of(&error)),
     }

@@ -9,7 +9,8 @@ use crate::answer::{Kind, Report, Stop};
 use crate::files::read_program;
 use hpr_io::Shelf;
 use hpr_print::text_of_parts;
-use hpr_syntax::{Issued, Name, NoMemory, Program};
+use hpr_syntax::{Issued, NoMemory, Program};
+use hpr_terms::copy_names;
 use std::alloc::Global;
 
 /// Integrates two variants with their base, where one of them is the base.
@@ -80,14 +81,4 @@ fn raise_all(issued: &mut Issued, other: &Issued) -> Result<(), NoMemory>
         issued.raise(*author, *serial)?;
     }
     Ok(())
-}
-
-fn copy_names(alloc: Global, names: &[Name]) -> Result<Vec<Name>, NoMemory>
-    ensures { IfOk result (λ v. v.items ≡ names.now) }
-{
-    let mut copies = Vec::new(alloc);
-    for name in names {
-        copies.push(name.copy(alloc)?)?;
-    }
-    Ok(copies)
 }
