@@ -1,0 +1,154 @@
+-- Members and places of lists, and lists in which nothing stands twice.
+use Rattle.std.proofs.Common.{◌≡◌, ◌≢◌, ℕ, zero, suc, ◌+◌, ◌<◌, ◌≤◌, ◌↔◌, ◌⊎◌, inl, inr, Some, List, [], ◌∷◌, ◌++◌, length, set, take, get_or, Contains, slice_get, refl, sym, ap, ◌∙◌, subst, arith, length-append}
+use Rattle.std.proofs.lemmas.Option.{slice_get-get_or, get_or_from_slice_get, slice_get_within}
+use Rattle.std.proofs.lemmas.List.{take_more}
+use Rattle.std.proofs.lemmas.List.Elements.{Contains-push, Contains-push_cases, Contains-append_left, Contains-append_right, Contains-append_cases}
+use Rattle.hpr_graph.specs.Graphs.{IsOnce}
+
+module _ {X : Type 0} where
+  pub contains_at : (xs : List X) (i : ℕ) (x : X) → slice_get xs i ≡ Some x → Contains xs x
+  contains_at xs i x h = (i, slice_get_within xs i x h, get_or_from_slice_get xs i x x h)
+
+  pub place_of : (xs : List X) (x : X) → Contains xs x → (i : ℕ) × (slice_get xs i ≡ Some x)
+  place_of xs x (i, l, e) = (i, slice_get-get_or xs i x l ∙ ap Some e)
+
+  pub item_at : (xs : List X) (i : ℕ) → i < length xs → (x : X) × (slice_get xs i ≡ Some x)
+  item_at [] i l = absurd (omega (arith, l))
+  item_at (x ∷ xs) zero l = (x, refl)
+  item_at (x ∷ xs) (suc i) l = item_at xs i (omega (arith, l))
+
+  -- what the code reads of a list that is another
+  pub read_at : (xs ys : List X) (i : ℕ) (x : X) → xs ≡ ys → i < length xs → x ≡ get_or xs i x → slice_get ys i ≡ Some x
+  read_at xs ys i x e l is = ap (λ zs. slice_get zs i) (sym e) ∙ slice_get-get_or xs i x l ∙ ap Some (sym is)
+
+  pub in_none : (x : X) → ¬ Contains [] x
+  in_none x h = omega (arith, h.1)
+
+  pub in_cons : (x y : X) (xs : List X) → Contains (x ∷ xs) y → (x ≡ y) ⊎ Contains xs y
+  in_cons x y xs (zero, h, e) = inl e
+  in_cons x y xs (suc k, h, e) = inr (k, omega arith, e)
+
+  pub in_here : (x : X) (xs : List X) → Contains (x ∷ xs) x
+  in_here x xs = (0, omega arith, refl)
+
+  pub in_later : (x y : X) (xs : List X) → Contains xs y → Contains (x ∷ xs) y
+  in_later x y xs h = Contains-append_right (x ∷ []) xs y h
+
+  -- a longer list keeps what stands in it
+  pub get_longer : (xs ys : List X) (i : ℕ) (x : X) → slice_get xs i ≡ Some x → slice_get (xs ++ ys) i ≡ Some x
+  get_longer [] ys i x h = absurd cc
+  get_longer (z ∷ xs) ys zero x h = h
+  get_longer (z ∷ xs) ys (suc i) x h = get_longer xs ys i x h
+
+  pub at_push : (xs : List X) (x : X) (i : ℕ) (y : X) → slice_get (xs ++ x ∷ []) i ≡ Some y → (slice_get xs i ≡ Some y) ⊎ ((i ≡ length xs) × (x ≡ y))
+  at_push [] x zero y h = inr (refl, cc)
+  at_push [] x (suc i) y h = absurd cc
+  at_push (z ∷ xs) x zero y h = inl h
+  at_push (z ∷ xs) x (suc i) y h = elim (at_push xs x i y h) [ inl a ↦ inl a | inr b ↦ inr (ap suc b.0, b.1) ]
+
+  pub at_end : (xs : List X) (x : X) → slice_get (xs ++ x ∷ []) (length xs) ≡ Some x
+  at_end [] x = refl
+  at_end (z ∷ xs) x = at_end xs x
+
+  -- the first i + 1 of a list are the first i and one more
+  pub in_taken : (xs : List X) (i : ℕ) (d y : X) → i < length xs → Contains (take (i + 1) xs) y ↔ (Contains (take i xs) y ⊎ (get_or xs i d ≡ y))
+  in_taken xs i d y l =
+      rw (take_more xs i d l) (
+        λ h. Contains-push_cases (take i xs) (get_or xs i d) y h,
+        λ h. elim h [
+          | inl was ↦ Contains-append_left (take i xs) (get_or xs i d ∷ []) y was
+          | inr e ↦ subst (λ (z : X). Contains (take i xs ++ get_or xs i d ∷ []) z) e (Contains-push (take i xs) (get_or xs i d))
+        ],
+      )
+
+  -- what holds of the first i holds of one more
+  pub taken_more : (xs : List X) (i : ℕ) (d : X) (P : X → Type 0) → i < length xs → ((y : X) → Contains (take i xs) y → P y) → P (get_or xs i d) → (y : X) → Contains (take (i + 1) xs) y → P y
+  taken_more xs i d P l before here y h =
+      elim ((in_taken xs i d y l).0 h) [ inl was ↦ before y was | inr e ↦ subst P e here ]
+
+  pub set_itself : (xs : List X) (i : ℕ) (x : X) → slice_get xs i ≡ Some x → set xs i x ≡ xs
+  set_itself [] i x h = refl
+  set_itself (y ∷ xs) zero x h = ap (λ z. z ∷ xs) cc
+  set_itself (y ∷ xs) (suc i) x h = ap (λ ys. y ∷ ys) (set_itself xs i x h)
+
+  pub get_set_same : (xs : List X) (i : ℕ) (x : X) → i < length xs → slice_get (set xs i x) i ≡ Some x
+  get_set_same [] i x h = absurd (omega (arith, h))
+  get_set_same (y ∷ xs) zero x h = refl
+  get_set_same (y ∷ xs) (suc i) x h = get_set_same xs i x (omega (arith, h))
+
+  pub get_set_other : (xs : List X) (i j : ℕ) (x : X) → j ≢ i → slice_get (set xs i x) j ≡ slice_get xs j
+  get_set_other [] i j x ne = refl
+  get_set_other (y ∷ xs) zero zero x ne = absurd (ne refl)
+  get_set_other (y ∷ xs) zero (suc j) x ne = refl
+  get_set_other (y ∷ xs) (suc i) zero x ne = refl
+  get_set_other (y ∷ xs) (suc i) (suc j) x ne = get_set_other xs i j x (λ e. ne (ap suc e))
+
+  pub once_none : IsOnce {X = X} []
+  once_none i j x a b = absurd cc
+
+  pub once_tail : (x : X) (xs : List X) → IsOnce (x ∷ xs) → IsOnce xs
+  once_tail x xs once i j y a b = let e : suc i ≡ suc j = once (suc i) (suc j) y a b in omega arith
+
+  pub once_head : (x : X) (xs : List X) → IsOnce (x ∷ xs) → ¬ Contains xs x
+  once_head x xs once h =
+      let (i, is) = place_of xs x h in
+      let e : 0 ≡ suc i = once 0 (suc i) x refl is in
+      omega arith
+
+  pub once_cons : (x : X) (xs : List X) → ¬ Contains xs x → IsOnce xs → IsOnce (x ∷ xs)
+  once_cons x xs new once zero zero y a b = refl
+  once_cons x xs new once zero (suc j) y a b = absurd (let e : x ≡ y = cc in new (subst (Contains xs) (sym e) (contains_at xs j y b)))
+  once_cons x xs new once (suc i) zero y a b = absurd (let e : x ≡ y = cc in new (subst (Contains xs) (sym e) (contains_at xs i y a)))
+  once_cons x xs new once (suc i) (suc j) y a b = ap suc (once i j y a b)
+
+  pub once_append : (xs ys : List X) → IsOnce xs → IsOnce ys → ((x : X) → Contains xs x → ¬ Contains ys x) → IsOnce (xs ++ ys)
+  once_append [] ys a b apart = b
+  once_append (x ∷ xs) ys a b apart =
+      once_cons x (xs ++ ys)
+      (λ h. elim (Contains-append_cases xs ys x h) [ inl l ↦ once_head x xs a l | inr r ↦ apart x (in_here x xs) r ])
+      (once_append xs ys (once_tail x xs a) b (λ y l r. apart y (in_later x y xs l) r))
+
+  pub once_push : (xs : List X) (x : X) → IsOnce xs → ¬ Contains xs x → IsOnce (xs ++ x ∷ [])
+  once_push xs x once new =
+      once_append xs (x ∷ []) once (once_cons x [] (in_none x) once_none)
+      (λ y l r. elim (in_cons x y [] r) [ inl e ↦ new (subst (Contains xs) (sym e) l) | inr none ↦ in_none y none ])
+
+  -- a place at which x isn't taken yet
+  pub not_taken : (xs : List X) (i : ℕ) (d : X) → IsOnce xs → i < length xs → ¬ Contains (take i xs) (get_or xs i d)
+  not_taken [] i d once l h = omega (arith, l)
+  not_taken (x ∷ xs) zero d once l h = in_none x h
+  not_taken (x ∷ xs) (suc i) d once l h =
+      elim (in_cons x (get_or xs i d) (take i xs) h) [
+        | inl e ↦ once_head x xs once (subst (Contains xs) (sym e) (i, omega (arith, l), get_or_same xs i d (omega (arith, l))))
+        | inr later ↦ not_taken xs i d (once_tail x xs once) (omega (arith, l)) later
+      ]
+    where
+      get_or_same : (ys : List X) (j : ℕ) (e : X) → j < length ys → get_or ys j (get_or ys j e) ≡ get_or ys j e
+      get_or_same [] j e k = absurd (omega (arith, k))
+      get_or_same (y ∷ ys) zero e k = refl
+      get_or_same (y ∷ ys) (suc j) e k = get_or_same ys j e (omega (arith, k))
+
+  split : (xs : List X) (x : X) → Contains xs x → (l r : List X) × (xs ≡ l ++ x ∷ r)
+  split [] x h = absurd (in_none x h)
+  split (y ∷ xs) x h = elim (in_cons y x xs h) [
+    | inl e ↦ ([], xs, ap (λ z. z ∷ xs) e)
+    | inr later ↦ (let (l, r, e) = split xs x later in (y ∷ l, r, ap (λ zs. y ∷ zs) e))
+  ]
+
+  -- a member other than x stays without x
+  stays : (l r : List X) (x y : X) → x ≢ y → Contains (l ++ x ∷ r) y → Contains (l ++ r) y
+  stays l r x y ne h = elim (Contains-append_cases l (x ∷ r) y h) [
+    | inl a ↦ Contains-append_left l r y a
+    | inr b ↦ elim (in_cons x y r b) [ inl e ↦ absurd (ne e) | inr c ↦ Contains-append_right l r y c ]
+  ]
+
+  -- a list in which nothing stands twice is no longer than one that has all its members
+  pub no_longer : (es xs : List X) → IsOnce es → ((e : X) → Contains es e → Contains xs e) → length es ≤ length xs
+  no_longer [] xs once all = omega arith
+  no_longer (e ∷ es) xs once all =
+      let (l, r, is) = split xs e (all e (in_here e es)) in
+      let rest : (y : X) → Contains es y → Contains (l ++ r) y =
+      λ y h.
+      stays l r e y (λ same. once_head e es once (subst (λ z. Contains es z) (sym same) h))
+      (subst (λ zs. Contains zs y) is (all y (in_later e y es h))) in
+      omega (arith, no_longer es (l ++ r) (once_tail e es once) rest, ap length is, length-append l (e ∷ r), length-append l r)

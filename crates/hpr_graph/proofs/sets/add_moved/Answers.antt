@@ -1,0 +1,22 @@
+use Rattle.std.proofs.Common.{◌≡◌, Some, Result, Ok, Err, OnOk, sym}
+use Rattle.hpr_graph.specs.Moves.{moved}
+use Rattle.hpr_graph.proofs.Moving.{known_edges, added_edges}
+use Rattle.hpr_graph.proofs.sets.add_moved.Goals as goal
+
+pub returns-then-has_sorted-clause-edges : goal.returns-then-has_sorted-clause-edges
+returns-then-has_sorted-clause-edges c =
+    let is : moved c.args.numbers.now c.args.link ≡ Some c.in-Some.moved = sym c.in-Some.ensures in
+    known_edges c.args.source.now c.args.target.now c.args.numbers.now c.requires.placed c.args.at c.args.to c.requires.number c.args.link c.in-Some.moved is
+    ((c.requires.known c.in-Some.moved is).0 (c.has_sorted.ensures.0 c.if-has_sorted.true))
+
+on_ok : {T E : Type 0} (r : Result T E) (A B C D : Type 0) → OnOk r A → OnOk r B → OnOk r C → (A → B → C → D) → OnOk r D
+on_ok (Ok x) A B C D a b c f = f a b c
+on_ok (Err e) A B C D a b c f = tt
+
+pub returns-clause-edges : goal.returns-clause-edges
+returns-clause-edges c =
+    let is : moved c.args.numbers.now c.args.link ≡ Some c.in-Some.moved = sym c.in-Some.ensures in
+    on_ok c.push_new_link.result _ _ _ _ c.push_new_link.ensures.there c.push_new_link.ensures.kept c.push_new_link.ensures.only
+    (λ there kept only.
+    added_edges c.args.source.now c.args.target.now c.args.numbers.now c.requires.placed c.args.at c.args.to c.requires.number c.args.link c.in-Some.moved is
+    c.push_new_link.new.self c.push_new_link.ensures.vertices there kept only)

@@ -1,0 +1,22 @@
+use Rattle.std.proofs.Common.{◌↔◌, List, Contains, sym, subst}
+use Rattle.hpr_graph.specs.declared.link.Link.{Link}
+use Rattle.hpr_graph.proofs.Moving.{row_known, row_more, row_whole}
+use Rattle.hpr_graph.proofs.sets.add_row.Goals as goal
+
+pub add_moved-requires-clause-known : goal.add_moved-requires-clause-known
+add_moved-requires-clause-known c =
+    row_known c.args.source.now c.args.target.now c.args.numbers.now c.requires.placed c.args.at c.args.to c.requires.number
+    c.edges_into-link-items.result.now c.edges_into.result.now c.deref.result.now c.loop-link.link-index _ c.loop-link.target c.loop-link-test.true c.loop-link.invariant
+    c.edges_into-link-items.ensures.numbered c.edges_into.ensures.numbered c.edges_into-link-items.ensures.row c.edges_into.ensures.row c.edges_into-link-items.ensures.links
+    (λ m. subst (λ (xs : List Link). Contains xs m ↔ Contains c.edges_into.result.now m) (sym c.deref.ensures.value) (c.in_ok-known.ensures.same m))
+
+pub loop-link-preserved : goal.loop-link-preserved
+loop-link-preserved c =
+    row_more c.args.source.now c.args.target.now c.args.numbers.now c.requires.placed c.args.at c.args.to c.requires.number
+    c.edges_into-link-items.result.now c.loop-link.link-index _ c.loop-link-test.true c.loop-link.target c.loop-link.invariant c.add_moved.new.target
+    c.in_ok-add_moved.ensures.vertices c.in_ok-add_moved.ensures.edges
+
+pub returns-clause-edges : goal.returns-clause-edges
+returns-clause-edges c =
+    row_whole c.args.source.now c.args.target.now c.args.numbers.now c.requires.placed c.args.at c.args.to c.requires.number
+    c.edges_into-link-items.result.now c.loop-link.link-index c.loop-link.target c.loop-link-test.false c.loop-link.invariant c.edges_into-link-items.ensures.row

@@ -1,0 +1,9 @@
+pub mod Graphs
+pub mod Numbered
+pub mod Moves
+pub mod Twins
+pub mod ProgramGraph
+pub mod Slices
+pub mod Points
+pub mod Order
+pub mod Conflicts

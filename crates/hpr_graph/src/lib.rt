@@ -1,0 +1,25 @@
+//! Dependence graphs: a finite set of vertices and a finite set of edges, kept with dense numbers, and
+//! the definitions of the integration theory: the graph of a program, slices, affected and preserved
+//! points, the merged graph and conflicts.
+//!
+//! The graphs are the program dependence graphs of Horwitz, Prins and Reps (1989), the slices those of
+//! Reps and Yang (1988). Where our profile differs, the files of specs/ say so.
+#![tactic(auto)]
+
+mod edge;
+mod graph;
+mod link;
+mod order;
+mod same;
+mod sets;
+mod vertex;
+
+pub use edge::{Edge, Kind};
+pub use graph::Graph;
+pub use hpr_syntax::{Content, Name, NoMemory, Tag};
+pub use link::{Link, LinkKind};
+pub use order::{compare_edges, compare_vertices};
+pub use vertex::{Vertex, same_vertex};
+
+#[cfg(test)]
+mod tests;

@@ -1,0 +1,215 @@
+//! Unions and restrictions: one graph's vertices and edges put into another.
+ghost use Rattle.std.specs.Prelude.{◌≡◌, ◌↔◌, ◌⊎◌, ℕ, ◌<◌, [], length, Contains, slice_get, Some, IsSome, IsTrue, OnOk, IfOk, IfSome};
+ghost use Rattle.std.specs.List.Sorted.{IsSorted};
+ghost use Rattle.hpr_search.specs.Marks.{IsMarked};
+ghost use Rattle.hpr_graph.specs.declared.vertex.Vertex.{Vertex};
+ghost use Rattle.hpr_graph.specs.declared.edge.Edge.{Edge};
+ghost use Rattle.hpr_graph.specs.declared.link.Link.{Link};
+ghost use Rattle.hpr_graph.specs.Graphs.{Same, union_of, restrict_to};
+ghost use Rattle.hpr_graph.specs.Numbered.{HasVertex, HasLink, HasEdge, IsLink, IsNumbered, IsGrown, IsMarkedVertex, graph_in, row_of};
+ghost use Rattle.hpr_graph.specs.Moves.{HasNumber, ArePlaced, MovesLink, MovesEdge, MovesEdgeIn, moved, moved_kind, number_at};
+
+use crate::{Graph, Link, LinkKind, Vertex};
+use hpr_syntax::NoMemory;
+use std::alloc::Global;
+
+/// The vertices and the edges of both graphs.
+pub(crate) fn united(alloc: Global, a: &Graph, b: &Graph) -> Result<Graph, NoMemory>
+    ensures { IfOk result (λ g. Same (graph_in g) (union_of (graph_in a.now) (graph_in b.now))) }
+{
+    let mut graph = a.copy()?;
+    let numbers = add_vertices(alloc, &mut graph, b)?;
+    add_edges(alloc, &mut graph, b, &numbers)?;
+    Ok(graph)
+}
+
+/// The marked vertices, and the edges all of whose vertices are marked.
+pub(crate) fn restricted(alloc: Global, graph: &Graph, keep: &[bool]) -> Result<Graph, NoMemory>
+    requires numbered { IsNumbered graph.now }
+    requires marks { length keep.now ≡ length graph.now.vertices }
+    ensures { IfOk result (λ g. Same (graph_in g) (restrict_to (graph_in graph.now) (IsMarkedVertex graph.now keep.now))) }
+{
+    let mut kept = Graph::empty(alloc);
+    let numbers = push_marked(alloc, &mut kept, graph, keep)?;
+    add_edges(alloc, &mut kept, graph, &numbers)?;
+    Ok(kept)
+}
+
+/// Adds all vertices of a graph, and answers the number here of each.
+fn add_vertices(
+    alloc: Global,
+    target: &mut Graph,
+    source: &Graph,
+) -> Result<Vec<Option<usize>>, NoMemory>
+    ensures placed { IfOk result (λ ns. ArePlaced source.now.vertices ns.items target.new.vertices) }
+    ensures all { IfOk result (λ ns. (i : ℕ) → i < length source.now.vertices → HasNumber ns.items i) }
+    ensures grown { OnOk result (IsGrown target.old target.new) }
+    ensures edges { OnOk result ((e : Edge) → HasEdge target.new e ↔ HasEdge target.old e) }
+    ensures only { OnOk result ((v : Vertex) → HasVertex target.new v → HasVertex target.old v ⊎ HasVertex source.now v) }
+{
+    let mut numbers = Vec::new(alloc);
+    for vertex in source.vertices() {
+        numbers.push(Some(target.add_vertex(vertex.copy(alloc)?)?))?;
+    }
+    Ok(numbers)
+}
+
+/// Adds the marked vertices of a graph to one that has no vertex, and answers the number there of each
+/// that is marked.
+fn push_marked(
+    alloc: Global,
+    target: &mut Graph,
+    source: &Graph,
+    keep: &[bool],
+) -> Result<Vec<Option<usize>>, NoMemory>
+    requires none { target.old.vertices ≡ [] }
+    requires marks { length keep.now ≡ length source.now.vertices }
+    ensures placed { IfOk result (λ ns. ArePlaced source.now.vertices ns.items target.new.vertices) }
+    ensures marked { IfOk result (λ ns. (i : ℕ) → HasNumber ns.items i ↔ IsMarked keep.now i) }
+    ensures edges { OnOk result ((e : Edge) → HasEdge target.new e ↔ HasEdge target.old e) }
+    ensures only { OnOk result ((v : Vertex) → HasVertex target.new v → IsMarkedVertex source.now keep.now v) }
+{
+    let mut numbers = Vec::new(alloc);
+    for (at, vertex) in source.vertices().iter().enumerate() {
+        numbers.push(push_if(alloc, target, vertex, keep[at])?)?;
+    }
+    Ok(numbers)
+}
+
+/// Adds a vertex that isn't there, if it is to be kept, and answers its number.
+fn push_if(
+    alloc: Global,
+    target: &mut Graph,
+    vertex: &Vertex,
+    keep: bool,
+) -> Result<Option<usize>, NoMemory>
+    requires { ¬ HasVertex target.old vertex.now }
+    ensures number { IfOk result (λ n. IsSome n ↔ IsTrue keep) }
+    ensures there { IfOk result (λ n. IfSome n (λ j. slice_get target.new.vertices j ≡ Some vertex.now)) }
+    ensures grown { OnOk result (IsGrown target.old target.new) }
+    ensures edges { OnOk result ((e : Edge) → HasEdge target.new e ↔ HasEdge target.old e) }
+    ensures only { OnOk result ((v : Vertex) → HasVertex target.new v → HasVertex target.old v ⊎ (IsTrue keep × (v ≡ vertex.now))) }
+{
+    if keep {
+        Ok(Some(target.push_new_vertex(vertex.copy(alloc)?)?))
+    } else {
+        Ok(None)
+    }
+}
+
+/// Adds the edges all of whose vertices have numbers here.
+fn add_edges(
+    alloc: Global,
+    target: &mut Graph,
+    source: &Graph,
+    numbers: &[Option<usize>],
+) -> Result<(), NoMemory>
+    requires { ArePlaced source.now.vertices numbers.now target.old.vertices }
+    ensures vertices { OnOk result (target.new.vertices ≡ target.old.vertices) }
+    ensures edges { OnOk result ((e : Edge) → HasEdge target.new e ↔ (HasEdge target.old e ⊎ MovesEdge source.now numbers.now e)) }
+{
+    for at in 0..source.vertex_count() {
+        if let Some(to) = number_at(numbers, at) {
+            add_row(alloc, target, source, numbers, at, to)?;
+        }
+    }
+    Ok(())
+}
+
+/// Adds the edges into the vertex `at` of the source, which is `to` here, all of whose vertices have
+/// numbers here. Sorts the links that were there once, and looks each other one up among them.
+fn add_row(
+    alloc: Global,
+    target: &mut Graph,
+    source: &Graph,
+    numbers: &[Option<usize>],
+    at: usize,
+    to: usize,
+) -> Result<(), NoMemory>
+    requires placed { ArePlaced source.now.vertices numbers.now target.old.vertices }
+    requires number { number_at numbers.now at ≡ Some to }
+    ensures vertices { OnOk result (target.new.vertices ≡ target.old.vertices) }
+    ensures edges { OnOk result ((e : Edge) → HasEdge target.new e ↔ (HasEdge target.old e ⊎ MovesEdgeIn source.now numbers.now at (row_of source.now at) e)) }
+{
+    let known = sorted(alloc, target.edges_into(to))?;
+    for link in source.edges_into(at) {
+        add_moved(target, source, numbers, at, to, *link, &known)?;
+    }
+    Ok(())
+}
+
+/// Adds one of these edges. The links into the vertex `to` that are known ascend, and the link by its numbers
+/// here is among them exactly where it is there.
+fn add_moved(
+    target: &mut Graph,
+    source: &Graph,
+    numbers: &[Option<usize>],
+    at: usize,
+    to: usize,
+    link: Link,
+    known: &[Link],
+) -> Result<(), NoMemory>
+    requires placed { ArePlaced source.now.vertices numbers.now target.old.vertices }
+    requires number { number_at numbers.now at ≡ Some to }
+    requires link { IsLink source.now at link }
+    requires sorted { IsSorted ⟦<Link as Ord>⟧.cmp known.now }
+    requires known { (m : Link) → moved numbers.now link ≡ Some m → Contains known.now m ↔ HasLink target.old to m }
+    ensures vertices { target.new.vertices ≡ target.old.vertices }
+    ensures edges { OnOk result ((e : Edge) → HasEdge target.new e ↔ (HasEdge target.old e ⊎ MovesLink source.now numbers.now at link e)) }
+{
+    let Some(moved) = moved(link, numbers) else {
+        return Ok(());
+    };
+    if has_sorted(known, moved) {
+        return Ok(());
+    }
+    target.push_new_link(to, moved)
+}
+
+/// The links in ascending order.
+fn sorted(alloc: Global, row: &[Link]) -> Result<Vec<Link>, NoMemory>
+    ensures sorted { IfOk result (λ links. IsSorted ⟦<Link as Ord>⟧.cmp links.items) }
+    ensures same { IfOk result (λ links. (l : Link) → Contains links.items l ↔ Contains row.now l) }
+{
+    let mut links = row.to_vec(alloc)?;
+    links.sort_unstable();
+    Ok(links)
+}
+
+/// Whether the link is one of these, which ascend.
+fn has_sorted(links: &[Link], link: Link) -> bool
+    requires { IsSorted ⟦<Link as Ord>⟧.cmp links.now }
+    ensures { IsTrue result ↔ Contains links.now link }
+{
+    links.binary_search(&link).is_ok()
+}
+
+/// The link by the numbers here, or none where one of its vertices has none.
+fn moved(link: Link, numbers: &[Option<usize>]) -> Option<Link>
+    ensures { result ≡ moved numbers.now link }
+{
+    let from = number_at(numbers, link.from)?;
+    let kind = moved_kind(link.kind, numbers)?;
+    Some(Link { from, kind })
+}
+
+fn moved_kind(kind: LinkKind, numbers: &[Option<usize>]) -> Option<LinkKind>
+    ensures { result ≡ moved_kind numbers.now kind }
+{
+    match kind {
+        LinkKind::Control(label) => Some(LinkKind::Control(label)),
+        LinkKind::Independent => Some(LinkKind::Independent),
+        LinkKind::Carried(w) => Some(LinkKind::Carried(number_at(numbers, w)?)),
+        LinkKind::Order(u) => Some(LinkKind::Order(number_at(numbers, u)?)),
+    }
+}
+
+fn number_at(numbers: &[Option<usize>], at: usize) -> Option<usize>
+    ensures { result ≡ number_at numbers.now at }
+{
+    if at < numbers.len() {
+        numbers[at]
+    } else {
+        None
+    }
+}

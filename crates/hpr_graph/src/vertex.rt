@@ -1,0 +1,63 @@
+//! The vertices of a dependence graph.
+ghost use Rattle.std.specs.Prelude.{◌≡◌, ◌↔◌, IfOk, IsTrue};
+ghost use Rattle.std.specs.Option.{option_copied};
+ghost use Rattle.hpr_graph.specs.Graphs.{name_of};
+
+use hpr_syntax::{Content, Name, NoMemory, Tag, same_content};
+use std::alloc::Global;
+
+/// A vertex of a dependence graph (Horwitz, Prins and Reps 1989). A part whose content changed under a kept
+/// tag is another vertex.
+///
+/// Vertices compare by the declared order of variants and fields.
+#[derive(Debug, PartialEq, Eq, PartialOrd, Ord, Drop)]
+pub enum Vertex {
+    /// Where the program begins.
+    Entry,
+    /// The value that a name has before the program.
+    Init(Name),
+    /// An assignment, or the predicate of a conditional or a loop.
+    Part(Tag, Content),
+    /// The value of a name after the program.
+    Final(Name),
+}
+
+impl Vertex {
+    /// The name that the vertex defines: that of an Init vertex, or the one that is assigned.
+    pub fn defines(&self) -> Option<&Name>
+        ensures { option_copied result ≡ name_of self.now }
+    {
+        match self {
+            Vertex::Init(name) => Some(name),
+            Vertex::Part(_, Content::Assign(name, _)) => Some(name),
+            _ => None,
+        }
+    }
+
+    /// A copy.
+    pub fn copy(&self, alloc: Global) -> Result<Vertex, NoMemory>
+        ensures { IfOk result (λ v. v ≡ self.now) }
+    {
+        match self {
+            Vertex::Entry => Ok(Vertex::Entry),
+            Vertex::Init(name) => Ok(Vertex::Init(name.copy(alloc)?)),
+            Vertex::Part(tag, content) => Ok(Vertex::Part(*tag, content.copy(alloc)?)),
+            Vertex::Final(name) => Ok(Vertex::Final(name.copy(alloc)?)),
+        }
+    }
+}
+
+/// Whether two vertices are the same.
+pub fn same_vertex(a: &Vertex, b: &Vertex) -> bool
+    ensures { IsTrue result ↔ (a.now ≡ b.now) }
+{
+    match (a, b) {
+        (Vertex::Entry, Vertex::Entry) => true,
+        (Vertex::Init(name), Vertex::Init(other)) => name.is_same(other),
+        (Vertex::Part(tag, content), Vertex::Part(other_tag, other)) => {
+            tag == other_tag && same_content(content, other)
+        }
+        (Vertex::Final(name), Vertex::Final(other)) => name.is_same(other),
+        _ => false,
+    }
+}
