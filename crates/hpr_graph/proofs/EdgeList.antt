@@ -11,10 +11,7 @@ use Rattle.hpr_graph.specs.declared.link.LinkKind.TheVariants.{Control, Independ
 use Rattle.hpr_graph.specs.declared.link.Link.{Link}
 use Rattle.hpr_graph.specs.Graphs.{IsOnce, HasEdges}
 use Rattle.hpr_graph.specs.Numbered.{Numbered, IsKindAt, IsEdgeAt, HasLink, HasEdge, IsNumbered, row_items, graph_in, link_count}
-use Rattle.hpr_graph.proofs.Lists.{in_none, in_cons, in_here, in_later, once_none, once_tail, once_head, once_cons, once_append}
-
-some_inj : {X : Type 0} (x y : X) → Some x ≡ Some y → x ≡ y
-some_inj x y e = cc
+use Rattle.hpr_graph.proofs.Lists.{some_inj, in_none, in_cons, in_here, in_later, once_none, once_tail, once_head, once_cons, once_append}
 
 -- a link is one edge
 kind_one : (vs : List Vertex) (k : LinkKind) (v : Vertex) (e f : Kind) → IsKindAt vs k v e → IsKindAt vs k v f → e ≡ f

@@ -13,7 +13,7 @@ use Rattle.hpr_graph.specs.declared.link.Link.{Link}
 use Rattle.hpr_graph.specs.Graphs.{IsOnce, Same, OnThird, HasVertices, union_of, restrict_to}
 use Rattle.hpr_graph.specs.Numbered.{Numbered, HasVertex, HasEdge, IsKindAt, IsGrown, IsMarkedVertex, graph_in, row_items}
 use Rattle.hpr_graph.specs.Moves.{number_at, HasNumber, moved_kind, IsMoved, ArePlaced, MovesEdge}
-use Rattle.hpr_graph.proofs.Lists.{contains_at, place_of, in_none}
+use Rattle.hpr_graph.proofs.Lists.{some_of, contains_at, place_of, in_none}
 
 is_mapped : {X Y : Type 0} (f : X → Y) (o : Option X) → IsSome (option_map f o) ↔ IsSome o
 is_mapped f None = (λ h. absurd cc, λ h. absurd cc)
@@ -64,7 +64,7 @@ restricted_same g keep ns empty placed whole once none are_placed marked begun o
             (let (i, at, m) = only v (subst (λ (vs : List Vertex). Contains vs v) same h) in
             (contains_at g.vertices i v at, (i, at, m))),
         λ (h, (i, at, m)).
-            (let (j, number) = some_is (number_at ns i) ((marked i).1 m) in
+            (let (j, number) = some_of (number_at ns i) ((marked i).1 m) in
             let (x, here, there) = are_placed i j number in
             let is_v : Some x ≡ Some v = sym here ∙ at in
             subst (λ (vs : List Vertex). Contains vs v) (sym same) (contains_at placed.vertices j v (there ∙ is_v))),
@@ -77,10 +77,6 @@ restricted_same g keep ns empty placed whole once none are_placed marked begun o
         λ h. (moved_in e).1 (inr ((moved_edges g ns (IsMarkedVertex g keep) numbers e).1 h)),
       ),
     )
-  where
-    some_is : (o : Option ℕ) → IsSome o → (j : ℕ) × (o ≡ Some j)
-    some_is None h = absurd cc
-    some_is (Some j) h = (j, refl)
 
 third_all : (e : Kind) → OnThird (λ v. Unit {0}) e
 third_all (kind.Control label) = tt
@@ -101,7 +97,7 @@ united_same a b ns placed whole are_placed all grown begun only same moved_in =
           | inl in_a ↦ (let (i, at) = place_of a.vertices v in_a in contains_at placed.vertices i v (grown.vertices i v at))
           | inr in_b ↦
               (let (i, at) = place_of b.vertices v in_b in
-              let (j, number) = some_is (number_at ns i) (all i (slice_get_within b.vertices i v at)) in
+              let (j, number) = some_of (number_at ns i) (all i (slice_get_within b.vertices i v at)) in
               let (x, here, there) = are_placed i j number in
               let is_v : Some x ≡ Some v = sym here ∙ at in
               contains_at placed.vertices j v (there ∙ is_v))
@@ -115,7 +111,3 @@ united_same a b ns placed whole are_placed all grown begun only same moved_in =
         ],
       ),
     )
-  where
-    some_is : (o : Option ℕ) → IsSome o → (j : ℕ) × (o ≡ Some j)
-    some_is None h = absurd cc
-    some_is (Some j) h = (j, refl)

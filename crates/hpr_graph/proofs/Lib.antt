@@ -1,7 +1,7 @@
 mod Lists
 mod Rows
 mod Numbers
-mod EdgeList
+pub mod EdgeList
 mod LinkOrder
 mod Orders
 pub mod Laws
@@ -10,3 +10,7 @@ mod Placed
 mod Joined
 mod Twinned
 mod Linked
+mod Ascending
+mod VertexOrder
+pub mod InOrder
+mod Reordered

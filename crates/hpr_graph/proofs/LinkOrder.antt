@@ -39,7 +39,7 @@ kind_equal (Carried w) (Carried x) e = ap Carried (nat_equal w x e)
 kind_equal (Order u) (Order v) e = ap Order (nat_equal u v e)
 kind_equal _ _ e = absurd cc
 
-link_equal : (l m : Link) → link_cmp l m ≡ Equal → l ≡ m
+pub link_equal : (l m : Link) → link_cmp l m ≡ Equal → l ≡ m
 link_equal l m e =
     let (from, kind) = then_equal (nat_cmp l.from m.from) ((kinds.ghosts).cmp l.kind m.kind) e in
     let a : l.from ≡ m.from = nat_equal l.from m.from from in

@@ -1,24 +1,16 @@
 -- Which links are edges.
-use Rattle.std.proofs.Common.{◌≡◌, ℕ, ◌<◌, ◌↔◌, Bool, true, Option, Some, None, IsSome, IsTrue, nat_lt, List, length, slice_get, refl, sym, ◌∙◌, subst}
+use Rattle.std.proofs.Common.{◌≡◌, ℕ, ◌<◌, ◌↔◌, Bool, true, Some, IsSome, IsTrue, nat_lt, List, length, slice_get, refl, sym, ◌∙◌, subst}
 use Rattle.std.proofs.lemmas.Bool.{ltb-true, lt-ltb}
 use Rattle.std.proofs.lemmas.Option.{slice_get_within}
 use Rattle.hpr_graph.specs.declared.vertex.Vertex.{Vertex}
 use Rattle.hpr_graph.specs.declared.edge.Kind.{Kind}
 use Rattle.hpr_graph.specs.declared.edge.Kind.TheVariants as kind
 use Rattle.hpr_graph.specs.declared.edge.Edge.{Edge}
-use Rattle.hpr_graph.specs.declared.link.LinkKind.{LinkKind}
 use Rattle.hpr_graph.specs.declared.link.LinkKind.TheVariants.{Control, Independent, Carried, Order}
 use Rattle.hpr_graph.specs.declared.link.Link.{Link}
 use Rattle.hpr_graph.specs.Graphs.{name_of}
 use Rattle.hpr_graph.specs.Numbered.{IsKindAt, IsEdgeAt}
-use Rattle.hpr_graph.proofs.Lists.{item_at}
-
-some_of : {X : Type 0} (o : Option X) → IsSome o → (x : X) × (o ≡ Some x)
-some_of None h = absurd cc
-some_of (Some x) h = (x, refl)
-
-is_some : {X : Type 0} (o : Option X) (x : X) → o ≡ Some x → IsSome o
-is_some {X = X} o x e = subst (λ (p : Option X). IsSome p) (sym e) refl
+use Rattle.hpr_graph.proofs.Lists.{some_of, is_some_at, item_at}
 
 module _ (vs : List Vertex) (from : Vertex) where
   pub control_kind : (label : Bool) → IsTrue true ↔ ((k : Kind) × IsKindAt vs (Control label) from k)
@@ -27,7 +19,7 @@ module _ (vs : List Vertex) (from : Vertex) where
   pub independent_kind : IsSome (name_of from) ↔ ((k : Kind) × IsKindAt vs Independent from k)
   independent_kind = (
     λ h. (let (x, is) = some_of (name_of from) h in (kind.Independent x, (x, is, refl))),
-    λ (k, (x, is, same)). is_some (name_of from) x is,
+    λ (k, (x, is, same)). is_some_at (name_of from) x is,
   )
 
   pub carried_kind : (w : ℕ) → IsSome (name_of from) → IsTrue (nat_lt w (length vs)) ↔ ((k : Kind) × IsKindAt vs (Carried w) from k)

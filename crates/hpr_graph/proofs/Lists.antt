@@ -1,11 +1,21 @@
--- Members and places of lists, and lists in which nothing stands twice.
-use Rattle.std.proofs.Common.{◌≡◌, ◌≢◌, ℕ, zero, suc, ◌+◌, ◌<◌, ◌≤◌, ◌↔◌, ◌⊎◌, inl, inr, Some, List, [], ◌∷◌, ◌++◌, length, set, take, get_or, Contains, slice_get, refl, sym, ap, ◌∙◌, subst, arith, length-append}
+-- What an option holds, members and places of lists, and lists in which nothing stands twice.
+use Rattle.std.proofs.Common.{◌≡◌, ◌≢◌, ℕ, zero, suc, ◌+◌, ◌<◌, ◌≤◌, ◌↔◌, ◌⊎◌, inl, inr, Option, Some, None, IsSome, List, [], ◌∷◌, ◌++◌, length, set, take, get_or, Contains, slice_get, refl, sym, ap, ◌∙◌, subst, arith, length-append}
 use Rattle.std.proofs.lemmas.Option.{slice_get-get_or, get_or_from_slice_get, slice_get_within}
 use Rattle.std.proofs.lemmas.List.{take_more}
 use Rattle.std.proofs.lemmas.List.Elements.{Contains-push, Contains-push_cases, Contains-append_left, Contains-append_right, Contains-append_cases}
 use Rattle.hpr_graph.specs.Graphs.{IsOnce}
 
 module _ {X : Type 0} where
+  pub some_inj : (x y : X) → Some x ≡ Some y → x ≡ y
+  some_inj x y e = cc
+
+  pub some_of : (o : Option X) → IsSome o → (x : X) × (o ≡ Some x)
+  some_of None h = absurd cc
+  some_of (Some x) h = (x, refl)
+
+  pub is_some_at : (o : Option X) (x : X) → o ≡ Some x → IsSome o
+  is_some_at o x e = subst (λ (p : Option X). IsSome p) (sym e) refl
+
   pub contains_at : (xs : List X) (i : ℕ) (x : X) → slice_get xs i ≡ Some x → Contains xs x
   contains_at xs i x h = (i, slice_get_within xs i x h, get_or_from_slice_get xs i x x h)
 

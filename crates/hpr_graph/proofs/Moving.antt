@@ -1,5 +1,5 @@
 -- Links put into another graph under its numbers: they are the same edges there.
-use Rattle.std.proofs.Common.{◌≡◌, ℕ, ◌+◌, ◌<◌, ◌≤◌, ◌↔◌, ◌⊎◌, inl, inr, Option, Some, None, IsSome, List, [], length, get_or, take, Contains, slice_get, refl, sym, ap, ◌∙◌, subst, arith}
+use Rattle.std.proofs.Common.{◌≡◌, ℕ, ◌+◌, ◌<◌, ◌≤◌, ◌↔◌, ◌⊎◌, inl, inr, Option, Some, None, List, [], length, get_or, take, Contains, slice_get, refl, sym, ap, ◌∙◌, subst, arith}
 use Rattle.std.specs.Option.{option_map, option_and_then}
 use Rattle.std.proofs.lemmas.Bool.{cases_eq}
 use Rattle.std.proofs.lemmas.List.{take_all}
@@ -14,15 +14,9 @@ use Rattle.hpr_graph.specs.declared.link.Link.{Link}
 use Rattle.hpr_graph.specs.Graphs.{IsOnce}
 use Rattle.hpr_graph.specs.Numbered.{Numbered, IsKindAt, IsEdgeAt, HasLink, HasEdge, IsLink, IsNumbered, row_of, row_items}
 use Rattle.hpr_graph.specs.Moves.{number_at, moved_kind, moved, ArePlaced, MovesLink, MovesEdge, MovesEdgeBelow, MovesEdgeIn}
-use Rattle.hpr_graph.proofs.Lists.{in_none, in_taken, not_taken}
+use Rattle.hpr_graph.proofs.Lists.{some_inj, some_of, is_some_at, in_none, in_taken, not_taken}
 use Rattle.hpr_graph.proofs.EdgeList.{link_once, edge_link}
 use Rattle.hpr_graph.proofs.Laws.{link_edges}
-
-some_inj : {X : Type 0} (x y : X) → Some x ≡ Some y → x ≡ y
-some_inj x y e = cc
-
-pub is_some : {X : Type 0} (o : Option X) (x : X) → o ≡ Some x → IsSome o
-is_some {X = X} o x e = subst (λ (p : Option X). IsSome p) (sym e) refl
 
 map_parts : (f : ℕ → LinkKind) (o : Option ℕ) (m : LinkKind) → option_map f o ≡ Some m → (j : ℕ) × (o ≡ Some j) × (f j ≡ m)
 map_parts f None m e = absurd cc
@@ -87,7 +81,7 @@ module _ (source old : Numbered) (ns : List (Option ℕ)) (placed : ArePlaced so
     moved_link (e, h) = (e, (edge_there e).0 h)
 
     moves : (e : Edge) → IsEdgeAt source.vertices at l e → MovesLink source ns at l e
-    moves e h = (is_some (number_at ns at) to number, is_some (moved ns l) m is, h)
+    moves e h = (is_some_at (number_at ns at) to number, is_some_at (moved ns l) m is, h)
 
     -- a link that is there adds nothing
     pub known_edges : HasLink old to m → (e : Edge) → HasEdge old e ↔ (HasEdge old e ⊎ MovesLink source ns at l e)
@@ -204,13 +198,12 @@ module _ (source : Numbered) (ns : List (Option ℕ)) (old : Numbered) where
       λ h. inl h,
       λ h. elim h [
         | inl was ↦ was
-        | inr (l, has, (n, mo, is)) ↦ absurd (let some : IsSome (number_at ns at) = n in some_none (number_at ns at) some none)
+        | inr (l, has, (n, mo, is)) ↦ absurd (let (j, some) = some_of (number_at ns at) n in some_none j (sym some ∙ none))
       ],
     ))
       where
-        some_none : (o : Option ℕ) → IsSome o → o ≡ None → ⊥
-        some_none None s e = cc
-        some_none (Some x) s e = cc
+        some_none : (j : ℕ) → ¬ (Some j ≡ None)
+        some_none j e = cc
 
   -- all rows
   pub rows_whole : (new : Numbered) (n : ℕ) → RowsMoved source ns old new n → length source.vertices ≤ n → (e : Edge) → HasEdge new e ↔ (HasEdge old e ⊎ MovesEdge source ns e)

@@ -7,3 +7,4 @@ pub mod Slices
 pub mod Points
 pub mod Order
 pub mod Conflicts
+pub mod InOrder

@@ -5,12 +5,15 @@ ghost use Rattle.hpr_graph.specs.declared.edge.Kind.{Kind};
 ghost use Rattle.hpr_graph.specs.declared.edge.Edge.{Edge};
 ghost use Rattle.hpr_graph.specs.declared.link.Link.{Link};
 ghost use Rattle.hpr_graph.specs.Graphs.{HasEdges, Same, name_of, union_of, restrict_to};
-ghost use Rattle.hpr_graph.specs.Numbered.{HasVertex, HasLink, HasEdge, IsKindAt, IsEdgeAt, IsLink, IsNumbered, IsGrown, IsMarkedVertex, graph_in, link_count, rows_of};
+ghost use Rattle.hpr_graph.specs.Numbered.{HasVertex, HasLink, HasEdge, IsKindAt, IsEdgeAt, IsLink, IsNumbered, IsGrown, IsMarkedVertex, graph_in, link_count, row_items, rows_of};
 ghost use Rattle.hpr_graph.specs.Moves.{with_link, with_row};
+ghost use Rattle.hpr_graph.specs.InOrder.{AreVerticesOf, RowsAscend};
+ghost use Rattle.std.specs.List.Sorted.{IsSorted, IsPermutation};
 
+use crate::ordered::{edge_at, ordered};
 use crate::same::is_within;
 use crate::sets::{restricted, united};
-use crate::{Link, LinkKind, Vertex, same_vertex};
+use crate::{Edge, Link, LinkKind, Vertex, same_vertex};
 use hpr_syntax::NoMemory;
 use std::alloc::Global;
 use std::marker::Model;
@@ -213,6 +216,33 @@ impl Graph {
         restricted(self.alloc, self, keep)
     }
 
+    /// The same graph with its vertices numbered in their order, and the edges into each in the order of
+    /// their links, which is that of the edges.
+    pub fn in_order(&self) -> Result<Graph, NoMemory>
+        ensures same { IfOk result (λ g. Same (graph_in g) (graph_in self.now)) }
+        ensures vertices { IfOk result (λ g. AreVerticesOf (graph_in self.now) g.vertices) }
+        ensures rows { IfOk result (λ g. RowsAscend ⟦<Link as Ord>⟧.cmp g) }
+    {
+        ordered(self.alloc, self)
+    }
+
+    /// The edge that a link into the vertex with the number `to` is; `is_link` says which links are edges.
+    pub fn edge(&self, to: usize, link: Link) -> Result<Edge, NoMemory>
+        requires { IsLink self.now to link }
+        ensures { IfOk result (λ e. IsEdgeAt self.now.vertices to link e) }
+    {
+        edge_at(self.alloc, &self.vertices, to, link)
+    }
+
+    /// Puts the edges into each vertex in the order of their links.
+    pub(crate) fn sort_rows(&mut self)
+        ensures vertices { self.new.vertices ≡ self.old.vertices }
+        ensures links { (at : ℕ) (l : Link) → HasLink self.new at l ↔ HasLink self.old at l }
+        ensures rows { RowsAscend ⟦<Link as Ord>⟧.cmp self.new }
+    {
+        sort_rows(&mut self.links);
+    }
+
     /// Whether the graphs have the same vertices and the same edges, whatever their numbers. Takes no
     /// memory, and may look at each pair of vertices and at each pair of edges into one vertex.
     pub fn same(&self, other: &Graph) -> bool
@@ -301,7 +331,7 @@ fn number_in(vertices: &[Vertex], vertex: &Vertex) -> Option<usize>
     None
 }
 
-fn copy_vertices(alloc: Global, vertices: &[Vertex]) -> Result<Vec<Vertex>, NoMemory>
+pub(crate) fn copy_vertices(alloc: Global, vertices: &[Vertex]) -> Result<Vec<Vertex>, NoMemory>
     ensures { IfOk result (λ v. v.items ≡ vertices.now) }
 {
     let mut copies = Vec::new(alloc);
@@ -309,6 +339,17 @@ fn copy_vertices(alloc: Global, vertices: &[Vertex]) -> Result<Vec<Vertex>, NoMe
         copies.push(vertex.copy(alloc)?)?;
     }
     Ok(copies)
+}
+
+/// Puts each row in ascending order.
+fn sort_rows(rows: &mut Vec<Vec<Link>>)
+    ensures count { length rows.new.items ≡ length rows.old.items }
+    ensures same { (at : ℕ) → IsPermutation (row_items (slice_get (rows_of rows.old.items) at)) (row_items (slice_get (rows_of rows.new.items) at)) }
+    ensures sorted { (at : ℕ) → IsSorted ⟦<Link as Ord>⟧.cmp (row_items (slice_get (rows_of rows.new.items) at)) }
+{
+    for row in rows.iter_mut() {
+        row.sort_unstable();
+    }
 }
 
 fn copy_rows(alloc: Global, rows: &[Vec<Link>]) -> Result<Vec<Vec<Link>>, NoMemory>

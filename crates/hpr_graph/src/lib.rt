@@ -10,6 +10,7 @@ mod edge;
 mod graph;
 mod link;
 mod order;
+mod ordered;
 mod same;
 mod sets;
 mod vertex;
@@ -21,5 +22,7 @@ pub use link::{Link, LinkKind};
 pub use order::{compare_edges, compare_vertices};
 pub use vertex::{Vertex, same_vertex};
 
+#[cfg(test)]
+mod order_tests;
 #[cfg(test)]
 mod tests;

@@ -98,7 +98,7 @@ fn push_if(
 }
 
 /// Adds the edges all of whose vertices have numbers here.
-fn add_edges(
+pub(crate) fn add_edges(
     alloc: Global,
     target: &mut Graph,
     source: &Graph,

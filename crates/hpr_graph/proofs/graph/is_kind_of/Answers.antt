@@ -1,5 +1,3 @@
-use Rattle.std.proofs.Common.{◌≡◌, ◌↔◌, Bool, IsTrue, IsSome}
-use Rattle.hpr_graph.specs.Graphs.{name_of}
 use Rattle.hpr_graph.proofs.Linked.{control_kind, independent_kind, carried_kind, order_kind}
 use Rattle.hpr_graph.proofs.graph.is_kind_of.Goals as goal
 

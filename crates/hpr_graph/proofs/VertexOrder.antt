@@ -1,0 +1,73 @@
+-- The orders of vertices, of edges and of links are total, and what ties is the same.
+use Rattle.std.proofs.Common.{◌≡◌, ℕ, List, [], refl, ap, ap₂}
+use Rattle.std.specs.Cmp.{IsTotalOrder, tied_itself}
+use Rattle.std.specs.FinMap.{nat_cmp-IsAntisymmetric, slice_cmp-IsAntisymmetric}
+use Rattle.std.specs.Ordering.{nat_cmp, ordering_then}
+use Rattle.std.specs.declared.cmp.Ordering.{Ordering}
+use Rattle.std.specs.declared.cmp.Ordering.TheVariants.{Less, Equal, Greater}
+use Rattle.hpr_terms.specs.declared.tag.Tag.{Tag}
+use Rattle.hpr_terms.specs.declared.expr.Expr.{Expr}
+use Rattle.hpr_terms.specs.Term.{code_of}
+use Rattle.hpr_terms.specs.TermOf.{term_of}
+use Rattle.hpr_terms.specs.ExprCode.{expr_inj}
+use Rattle.hpr_syntax.specs.declared.rows.Content.{Content}
+use Rattle.hpr_syntax.specs.declared.rows.Content.TheVariants.{Assign, If, While}
+use Rattle.hpr_graph.specs.declared.vertex.Vertex.{Vertex}
+use Rattle.hpr_graph.specs.declared.vertex.Vertex.TheVariants.{Entry, Init, Part, Final}
+use Rattle.hpr_graph.specs.contracts.vertex.VertexOrd.TheImpl as vertices
+use Rattle.hpr_graph.specs.contracts.vertex.VertexOrd.TheImpl.Laws as vertex_laws
+use Rattle.hpr_graph.specs.contracts.edge.EdgeOrd.TheImpl as edges
+use Rattle.hpr_graph.specs.contracts.edge.EdgeOrd.TheImpl.Laws as edge_laws
+use Rattle.hpr_graph.specs.Order.{name_cmp, tag_cmp, expr_cmp, content_cmp, vertex_cmp, edge_cmp}
+use Rattle.hpr_graph.proofs.Ascending.{Never, never_both, total_by}
+use Rattle.hpr_graph.proofs.Orders.{vertex_order, edge_order}
+
+pub vertex_total : IsTotalOrder vertex_cmp
+vertex_total = total_by (vertices.ghosts).cmp vertex_cmp vertex_order vertex_laws.total-law
+
+pub edge_total : IsTotalOrder edge_cmp
+edge_total = total_by (edges.ghosts).cmp edge_cmp edge_order edge_laws.total-law
+
+pub vertex_never : Never vertex_cmp
+vertex_never = never_both vertex_cmp vertex_total
+
+pub edge_never : Never edge_cmp
+edge_never = never_both edge_cmp edge_total
+
+pub vertex_itself : (v : Vertex) → vertex_cmp v v ≡ Equal
+vertex_itself v = tied_itself vertex_total v
+
+then_equal : (a b : Ordering) → ordering_then a b ≡ Equal → (a ≡ Equal) × (b ≡ Equal)
+then_equal Equal b e = (refl, e)
+then_equal Less b e = absurd cc
+then_equal Greater b e = absurd cc
+
+name_tied : (x y : List ℕ) → name_cmp x y ≡ Equal → x ≡ y
+name_tied = slice_cmp-IsAntisymmetric nat_cmp-IsAntisymmetric
+
+tag_tied : (s t : Tag) → tag_cmp s t ≡ Equal → s ≡ t
+tag_tied s t e =
+    let (author, serial) = then_equal (nat_cmp s.author t.author) (nat_cmp s.serial t.serial) e in
+    let a : s.author ≡ t.author = nat_cmp-IsAntisymmetric s.author t.author author in
+    let b : s.serial ≡ t.serial = nat_cmp-IsAntisymmetric s.serial t.serial serial in
+    (λ i. record { author = a i; serial = b i })
+
+expr_tied : (e f : Expr) → expr_cmp e f ≡ Equal → e ≡ f
+expr_tied e f h = (expr_inj e f [] [] (name_tied (code_of (term_of e)) (code_of (term_of f)) h)).0
+
+content_tied : (c d : Content) → content_cmp c d ≡ Equal → c ≡ d
+content_tied (Assign x e) (Assign y f) h =
+    let (name, expr) = then_equal (name_cmp x y) (expr_cmp e f) h in
+    ap₂ (λ (z : List ℕ) (g : Expr). Assign z g) (name_tied x y name) (expr_tied e f expr)
+content_tied (If e) (If f) h = ap (λ (g : Expr). If g) (expr_tied e f h)
+content_tied (While e) (While f) h = ap (λ (g : Expr). While g) (expr_tied e f h)
+content_tied _ _ h = absurd cc
+
+pub vertex_tied : (v w : Vertex) → vertex_cmp v w ≡ Equal → v ≡ w
+vertex_tied Entry Entry h = refl
+vertex_tied (Init x) (Init y) h = ap (λ (z : List ℕ). Init z) (name_tied x y h)
+vertex_tied (Part s c) (Part t d) h =
+    let (tag, content) = then_equal (tag_cmp s t) (content_cmp c d) h in
+    ap₂ (λ (r : Tag) (k : Content). Part r k) (tag_tied s t tag) (content_tied c d content)
+vertex_tied (Final x) (Final y) h = ap (λ (z : List ℕ). Final z) (name_tied x y h)
+vertex_tied _ _ h = absurd cc

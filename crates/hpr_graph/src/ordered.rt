@@ -1,0 +1,132 @@
+//! A graph put in its order, and a link as its edge.
+ghost use Rattle.std.specs.Prelude.{◌≡◌, ◌↔◌, ℕ, ◌<◌, length, Contains, slice_get, Some, IsSome, IfOk, IfSome};
+ghost use Rattle.hpr_graph.specs.declared.vertex.Vertex.{Vertex};
+ghost use Rattle.hpr_graph.specs.declared.edge.Kind.{Kind};
+ghost use Rattle.hpr_graph.specs.declared.edge.Edge.{Edge};
+ghost use Rattle.hpr_graph.specs.Graphs.{IsOnce, Same, name_of};
+ghost use Rattle.hpr_graph.specs.Numbered.{HasEdge, IsKindAt, IsEdgeAt, IsNumbered, graph_in};
+ghost use Rattle.hpr_graph.specs.Moves.{HasNumber, ArePlaced};
+ghost use Rattle.hpr_graph.specs.Order.{vertex_cmp};
+ghost use Rattle.hpr_graph.specs.InOrder.{Ascends, AreVerticesOf, RowsAscend};
+
+use crate::graph::copy_vertices;
+use crate::sets::add_edges;
+use crate::{Edge, Graph, Kind, Link, LinkKind, Vertex};
+use hpr_syntax::{Name, NoMemory};
+use std::alloc::Global;
+
+/// The same graph with its vertices numbered in their order, and the edges into each in theirs.
+pub(crate) fn ordered(alloc: Global, graph: &Graph) -> Result<Graph, NoMemory>
+    requires { IsNumbered graph.now }
+    ensures same { IfOk result (λ g. Same (graph_in g) (graph_in graph.now)) }
+    ensures vertices { IfOk result (λ g. AreVerticesOf (graph_in graph.now) g.vertices) }
+    ensures rows { IfOk result (λ g. RowsAscend ⟦<Link as Ord>⟧.cmp g) }
+{
+    let vertices = sorted_vertices(alloc, graph.vertices())?;
+    let mut target = graph_of(alloc, &vertices)?;
+    let numbers = numbers_among(alloc, graph.vertices(), &vertices)?;
+    add_edges(alloc, &mut target, graph, &numbers)?;
+    target.sort_rows();
+    Ok(target)
+}
+
+/// Copies of the vertices, in ascending order.
+fn sorted_vertices(alloc: Global, vertices: &[Vertex]) -> Result<Vec<Vertex>, NoMemory>
+    requires { IsOnce vertices.now }
+    ensures ascend { IfOk result (λ v. Ascends vertex_cmp v.items) }
+    ensures same { IfOk result (λ v. (x : Vertex) → Contains v.items x ↔ Contains vertices.now x) }
+{
+    let mut copies = copy_vertices(alloc, vertices)?;
+    copies.sort_unstable();
+    Ok(copies)
+}
+
+/// The graph with these vertices, which ascend, and no edge.
+fn graph_of(alloc: Global, vertices: &[Vertex]) -> Result<Graph, NoMemory>
+    requires { Ascends vertex_cmp vertices.now }
+    ensures vertices { IfOk result (λ g. g.vertices ≡ vertices.now) }
+    ensures edges { IfOk result (λ g. (e : Edge) → ¬ HasEdge g e) }
+{
+    let mut graph = Graph::empty(alloc);
+    for vertex in vertices {
+        graph.push_new_vertex(vertex.copy(alloc)?)?;
+    }
+    Ok(graph)
+}
+
+/// The number of each vertex among those that ascend.
+fn numbers_among(
+    alloc: Global,
+    vertices: &[Vertex],
+    ascending: &[Vertex],
+) -> Result<Vec<Option<usize>>, NoMemory>
+    requires ascend { Ascends vertex_cmp ascending.now }
+    requires all { (x : Vertex) → Contains vertices.now x → Contains ascending.now x }
+    ensures placed { IfOk result (λ ns. ArePlaced vertices.now ns.items ascending.now) }
+    ensures all { IfOk result (λ ns. (i : ℕ) → i < length vertices.now → HasNumber ns.items i) }
+{
+    let mut numbers = Vec::new(alloc);
+    for vertex in vertices {
+        numbers.push(number_among(vertex, ascending))?;
+    }
+    Ok(numbers)
+}
+
+/// The place of a vertex among those that ascend.
+fn number_among(vertex: &Vertex, ascending: &[Vertex]) -> Option<usize>
+    requires { Ascends vertex_cmp ascending.now }
+    ensures found { IfSome result (λ n. slice_get ascending.now n ≡ Some vertex.now) }
+    ensures there { Contains ascending.now vertex.now → IsSome result }
+{
+    ascending.binary_search(vertex).ok()
+}
+
+/// The edge that a link into the vertex with the number `to` is.
+pub(crate) fn edge_at(
+    alloc: Global,
+    vertices: &[Vertex],
+    to: usize,
+    link: Link,
+) -> Result<Edge, NoMemory>
+    requires { (e : Edge) × IsEdgeAt vertices.now to link e }
+    ensures { IfOk result (λ e. IsEdgeAt vertices.now to link e) }
+{
+    let from = &vertices[link.from];
+    Ok(Edge {
+        to: vertices[to].copy(alloc)?,
+        from: from.copy(alloc)?,
+        kind: kind_at(alloc, vertices, from, link.kind)?,
+    })
+}
+
+/// The kind of an edge from this vertex.
+fn kind_at(
+    alloc: Global,
+    vertices: &[Vertex],
+    from: &Vertex,
+    kind: LinkKind,
+) -> Result<Kind, NoMemory>
+    requires { (k : Kind) × IsKindAt vertices.now kind from.now k }
+    ensures { IfOk result (λ k. IsKindAt vertices.now kind from.now k) }
+{
+    match kind {
+        LinkKind::Control(label) => Ok(Kind::Control(label)),
+        LinkKind::Independent => Ok(Kind::Independent(name_from(alloc, from)?)),
+        LinkKind::Carried(w) => {
+            let name = name_from(alloc, from)?;
+            Ok(Kind::Carried(name, vertices[w].copy(alloc)?))
+        }
+        LinkKind::Order(u) => Ok(Kind::Order(vertices[u].copy(alloc)?)),
+    }
+}
+
+/// A copy of the name that the vertex defines.
+fn name_from(alloc: Global, vertex: &Vertex) -> Result<Name, NoMemory>
+    requires { IsSome (name_of vertex.now) }
+    ensures { IfOk result (λ x. name_of vertex.now ≡ Some x) }
+{
+    match vertex.defines() {
+        Some(name) => name.copy(alloc),
+        None => unreachable!(),
+    }
+}
