@@ -1,0 +1,51 @@
+-- Rows one by one: with each number of loops cut, and through the back edge of each loop.
+use Rattle.std.proofs.Common.{◌≡◌, ℕ, ◌+◌, ◌<◌, Bool, Option, None, List, [], ◌∷◌, ◌++◌, length, get_or, inl, inr, sym, ap, ◌∙◌, subst, arith, below_more}
+use Rattle.std.proofs.Math.Seq.{get_or-append_seam}
+use Rattle.std.proofs.lemmas.List.{get_or_append_left, get_or_default}
+use Rattle.hpr_paths.specs.Spots.{Spot, nest_at}
+use Rattle.hpr_reach.specs.Flows.{ComesRound}
+use Rattle.hpr_reach.proofs.Grown.{taken_more}
+use Rattle.hpr_reach.proofs.Flows.{carried_parts}
+use Rattle.hpr_build.specs.Flows.{CutsTo, AreCuts, CarriesTo, AreCarries}
+
+pub last_place : {X : Type 0} (xs xs' : List X) (x d : X) (n : ℕ) → length xs ≡ n → xs' ≡ xs ++ x ∷ [] → get_or xs' n d ≡ x
+last_place {X} xs xs' x d n len is = ap (λ (ys : List X). get_or ys n d) is ∙ sym (ap (λ (k : ℕ). get_or (xs ++ x ∷ []) k d) len) ∙ get_or-append_seam xs x [] d
+
+-- P at each place of a list, with one element more
+pub places_more : {X : Type 0} (P : ℕ → X → Type 0) (xs xs' : List X) (x d : X) (n : ℕ) → length xs ≡ n → xs' ≡ xs ++ x ∷ [] → ((i : ℕ) → i < n → P i (get_or xs i d)) → P n x → (i : ℕ) → i < n + 1 → P i (get_or xs' i d)
+places_more {X} P xs xs' x d n len is before here =
+    below_more (λ i. P i (get_or xs' i d)) n
+    (λ i l. subst (P i) (sym (get_or_append_left xs (x ∷ []) d i (omega (arith, l, len))) ∙ ap (λ (ys : List X). get_or ys i d) (sym is)) (before i l))
+    (subst (P n) (sym (last_place xs xs' x d n len is)) here)
+
+module _ (spots : List Spot) (x : List ℕ) (d : ℕ) where
+  abbrev Nest : List ℕ
+  Nest = nest_at spots d
+
+  -- a loop to which the value doesn't come round cuts nothing
+  pub same_cut : (c : ℕ) (row : List Bool) → c < length Nest → ¬ ComesRound spots x (get_or Nest c 0) d → CutsTo spots x d c row → CutsTo spots x d (c + 1) row
+  same_cut c row l off cuts = λ u.
+      let more = λ (w : ℕ). taken_more Nest c (get_or Nest c 0) w l (sym (get_or_default Nest c (get_or Nest c 0) 0 l)) in (
+        (λ m.
+            let (steps, path, avoids) = (cuts u).0 m in (
+              steps,
+              path,
+              λ w h there. elim ((more w).0 h) [
+                | inl k ↦ avoids w k there
+                | inr e ↦ off (subst (λ (v : ℕ). ComesRound spots x v d) (sym e) (carried_parts spots x w path there).0)
+              ],
+            )),
+        (λ (steps, path, avoids). (cuts u).1 (steps, path, λ w h. avoids w ((more w).1 (inl h)))),
+      )
+
+  pub cuts_more : (n place : ℕ) (rows rows' : List (List Bool)) (places places' : List ℕ) → length places ≡ n → places' ≡ places ++ place ∷ [] → AreCuts spots x d n rows places
+      → ((i : ℕ) → i < length rows → (i < length rows') × (get_or rows' i [] ≡ get_or rows i [])) → place < length rows' → CutsTo spots x d n (get_or rows' place []) → AreCuts spots x d (n + 1) rows' places'
+  cuts_more n place rows rows' places places' len is before kept within here =
+      places_more (λ c p. (p < length rows') × CutsTo spots x d c (get_or rows' p [])) places places' place 0 n len is
+      (λ c l. let (b, cuts) = before c l in
+      let k = kept (get_or places c 0) b in
+      (k.0, subst (CutsTo spots x d c) (sym k.1) cuts))
+      (within, here)
+
+  pub carries_more : (n : ℕ) (rows rows' : List (Option (List Bool))) (row : Option (List Bool)) → length rows ≡ n → rows' ≡ rows ++ row ∷ [] → AreCarries spots x d n rows → CarriesTo spots x d (get_or Nest n 0) row → AreCarries spots x d (n + 1) rows'
+  carries_more n rows rows' row len is before here = places_more (λ i r. CarriesTo spots x d (get_or Nest i 0) r) rows rows' row None n len is before here

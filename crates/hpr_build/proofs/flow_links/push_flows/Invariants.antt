@@ -1,0 +1,13 @@
+use Rattle.std.proofs.Common.{◌↔◌, ◌⊎◌, ℕ, take}
+use Rattle.hpr_graph.specs.declared.link.Link.{Link}
+use Rattle.hpr_graph.specs.Numbered.{HasLink}
+use Rattle.hpr_build.specs.NewLinks.{FlowsOf}
+use Rattle.hpr_build.specs.Stages.{IsBegun}
+use Rattle.hpr_build.proofs.Families.{SomeOf}
+use Rattle.hpr_build.proofs.flow_links.push_flows.Given as goal
+
+abbrev pub invariant-loop-at : goal.invariant-loop-at
+invariant-loop-at l = record {
+  begun : IsBegun l.tables.program.now l.tables.inits.items l.most l.graph;
+  added : (to : ℕ) (k : Link) → HasLink l.graph to k ↔ (HasLink l.fn.graph to k ⊎ SomeOf (take l.at l.tables.variables.names.items) (λ x. FlowsOf l.tables.program.now l.tables.inits.items x to k));
+}

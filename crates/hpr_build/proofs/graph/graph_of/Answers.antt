@@ -1,0 +1,50 @@
+use Rattle.std.proofs.Common.{◌∙◌, Err, List, sym, ap, subst, arith}
+use Rattle.std.proofs.lemmas.Result.{err_from_is_err_and}
+use Rattle.hpr_syntax.specs.Tree.{Tree}
+use Rattle.hpr_graph.specs.declared.vertex.Vertex.{Vertex}
+use Rattle.hpr_graph.specs.Graphs.{Same, HasMoreEdges}
+use Rattle.hpr_graph.specs.Numbered.{graph_in}
+use Rattle.hpr_graph.specs.ProgramGraph.{graph_of}
+use Rattle.hpr_build.specs.declared.error.BuildError.{BuildError}
+use Rattle.hpr_build.specs.declared.error.BuildError.TheVariants.{TooManyEdges}
+use Rattle.hpr_graph.specs.Graphs.{IsOnce}
+use Rattle.hpr_build.proofs.Bridge.{once_vertices, same_graph, more_edges, no_more_edges}
+use Rattle.hpr_build.proofs.InOrder.{names_once}
+use Rattle.hpr_build.proofs.LinkTurns.{no_count, same_error}
+use Rattle.hpr_build.proofs.graph.graph_of.Goals as goal
+
+pub bare_graph-requires : goal.bare_graph-requires
+bare_graph-requires c =
+    let t = c.in_ok-tables.tables in
+    let are = c.in_ok-tables.ensures.tables in
+    subst (λ (vs : List Vertex). IsOnce vs) (sym (c.deref.ensures.value ∙ are.vertices)) (once_vertices t.program.now t.inits.items are.program are.inits (names_once t.inits.items are.inits_ascending))
+
+pub push_edges-requires-clause-begun : goal.push_edges-requires-clause-begun
+push_edges-requires-clause-begun c = record {
+  vertices = c.in_ok-graph.ensures.vertices ∙ c.deref.ensures.value ∙ c.in_ok-tables.ensures.tables.vertices;
+  links = λ to l h. absurd (c.in_ok-graph.ensures.none to l h);
+  room = omega (arith, no_count c.in_ok-graph.graph c.in_ok-graph.ensures.none);
+}
+
+pub returns-in_err-push_edges-clause-too_many : goal.returns-in_err-push_edges-clause-too_many
+returns-in_err-push_edges-clause-too_many c = λ e.
+    let t = c.in_ok-tables.tables in
+    let are = c.in_ok-tables.ensures.tables in
+    let p = err_from_is_err_and c.from_residual-in_err-push_edges.result c.from_residual-in_err-push_edges.ensures.1 in
+    let more = c.in_err-push_edges.ensures.too_many (ap (λ (z : BuildError). Err z) (same_error c.from_residual-in_err-push_edges.result p.0 _ TooManyEdges p.1 p.2 e)) in
+    subst (λ (tree : Tree). HasMoreEdges (graph_of tree) c.args.most_edges) c.in_ok-tables.ensures.program (more_edges t.program.now t.inits.items are.program are.inits c.args.most_edges more)
+
+pub returns-clause-graph : goal.returns-clause-graph
+returns-clause-graph c =
+    let t = c.in_ok-tables.tables in
+    let are = c.in_ok-tables.ensures.tables in
+    subst (λ (tree : Tree). Same (graph_in c.push_edges.new.graph) (graph_of tree)) c.in_ok-tables.ensures.program
+    (same_graph t.program.now t.inits.items are.program are.inits c.push_edges.new.graph c.in_ok-push_edges.ensures.begun.vertices c.in_ok-push_edges.ensures.exact)
+
+pub returns-clause-within : goal.returns-clause-within
+returns-clause-within c =
+    let t = c.in_ok-tables.tables in
+    let are = c.in_ok-tables.ensures.tables in
+    subst (λ (tree : Tree). ¬ HasMoreEdges (graph_of tree) c.args.most_edges) c.in_ok-tables.ensures.program
+    (no_more_edges t.program.now c.args.most_edges c.push_edges.new.graph c.vertices-vertices.ensures.numbered
+    (same_graph t.program.now t.inits.items are.program are.inits c.push_edges.new.graph c.in_ok-push_edges.ensures.begun.vertices c.in_ok-push_edges.ensures.exact) c.in_ok-push_edges.ensures.begun.room)

@@ -1,0 +1,11 @@
+use Rattle.std.proofs.Common.{◌↔◌, Contains, take}
+use Rattle.hpr_build.specs.declared.orders.Ordered.{Ordered}
+use Rattle.hpr_graph.specs.Graphs.{IsOnce}
+use Rattle.hpr_build.specs.Orders.{IsBefore}
+use Rattle.hpr_build.proofs.orders.order_of.Given as goal
+
+abbrev pub invariant-loop-left : goal.invariant-loop-left
+invariant-loop-left l = record {
+  exact : (o : Ordered) → Contains l.pairs.items o ↔ (Contains (take l.left-index l.definitions) o.left × Contains l.definitions o.right × IsBefore l.places o.left o.right);
+  once : IsOnce l.definitions → IsOnce l.pairs.items;
+}

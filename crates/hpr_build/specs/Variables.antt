@@ -1,0 +1,25 @@
+-- The names of a program with the points that assign and use them.
+--
+-- points_at rows i             == the points in the row i; none where there is no such row
+-- AreUsers spots names rows    == for each name there is a row with the points that use it, each once
+-- AreDefinitions spots names rows == for each name there is a row with the points that define it, each once
+use Rattle.std.specs.Prelude.{◌≡◌, ℕ, ◌↔◌, Option, Some, None, List, [], Vec, Contains}
+use Rattle.std.specs.Global.{Global}
+use Rattle.std.specs.List.{slice_get}
+use Rattle.hpr_paths.specs.Spots.{Spot, defined_at, UsesAt}
+use Rattle.hpr_graph.specs.Graphs.{IsOnce}
+
+abbrev pub points_of : Option (Vec ℕ Global) → List ℕ
+points_of None = []
+points_of (Some v) = v.items
+
+abbrev pub points_at : List (Vec ℕ Global) → ℕ → List ℕ
+points_at rows i = points_of (slice_get rows i)
+
+abbrev pub AreUsers : List Spot → List (List ℕ) → List (Vec ℕ Global) → Type 0
+AreUsers spots names rows =
+    (i : ℕ) (x : List ℕ) → slice_get names i ≡ Some x → IsOnce (points_at rows i) × ((p : ℕ) → Contains (points_at rows i) p ↔ UsesAt spots p x)
+
+abbrev pub AreDefinitions : List Spot → List (List ℕ) → List (Vec ℕ Global) → Type 0
+AreDefinitions spots names rows =
+    (i : ℕ) (x : List ℕ) → slice_get names i ≡ Some x → IsOnce (points_at rows i) × ((p : ℕ) → Contains (points_at rows i) p ↔ (defined_at spots p ≡ Some x))

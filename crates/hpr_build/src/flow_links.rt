@@ -1,0 +1,201 @@
+//! The flow edges of a graph.
+ghost use Rattle.std.specs.Prelude.{◌≡◌, ◌↔◌, ◌⊎◌, ℕ, Contains, IfOk, OnOk, IsErrOf, map};
+ghost use Rattle.hpr_graph.specs.declared.link.Link.{Link};
+ghost use Rattle.hpr_graph.specs.Numbered.{HasLink};
+ghost use Rattle.hpr_build.specs.declared.flow_links.Source.{Source};
+ghost use Rattle.hpr_build.specs.declared.pushes.NewLink.{NewLink};
+ghost use Rattle.hpr_build.specs.Links.{IsFlowLink, IsSourceAt, HasMoreLinks};
+ghost use Rattle.hpr_build.specs.NewLinks.{link_kind, target_of, flow_link, IsInitialAt, FlowsFrom, FlowsOf};
+ghost use Rattle.hpr_graph.specs.Graphs.{IsOnce};
+ghost use Rattle.hpr_build.specs.Stages.{AreTables, IsVariable, IsBegun};
+
+use crate::error::BuildError;
+use crate::flows::{Flow, FlowKind, flows_from};
+use crate::names::place_of;
+use crate::pushes::{NewLink, push_links};
+use crate::tables::{Tables, Variable, variable_at};
+use hpr_graph::{Graph, Link, LinkKind};
+use hpr_paths::NoMemory;
+use std::alloc::Global;
+
+/// A vertex that defines a name, by its number, with the point where it does: a part at its own, an
+/// initial definition at Enter.
+#[derive(Clone, Copy, Debug, PartialEq, Eq)]
+struct Source {
+    number: usize,
+    point: usize,
+}
+
+/// The parts that are definitions.
+fn part_sources(alloc: Global, definitions: &[usize]) -> Result<Vec<Source>, NoMemory>
+    ensures { IfOk result (λ v. v.items ≡ map (λ p. record { number = p; point = p }) definitions.now) }
+{
+    let mut sources = Vec::new(alloc);
+    for point in definitions {
+        sources.push(Source {
+            number: *point,
+            point: *point,
+        })?;
+    }
+    Ok(sources)
+}
+
+/// Puts the initial definition of the name behind the others, if the program takes it from before.
+fn push_initial(
+    tables: &Tables,
+    variable: &Variable,
+    into: &mut Vec<Source>,
+) -> Result<(), NoMemory>
+    requires { AreTables tables.now }
+    ensures exact { OnOk result ((s : Source) → Contains into.new.items s ↔ (Contains into.old.items s ⊎ IsInitialAt tables.now.program.now tables.now.inits.items variable.now.name.now s.point s.number)) }
+    ensures once { OnOk result (IsOnce into.old.items → ((s : Source) → Contains into.old.items s → ¬ (s.point ≡ 0)) → IsOnce into.new.items) }
+{
+    match place_of(&tables.inits, variable.name) {
+        Some(place) => {
+            into.push(Source {
+                number: tables.vertices.len() - tables.inits.len() + place,
+                point: 0,
+            })?;
+            Ok(())
+        }
+        None => Ok(()),
+    }
+}
+
+/// The vertices that define the name.
+fn sources_of(alloc: Global, tables: &Tables, variable: &Variable) -> Result<Vec<Source>, NoMemory>
+    requires tables { AreTables tables.now }
+    requires variable { IsVariable tables.now.program.now variable.now }
+    ensures exact { IfOk result (λ v. (s : Source) → Contains v.items s ↔ IsSourceAt tables.now.program.now tables.now.inits.items variable.now.name.now s.point s.number) }
+    ensures once { IfOk result (λ v. IsOnce v.items) }
+{
+    let mut sources = part_sources(alloc, variable.definitions)?;
+    push_initial(tables, variable, &mut sources)?;
+    Ok(sources)
+}
+
+fn link_kind(kind: FlowKind) -> LinkKind
+    ensures { result ≡ link_kind kind }
+{
+    match kind {
+        FlowKind::Independent => LinkKind::Independent,
+        FlowKind::Carried(w) => LinkKind::Carried(w),
+    }
+}
+
+/// The number of the vertex that uses a name at the point: that of the part, and at Exit that of the
+/// name's vertex of `end`.
+pub(crate) fn target_of(exit: usize, final_number: usize, point: usize) -> usize
+    ensures { result ≡ target_of exit final_number point }
+{
+    if point < exit { point } else { final_number }
+}
+
+/// The flow edges from this source as links.
+fn flow_links(
+    alloc: Global,
+    exit: usize,
+    final_number: usize,
+    source: usize,
+    flows: &[Flow],
+) -> Result<Vec<NewLink>, NoMemory>
+    ensures { IfOk result (λ links. links.items ≡ map (flow_link exit final_number source) flows.now) }
+{
+    let mut links = Vec::new(alloc);
+    for flow in flows {
+        links.push(NewLink {
+            to: target_of(exit, final_number, flow.to),
+            link: Link {
+                from: source,
+                kind: link_kind(flow.kind),
+            },
+        })?;
+    }
+    Ok(links)
+}
+
+/// The flow edges from one source as links.
+fn links_from(
+    alloc: Global,
+    tables: &Tables,
+    variable: &Variable,
+    source: Source,
+) -> Result<Vec<NewLink>, NoMemory>
+    requires tables { AreTables tables.now }
+    requires variable { IsVariable tables.now.program.now variable.now }
+    requires source { IsSourceAt tables.now.program.now tables.now.inits.items variable.now.name.now source.point source.number }
+    ensures exact { IfOk result (λ links. (n : NewLink) → Contains links.items n ↔ FlowsFrom tables.now.program.now variable.now.name.now source.point source.number n.to n.link) }
+    ensures once { IfOk result (λ links. IsOnce links.items) }
+{
+    let name = variable.name;
+    let flows = flows_from(alloc, &tables.succ, source.point, name, variable.users)?;
+    let number = variable.final_number;
+    let links = flow_links(alloc, tables.exit, number, source.number, &flows)?;
+    Ok(links)
+}
+
+/// Puts the flow edges from one source into the graph.
+fn push_flows_from(
+    alloc: Global,
+    tables: &Tables,
+    variable: &Variable,
+    source: Source,
+    most: usize,
+    graph: &mut Graph,
+) -> Result<(), BuildError>
+    requires tables { AreTables tables.now }
+    requires variable { IsVariable tables.now.program.now variable.now }
+    requires source { IsSourceAt tables.now.program.now tables.now.inits.items variable.now.name.now source.point source.number }
+    requires begun { IsBegun tables.now.program.now tables.now.inits.items most graph.old }
+    requires fresh { (to : ℕ) (l : Link) → HasLink graph.old to l → ¬ FlowsFrom tables.now.program.now variable.now.name.now source.point source.number to l }
+    ensures begun { OnOk result (IsBegun tables.now.program.now tables.now.inits.items most graph.new) }
+    ensures added { OnOk result ((to : ℕ) (l : Link) → HasLink graph.new to l ↔ (HasLink graph.old to l ⊎ FlowsFrom tables.now.program.now variable.now.name.now source.point source.number to l)) }
+    ensures too_many { IsErrOf result BuildError.TooManyEdges → HasMoreLinks tables.now.program.now tables.now.inits.items most }
+{
+    let links = links_from(alloc, tables, variable, source)?;
+    push_links(graph, most, &links)?;
+    Ok(())
+}
+
+/// Puts the flow edges for one name into the graph.
+fn push_flows_of(
+    alloc: Global,
+    tables: &Tables,
+    variable: &Variable,
+    most: usize,
+    graph: &mut Graph,
+) -> Result<(), BuildError>
+    requires tables { AreTables tables.now }
+    requires variable { IsVariable tables.now.program.now variable.now }
+    requires begun { IsBegun tables.now.program.now tables.now.inits.items most graph.old }
+    requires fresh { (to : ℕ) (l : Link) → HasLink graph.old to l → ¬ FlowsOf tables.now.program.now tables.now.inits.items variable.now.name.now to l }
+    ensures begun { OnOk result (IsBegun tables.now.program.now tables.now.inits.items most graph.new) }
+    ensures added { OnOk result ((to : ℕ) (l : Link) → HasLink graph.new to l ↔ (HasLink graph.old to l ⊎ FlowsOf tables.now.program.now tables.now.inits.items variable.now.name.now to l)) }
+    ensures too_many { IsErrOf result BuildError.TooManyEdges → HasMoreLinks tables.now.program.now tables.now.inits.items most }
+{
+    let sources = sources_of(alloc, tables, variable)?;
+    for source in &sources {
+        push_flows_from(alloc, tables, variable, *source, most, graph)?;
+    }
+    Ok(())
+}
+
+/// Puts the flow edges into the graph.
+pub(crate) fn push_flows(
+    alloc: Global,
+    tables: &Tables,
+    most: usize,
+    graph: &mut Graph,
+) -> Result<(), BuildError>
+    requires tables { AreTables tables.now }
+    requires begun { IsBegun tables.now.program.now tables.now.inits.items most graph.old }
+    requires fresh { (to : ℕ) (l : Link) → HasLink graph.old to l → ¬ IsFlowLink tables.now.program.now tables.now.inits.items to l }
+    ensures begun { OnOk result (IsBegun tables.now.program.now tables.now.inits.items most graph.new) }
+    ensures added { OnOk result ((to : ℕ) (l : Link) → HasLink graph.new to l ↔ (HasLink graph.old to l ⊎ IsFlowLink tables.now.program.now tables.now.inits.items to l)) }
+    ensures too_many { IsErrOf result BuildError.TooManyEdges → HasMoreLinks tables.now.program.now tables.now.inits.items most }
+{
+    for at in 0..tables.variables.names.len() {
+        push_flows_of(alloc, tables, &variable_at(tables, at), most, graph)?;
+    }
+    Ok(())
+}

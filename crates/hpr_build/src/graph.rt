@@ -1,0 +1,76 @@
+//! The graph of a program.
+ghost use Rattle.std.specs.Prelude.{◌≡◌, ◌↔◌, ℕ, IfOk, OnOk, IsErrOf};
+ghost use Rattle.hpr_graph.specs.declared.link.Link.{Link};
+ghost use Rattle.hpr_graph.specs.declared.vertex.Vertex.{Vertex};
+ghost use Rattle.hpr_graph.specs.Graphs.{Same, HasMoreEdges};
+ghost use Rattle.hpr_graph.specs.Numbered.{HasLink, graph_in};
+ghost use Rattle.hpr_graph.specs.ProgramGraph.{graph_of};
+ghost use Rattle.hpr_build.specs.Links.{IsLinkOf, HasMoreLinks};
+ghost use Rattle.hpr_graph.specs.Graphs.{IsOnce};
+ghost use Rattle.hpr_build.specs.Stages.{AreTables, IsBegun};
+
+use crate::controls::push_controls;
+use crate::error::BuildError;
+use crate::flow_links::push_flows;
+use crate::order_links::push_orders;
+use crate::tables::{Tables, tables_of};
+use hpr_graph::{Graph, Vertex};
+use hpr_paths::NoMemory;
+use hpr_syntax::Program;
+use std::alloc::Global;
+
+/// The graph with these vertices in this order, each once, and no edge.
+fn bare_graph(alloc: Global, vertices: &[Vertex]) -> Result<Graph, NoMemory>
+    requires { IsOnce vertices.now }
+    ensures vertices { IfOk result (λ g. g.vertices ≡ vertices.now) }
+    ensures none { IfOk result (λ g. (to : ℕ) (l : Link) → ¬ HasLink g to l) }
+{
+    let mut graph = Graph::empty(alloc);
+    for vertex in vertices {
+        graph.push_new_vertex(vertex.copy(alloc)?)?;
+    }
+    Ok(graph)
+}
+
+/// Puts the edges of the program into a graph that has its vertices and no edge.
+fn push_edges(
+    alloc: Global,
+    tables: &Tables,
+    most: usize,
+    graph: &mut Graph,
+) -> Result<(), BuildError>
+    requires tables { AreTables tables.now }
+    requires begun { IsBegun tables.now.program.now tables.now.inits.items most graph.old }
+    requires none { (to : ℕ) (l : Link) → ¬ HasLink graph.old to l }
+    ensures begun { OnOk result (IsBegun tables.now.program.now tables.now.inits.items most graph.new) }
+    ensures exact { OnOk result ((to : ℕ) (l : Link) → HasLink graph.new to l ↔ IsLinkOf tables.now.program.now tables.now.inits.items to l) }
+    ensures too_many { IsErrOf result BuildError.TooManyEdges → HasMoreLinks tables.now.program.now tables.now.inits.items most }
+{
+    push_controls(alloc, tables, most, graph)?;
+    push_flows(alloc, tables, most, graph)?;
+    push_orders(alloc, tables, most, graph)?;
+    Ok(())
+}
+
+/// The dependence graph of a program (Horwitz, Prins and Reps 1989). Its vertices are Entry, the
+/// parts in preorder, the names of `end` in their order, and the names that the program takes from
+/// before it, ascending. Its edges are the control edges, the flow edges of each loop that carries
+/// them and of none, and the order edges. A loop encloses its own predicate, and a loop's predicate
+/// has no control edge to itself: both are our profile.
+///
+/// Refuses with `TooManyEdges` where the graph has more than `most_edges` edges, and only there, and
+/// with `Memory` where memory runs out.
+///
+/// Takes two searches of the program for each definition, and for each loop around it to which its
+/// value comes round two more.
+pub fn graph_of(alloc: Global, program: &Program, most_edges: usize) -> Result<Graph, BuildError>
+    ensures graph { IfOk result (λ g. Same (graph_in g) (graph_of program.now)) }
+    ensures within { IfOk result (λ g. ¬ HasMoreEdges (graph_of program.now) most_edges) }
+    ensures too_many { IsErrOf result BuildError.TooManyEdges → HasMoreEdges (graph_of program.now) most_edges }
+{
+    let tables = tables_of(alloc, program)?;
+    let mut graph = bare_graph(alloc, &tables.vertices)?;
+    push_edges(alloc, &tables, most_edges, &mut graph)?;
+    let _vertices = graph.vertices();
+    Ok(graph)
+}

@@ -1,0 +1,23 @@
+//! The dependence graph of a program.
+#![tactic(auto)]
+
+mod controls;
+mod error;
+mod flow_links;
+mod flows;
+mod graph;
+pub mod laws;
+mod lists;
+mod names;
+mod order_links;
+mod orders;
+mod places;
+mod pushes;
+mod tables;
+mod variables;
+
+pub use error::BuildError;
+pub use graph::graph_of;
+
+#[cfg(test)]
+mod tests;

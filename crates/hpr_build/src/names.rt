@@ -1,0 +1,31 @@
+//! Names in order.
+ghost use Rattle.std.specs.Prelude.{◌≡◌, ◌↔◌, ℕ, List, Contains, Some, IfOk, IfSome, IfNone};
+ghost use Rattle.std.specs.List.{slice_get};
+ghost use Rattle.std.specs.List.Sorted.{IsStrictlySortedBy};
+ghost use Rattle.std.specs.Cmp.Lexicographic.{slice_cmp};
+ghost use Rattle.std.specs.Ordering.{nat_cmp};
+
+use hpr_terms::{Name, NoMemory};
+
+/// The names in order, each once.
+pub(crate) fn in_order(names: Vec<Name>) -> Result<Vec<Name>, NoMemory>
+    ensures ascending { IfOk result (λ v. IsStrictlySortedBy (slice_cmp nat_cmp) v.items) }
+    ensures same { IfOk result (λ v. (x : List ℕ) → Contains v.items x ↔ Contains names.items x) }
+{
+    let mut names = names;
+    names.sort()?;
+    names.dedup();
+    Ok(names)
+}
+
+/// The place of the name among these, which are in order, if it is one of them.
+pub(crate) fn place_of(names: &[Name], name: &Name) -> Option<usize>
+    requires { IsStrictlySortedBy (slice_cmp nat_cmp) names.now }
+    ensures some { IfSome result (λ i. slice_get names.now i ≡ Some name.now) }
+    ensures none { IfNone result (¬ Contains names.now name.now) }
+{
+    match names.binary_search(name) {
+        Ok(at) => Some(at),
+        Err(_) => None,
+    }
+}

@@ -1,0 +1,145 @@
+//! The tables of a program that its graph is made from.
+ghost use Rattle.std.specs.Prelude.{◌≡◌, ◌↔◌, ◌+◌, ◌<◌, ◌≤◌, ◌∷◌, ◌++◌, ℕ, List, Some, IfOk, OnOk, Contains, length, map, vec_len};
+ghost use Rattle.std.specs.List.{slice_get};
+ghost use Rattle.hpr_graph.specs.declared.vertex.Vertex.TheVariants.{Entry, Init, Final};
+ghost use Rattle.hpr_build.specs.Links.{part_vertex, exit_of};
+ghost use Rattle.hpr_build.specs.Stages.{AreTables, IsVariable};
+ghost use Rattle.hpr_build.specs.Variables.{points_at};
+
+use crate::places::{Place, places};
+use crate::variables::{Variables, variables_of};
+use hpr_graph::Vertex;
+use hpr_paths::{Name, NoMemory, Succ, successors};
+use hpr_reach::live_at_entry;
+use hpr_syntax::Program;
+use std::alloc::Global;
+
+/// What is known of a program: its points, its parts, the names that it takes from before it, the
+/// names that it uses, the vertices of its graph, and the number of Exit's point, which is that of
+/// the vertex of the first name of `end`.
+#[derive(Drop)]
+pub(crate) struct Tables<'a> {
+    pub(crate) program: &'a Program,
+    pub(crate) succ: Succ,
+    pub(crate) places: Vec<Place>,
+    pub(crate) inits: Vec<Name>,
+    pub(crate) variables: Variables,
+    pub(crate) vertices: Vec<Vertex>,
+    pub(crate) exit: usize,
+}
+
+/// Puts the vertices of the parts behind the others.
+fn push_parts(alloc: Global, places: &[Place], into: &mut Vec<Vertex>) -> Result<(), NoMemory>
+    ensures { OnOk result (into.new.items ≡ into.old.items ++ map part_vertex places.now) }
+{
+    for place in places {
+        into.push(Vertex::Part(place.tag, place.content.copy(alloc)?))?;
+    }
+    Ok(())
+}
+
+/// Puts the vertices of the names of `end` behind the others.
+fn push_finals(alloc: Global, finals: &[Name], into: &mut Vec<Vertex>) -> Result<(), NoMemory>
+    ensures { OnOk result (into.new.items ≡ into.old.items ++ map Final finals.now) }
+{
+    for name in finals {
+        into.push(Vertex::Final(name.copy(alloc)?))?;
+    }
+    Ok(())
+}
+
+/// Puts the vertices of initial definitions behind the others.
+fn push_inits(alloc: Global, inits: &[Name], into: &mut Vec<Vertex>) -> Result<(), NoMemory>
+    ensures { OnOk result (into.new.items ≡ into.old.items ++ map Init inits.now) }
+{
+    for name in inits {
+        into.push(Vertex::Init(name.copy(alloc)?))?;
+    }
+    Ok(())
+}
+
+/// The vertices of a program in the order of their numbers.
+fn vertices(
+    alloc: Global,
+    places: &[Place],
+    finals: &[Name],
+    inits: &[Name],
+) -> Result<Vec<Vertex>, NoMemory>
+    ensures { IfOk result (λ v. v.items ≡ Entry ∷ (map part_vertex places.now ++ (map Final finals.now ++ map Init inits.now))) }
+{
+    let mut vertices = Vec::new(alloc);
+    vertices.push(Vertex::Entry)?;
+    push_parts(alloc, places, &mut vertices)?;
+    push_finals(alloc, finals, &mut vertices)?;
+    push_inits(alloc, inits, &mut vertices)?;
+    Ok(vertices)
+}
+
+/// The tables of the program.
+pub(crate) fn tables_of(alloc: Global, program: &Program) -> Result<Tables<'_>, NoMemory>
+    ensures tables { IfOk result AreTables }
+    ensures program { IfOk result (λ t. t.program.now ≡ program.now) }
+{
+    let succ = successors(alloc, program)?;
+    let places = places(alloc, program)?;
+    let inits = live_at_entry(alloc, &succ)?;
+    let variables = variables_of(alloc, &succ)?;
+    let vertices = vertices(alloc, &places, program.finals(), &inits)?;
+    Ok(Tables {
+        program,
+        succ,
+        places,
+        inits,
+        variables,
+        vertices,
+        exit: program.part_count() + 1,
+    })
+}
+
+/// A name with the points that assign it and those that use it, and the number of its vertex of
+/// `end`, which is that of Exit's point where it has none.
+#[derive(Clone, Copy)]
+pub(crate) struct Variable<'a> {
+    pub(crate) name: &'a Name,
+    pub(crate) definitions: &'a [usize],
+    pub(crate) users: &'a [usize],
+    pub(crate) final_number: usize,
+}
+
+/// The number of the name's vertex of `end`, or Exit's own number where there is none.
+fn final_number(tables: &Tables, name: &Name) -> usize
+    requires { AreTables tables.now }
+    ensures low { exit_of tables.now.program.now ≤ result }
+    ensures exact { (k : ℕ) → slice_get tables.now.program.now.finals k ≡ Some name.now → result ≡ exit_of tables.now.program.now + k }
+{
+    for (at, one) in tables.program.finals().iter().enumerate() {
+        if one.is_same(name) {
+            return tables.exit + at;
+        }
+    }
+    tables.exit
+}
+
+/// The points in the row.
+fn row_at(rows: &[Vec<usize>], at: usize) -> &[usize]
+    requires { at < length rows.now }
+    ensures { result.now ≡ points_at rows.now at }
+{
+    &rows[at]
+}
+
+/// The name with this place among those that are used.
+pub(crate) fn variable_at<'a>(tables: &'a Tables, at: usize) -> Variable<'a>
+    requires tables { AreTables tables.now }
+    requires at { at < vec_len tables.now.variables.names }
+    ensures name { slice_get tables.now.variables.names.items at ≡ Some result.name.now }
+    ensures variable { IsVariable tables.now.program.now result }
+{
+    let name = &tables.variables.names[at];
+    Variable {
+        name,
+        definitions: row_at(&tables.variables.definitions, at),
+        users: row_at(&tables.variables.users, at),
+        final_number: final_number(tables, name),
+    }
+}
