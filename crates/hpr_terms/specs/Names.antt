@@ -1,7 +1,8 @@
 -- Names.
 --
 -- is_name_byte b == b is an ASCII letter, a digit or `_`
--- is_name w      == w has 1 to 64 such bytes, doesn't begin with a digit, and is no keyword
+-- is_name_like w == w has 1 to 64 such bytes and doesn't begin with a digit: a name, or a keyword
+-- is_name w      == w is like a name, and no keyword
 -- IsName w       == w is a name
 use Rattle.std.specs.Prelude.{ℕ, Bool, false, not, ◌==◌, ◌||◌, ◌&&◌, nat_le, List, [], ◌∷◌, length, is_none, IsTrue}
 use Rattle.std.specs.Char.{is_ascii_digit, is_ascii_alphanumeric}
@@ -15,8 +16,11 @@ abbrev pub begins_with_digit : List ℕ → Bool
 begins_with_digit [] = false
 begins_with_digit (b ∷ bs) = is_ascii_digit b
 
+unfoldable pub is_name_like : List ℕ → Bool
+is_name_like w = nat_le 1 (length w) && nat_le (length w) 64 && list_all is_name_byte w && not (begins_with_digit w)
+
 unfoldable pub is_name : List ℕ → Bool
-is_name w = nat_le 1 (length w) && nat_le (length w) 64 && list_all is_name_byte w && not (begins_with_digit w) && is_none (keyword_of w)
+is_name w = is_name_like w && is_none (keyword_of w)
 
 abbrev pub IsName : List ℕ → Type 0
 IsName w = IsTrue (is_name w)

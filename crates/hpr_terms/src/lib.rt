@@ -6,13 +6,14 @@ mod expr;
 mod keyword;
 mod memory;
 mod name;
+pub mod names;
 mod tag;
 mod token;
 
 pub use expr::{Binary, Expr, Literal, Operand, Unary};
 pub use keyword::{KEYWORDS, Keyword};
 pub use memory::NoMemory;
-pub use name::{Name, NameError, copy_names, is_name, is_name_byte};
+pub use name::{Name, NameError, copy_names, is_name, is_name_byte, is_name_like};
 pub use tag::Tag;
 pub use token::{Sign, Token};
 

@@ -6,7 +6,7 @@ ghost use Rattle.std.specs.List.{list_all};
 ghost use Rattle.std.specs.Cmp.Rules.{comparing};
 ghost use Rattle.std.specs.Cmp.Lexicographic.{slice_cmp, pointwise};
 ghost use Rattle.std.specs.Ordering.{nat_cmp, as_partial_cmp};
-ghost use Rattle.hpr_terms.specs.Names.{IsName, is_name, is_name_byte, begins_with_digit};
+ghost use Rattle.hpr_terms.specs.Names.{IsName, is_name, is_name_like, is_name_byte, begins_with_digit};
 
 use crate::keyword::Keyword;
 use crate::memory::NoMemory;
@@ -76,18 +76,24 @@ fn has_name_bytes(text: &[u8]) -> bool
     text.iter().all(|byte| is_name_byte(*byte))
 }
 
+/// Whether the text has 1 to 64 letters, digits and `_` and doesn't begin with a digit: a name, or a
+/// keyword.
+#[tactic(auto, unfolding(crate::specs::Names::is_name_like))]
+pub fn is_name_like(text: &[u8]) -> bool
+    ensures { result ≡ is_name_like text.now }
+{
+    if text.is_empty() || text.len() > 64 {
+        return false;
+    }
+    has_name_bytes(text) && !begins_with_digit(text)
+}
+
 /// Whether the text is a name.
 #[tactic(auto, unfolding(crate::specs::Names::is_name))]
 pub fn is_name(text: &[u8]) -> bool
     ensures { result ≡ is_name text.now }
 {
-    if text.is_empty() || text.len() > 64 {
-        return false;
-    }
-    if !has_name_bytes(text) || begins_with_digit(text) {
-        return false;
-    }
-    Keyword::of(text).is_none()
+    is_name_like(text) && Keyword::of(text).is_none()
 }
 
 impl Name {

@@ -1,7 +1,7 @@
 //! Each public call, against what the rules of the language say.
 use crate::{
     Binary, Expr, Keyword, Literal, Name, NameError, Operand, Sign, Token, Unary, copy_names,
-    is_name, is_name_byte,
+    is_name, is_name_byte, is_name_like, names,
 };
 use std::alloc::Global;
 use std::test::Fail;
@@ -24,6 +24,27 @@ fn takes_names(rt: HostRuntime) -> Result<(), Fail> {
         assert!(rt; !is_name(text.as_bytes()), "at {text}");
     }
     assert!(rt; is_name_byte(b'_') && !is_name_byte(b'-'));
+    assert!(rt; is_name_like(b"while") && !is_name_like(b"1x"));
+    Ok(())
+}
+
+#[test]
+fn names_in_order(rt: HostRuntime) -> Result<(), Fail> {
+    let mut mixed = Vec::new(rt.alloc());
+    for text in ["b", "a", "b", "B"] {
+        mixed.push(Name::new(rt.alloc(), text)?)?;
+    }
+    let ordered = names::in_order(mixed)?;
+    let mut texts = Vec::new(rt.alloc());
+    for name in &ordered {
+        texts.push(name.text())?;
+    }
+    assert_eq!(rt; texts.as_slice(), ["B", "a", "b"].as_slice());
+    let a = Name::new(rt.alloc(), "a")?;
+    let c = Name::new(rt.alloc(), "c")?;
+    assert!(rt; names::is_among(&ordered, &a) && !names::is_among(&ordered, &c));
+    assert_eq!(rt; names::place_of(&ordered, &a), Some(1));
+    assert_eq!(rt; names::place_of(&ordered, &c), None);
     Ok(())
 }
 
