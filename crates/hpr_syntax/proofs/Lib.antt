@@ -15,6 +15,7 @@ pub mod ProperLemmas
 pub mod Shown
 pub mod Printed
 pub mod NoRefusal
+pub mod Repeats
 pub mod ShownParts
 pub mod PrintedParts
 pub mod TextSpells

@@ -1,12 +1,13 @@
 -- What it means that a tree has no refusal, test by test.
 use Rattle.std.proofs.Common.{◌≡◌, [], Option, Some, None, refl}
+use Rattle.std.specs.Str.{bytes_eq}
 use Rattle.std.specs.Option.{option_or, option_map}
 use Rattle.hpr_syntax.specs.declared.shape.ShapeError.{ShapeError}
 use Rattle.hpr_syntax.specs.declared.shape.ShapeError.TheVariants.{DuplicateTag, Unissued, TooDeep, ExprTooLarge, DuplicateFinal}
 use Rattle.hpr_syntax.specs.Body.{part_count}
 use Rattle.hpr_syntax.specs.Parts.{tags_of}
 use Rattle.hpr_syntax.specs.Tree.{Tree}
-use Rattle.hpr_syntax.specs.Shape.{shape, too_many, first_repeated_tag, first_unissued, first_deep, first_large, first_repeated_name, max_levels}
+use Rattle.hpr_syntax.specs.Shape.{shape, too_many, first_repeated_tag, first_unissued, first_deep, first_large, first_repeated, max_levels}
 
 pub record HasNoRefusal (t : Tree) : Type 0 where
   pub tags : first_repeated_tag t.body ≡ None
@@ -14,7 +15,7 @@ pub record HasNoRefusal (t : Tree) : Type 0 where
   pub levels : first_deep max_levels t.body ≡ None
   pub expressions : first_large t.body ≡ None
   pub parts : too_many (part_count t.body) ≡ None
-  pub names : first_repeated_name [] t.finals ≡ None
+  pub names : first_repeated bytes_eq [] t.finals ≡ None
 
 pub or_none : {X : Type 0} (a b : Option X) → option_or a b ≡ None → (a ≡ None) × (b ≡ None)
 or_none None None h = (refl, refl)
@@ -39,7 +40,7 @@ no_refusal t h =
       levels = map_none TooDeep (first_deep max_levels t.body) c.0;
       expressions = map_none ExprTooLarge (first_large t.body) d.0;
       parts = e.0;
-      names = map_none DuplicateFinal (first_repeated_name [] t.finals) e.1;
+      names = map_none DuplicateFinal (first_repeated bytes_eq [] t.finals) e.1;
     }
 
 pub shaped : (t : Tree) → HasNoRefusal t → shape t ≡ None

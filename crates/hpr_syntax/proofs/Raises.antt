@@ -15,7 +15,7 @@ use Rattle.hpr_syntax.specs.Body.{part_count}
 use Rattle.hpr_syntax.specs.Parts.{tags_of}
 use Rattle.hpr_syntax.specs.Issued.{Issued, AscendsFrom, IsIssued, issued_to, raised, raised_by}
 use Rattle.hpr_syntax.specs.Proper.{IsProperPair, IsProperBody}
-use Rattle.hpr_syntax.specs.Shape.{first_repeated_tag, is_unissued, first_unissued, first_deep, first_large, too_many, first_repeated_name, max_levels, IsProgram}
+use Rattle.hpr_syntax.specs.Shape.{first_repeated_tag, is_unissued, first_unissued, first_deep, first_large, too_many, first_repeated, max_levels, IsProgram}
 use Rattle.hpr_syntax.specs.Tree.{Tree}
 use Rattle.hpr_syntax.specs.Grammar.{tagged}
 use Rattle.hpr_syntax.specs.Spelling.{Spells}
@@ -137,21 +137,21 @@ more_differ x earlier (y ∷ ys) h k = (neither (bytes_eq y x) (list_any (bytes_
     neither false b e f = f
     neither true b e f = absurd cc
 
-distinct_names : (earlier names : List (List ℕ)) → first_repeated_name earlier names ≡ None → Differ earlier names × IsDistinct bytes_eq names
+distinct_names : (earlier names : List (List ℕ)) → first_repeated bytes_eq earlier names ≡ None → Differ earlier names × IsDistinct bytes_eq names
 unfolding IsDistinct
 distinct_names earlier [] h = (tt, tt)
 distinct_names earlier (x ∷ xs) h =
-    let e : (list_any (bytes_eq x) earlier ≡ false) × (first_repeated_name (x ∷ earlier) xs ≡ None)
-    = if_none (list_any (bytes_eq x) earlier) x (first_repeated_name (x ∷ earlier) xs) h in
+    let e : (list_any (bytes_eq x) earlier ≡ false) × (first_repeated bytes_eq (x ∷ earlier) xs ≡ None)
+    = if_none (list_any (bytes_eq x) earlier) x (first_repeated bytes_eq (x ∷ earlier) xs) h in
     let r = distinct_names (x ∷ earlier) xs e.1 in
     let d = differ_more x earlier xs r.0 in
     ((e.0, d.0), (d.1, r.1))
 
-names_distinct : (earlier names : List (List ℕ)) → Differ earlier names → IsDistinct bytes_eq names → first_repeated_name earlier names ≡ None
+names_distinct : (earlier names : List (List ℕ)) → Differ earlier names → IsDistinct bytes_eq names → first_repeated bytes_eq earlier names ≡ None
 unfolding IsDistinct
 names_distinct earlier [] h k = refl
 names_distinct earlier (x ∷ xs) h k =
-    name_if (list_any (bytes_eq x) earlier) x (first_repeated_name (x ∷ earlier) xs) h.0 (names_distinct (x ∷ earlier) xs (more_differ x earlier xs h.1 k.0) k.1)
+    name_if (list_any (bytes_eq x) earlier) x (first_repeated bytes_eq (x ∷ earlier) xs) h.0 (names_distinct (x ∷ earlier) xs (more_differ x earlier xs h.1 k.0) k.1)
   where
     name_if : (b : Bool) (y : List ℕ) (o : Option (List ℕ)) → b ≡ false → o ≡ None → (if b then Some y else o) ≡ None
     name_if false y o e f = f
@@ -162,7 +162,7 @@ none_earlier [] = tt
 none_earlier (x ∷ xs) = (refl, none_earlier xs)
 
 -- names in another order differ as they did
-names_permuted : (xs ys : List (List ℕ)) → IsPermutation xs ys → first_repeated_name [] xs ≡ None → first_repeated_name [] ys ≡ None
+names_permuted : (xs ys : List (List ℕ)) → IsPermutation xs ys → first_repeated bytes_eq [] xs ≡ None → first_repeated bytes_eq [] ys ≡ None
 names_permuted xs ys p h =
     names_distinct [] ys (none_earlier ys) (IsDistinct-IsPermutation bytes_eq nat_list_eq_equiv.symm xs ys p (distinct_names [] xs h).1)
 

@@ -17,7 +17,7 @@ use Rattle.hpr_syntax.specs.Body.{Body}
 use Rattle.hpr_syntax.specs.Parts.{tags_of}
 use Rattle.hpr_syntax.specs.Issued.{Issued, AscendsFrom, IsIssued, raised, raised_by}
 use Rattle.hpr_syntax.specs.Grammar as grammar
-use Rattle.hpr_syntax.specs.Grammar.{tagged, pair_then, IsPair, SpellsPairs, SpellsHeader, SpellsNames, SpellsProgram, issued_of}
+use Rattle.hpr_syntax.specs.Grammar.{tagged, pair_then, IsIssuedPair, SpellsPairs, SpellsHeader, SpellsNames, SpellsProgram, issued_of}
 use Rattle.hpr_syntax.specs.Spelling.{Spells}
 use Rattle.hpr_syntax.specs.Print.{pair_text, after_commas, joined, issued_text, text}
 use Rattle.hpr_syntax.specs.Proper.{IsProperPair, IsProper}
@@ -68,15 +68,15 @@ abbrev pairs_of : Issued → Option (List (ℕ × ℕ))
 pairs_of [] = None
 pairs_of (p ∷ ps) = Some (p ∷ ps)
 
-are_pairs : (low : ℕ) (ps : Issued) → AscendsFrom low ps → AllByRecursion IsProperPair ps → AllByRecursion IsPair ps
+are_pairs : (low : ℕ) (ps : Issued) → AscendsFrom low ps → AllByRecursion IsProperPair ps → AllByRecursion IsIssuedPair ps
 are_pairs low [] h k = tt
 are_pairs low (p ∷ ps) h k = ((k.0.0, (h.1, k.0.1)), are_pairs (p.0 + 1) ps h.2 k.1)
 
-pairs_from : (p : ℕ × ℕ) (ps : Issued) → IsPair p → AllByRecursion IsPair ps → SpellsPairs (pair_then p (shown_more ps)) (p ∷ ps)
+pairs_from : (p : ℕ × ℕ) (ps : Issued) → IsIssuedPair p → AllByRecursion IsIssuedPair ps → SpellsPairs (pair_then p (shown_more ps)) (p ∷ ps)
 pairs_from p [] h k = grammar.SpellsPairs.one h
 pairs_from p (q ∷ qs) h k = grammar.SpellsPairs.more h (pairs_from q qs k.0 k.1)
 
-header_spelled : (ps : Issued) → AllByRecursion IsPair ps → SpellsHeader tagged (shown_header ps) (pairs_of ps)
+header_spelled : (ps : Issued) → AllByRecursion IsIssuedPair ps → SpellsHeader tagged (shown_header ps) (pairs_of ps)
 header_spelled [] h = grammar.SpellsHeader.none
 header_spelled (p ∷ ps) h = grammar.SpellsHeader.pairs (pairs_from p ps h.0 h.1)
 

@@ -152,12 +152,12 @@ pub data SpellsParts : Form → ℕ → ℕ → ℕ → List Token → Body → 
 abbrev pub pair_then : ℕ × ℕ → List Token → List Token
 pair_then p ts = Number p.0 ∷ Mark sign.Colon ∷ Number p.1 ∷ ts
 
-abbrev pub IsPair : ℕ × ℕ → Type 0
-IsPair p = IsAuthor p.0 × IsSerial p.1
+abbrev pub IsIssuedPair : ℕ × ℕ → Type 0
+IsIssuedPair p = IsAuthor p.0 × IsSerial p.1
 
 pub data SpellsPairs : List Token → List (ℕ × ℕ) → Type 0 where
-  one : {p : ℕ × ℕ} → IsPair p → SpellsPairs (pair_then p []) (p ∷ [])
-  more : {p : ℕ × ℕ} {ts : List Token} {ps : List (ℕ × ℕ)} → IsPair p → SpellsPairs ts ps → SpellsPairs (pair_then p (Mark sign.Comma ∷ ts)) (p ∷ ps)
+  one : {p : ℕ × ℕ} → IsIssuedPair p → SpellsPairs (pair_then p []) (p ∷ [])
+  more : {p : ℕ × ℕ} {ts : List Token} {ps : List (ℕ × ℕ)} → IsIssuedPair p → SpellsPairs ts ps → SpellsPairs (pair_then p (Mark sign.Comma ∷ ts)) (p ∷ ps)
 
 pub data SpellsHeader : Form → List Token → Option (List (ℕ × ℕ)) → Type 0 where
   none : {f : Form} → SpellsHeader f [] None

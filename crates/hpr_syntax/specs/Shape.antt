@@ -1,11 +1,11 @@
 -- The tests that a tree must pass to be a program.
 --
+-- first_repeated same earlier xs == the first of xs that is the same as one before it, there or among the earlier
 -- first_repeated_tag body     == the first part's tag, in preorder, that stands earlier
 -- first_unissued issued body  == the first part's tag whose serial is 0 or above its author's issued number
 -- first_deep n body           == the first part's tag that stands more than n levels deep
 -- first_large body            == the first part's tag whose expression has more than 256 operators
 -- left_after most k           == what is left of most after k are taken, if there are as many
--- first_repeated_name names   == the first name that stands earlier
 -- shape tree                  == the first refusal, in the order of the tests, or none
 -- IsProgram tree              == its names are names, its numbers in range, and the tree has no refusal
 use Rattle.std.specs.Prelude.{◌≡◌, ℕ, Bool, zero, suc, ◌-◌, ◌==◌, ◌||◌, nat_lt, nat_le, if◌then◌else◌, List, [], ◌∷◌, Option, Some, None, option_map}
@@ -33,13 +33,12 @@ max_operators = 256
 abbrev pub max_parts : ℕ
 max_parts = 1000
 
--- the first of the tags that stands before it, in this list or in the other
-abbrev pub first_repeated : List Tag → List Tag → Option Tag
-first_repeated earlier [] = None
-first_repeated earlier (t ∷ ts) = if list_any (same_tag t) earlier then Some t else first_repeated (t ∷ earlier) ts
+abbrev pub first_repeated : {X : Type 0} → (X → X → Bool) → List X → List X → Option X
+first_repeated same earlier [] = None
+first_repeated same earlier (x ∷ xs) = if list_any (same x) earlier then Some x else first_repeated same (x ∷ earlier) xs
 
 abbrev pub first_repeated_tag : Body → Option Tag
-first_repeated_tag body = first_repeated [] (tags_of body [])
+first_repeated_tag body = first_repeated same_tag [] (tags_of body [])
 
 abbrev pub is_unissued : Issued → Tag → Bool
 is_unissued issued t = (t.serial == 0) || nat_lt (issued_to t.author issued) t.serial
@@ -69,10 +68,6 @@ first_large (assign t x e rest) = if is_large e then Some t else first_large res
 first_large (branch t e a b rest) = if is_large e then Some t else option_or (first_large a) (option_or (first_large b) (first_large rest))
 first_large (loop t e b rest) = if is_large e then Some t else option_or (first_large b) (first_large rest)
 
-abbrev pub first_repeated_name : List (List ℕ) → List (List ℕ) → Option (List ℕ)
-first_repeated_name earlier [] = None
-first_repeated_name earlier (x ∷ xs) = if list_any (bytes_eq x) earlier then Some x else first_repeated_name (x ∷ earlier) xs
-
 abbrev pub too_many : ℕ → Option ShapeError
 too_many n = if nat_lt max_parts n then Some (TooManyParts n) else None
 
@@ -83,7 +78,7 @@ shape t =
     (option_or (option_map TooDeep (first_deep max_levels t.body))
     (option_or (option_map ExprTooLarge (first_large t.body))
     (option_or (too_many (part_count t.body))
-    (option_map DuplicateFinal (first_repeated_name [] t.finals))))))
+    (option_map DuplicateFinal (first_repeated bytes_eq [] t.finals))))))
 
 pub record IsProgram (t : Tree) : Type 0 where
   pub proper : IsProper t

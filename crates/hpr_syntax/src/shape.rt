@@ -1,11 +1,12 @@
 //! The tests that a tree must pass to be a program.
 ghost use Rattle.std.specs.Prelude.{◌≡◌, ◌-◌, ◌++◌, ◌<◌, ◌^◌, IfOk, OnOk, [], if◌then◌else◌, Some, None, nat_le};
+ghost use Rattle.std.specs.Str.{bytes_eq};
 ghost use Rattle.hpr_terms.specs.Term.{operators};
 ghost use Rattle.hpr_terms.specs.TermOf.{term_of};
 ghost use Rattle.hpr_syntax.specs.Body.{done};
 ghost use Rattle.hpr_syntax.specs.BodyOf.{before};
-ghost use Rattle.hpr_syntax.specs.Parts.{tags_of};
-ghost use Rattle.hpr_syntax.specs.Shape.{first_repeated, first_unissued, first_deep, first_large, first_repeated_name, is_large, left_after, shape};
+ghost use Rattle.hpr_syntax.specs.Parts.{tags_of, same_tag};
+ghost use Rattle.hpr_syntax.specs.Shape.{first_repeated, first_unissued, first_deep, first_large, is_large, left_after, shape};
 
 use crate::issued::Issued;
 use crate::tree::{Block, Stmt, expr_of};
@@ -81,7 +82,7 @@ fn push_tags_in(stmt: &Stmt, tags: &mut Vec<Tag>) -> Result<(), NoMemory>
 
 /// The first tag that stands earlier.
 fn first_repeated(alloc: Global, tags: &[Tag]) -> Result<Option<Tag>, NoMemory>
-    ensures { IfOk result (λ tag. tag ≡ first_repeated [] tags.now) }
+    ensures { IfOk result (λ tag. tag ≡ first_repeated same_tag [] tags.now) }
 {
     let mut seen = BTreeSet::new(alloc);
     for tag in tags {
@@ -196,7 +197,7 @@ fn left_after(expr: &Expr, most: u32) -> Option<u32>
 
 /// The first name that stands earlier.
 fn first_repeated_name(alloc: Global, names: &[Name]) -> Result<Option<Name>, NoMemory>
-    ensures { IfOk result (λ name. name ≡ first_repeated_name [] names.now) }
+    ensures { IfOk result (λ name. name ≡ first_repeated bytes_eq [] names.now) }
 {
     let mut seen = BTreeSet::new(alloc);
     for name in names {

@@ -10,5 +10,5 @@ use Rattle.hpr_syntax.proofs.shape.first_repeated.Given as goal
 abbrev pub invariant-loop-tag : goal.invariant-loop-tag
 invariant-loop-tag l =
     (earlier : List Tag) ×
-    (first_repeated [] l.tags ≡ first_repeated earlier (drop l.tag-index l.tags)) ×
+    (first_repeated same_tag [] l.tags ≡ first_repeated same_tag earlier (drop l.tag-index l.tags)) ×
     ((t : Tag) → contains (tags.ghosts).cmp l.seen t ≡ list_any (same_tag t) earlier)
