@@ -12,14 +12,14 @@ use Rattle.hpr_terms.specs.declared.token.Sign.TheVariants.{Colon, Becomes, Diff
 use Rattle.hpr_terms.specs.declared.token.Token.{Token}
 use Rattle.hpr_terms.specs.declared.token.Token.TheVariants.{Word, Name, Number, Mark}
 use Rattle.hpr_terms.specs.Keywords.{keyword_text, keywords, keyword_of}
-use Rattle.hpr_terms.specs.Names.{is_name_byte, is_name}
+use Rattle.hpr_terms.specs.Names.{is_name_like, is_name_byte, is_name}
 use Rattle.hpr_terms.specs.Tokens.{sign_text, IsToken, is_word, is_blank, nothing, blank, blanks, Text, ending, token}
 use Rattle.hpr_scan.specs.declared.scanner.Lex.{Lex}
 use Rattle.hpr_scan.specs.declared.scanner.Lex.TheVariants.{Gap, Comment, InWord, Half}
 use Rattle.hpr_scan.specs.declared.scanner.Scanner.{Scanner}
 use Rattle.hpr_scan.specs.Machine.{IsTokenMachine, HasText, Live, ends, goes}
 use Rattle.hpr_scan.specs.Steps.{runs}
-use Rattle.hpr_scan.specs.Words.{is_name_like, value_after, is_numeral, begins_name, begins_number, begins_keyword, begins}
+use Rattle.hpr_scan.specs.Words.{value_after, is_numeral, begins_name, begins_number, begins_keyword, begins}
 use Rattle.hpr_scan.specs.Scanner.{at, sign_of, longer, after_sign, waiting, feed_sign, feed_gap, finish, feed_half, feed, scan, feeds}
 use Rattle.hpr_scan.proofs.Words.{some_is, small, keyword_is, number_text, keyword_bytes}
 use Rattle.hpr_scan.proofs.WholeText.{NoWord, Follows, blank_follows, half_scan, word_scan, text_scan}
@@ -121,7 +121,7 @@ some_keyword_completes next s w (k ∷ ks) e =
 
 -- a keyword and `_` are a name
 name_behind : (k : Keyword) → is_name (keyword_text k ++ (95 ∷ [])) ≡ true
-unfolding is_name is_name_byte keyword_of
+unfolding is_name is_name_like is_name_byte keyword_of
 name_behind Program = refl
 name_behind Issued = refl
 name_behind If = refl

@@ -16,13 +16,13 @@ use Rattle.hpr_terms.specs.declared.keyword.Keyword.TheVariants.{Program, Issued
 use Rattle.hpr_terms.specs.declared.token.Token.{Token}
 use Rattle.hpr_terms.specs.declared.token.Token.TheVariants.{Word, Name, Number, Mark}
 use Rattle.hpr_terms.specs.Keywords.{keyword_text, keywords, keyword_of}
-use Rattle.hpr_terms.specs.Names.{is_name_byte, begins_with_digit, is_name}
+use Rattle.hpr_terms.specs.Names.{is_name_like, is_name_byte, begins_with_digit, is_name}
 use Rattle.hpr_terms.specs.Tokens.{IsToken, is_word}
 use Rattle.hpr_scan.specs.declared.machine.Fault.{Fault}
 use Rattle.hpr_scan.specs.declared.machine.Fault.TheVariants.{Refused, Memory}
 use Rattle.hpr_scan.specs.Machine.{IsTokenMachine}
 use Rattle.hpr_scan.specs.Steps.{and_then, Steps}
-use Rattle.hpr_scan.specs.Words.{is_digit, is_name_like, value_after, is_numeral, number_token, other_token, keyword_or, word_token, IsNoToken, ReadsWord, begins_keyword, begins}
+use Rattle.hpr_scan.specs.Words.{is_digit, value_after, is_numeral, number_token, other_token, keyword_or, word_token, IsNoToken, ReadsWord, begins_keyword, begins}
 
 -- ---- what a machine takes
 

@@ -1,7 +1,6 @@
 -- Words, read from left to right.
 --
 -- is_digit b                == b is a digit 0 to 9
--- is_name_like w            == w has 1 to 64 letters, digits and `_`, and doesn't begin with a digit: a name, or a keyword
 -- value_after n w           == the number that the digits w write when they follow those of n
 -- is_numeral w              == w is `0`, or a digit 1 to 9 followed by digits
 -- number_token w            == the number whose text w is, if there is one
@@ -14,7 +13,7 @@
 -- begins_number next s w    == w is a number that s takes
 -- begins_keyword next s w k == s takes the keyword k, and w is a front of its text
 -- begins next s w           == w is the front of a word that s takes
-use Rattle.std.specs.Prelude.{◌≡◌, ℕ, ◌+◌, ◌*◌, ◌-◌, ◌^◌, ◌≤◌, Bool, false, not, ◌||◌, ◌&&◌, nat_eq, nat_le, nat_lt, List, [], ◌∷◌, length, Option, Some, None, is_some, Result, Ok, Err, if◌then◌else◌}
+use Rattle.std.specs.Prelude.{◌≡◌, ℕ, ◌+◌, ◌*◌, ◌-◌, ◌^◌, ◌≤◌, Bool, false, ◌||◌, ◌&&◌, nat_eq, nat_lt, List, [], ◌∷◌, Option, Some, None, is_some, Result, Ok, Err, if◌then◌else◌}
 use Rattle.std.specs.Char.{is_ascii_digit}
 use Rattle.std.specs.List.{list_all, list_any, starts_with}
 use Rattle.hpr_terms.specs.declared.keyword.Keyword.{Keyword}
@@ -23,13 +22,10 @@ use Rattle.hpr_terms.specs.declared.token.Token.TheVariants.{Word, Name, Number}
 use Rattle.hpr_scan.specs.declared.machine.Fault.{Fault}
 use Rattle.hpr_scan.specs.declared.machine.Fault.TheVariants.{Refused, Memory}
 use Rattle.hpr_terms.specs.Keywords.{keyword_text, keywords, keyword_of}
-use Rattle.hpr_terms.specs.Names.{is_name_byte, begins_with_digit, is_name}
+use Rattle.hpr_terms.specs.Names.{is_name_like, is_name}
 
 unfoldable pub is_digit : ℕ → Bool
 is_digit b = is_ascii_digit b
-
-unfoldable pub is_name_like : List ℕ → Bool
-is_name_like w = nat_le 1 (length w) && nat_le (length w) 64 && list_all is_name_byte w && not (begins_with_digit w)
 
 abbrev pub value_after : ℕ → List ℕ → ℕ
 value_after n [] = n

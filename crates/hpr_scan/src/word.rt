@@ -3,11 +3,11 @@ ghost use Rattle.std.specs.Prelude.{◌≡◌, ◌^◌, ◌+◌, ◌*◌, ◌-�
 ghost use Rattle.std.specs.List.{list_all, list_any};
 ghost use Rattle.hpr_terms.specs.declared.token.Token.TheVariants as tokens;
 ghost use Rattle.hpr_terms.specs.Keywords.{keywords};
-ghost use Rattle.hpr_terms.specs.Names.{is_name_byte};
-ghost use Rattle.hpr_scan.specs.Words.{is_digit, is_name_like, is_numeral, value_after, number_token, other_token, word_token, IsNoToken, ReadsWord, begins_name, begins_number, begins_keyword, begins};
+ghost use Rattle.hpr_terms.specs.Names.{is_name_byte, is_name_like};
+ghost use Rattle.hpr_scan.specs.Words.{is_digit, is_numeral, value_after, number_token, other_token, word_token, IsNoToken, ReadsWord, begins_name, begins_number, begins_keyword, begins};
 
 use crate::machine::{Fault, TokenMachine};
-use hpr_terms::{KEYWORDS, Keyword, Name, NameError, Token, is_name_byte};
+use hpr_terms::{KEYWORDS, Keyword, Name, NameError, Token, is_name_like};
 use std::alloc::{AllocError, Global};
 use std::marker::Model;
 
@@ -62,24 +62,6 @@ fn has_digits(bytes: &[u8]) -> bool
     ensures { result ≡ list_all is_digit bytes.now }
 {
     bytes.iter().all(|byte| is_digit(*byte))
-}
-
-fn has_name_bytes(bytes: &[u8]) -> bool
-    ensures { result ≡ list_all is_name_byte bytes.now }
-{
-    bytes.iter().all(|byte| is_name_byte(*byte))
-}
-
-const MAX_NAME: usize = 64;
-
-#[tactic(auto, unfolding(crate::specs::Words::is_name_like))]
-fn is_name_like(word: &[u8]) -> bool
-    ensures { result ≡ is_name_like word.now }
-{
-    match word {
-        [] => false,
-        [first, ..] => { word.len() <= MAX_NAME && has_name_bytes(word) && !first.is_ascii_digit() }
-    }
 }
 
 fn is_numeral(word: &[u8]) -> bool
