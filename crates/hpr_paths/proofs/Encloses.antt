@@ -15,6 +15,7 @@ use Rattle.hpr_paths.specs.declared.spot.Step.{Step}
 use Rattle.hpr_paths.specs.Spots.{Spot, point_of, tag_of, loops_of, tag_at, nest_at}
 use Rattle.hpr_paths.specs.Successors.{first_step, spots}
 use Rattle.hpr_paths.specs.Numbers.{IsNumberOf}
+use Rattle.hpr_paths.proofs.Two.{TwoIn, at_spot, wider}
 use Rattle.hpr_paths.proofs.Few.{contains_none, contains_one, has_one}
 use Rattle.hpr_paths.proofs.Stands.{SpotIn, WholeIn, end_of, get_of_whole, whole_of_get}
 use Rattle.hpr_paths.proofs.Names.{Holds, role_of_get, get_of_role}
@@ -183,36 +184,9 @@ encloses_of_nests S (loop t e b rest) n f w p q s u l v holds out (inr h) (inr k
       ]
     ]
 
--- two spots of In, for these two points, that a loop with this tag encloses
-pub record TwoIn (S : List Spot) (In : ℕ → Spot → Type 0) (d u : Point) (v : Tag) : Type 0 where
-  pub first : ℕ
-  pub spot : Spot
-  pub stands : In first spot
-  pub point : d ≡ point_of spot.role
-  pub second : ℕ
-  pub other : Spot
-  pub stands_too : In second other
-  pub point_too : u ≡ point_of other.role
-  pub loop : ℕ
-  pub nest : Contains spot.nest loop
-  pub nest_too : Contains other.nest loop
-  pub tag : tag_at S loop ≡ Some v
-
-wider : (S : List Spot) (In Out : ℕ → Spot → Type 0) (d u : Point) (v : Tag) → ((p : ℕ) (s : Spot) → In p s → Out p s) → TwoIn S In d u v → TwoIn S Out d u v
-wider S In Out d u v f h = record {
-  first = h.first;
-  spot = h.spot;
-  stands = f h.first h.spot h.stands;
-  point = h.point;
-  second = h.second;
-  other = h.other;
-  stands_too = f h.second h.other h.stands_too;
-  point_too = h.point_too;
-  loop = h.loop;
-  nest = h.nest;
-  nest_too = h.nest_too;
-  tag = h.tag;
-}
+-- a loop that encloses both, with this tag
+abbrev Share : List Spot → Tag → ℕ → Spot → ℕ → Spot → Type 0
+Share S v _ s _ o = (l : ℕ) × Contains s.nest l × Contains o.nest l × (tag_at S l ≡ Some v)
 
 outer_in : (b : Body) (n : ℕ) (f : Step) (w : List ℕ) (p : ℕ) (s : Spot) (l : ℕ) → SpotIn b n f w p s → Contains w l → Contains s.nest l
 outer_in done n f w p s l h c = absurd h
@@ -265,19 +239,19 @@ in_loop t e b rest n f w a (inr h) =
     let k = spot_standing b (n + 1) (Again n) (w ++ n ∷ []) a h in
     (k.0, k.1, inr (inl k.2), k.3, outer_in b (n + 1) (Again n) (w ++ n ∷ []) k.0 k.1 n k.2 (Contains-append_right w (n ∷ []) n (has_one n)))
 
-pub nests_of_encloses : (S : List Spot) (b : Body) (n : ℕ) (f : Step) (w : List ℕ) (d u : Point) (v : Tag) → Holds S b n f w → EnclosesBoth (skeleton b) d u v → TwoIn S (SpotIn b n f w) d u v
+pub nests_of_encloses : (S : List Spot) (b : Body) (n : ℕ) (f : Step) (w : List ℕ) (d u : Point) (v : Tag) → Holds S b n f w → EnclosesBoth (skeleton b) d u v → TwoIn at_spot (Share S v) (SpotIn b n f w) d u
 nests_of_encloses S done n f w d u v holds h = absurd h
 nests_of_encloses S (assign t x e rest) n f w d u v holds h =
-    wider S (SpotIn rest (n + 1) f w) (SpotIn (assign t x e rest) n f w) d u v (λ p s i. inr i) (nests_of_encloses S rest (n + 1) f w d u v (λ p s i. holds p s (inr i)) h)
+    wider at_spot (Share S v) (SpotIn rest (n + 1) f w) (SpotIn (assign t x e rest) n f w) d u (λ p s i. inr i) (nests_of_encloses S rest (n + 1) f w d u v (λ p s i. holds p s (inr i)) h)
 nests_of_encloses S (branch t e a b rest) n f w d u v holds h =
     let no : ℕ = n + 1 + part_count a in
     let next : ℕ = no + part_count b in
     let after : Step = first_step rest next f in
     elim h [
-      | inl x ↦ wider S (SpotIn a (n + 1) after w) (SpotIn (branch t e a b rest) n f w) d u v (λ p s i. inr (inl i)) (nests_of_encloses S a (n + 1) after w d u v (λ p s i. holds p s (inr (inl i))) x)
+      | inl x ↦ wider at_spot (Share S v) (SpotIn a (n + 1) after w) (SpotIn (branch t e a b rest) n f w) d u (λ p s i. inr (inl i)) (nests_of_encloses S a (n + 1) after w d u v (λ p s i. holds p s (inr (inl i))) x)
       | inr k ↦ elim k [
-        | inl x ↦ wider S (SpotIn b no after w) (SpotIn (branch t e a b rest) n f w) d u v (λ p s i. inr (inr (inl i))) (nests_of_encloses S b no after w d u v (λ p s i. holds p s (inr (inr (inl i)))) x)
-        | inr x ↦ wider S (SpotIn rest next f w) (SpotIn (branch t e a b rest) n f w) d u v (λ p s i. inr (inr (inr i))) (nests_of_encloses S rest next f w d u v (λ p s i. holds p s (inr (inr (inr i)))) x)
+        | inl x ↦ wider at_spot (Share S v) (SpotIn b no after w) (SpotIn (branch t e a b rest) n f w) d u (λ p s i. inr (inr (inl i))) (nests_of_encloses S b no after w d u v (λ p s i. holds p s (inr (inr (inl i)))) x)
+        | inr x ↦ wider at_spot (Share S v) (SpotIn rest next f w) (SpotIn (branch t e a b rest) n f w) d u (λ p s i. inr (inr (inr i))) (nests_of_encloses S rest next f w d u v (λ p s i. holds p s (inr (inr (inr i)))) x)
       ]
     ]
 nests_of_encloses S (loop t e b rest) n f w d u v holds (inl h) =
@@ -286,23 +260,20 @@ nests_of_encloses S (loop t e b rest) n f w d u v holds (inl h) =
     let own : tag_at S n ≡ Some t = ap (option_and_then tag_of) (role_of_get S n _ (holds n _ (inl (refl, refl)))) in
     record {
       first = x.0;
-      spot = x.1;
+      one = x.1;
       stands = x.2;
       point = x.3;
       second = y.0;
       other = y.1;
       stands_too = y.2;
       point_too = y.3;
-      loop = n;
-      nest = x.4;
-      nest_too = y.4;
-      tag = own ∙ ap (λ (z : Tag). Some z) (sym h.0);
+      related = (n, x.4, y.4, own ∙ ap (λ (z : Tag). Some z) (sym h.0));
     }
 nests_of_encloses S (loop t e b rest) n f w d u v holds (inr h) =
     let next : ℕ = n + 1 + part_count b in
     elim h [
-      | inl x ↦ wider S (SpotIn b (n + 1) (Again n) (w ++ n ∷ [])) (SpotIn (loop t e b rest) n f w) d u v (λ p s i. inr (inl i)) (nests_of_encloses S b (n + 1) (Again n) (w ++ n ∷ []) d u v (λ p s i. holds p s (inr (inl i))) x)
-      | inr x ↦ wider S (SpotIn rest next f w) (SpotIn (loop t e b rest) n f w) d u v (λ p s i. inr (inr i)) (nests_of_encloses S rest next f w d u v (λ p s i. holds p s (inr (inr i))) x)
+      | inl x ↦ wider at_spot (Share S v) (SpotIn b (n + 1) (Again n) (w ++ n ∷ [])) (SpotIn (loop t e b rest) n f w) d u (λ p s i. inr (inl i)) (nests_of_encloses S b (n + 1) (Again n) (w ++ n ∷ []) d u v (λ p s i. holds p s (inr (inl i))) x)
+      | inr x ↦ wider at_spot (Share S v) (SpotIn rest next f w) (SpotIn (loop t e b rest) n f w) d u (λ p s i. inr (inr i)) (nests_of_encloses S rest next f w d u v (λ p s i. holds p s (inr (inr i))) x)
     ]
 
 -- a point in a loop is a part
@@ -329,10 +300,11 @@ pub number_encloses : (t : Tree) (p q : ℕ) (d u : Point) (v : Tag) → IsProgr
     → (l : ℕ) × Contains (nest_at (spots t) p) l × Contains (nest_at (spots t) q) l × (tag_at (spots t) l ≡ Some v)
 number_encloses t p q d u v prog np nq h =
     let k = nests_of_encloses (spots t) t.body 1 (end_of t) [] d u v (holds_whole t) h in
-    let gx : slice_get (spots t) k.first ≡ Some k.spot = get_of_whole t k.first k.spot (inr (inl k.stands)) in
+    let gx : slice_get (spots t) k.first ≡ Some k.one = get_of_whole t k.first k.one (inr (inl k.stands)) in
     let gy : slice_get (spots t) k.second ≡ Some k.other = get_of_whole t k.second k.other (inr (inl k.stands_too)) in
-    let sx : k.first ≡ p = number_once t k.first p d prog (k.spot.role, role_of_get (spots t) k.first k.spot gx, k.point) np in
+    let sx : k.first ≡ p = number_once t k.first p d prog (k.one.role, role_of_get (spots t) k.first k.one gx, k.point) np in
     let sy : k.second ≡ q = number_once t k.second q u prog (k.other.role, role_of_get (spots t) k.second k.other gy, k.point_too) nq in
-    let P : List ℕ → Type 0 = λ w. Contains w k.loop in
-    let Q : ℕ → Type 0 = λ n. Contains (nest_at (spots t) n) k.loop in
-    (k.loop, subst Q sx (subst P (sym (ap loops_of gx)) k.nest), subst Q sy (subst P (sym (ap loops_of gy)) k.nest_too), k.tag)
+    let r = k.related in
+    let P : List ℕ → Type 0 = λ w. Contains w r.0 in
+    let Q : ℕ → Type 0 = λ n. Contains (nest_at (spots t) n) r.0 in
+    (r.0, subst Q sx (subst P (sym (ap loops_of gx)) r.1), subst Q sy (subst P (sym (ap loops_of gy)) r.2), r.3)

@@ -11,6 +11,7 @@ use Rattle.hpr_paths.specs.declared.spot.Step.{Step}
 use Rattle.hpr_paths.specs.Spots.{Spot, point_of}
 use Rattle.hpr_paths.specs.Successors.{first_step, spots_of, spots}
 use Rattle.hpr_paths.specs.Numbers.{IsNumberOf}
+use Rattle.hpr_paths.proofs.Two.{TwoIn, at_spot, wider}
 use Rattle.hpr_paths.proofs.Stands.{SpotIn, WholeIn, has_low, has_of_in, count_spots, end_of, get_of_whole, whole_of_get}
 use Rattle.hpr_paths.proofs.Names.{role_of_get, get_of_role}
 use Rattle.hpr_paths.proofs.Sound.{has_high}
@@ -105,30 +106,12 @@ left_of_numbers (loop t e b rest) n f w p q s u (inr h) (inr k) l =
       ]
     ])
 
--- spots of In for these two points, in this order
-pub record InOrder (In : ℕ → Spot → Type 0) (d u : Point) : Type 0 where
-  pub first : ℕ
-  pub spot : Spot
-  pub stands : In first spot
-  pub point : d ≡ point_of spot.role
-  pub second : ℕ
-  pub other : Spot
-  pub stands_too : In second other
-  pub point_too : u ≡ point_of other.role
-  pub order : first < second
+abbrev Before : ℕ → Spot → ℕ → Spot → Type 0
+Before p _ q _ = p < q
 
-wider : (In Out : ℕ → Spot → Type 0) (d u : Point) → ((p : ℕ) (s : Spot) → In p s → Out p s) → InOrder In d u → InOrder Out d u
-wider In Out d u f h = record {
-  first = h.first;
-  spot = h.spot;
-  stands = f h.first h.spot h.stands;
-  point = h.point;
-  second = h.second;
-  other = h.other;
-  stands_too = f h.second h.other h.stands_too;
-  point_too = h.point_too;
-  order = h.order;
-}
+-- spots of In for these two points, in this order
+abbrev InOrder : (ℕ → Spot → Type 0) → Point → Point → Type 0
+InOrder In d u = TwoIn at_spot Before In d u
 
 -- a point in a block, by its number
 abbrev Found : Body → ℕ → Step → List ℕ → Point → Type 0
@@ -137,34 +120,34 @@ Found b n f w a = (p : ℕ) × (s : Spot) × SpotIn b n f w p s × (a ≡ point_
 ordered : (In : ℕ → Spot → Type 0) (d u : Point) (b c : Body) (n m : ℕ) (f g : Step) (w v : List ℕ) → ((p : ℕ) (s : Spot) → SpotIn b n f w p s → In p s) → ((p : ℕ) (s : Spot) → SpotIn c m g v p s → In p s) → n + part_count b ≤ m → Found b n f w d → Found c m g v u → InOrder In d u
 ordered In d u b c n m f g w v one two le x y = record {
   first = x.0;
-  spot = x.1;
+  one = x.1;
   stands = one x.0 x.1 x.2;
   point = x.3;
   second = y.0;
   other = y.1;
   stands_too = two y.0 y.1 y.2;
   point_too = y.3;
-  order = omega (arith, (spot_range b n f w x.0 x.1 x.2).1, (spot_range c m g v y.0 y.1 y.2).0);
+  related = omega (arith, (spot_range b n f w x.0 x.1 x.2).1, (spot_range c m g v y.0 y.1 y.2).0);
 }
 
 led : (In : ℕ → Spot → Type 0) (d u : Point) (s : Spot) (c : Body) (n m : ℕ) (g : Step) (v : List ℕ) → In n s → d ≡ point_of s.role → ((p : ℕ) (s : Spot) → SpotIn c m g v p s → In p s) → n + 1 ≤ m → Found c m g v u → InOrder In d u
 led In d u s c n m g v first point two le y = record {
   first = n;
-  spot = s;
+  one = s;
   stands = first;
   point = point;
   second = y.0;
   other = y.1;
   stands_too = two y.0 y.1 y.2;
   point_too = y.3;
-  order = omega (arith, (spot_range c m g v y.0 y.1 y.2).0);
+  related = omega (arith, (spot_range c m g v y.0 y.1 y.2).0);
 }
 
 pub numbers_of_left : (b : Body) (n : ℕ) (f : Step) (w : List ℕ) (d u : Point) → StandsLeft (skeleton b) d u → InOrder (SpotIn b n f w) d u
 numbers_of_left done n f w d u h = absurd h
 numbers_of_left (assign t x e rest) n f w d u (inl h) =
     led (SpotIn (assign t x e rest) n f w) d u _ rest n (n + 1) f w (inl (refl, refl)) h.0 (λ p s i. inr i) (omega arith) (spot_standing rest (n + 1) f w u h.1)
-numbers_of_left (assign t x e rest) n f w d u (inr h) = wider (SpotIn rest (n + 1) f w) (SpotIn (assign t x e rest) n f w) d u (λ p s i. inr i) (numbers_of_left rest (n + 1) f w d u h)
+numbers_of_left (assign t x e rest) n f w d u (inr h) = wider at_spot Before (SpotIn rest (n + 1) f w) (SpotIn (assign t x e rest) n f w) d u (λ p s i. inr i) (numbers_of_left rest (n + 1) f w d u h)
 numbers_of_left (branch t e a b rest) n f w d u (inl h) =
     let no : ℕ = n + 1 + part_count a in
     let next : ℕ = no + part_count b in
@@ -190,10 +173,10 @@ numbers_of_left (branch t e a b rest) n f w d u (inr h) =
       | inr j ↦ elim j [
         | inl x ↦ ordered In d u b rest no next after f w w (λ p s i. inr (inr (inl i))) (λ p s i. inr (inr (inr i))) (omega arith) (spot_standing b no after w d x.0) (spot_standing rest next f w u x.1)
         | inr k ↦ elim k [
-          | inl x ↦ wider (SpotIn a (n + 1) after w) In d u (λ p s i. inr (inl i)) (numbers_of_left a (n + 1) after w d u x)
+          | inl x ↦ wider at_spot Before (SpotIn a (n + 1) after w) In d u (λ p s i. inr (inl i)) (numbers_of_left a (n + 1) after w d u x)
           | inr m ↦ elim m [
-            | inl x ↦ wider (SpotIn b no after w) In d u (λ p s i. inr (inr (inl i))) (numbers_of_left b no after w d u x)
-            | inr x ↦ wider (SpotIn rest next f w) In d u (λ p s i. inr (inr (inr i))) (numbers_of_left rest next f w d u x)
+            | inl x ↦ wider at_spot Before (SpotIn b no after w) In d u (λ p s i. inr (inr (inl i))) (numbers_of_left b no after w d u x)
+            | inr x ↦ wider at_spot Before (SpotIn rest next f w) In d u (λ p s i. inr (inr (inr i))) (numbers_of_left rest next f w d u x)
           ]
         ]
       ]
@@ -212,8 +195,8 @@ numbers_of_left (loop t e b rest) n f w d u (inr h) =
     elim h [
       | inl x ↦ ordered In d u b rest (n + 1) next (Again n) f inside w (λ p s i. inr (inl i)) (λ p s i. inr (inr i)) (omega arith) (spot_standing b (n + 1) (Again n) inside d x.0) (spot_standing rest next f w u x.1)
       | inr k ↦ elim k [
-        | inl x ↦ wider (SpotIn b (n + 1) (Again n) inside) In d u (λ p s i. inr (inl i)) (numbers_of_left b (n + 1) (Again n) inside d u x)
-        | inr x ↦ wider (SpotIn rest next f w) In d u (λ p s i. inr (inr i)) (numbers_of_left rest next f w d u x)
+        | inl x ↦ wider at_spot Before (SpotIn b (n + 1) (Again n) inside) In d u (λ p s i. inr (inl i)) (numbers_of_left b (n + 1) (Again n) inside d u x)
+        | inr x ↦ wider at_spot Before (SpotIn rest next f w) In d u (λ p s i. inr (inr i)) (numbers_of_left rest next f w d u x)
       ]
     ]
 
@@ -236,8 +219,8 @@ left_by_number t p q d u np nq l =
 pub number_left : (t : Tree) (p q : ℕ) (d u : Point) → IsProgram t → IsNumberOf (spots t) p d → IsNumberOf (spots t) q u → StandsLeft (skeleton t.body) d u → p < q
 number_left t p q d u prog np nq h =
     let k = numbers_of_left t.body 1 (end_of t) [] d u h in
-    let gx : slice_get (spots t) k.first ≡ Some k.spot = get_of_whole t k.first k.spot (inr (inl k.stands)) in
+    let gx : slice_get (spots t) k.first ≡ Some k.one = get_of_whole t k.first k.one (inr (inl k.stands)) in
     let gy : slice_get (spots t) k.second ≡ Some k.other = get_of_whole t k.second k.other (inr (inl k.stands_too)) in
-    let sx : k.first ≡ p = number_once t k.first p d prog (k.spot.role, role_of_get (spots t) k.first k.spot gx, k.point) np in
+    let sx : k.first ≡ p = number_once t k.first p d prog (k.one.role, role_of_get (spots t) k.first k.one gx, k.point) np in
     let sy : k.second ≡ q = number_once t k.second q u prog (k.other.role, role_of_get (spots t) k.second k.other gy, k.point_too) nq in
-    omega (arith, k.order, sx, sy)
+    omega (arith, k.related, sx, sy)

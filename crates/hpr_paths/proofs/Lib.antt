@@ -10,5 +10,6 @@ pub mod Marks
 pub mod Nested
 pub mod Defines
 pub mod PathLaws
+pub mod Two
 pub mod Encloses
 pub mod Left

@@ -1,6 +1,6 @@
 -- The tags of the points, and that none stands twice in a program.
-use Rattle.std.proofs.Common.{◌≡◌, ◌<◌, ◌+◌, ℕ, zero, suc, Bool, true, false, ◌||◌, inl, inr, Option, Some, None, List, [], ◌∷◌, ◌++◌, map, length, refl, sym, ap, ◌∙◌, subst, rules, if◌then◌else◌}
-use Rattle.std.specs.List.{slice_get, list_any}
+use Rattle.std.proofs.Common.{◌≡◌, ◌<◌, ◌+◌, ℕ, zero, suc, true, inl, inr, Option, Some, None, List, [], ◌∷◌, ◌++◌, map, length, refl, sym, ap, ◌∙◌, rules}
+use Rattle.std.specs.List.{slice_get}
 use Rattle.std.specs.Option.{option_map, option_and_then}
 use Rattle.std.proofs.lemmas.Option.{same_Some, slice_get-map}
 use Rattle.std.proofs.lemmas.List.{map-append}
@@ -11,6 +11,7 @@ use Rattle.hpr_syntax.specs.Parts.{tags_of, same_tag}
 use Rattle.hpr_syntax.specs.Shape.{IsProgram, first_repeated}
 use Rattle.hpr_syntax.specs.Skeleton.{Point}
 use Rattle.hpr_syntax.proofs.NoRefusal.{no_refusal}
+use Rattle.hpr_syntax.proofs.Repeats.{places_once}
 use Rattle.hpr_syntax.proofs.ShapeLemmas.{tags_append}
 use Rattle.hpr_paths.specs.declared.spot.Step.{Step}
 use Rattle.hpr_paths.specs.Spots.{Role, enter, part, exit, Spot, point_of, tag_of, role_at, tag_at}
@@ -69,39 +70,6 @@ tags_of_whole t =
 tag_same : (h : Tag) → same_tag h h ≡ true
 tag_same h = search rules
 
-or_false : (a b : Bool) → (a || b) ≡ false → (a ≡ false) × (b ≡ false)
-or_false true b h = absurd cc
-or_false false b h = (refl, h)
-
-fresh_now : (b : Bool) (t : Tag) (o : Option Tag) → (if b then Some t else o) ≡ None → (b ≡ false) × (o ≡ None)
-fresh_now true t o h = absurd cc
-fresh_now false t o h = (refl, h)
-
-fresh : (earlier ts : List Tag) (j : ℕ) (t : Tag) → first_repeated earlier ts ≡ None → slice_get ts j ≡ Some t → list_any (same_tag t) earlier ≡ false
-fresh earlier [] j t none get = absurd cc
-fresh earlier (h ∷ ts) zero t none get =
-    let P : Tag → Type 0 = λ u. list_any (same_tag u) earlier ≡ false in
-    subst P (same_Some h t get) (fresh_now (list_any (same_tag h) earlier) h (first_repeated (h ∷ earlier) ts) none).0
-fresh earlier (h ∷ ts) (suc j) t none get =
-    (or_false (same_tag t h) (list_any (same_tag t) earlier) (fresh (h ∷ earlier) ts j t (fresh_now (list_any (same_tag h) earlier) h (first_repeated (h ∷ earlier) ts) none).1 get)).1
-
-not_again : (earlier ts : List Tag) (h : Tag) (j : ℕ) (t : Tag) → first_repeated (h ∷ earlier) ts ≡ None → slice_get ts j ≡ Some t → h ≡ t → ⊥
-not_again earlier ts h j t none get is =
-    let no : same_tag t h ≡ false = (or_false (same_tag t h) (list_any (same_tag t) earlier) (fresh (h ∷ earlier) ts j t none get)).0 in
-    let P : Tag → Type 0 = λ u. same_tag u h ≡ true in
-    let yes : same_tag t h ≡ true = subst P is (tag_same h) in
-    absurd cc
-
-pub places_once : (earlier ts : List Tag) (i j : ℕ) (t : Tag) → first_repeated earlier ts ≡ None → slice_get ts i ≡ Some t → slice_get ts j ≡ Some t → i ≡ j
-places_once earlier [] i j t none a b = absurd cc
-places_once earlier (h ∷ ts) zero zero t none a b = refl
-places_once earlier (h ∷ ts) zero (suc j) t none a b =
-    absurd (not_again earlier ts h j t (fresh_now (list_any (same_tag h) earlier) h (first_repeated (h ∷ earlier) ts) none).1 b (same_Some h t a))
-places_once earlier (h ∷ ts) (suc i) zero t none a b =
-    absurd (not_again earlier ts h i t (fresh_now (list_any (same_tag h) earlier) h (first_repeated (h ∷ earlier) ts) none).1 a (same_Some h t b))
-places_once earlier (h ∷ ts) (suc i) (suc j) t none a b =
-    ap (λ (k : ℕ). suc k) (places_once (h ∷ earlier) ts i j t (fresh_now (list_any (same_tag h) earlier) h (first_repeated (h ∷ earlier) ts) none).1 a b)
-
 tag_within : (ts : List Tag) (k : ℕ) (t : Tag) → slice_get (some_tags ts ++ None ∷ []) k ≡ Some (Some t) → slice_get ts k ≡ Some t
 tag_within [] zero t h = absurd cc
 tag_within [] (suc k) t h = absurd cc
@@ -145,8 +113,8 @@ part_once t p q v prog a b =
     let tags : List Tag = tags_of t.body [] in
     let x = tag_place (spots t) tags p v (tags_of_whole t) a in
     let y = tag_place (spots t) tags q v (tags_of_whole t) b in
-    let none : first_repeated [] tags ≡ None = (no_refusal t prog.shape).tags in
-    x.1 ∙ ap (λ (k : ℕ). suc k) (places_once [] tags x.0 y.0 v none x.2 y.2) ∙ sym y.1
+    let none : first_repeated same_tag [] tags ≡ None = (no_refusal t prog.shape).tags in
+    x.1 ∙ ap (λ (k : ℕ). suc k) (places_once same_tag tag_same [] tags x.0 y.0 v none x.2 y.2) ∙ sym y.1
 
 once_at : (t : Tree) (p q : ℕ) (r r' : Role) → IsProgram t → role_at (spots t) p ≡ Some r → role_at (spots t) q ≡ Some r' → point_of r ≡ point_of r' → p ≡ q
 once_at t p q enter enter prog a b is = enter_at t p a ∙ sym (enter_at t q b)
