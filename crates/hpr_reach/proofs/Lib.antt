@@ -1,5 +1,4 @@
 pub mod Lists
-pub mod InOrder
 pub mod Targets
 pub mod Avoids
 pub mod Walks

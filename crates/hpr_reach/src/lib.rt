@@ -5,7 +5,6 @@
 mod bits;
 pub mod laws;
 mod live;
-mod names;
 mod search;
 #[cfg(test)]
 mod tests;

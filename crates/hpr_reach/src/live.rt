@@ -6,9 +6,9 @@ ghost use Rattle.std.specs.Ordering.{nat_cmp};
 ghost use Rattle.hpr_paths.specs.Spots.{defined_at};
 ghost use Rattle.hpr_reach.specs.Live.{IsDefined, IsLive, IsUsedAfterAll};
 
-use crate::names::{in_order, is_among};
 use crate::search::{reach, reach_past};
 use hpr_paths::{Name, NoMemory, Succ};
+use hpr_terms::names::{in_order, is_among};
 use std::alloc::Global;
 
 /// Puts a copy of the name behind the names where the test holds.
