@@ -1,7 +1,5 @@
 -- Conflicts (Horwitz, Prins and Reps 1989; the edge that a conflict names is our profile's).
 --
--- Side                     == variant A or variant B
--- Conflict                 == a side, a point, and an edge
 -- graph_on side a b        == the graph of that side
 -- IsAdded m g v e          == e lies in v's slice in m, not in v's slice in g, and ends in a vertex of the latter
 -- IsLeast P e              == e has P, and no edge before it has
@@ -11,6 +9,9 @@
 -- AreConflicts base a b cs == the list has exactly the conflicts, in this order, each once
 use Rattle.std.specs.Prelude.{◌≡◌, ℕ, ◌<◌, ◌⊎◌, ◌↔◌, List, Contains, slice_get, Some}
 use Rattle.std.specs.declared.cmp.Ordering.TheVariants.{Less}
+use Rattle.hpr_graph.specs.declared.conflict.Conflict.{Conflict}
+use Rattle.hpr_graph.specs.declared.conflict.Side.{Side}
+use Rattle.hpr_graph.specs.declared.conflict.Side.TheVariants.{A, B}
 use Rattle.hpr_graph.specs.declared.vertex.Vertex.{Vertex}
 use Rattle.hpr_graph.specs.declared.edge.Edge.{Edge}
 use Rattle.hpr_graph.specs.Graphs.{Graph, Same}
@@ -18,18 +19,9 @@ use Rattle.hpr_graph.specs.Slices.{slice_at}
 use Rattle.hpr_graph.specs.Points.{IsAffected, merged}
 use Rattle.hpr_graph.specs.Order.{vertex_cmp, edge_cmp}
 
-pub data Side : Type 0 where
-  a : Side
-  b : Side
-
-pub record Conflict : Type 0 where
-  pub side : Side
-  pub point : Vertex
-  pub edge : Edge
-
 abbrev pub graph_on : Side → Graph → Graph → Graph
-graph_on a ga gb = ga
-graph_on b ga gb = gb
+graph_on A ga gb = ga
+graph_on B ga gb = gb
 
 abbrev pub IsAdded : Graph → Graph → Vertex → Edge → Type 0
 IsAdded m g v e = (slice_at m v).edge e × (¬ (slice_at g v).edge e) × (slice_at g v).vertex e.to
@@ -46,7 +38,7 @@ IsConflict base ga gb c =
     × IsLeast (IsAdded (merged base ga gb) (graph_on c.side ga gb) c.point) c.edge
 
 abbrev pub ComesBefore : Conflict → Conflict → Type 0
-ComesBefore c d = ((c.side ≡ a) × (d.side ≡ b)) ⊎ ((c.side ≡ d.side) × (vertex_cmp c.point d.point ≡ Less))
+ComesBefore c d = ((c.side ≡ A) × (d.side ≡ B)) ⊎ ((c.side ≡ d.side) × (vertex_cmp c.point d.point ≡ Less))
 
 abbrev pub AreConflicts : Graph → Graph → Graph → List Conflict → Type 0
 AreConflicts base ga gb cs =

@@ -6,6 +6,7 @@
 //! Reps and Yang (1988). Where our profile differs, the files of specs/ say so.
 #![tactic(auto)]
 
+mod conflict;
 mod edge;
 mod graph;
 mod link;
@@ -15,6 +16,7 @@ mod same;
 mod sets;
 mod vertex;
 
+pub use conflict::{Conflict, Side};
 pub use edge::{Edge, Kind};
 pub use graph::Graph;
 pub use hpr_syntax::{Content, Name, NoMemory, Tag};
