@@ -35,7 +35,7 @@ part_standing t n s d h is = let (v, c, role) = part_in t.body 1 (end_of t) [] n
 pub left_tags : (t : Tree) (d u : Point) → StandsLeft (skeleton t.body) d u → ((v : Tag) × (d ≡ at v)) × ((w : Tag) × (u ≡ at w))
 left_tags t d u h =
     let k = numbers_of_left t.body 1 (end_of t) [] d u h in
-    (part_standing t k.first k.spot d k.stands k.point, part_standing t k.second k.other u k.stands_too k.point_too)
+    (part_standing t k.first k.one d k.stands k.point, part_standing t k.second k.other u k.stands_too k.point_too)
 
 -- a vertex with a flow to another reads the name
 reads_of_flow : (t : Tree) (x : List ℕ) (from to : Vertex) → HasFlow t x from to → (z : Point) × Reads t x to z

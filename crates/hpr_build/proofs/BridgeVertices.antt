@@ -1,16 +1,17 @@
 -- The vertices by number are those of the program.
-use Rattle.std.proofs.Common.{◌≡◌, ℕ, zero, suc, ◌+◌, ◌-◌, Bool, true, false, ◌||◌, if◌then◌else◌, ◌⊎◌, ◌↔◌, inl, inr, Option, Some, None, List, [], ◌∷◌, ◌++◌, map, length, Contains, refl, sym, ap, ◌∙◌, subst, arith, rules}
-use Rattle.std.specs.List.{slice_get, list_any}
+use Rattle.std.proofs.Common.{◌≡◌, ℕ, zero, suc, ◌+◌, ◌-◌, true, ◌⊎◌, ◌↔◌, inl, inr, Option, Some, None, List, [], ◌∷◌, ◌++◌, map, length, Contains, refl, sym, ap, ◌∙◌, subst, arith, rules}
+use Rattle.std.specs.List.{slice_get}
 use Rattle.std.specs.Option.{option_map}
 use Rattle.std.specs.Str.{bytes_eq}
-use Rattle.std.proofs.lemmas.Option.{same_Some, slice_get-map, slice_get-get_or}
+use Rattle.std.proofs.lemmas.Option.{slice_get-map, slice_get-get_or}
 use Rattle.hpr_terms.specs.declared.tag.Tag.{Tag}
 use Rattle.hpr_syntax.specs.declared.rows.Content.{Content}
 use Rattle.hpr_syntax.specs.Nests.{Says}
 use Rattle.hpr_syntax.specs.Initial.{IsInitial}
-use Rattle.hpr_syntax.specs.Shape.{IsProgram, first_repeated_name}
+use Rattle.hpr_syntax.specs.Shape.{IsProgram}
 use Rattle.hpr_syntax.specs.Tree.{Tree}
 use Rattle.hpr_syntax.proofs.NoRefusal.{no_refusal}
+use Rattle.hpr_syntax.proofs.Repeats.{places_once}
 use Rattle.hpr_paths.specs.Spots.{part, role_at}
 use Rattle.hpr_paths.specs.Successors.{spots}
 use Rattle.hpr_paths.proofs.Nested.{says_of_number, number_of_says}
@@ -56,44 +57,11 @@ length_mapped f [] = refl
 length_mapped f (x ∷ xs) = ap suc (length_mapped f xs)
 
 -- the names of `end` are distinct
-or_false : (a b : Bool) → (a || b) ≡ false → (a ≡ false) × (b ≡ false)
-or_false true b h = absurd cc
-or_false false b h = (refl, h)
-
-fresh_now : (b : Bool) (x : List ℕ) (o : Option (List ℕ)) → (if b then Some x else o) ≡ None → (b ≡ false) × (o ≡ None)
-fresh_now true x o h = absurd cc
-fresh_now false x o h = (refl, h)
-
 name_same : (x : List ℕ) → bytes_eq x x ≡ true
 name_same x = search rules
 
-fresh : (earlier xs : List (List ℕ)) (j : ℕ) (x : List ℕ) → first_repeated_name earlier xs ≡ None → slice_get xs j ≡ Some x → list_any (bytes_eq x) earlier ≡ false
-fresh earlier [] j x none get = absurd cc
-fresh earlier (h ∷ xs) zero x none get =
-    let P : List ℕ → Type 0 = λ u. list_any (bytes_eq u) earlier ≡ false in
-    subst P (same_Some h x get) (fresh_now (list_any (bytes_eq h) earlier) h (first_repeated_name (h ∷ earlier) xs) none).0
-fresh earlier (h ∷ xs) (suc j) x none get =
-    (or_false (bytes_eq x h) (list_any (bytes_eq x) earlier) (fresh (h ∷ earlier) xs j x (fresh_now (list_any (bytes_eq h) earlier) h (first_repeated_name (h ∷ earlier) xs) none).1 get)).1
-
-not_again : (earlier xs : List (List ℕ)) (h : List ℕ) (j : ℕ) (x : List ℕ) → first_repeated_name (h ∷ earlier) xs ≡ None → slice_get xs j ≡ Some x → h ≡ x → ⊥
-not_again earlier xs h j x none get is =
-    let no : bytes_eq x h ≡ false = (or_false (bytes_eq x h) (list_any (bytes_eq x) earlier) (fresh (h ∷ earlier) xs j x none get)).0 in
-    let P : List ℕ → Type 0 = λ u. bytes_eq u h ≡ true in
-    let yes : bytes_eq x h ≡ true = subst P is (name_same h) in
-    absurd cc
-
-names_once : (earlier xs : List (List ℕ)) (i j : ℕ) (x : List ℕ) → first_repeated_name earlier xs ≡ None → slice_get xs i ≡ Some x → slice_get xs j ≡ Some x → i ≡ j
-names_once earlier [] i j x none a b = absurd cc
-names_once earlier (h ∷ xs) zero zero x none a b = refl
-names_once earlier (h ∷ xs) zero (suc j) x none a b =
-    absurd (not_again earlier xs h j x (fresh_now (list_any (bytes_eq h) earlier) h (first_repeated_name (h ∷ earlier) xs) none).1 b (same_Some h x a))
-names_once earlier (h ∷ xs) (suc i) zero x none a b =
-    absurd (not_again earlier xs h i x (fresh_now (list_any (bytes_eq h) earlier) h (first_repeated_name (h ∷ earlier) xs) none).1 a (same_Some h x b))
-names_once earlier (h ∷ xs) (suc i) (suc j) x none a b =
-    ap suc (names_once (h ∷ earlier) xs i j x (fresh_now (list_any (bytes_eq h) earlier) h (first_repeated_name (h ∷ earlier) xs) none).1 a b)
-
 pub finals_once : (t : Tree) → IsProgram t → IsOnce t.finals
-finals_once t prog i j x a b = names_once [] t.finals i j x (no_refusal t prog.shape).names a b
+finals_once t prog i j x a b = places_once bytes_eq name_same [] t.finals i j x (no_refusal t prog.shape).names a b
 
 -- a vertex by its number
 module _ (t : Tree) (inits : List (List ℕ)) where

@@ -1,24 +1,14 @@
 -- Names in order.
-use Rattle.std.proofs.Common.{◌≡◌, ℕ, ◌<◌, false, Ok, Err, Some, List, length, get_or, Contains, inl, inr, refl, ap, ◌∙◌}
-use Rattle.std.specs.List.{slice_get}
-use Rattle.std.specs.List.Sorted.{IsStrictlySortedBy, IsBinarySearchResult, IsSearchInRange}
+use Rattle.std.proofs.Common.{◌≡◌, ℕ, ◌<◌, List, length, get_or, inl, inr, ap, ◌∙◌}
+use Rattle.std.specs.List.Sorted.{IsStrictlySortedBy}
 use Rattle.std.specs.Cmp.Lexicographic.{slice_cmp}
 use Rattle.std.specs.Ordering.{nat_cmp}
 use Rattle.std.specs.declared.cmp.Ordering.TheVariants.{Less, Equal}
 use Rattle.std.proofs.lemmas.Bool.{cases_order}
 use Rattle.std.proofs.lemmas.Cmp.{nat_list_cmp_total, tied_itself}
 use Rattle.std.proofs.lemmas.Map.Keys.{Less-from_sorted}
-use Rattle.std.proofs.lemmas.Option.{slice_get-get_or, slice_get_within, get_or_from_slice_get}
-use Rattle.std.proofs.lemmas.Map.Lookups.{exact_bytes}
+use Rattle.std.proofs.lemmas.Option.{slice_get_within, get_or_from_slice_get}
 use Rattle.hpr_graph.specs.Graphs.{IsOnce}
-use Rattle.hpr_reach.proofs.InOrder.{among}
-
--- what a search finds, and what it doesn't
-pub found_at : (xs : List (List ℕ)) (x : List ℕ) (i : ℕ) → IsSearchInRange (Ok i) (length xs) → IsBinarySearchResult (λ y. slice_cmp nat_cmp y x) xs (Ok i) → slice_get xs i ≡ Some x
-found_at xs x i bound found = slice_get-get_or xs i x bound ∙ ap (λ (y : List ℕ). Some y) (exact_bytes (get_or xs i x) x (found x))
-
-pub found_none : (xs : List (List ℕ)) (x : List ℕ) (i : ℕ) → IsStrictlySortedBy (slice_cmp nat_cmp) xs → IsSearchInRange (Err i) (length xs) → IsBinarySearchResult (λ y. slice_cmp nat_cmp y x) xs (Err i) → ¬ Contains xs x
-found_none xs x i sorted bound found h = let t = (among xs x (Err i) false sorted bound found refl).1 h in absurd cc
 
 less_than_itself : (a b x : List ℕ) → a ≡ x → b ≡ x → ¬ (slice_cmp nat_cmp a b ≡ Less)
 less_than_itself a b x e f less =

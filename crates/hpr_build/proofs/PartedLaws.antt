@@ -9,6 +9,7 @@ use Rattle.hpr_syntax.specs.Places.{StandsLeft, Parted}
 use Rattle.hpr_syntax.specs.Shape.{IsProgram}
 use Rattle.hpr_paths.specs.Successors.{spots}
 use Rattle.hpr_paths.specs.Numbers.{IsNumberOf}
+use Rattle.hpr_paths.proofs.Two.{TwoIn, wider}
 use Rattle.hpr_paths.proofs.Tags.{number_once}
 use Rattle.hpr_paths.proofs.Left.{left_by_number, number_left}
 use Rattle.hpr_build.specs.declared.places.Parent.{Parent}
@@ -121,29 +122,14 @@ parted_of_among Whole (loop t e b rest) n up os p x r q whole (inr h) c low high
     ]
 
 -- two parts of In for these points, of which the second is in another branch, or has the lower number
-pub record Parting (In : ℕ → Place → Type 0) (d u : Point) : Type 0 where
-  pub first : ℕ
-  pub place : Place
-  pub stands : In first place
-  pub point : d ≡ at place.tag
-  pub second : ℕ
-  pub other : Place
-  pub stands_too : In second other
-  pub point_too : u ≡ at other.tag
-  pub parts : IsAmong place.others second ⊎ (second < first)
+abbrev at_place : Place → Point
+at_place x = at x.tag
 
-wider : (In Out : ℕ → Place → Type 0) (d u : Point) → ((p : ℕ) (x : Place) → In p x → Out p x) → Parting In d u → Parting Out d u
-wider In Out d u f h = record {
-  first = h.first;
-  place = h.place;
-  stands = f h.first h.place h.stands;
-  point = h.point;
-  second = h.second;
-  other = h.other;
-  stands_too = f h.second h.other h.stands_too;
-  point_too = h.point_too;
-  parts = h.parts;
-}
+abbrev Apart : ℕ → Place → ℕ → Place → Type 0
+Apart p x q _ = IsAmong x.others q ⊎ (q < p)
+
+abbrev Parting : (ℕ → Place → Type 0) → Point → Point → Type 0
+Parting In d u = TwoIn at_place Apart In d u
 
 -- a conditional with a part in each branch
 fork_parting : (t : Tag) (e : _) (a b rest : Body) (n : ℕ) (up : Up) (os : List Span) (d u : Point) → StandsIn (skeleton a) d → StandsIn (skeleton b) u
@@ -158,31 +144,31 @@ fork_parting t e a b rest n up os d u i j =
     let high = place_range b no (under n false) os y.0 y.1 y.2 in (
       record {
         first = x.0;
-        place = x.1;
+        one = x.1;
         stands = inr (inl x.2);
         point = x.3;
         second = y.0;
         other = y.1;
         stands_too = inr (inr (inl y.2));
         point_too = y.3;
-        parts = inl (span no next, others_kept a (n + 1) (under n true) inside x.0 x.1 (span no next) x.2 (Contains-push os (span no next)), high.0, high.1);
+        related = inl (span no next, others_kept a (n + 1) (under n true) inside x.0 x.1 (span no next) x.2 (Contains-push os (span no next)), high.0, high.1);
       },
       record {
         first = y.0;
-        place = y.1;
+        one = y.1;
         stands = inr (inr (inl y.2));
         point = y.3;
         second = x.0;
         other = x.1;
         stands_too = inr (inl x.2);
         point_too = x.3;
-        parts = inr (omega (arith, low.1, high.0));
+        related = inr (omega (arith, low.1, high.0));
       },
     )
 
 parting_of_parted : (b : Body) (n : ℕ) (up : Up) (os : List Span) (d u : Point) → Parted (skeleton b) d u → Parting (PlaceIn b n up os) d u
 parting_of_parted done n up os d u h = absurd h
-parting_of_parted (assign t y e rest) n up os d u h = wider (PlaceIn rest (n + 1) up os) (PlaceIn (assign t y e rest) n up os) d u (λ p x i. inr i) (parting_of_parted rest (n + 1) up os d u h)
+parting_of_parted (assign t y e rest) n up os d u h = wider at_place Apart (PlaceIn rest (n + 1) up os) (PlaceIn (assign t y e rest) n up os) d u (λ p x i. inr i) (parting_of_parted rest (n + 1) up os d u h)
 parting_of_parted (branch t e a b rest) n up os d u (inl (inl h)) = (fork_parting t e a b rest n up os d u h.0 h.1).0
 parting_of_parted (branch t e a b rest) n up os d u (inl (inr h)) = (fork_parting t e a b rest n up os u d h.1 h.0).1
 parting_of_parted (branch t e a b rest) n up os d u (inr h) =
@@ -191,18 +177,18 @@ parting_of_parted (branch t e a b rest) n up os d u (inr h) =
     let inside : List Span = os ++ span no next ∷ [] in
     let Out : ℕ → Place → Type 0 = PlaceIn (branch t e a b rest) n up os in
     elim h [
-      | inl i ↦ wider (PlaceIn a (n + 1) (under n true) inside) Out d u (λ p x i. inr (inl i)) (parting_of_parted a (n + 1) (under n true) inside d u i)
+      | inl i ↦ wider at_place Apart (PlaceIn a (n + 1) (under n true) inside) Out d u (λ p x i. inr (inl i)) (parting_of_parted a (n + 1) (under n true) inside d u i)
       | inr j ↦ elim j [
-        | inl i ↦ wider (PlaceIn b no (under n false) os) Out d u (λ p x i. inr (inr (inl i))) (parting_of_parted b no (under n false) os d u i)
-        | inr i ↦ wider (PlaceIn rest next up os) Out d u (λ p x i. inr (inr (inr i))) (parting_of_parted rest next up os d u i)
+        | inl i ↦ wider at_place Apart (PlaceIn b no (under n false) os) Out d u (λ p x i. inr (inr (inl i))) (parting_of_parted b no (under n false) os d u i)
+        | inr i ↦ wider at_place Apart (PlaceIn rest next up os) Out d u (λ p x i. inr (inr (inr i))) (parting_of_parted rest next up os d u i)
       ]
     ]
 parting_of_parted (loop t e b rest) n up os d u h =
     let next : ℕ = n + 1 + part_count b in
     let Out : ℕ → Place → Type 0 = PlaceIn (loop t e b rest) n up os in
     elim h [
-      | inl i ↦ wider (PlaceIn b (n + 1) (under n true) os) Out d u (λ p x i. inr (inl i)) (parting_of_parted b (n + 1) (under n true) os d u i)
-      | inr i ↦ wider (PlaceIn rest next up os) Out d u (λ p x i. inr (inr i)) (parting_of_parted rest next up os d u i)
+      | inl i ↦ wider at_place Apart (PlaceIn b (n + 1) (under n true) os) Out d u (λ p x i. inr (inl i)) (parting_of_parted b (n + 1) (under n true) os d u i)
+      | inr i ↦ wider at_place Apart (PlaceIn rest next up os) Out d u (λ p x i. inr (inr i)) (parting_of_parted rest next up os d u i)
     ]
 
 module _ (t : Tree) (prog : IsProgram t) (p q : ℕ) (v w : Tag) (nv : IsNumberOf (spots t) p (at v)) (nw : IsNumberOf (spots t) q (at w)) where
@@ -233,11 +219,11 @@ module _ (t : Tree) (prog : IsProgram t) (p q : ℕ) (v w : Tag) (nv : IsNumberO
   pub parted_complete : p < q → Parted (skeleton t.body) (at v) (at w) → IsParted (places t) p q
   parted_complete l h =
       let k = parting_of_parted t.body 1 None [] (at v) (at w) h in
-      let first : k.first ≡ p = once k.first k.place k.stands p v nv k.point in
+      let first : k.first ≡ p = once k.first k.one k.stands p v nv k.point in
       let second : k.second ≡ q = once k.second k.other k.stands_too q w nw k.point_too in
-      elim k.parts [
+      elim k.related [
         | inl among ↦ subst (λ (m : ℕ). IsAmong (others_at (places t) p) m) second
-            (subst (λ (os : List Span). IsAmong os k.second) (sym (others_is k.place (subst (λ (m : ℕ). PartAt t m k.place) first k.stands))) among)
+            (subst (λ (os : List Span). IsAmong os k.second) (sym (others_is k.one (subst (λ (m : ℕ). PartAt t m k.one) first k.stands))) among)
         | inr less ↦ absurd (omega (arith, less, first, second, l))
       ]
 

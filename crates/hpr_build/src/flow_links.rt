@@ -11,11 +11,11 @@ ghost use Rattle.hpr_build.specs.Stages.{AreTables, IsVariable, IsBegun};
 
 use crate::error::BuildError;
 use crate::flows::{Flow, FlowKind, flows_from};
-use crate::names::place_of;
 use crate::pushes::{NewLink, push_links};
 use crate::tables::{Tables, Variable, variable_at};
 use hpr_graph::{Graph, Link, LinkKind};
 use hpr_paths::NoMemory;
+use hpr_terms::names::place_of;
 use std::alloc::Global;
 
 /// A vertex that defines a name, by its number, with the point where it does: a part at its own, an

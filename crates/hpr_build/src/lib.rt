@@ -8,7 +8,6 @@ mod flows;
 mod graph;
 pub mod laws;
 mod lists;
-mod names;
 mod order_links;
 mod orders;
 mod places;

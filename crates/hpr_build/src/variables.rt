@@ -8,8 +8,8 @@ ghost use Rattle.hpr_paths.specs.Spots.{defined_at, UsesAt};
 ghost use Rattle.hpr_graph.specs.Graphs.{IsOnce};
 ghost use Rattle.hpr_build.specs.Variables.{points_at, AreUsers, AreDefinitions};
 
-use crate::names::{in_order, place_of};
 use hpr_paths::{Name, NoMemory, Succ};
+use hpr_terms::names::{in_order, place_of};
 use std::alloc::Global;
 
 /// The names that points use, in order, each with the points that assign it and those that use it,
