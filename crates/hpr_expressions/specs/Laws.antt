@@ -25,19 +25,19 @@ use Rattle.hpr_expressions.specs.Expression.{compare_next, read, can_end}
 
 -- ---- names and numbers
 
-guarded : {A : Type 0} (b : Bool) (u : A) → is_some (cond b (Some u) None) ≡ true → b ≡ true
+pub guarded : {A : Type 0} (b : Bool) (u : A) → is_some (cond b (Some u) None) ≡ true → b ≡ true
 guarded true u e = refl
 guarded false u e = absurd cc
 
-guards : {A : Type 0} (b : Bool) (u : A) → b ≡ true → is_some (cond b (Some u) None) ≡ true
+pub guards : {A : Type 0} (b : Bool) (u : A) → b ≡ true → is_some (cond b (Some u) None) ≡ true
 guards true u e = refl
 guards false u e = absurd cc
 
-unguarded : {A : Type 0} (b : Bool) (u : A) → b ≡ false → cond b (Some u) None ≡ None
+pub unguarded : {A : Type 0} (b : Bool) (u : A) → b ≡ false → cond b (Some u) None ≡ None
 unguarded true u e = absurd cc
 unguarded false u e = refl
 
-below : (m n limit : ℕ) → m ≤ n → nat_lt n limit ≡ true → nat_lt m limit ≡ true
+pub below : (m n limit : ℕ) → m ≤ n → nat_lt n limit ≡ true → nat_lt m limit ≡ true
 below m n limit le e = lt-ltb m limit (omega (arith, le, ltb-true n limit e))
 
 names_alike : (r : Reading) (x y : List ℕ) → is_some (read r (Name x)) ≡ is_some (read r (Name y))
