@@ -72,11 +72,11 @@ stands_nowhere : (t : Tag) (n : ℕ) (ts : List Tag) → n < t.serial → UpTo n
 stands_nowhere t n [] lt h = refl
 stands_nowhere t n (u ∷ ts) lt h = ap (λ (b : Bool). b || list_any (same_tag t) ts) (differs t u (omega (arith, lt, h.0))) ∙ stands_nowhere t n ts lt h.1
 
-none_repeated : (a n m : ℕ) (earlier ts : List Tag) → UpTo n earlier → Run a n m ts → first_repeated earlier ts ≡ None
+none_repeated : (a n m : ℕ) (earlier ts : List Tag) → UpTo n earlier → Run a n m ts → first_repeated same_tag earlier ts ≡ None
 none_repeated a n m earlier [] up h = refl
 none_repeated a n m earlier (t ∷ ts) up h =
     let is : t.serial ≡ n + 1 = serial_is a n t h.0 in
-    ap (λ (b : Bool). cond b (Some t) (first_repeated (t ∷ earlier) ts)) (stands_nowhere t n earlier (omega (arith, is)) up)
+    ap (λ (b : Bool). cond b (Some t) (first_repeated same_tag (t ∷ earlier) ts)) (stands_nowhere t n earlier (omega (arith, is)) up)
     ∙ none_repeated a (n + 1) m (t ∷ earlier) ts (omega (arith, is), up_more n (n + 1) earlier (omega arith) up) h.1
 
 -- ---- each tag is issued
@@ -126,7 +126,7 @@ pub many_parts : (a : ℕ) (ts : List Token) (t : Tree) (h : SpellsProgram (unta
 unfolding shape
 many_parts a ts t h lt =
     let run : Run a 0 h.count (tags_of t.body []) = tags_run h.parts_are h.count [] refl in
-    let once : first_repeated [] (tags_of t.body []) ≡ None = none_repeated a 0 h.count [] (tags_of t.body []) tt run in
+    let once : first_repeated same_tag [] (tags_of t.body []) ≡ None = none_repeated a 0 h.count [] (tags_of t.body []) tt run in
     let same : t.issued ≡ raised_by (map tag_pair (tags_of t.body [])) [] = h.issued_is ∙ ap (λ ps. issued_of ps t.body) (no_pairs h.header_is) in
     let all : first_unissued t.issued (tags_of t.body []) ≡ None = ap (λ (is : Issued). first_unissued is (tags_of t.body [])) same ∙ all_issued a h.count (tags_of t.body []) run in
     let count : part_count t.body ≡ h.count = omega (arith, parts_counted h.parts_are) in

@@ -2,6 +2,7 @@
 use Rattle.std.proofs.Common.{◌≡◌, ℕ, Bool, true, false, cond, nat_lt, List, [], Option, Some, None, refl, subst}
 use Rattle.std.proofs.lemmas.Bool.{le-ltb}
 use Rattle.std.specs.Option.{option_or, option_map}
+use Rattle.std.specs.Str.{bytes_eq}
 use Rattle.hpr_terms.specs.declared.tag.Tag.{Tag}
 use Rattle.hpr_terms.specs.declared.expr.Expr.{Expr}
 use Rattle.hpr_terms.specs.declared.token.Token.{Token}
@@ -14,7 +15,7 @@ use Rattle.hpr_syntax.specs.Parts.{tags_of}
 use Rattle.hpr_syntax.specs.Tree.{Tree}
 use Rattle.hpr_syntax.specs.Grammar as grammar
 use Rattle.hpr_syntax.specs.Grammar.{Form, SpellsExpr, SpellsParts}
-use Rattle.hpr_syntax.specs.Shape.{max_levels, max_operators, max_parts, first_repeated_tag, first_unissued, first_deep, is_large, first_large, first_repeated_name, too_many, shape}
+use Rattle.hpr_syntax.specs.Shape.{max_levels, max_operators, max_parts, first_repeated_tag, first_unissued, first_deep, is_large, first_large, first_repeated, too_many, shape}
 use Rattle.hpr_syntax.specs.Spelling.{Spells}
 use Rattle.hpr_scan.proofs.Words.{some_is}
 use Rattle.hpr_text.specs.Answers.{ComesFromText}
@@ -59,5 +60,5 @@ first_comes None None None None n names e p q h = count_comes (nat_lt max_parts 
 pub comes_from_text : (form : Form) (bytes : List ℕ) (t : Tree) (e : ShapeError) → Spells form bytes t → shape t ≡ Some e → ComesFromText e
 unfolding shape
 comes_from_text form bytes t e s h =
-    first_comes (first_repeated_tag t.body) (first_unissued t.issued (tags_of t.body [])) (first_deep max_levels t.body) (first_large t.body) (part_count t.body) (first_repeated_name [] t.finals) e
+    first_comes (first_repeated_tag t.body) (first_unissued t.issued (tags_of t.body [])) (first_deep max_levels t.body) (first_large t.body) (part_count t.body) (first_repeated bytes_eq [] t.finals) e
     (none_deep s.program.parts_are) (none_large s.program.parts_are) h

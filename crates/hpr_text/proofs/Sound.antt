@@ -13,7 +13,7 @@ use Rattle.hpr_syntax.specs.Issued as issued
 use Rattle.hpr_syntax.specs.Shape.{max_levels}
 use Rattle.hpr_syntax.specs.Tree.{Tree}
 use Rattle.hpr_syntax.specs.Grammar as grammar
-use Rattle.hpr_syntax.specs.Grammar.{Form, IsAuthor, IsSerial, IsTag, IsPair, Labels, SpellsExpr, SpellsParts, SpellsPairs, SpellsHeader, SpellsNames, SpellsProgram, tag_pair, pair_then, issued_of}
+use Rattle.hpr_syntax.specs.Grammar.{Form, IsAuthor, IsSerial, IsTag, IsIssuedPair, Labels, SpellsExpr, SpellsParts, SpellsPairs, SpellsHeader, SpellsNames, SpellsProgram, tag_pair, pair_then, issued_of}
 use Rattle.hpr_scan.specs.Steps.{and_then, runs}
 use Rattle.hpr_scan.proofs.SoundText.{guard_is}
 use Rattle.hpr_scan.proofs.Words.{some_is}
@@ -75,7 +75,7 @@ pub record LastPairIs (m : Mode) (f : Found) (ts : List Token) : Type 0 where
   pub pairs : List (ℕ × ℕ)
   pub last : ℕ × ℕ
   pub go : PairsGo front pairs
-  pub last_is : IsPair last
+  pub last_is : IsIssuedPair last
   pub flag : f.has_header ≡ true
   pub numbers : f.issued ≡ issued.raised_by (pairs ++ (last ∷ [])) []
   pub no_blocks : f.blocks ≡ []

@@ -14,7 +14,7 @@ use Rattle.hpr_syntax.specs.Issued as issued
 use Rattle.hpr_syntax.specs.Shape.{max_levels}
 use Rattle.hpr_syntax.specs.Tree.{Tree}
 use Rattle.hpr_syntax.specs.Grammar as grammar
-use Rattle.hpr_syntax.specs.Grammar.{Form, IsAuthor, IsSerial, IsTag, IsPair, Labels, SpellsExpr, SpellsParts, SpellsPairs, SpellsHeader, SpellsNames, SpellsProgram, tag_pair, pair_then, issued_of}
+use Rattle.hpr_syntax.specs.Grammar.{Form, IsAuthor, IsSerial, IsTag, IsIssuedPair, Labels, SpellsExpr, SpellsParts, SpellsPairs, SpellsHeader, SpellsNames, SpellsProgram, tag_pair, pair_then, issued_of}
 use Rattle.hpr_scan.specs.Steps.{and_then, runs}
 use Rattle.hpr_scan.proofs.Words.{some_is}
 use Rattle.hpr_text.specs.declared.blocks.Around.{Around}
@@ -103,7 +103,7 @@ comma_step : (f : Found) → next None (state_at f AfterPair) (Mark Comma) ≡ S
 unfolding next
 comma_step f = refl
 
-pair_runs : (f : Found) (p : ℕ × ℕ) (rest : List Token) → IsPair p → runs (next None) (state_at f BeforePair) (pair_then p rest) ≡ runs (next None) (state_at (with_number p.0 p.1 f) AfterPair) rest
+pair_runs : (f : Found) (p : ℕ × ℕ) (rest : List Token) → IsIssuedPair p → runs (next None) (state_at f BeforePair) (pair_then p rest) ≡ runs (next None) (state_at (with_number p.0 p.1 f) AfterPair) rest
 pair_runs f p rest is =
     run_one _ (state_at f (AfterPairAuthor p.0)) _ (Mark Colon ∷ Number p.1 ∷ rest) (author_step f p.0 is.0) ∙ run_one _ (state_at f (AfterPairColon p.0)) _ (Number p.1 ∷ rest) (colon_step f p.0)
     ∙ run_one _ (state_at (with_number p.0 p.1 f) AfterPair) _ rest (number_step f p.0 p.1 is.1)

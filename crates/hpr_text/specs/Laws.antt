@@ -22,7 +22,7 @@ use Rattle.hpr_text.specs.declared.state.Place.{Place}
 use Rattle.hpr_text.specs.declared.state.Place.TheVariants.{Start, AfterProgram, BeforePair, AfterPairAuthor, AfterPairColon, AfterPair, AtPart, AfterAuthor, AfterDot, AfterSerial, AfterColon, AfterTarget, InExpression, AfterEnd, AfterOpen, AfterName, AfterComma, AtEnd}
 use Rattle.hpr_text.specs.declared.state.State.{State}
 use Rattle.hpr_expressions.specs.Expression.{read}
-use Rattle.hpr_expressions.specs.Laws.{reading_is_token_machine, no_semicolon, no_then, no_do}
+use Rattle.hpr_expressions.specs.Laws.{guarded, guards, unguarded, below, reading_is_token_machine, no_semicolon, no_then, no_do}
 use Rattle.hpr_text.specs.Machine.{state_at, next_at, next, goes_on, expression_next, first_next, part_begun, tag_next}
 
 -- ---- expressions
@@ -74,21 +74,6 @@ goes_read l f (Guard g) r n (Word Do) e = absurd (no_do r n e)
 goes_read l f p r n t e = rw e refl
 
 -- ---- tests
-
-guarded : {A : Type 0} (b : Bool) (u : A) → is_some (cond b (Some u) None) ≡ true → b ≡ true
-guarded true u e = refl
-guarded false u e = absurd cc
-
-guards : {A : Type 0} (b : Bool) (u : A) → b ≡ true → is_some (cond b (Some u) None) ≡ true
-guards true u e = refl
-guards false u e = absurd cc
-
-unguarded : {A : Type 0} (b : Bool) (u : A) → b ≡ false → cond b (Some u) None ≡ None
-unguarded true u e = absurd cc
-unguarded false u e = refl
-
-below : (m n limit : ℕ) → m ≤ n → nat_lt n limit ≡ true → nat_lt m limit ≡ true
-below m n limit le e = lt-ltb m limit (omega (arith, le, ltb-true n limit e))
 
 second : (a b : Bool) → (a && b) ≡ true → b ≡ true
 second true b e = e

@@ -12,7 +12,7 @@ use Rattle.hpr_terms.specs.declared.token.Sign.{Sign}
 use Rattle.hpr_terms.specs.declared.token.Sign.TheVariants as sign
 use Rattle.hpr_terms.specs.declared.token.Token.TheVariants.{Word, Name, Number, Mark}
 use Rattle.hpr_terms.specs.Keywords.{keyword_of}
-use Rattle.hpr_terms.specs.Names.{IsName, is_name, is_name_byte}
+use Rattle.hpr_terms.specs.Names.{is_name_like, IsName, is_name, is_name_byte}
 use Rattle.hpr_scan.specs.Machine.{Live, ends, goes}
 use Rattle.hpr_text.specs.declared.blocks.Begun.{Begun}
 use Rattle.hpr_text.specs.declared.blocks.Begun.TheVariants as begun
@@ -41,7 +41,7 @@ abbrev pub x_text : List ℕ
 x_text = 120 ∷ []
 
 pub x_is_name : IsName x_text
-unfolding is_name is_name_byte keyword_of
+unfolding is_name is_name_like is_name_byte keyword_of
 x_is_name = refl
 
 name_x : (s n : State) → next limit s (Name x_text) ≡ Some n → IsLive n → IsLive s
