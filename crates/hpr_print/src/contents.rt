@@ -1,5 +1,5 @@
 //! The text of a content or an expression alone.
-ghost use Rattle.std.specs.Prelude.{◌≡◌, IfOk};
+ghost use Rattle.std.specs.Prelude.{◌≡◌, IfOk, IsUtf8};
 ghost use Rattle.hpr_syntax.specs.Print as print;
 
 use crate::expressions::put_expr;
@@ -18,9 +18,10 @@ pub fn expr_text(alloc: Global, expr: &Expr) -> Result<Vec<u8>, NoMemory>
 }
 
 /// The canonical text of what a part says, without its tag and its blocks: `NAME := EXPR`,
-/// `if EXPR` or `while EXPR`. It fails only for want of memory.
+/// `if EXPR` or `while EXPR`. It is UTF-8. It fails only for want of memory.
 pub fn content_text(alloc: Global, content: &Content) -> Result<Vec<u8>, NoMemory>
-    ensures { IfOk result (λ v. v.items ≡ print.content_text content.now) }
+    ensures text { IfOk result (λ v. v.items ≡ print.content_text content.now) }
+    ensures utf8 { IfOk result (λ v. IsUtf8 v.items) }
 {
     let mut out = Vec::new(alloc);
     match content {

@@ -1,5 +1,5 @@
 //! The text of an expression.
-ghost use Rattle.std.specs.Prelude.{◌≡◌, ◌++◌, OnOk};
+ghost use Rattle.std.specs.Prelude.{◌≡◌, ◌++◌, OnOk, IsUtf8};
 ghost use Rattle.hpr_terms.specs.TermOf.{term_of};
 ghost use Rattle.hpr_syntax.specs.Print.{term_text, bracketed, sign, level_of_sign, level_of, prefix_sign};
 
@@ -63,7 +63,8 @@ fn prefix_sign(op: Unary) -> &'static [u8]
 #[cycle(put_expr)]
 #[tactic(auto, unfolding(hpr_syntax::specs::Print::term_text))]
 pub fn put_expr(alloc: Global, out: &mut Vec<u8>, expr: &Expr) -> Result<(), NoMemory>
-    ensures { OnOk result (out.new.items ≡ out.old.items ++ term_text (term_of expr.now)) }
+    ensures text { OnOk result (out.new.items ≡ out.old.items ++ term_text (term_of expr.now)) }
+    ensures utf8 { OnOk result (IsUtf8 (term_text (term_of expr.now))) }
 {
     match expr {
         Expr::Num(number) => put_number(alloc, out, number.value() as u64),
@@ -94,7 +95,8 @@ fn put_operand(
     expr: &Expr,
     is_bracketed: bool,
 ) -> Result<(), NoMemory>
-    ensures { OnOk result (out.new.items ≡ out.old.items ++ bracketed is_bracketed (term_text (term_of expr.now))) }
+    ensures text { OnOk result (out.new.items ≡ out.old.items ++ bracketed is_bracketed (term_text (term_of expr.now))) }
+    ensures utf8 { OnOk result (IsUtf8 (bracketed is_bracketed (term_text (term_of expr.now)))) }
 {
     if is_bracketed {
         put(out, b"(")?;

@@ -1,0 +1,36 @@
+use Rattle.std.proofs.Common.{◌≡◌, ◌<◌, ◌^◌, ◌||◌, ◌&&◌, ◌==◌, nat_lt, nat_le, rules, arith, ap}
+use Rattle.std.proofs.lemmas.Result.{on_ok_weaker}
+use Rattle.hpr_terms.specs.Term.{num, prefix, infix'}
+use Rattle.hpr_terms.specs.TermOf.{term_of}
+use Rattle.hpr_syntax.specs.Print.{level_of, level_of_sign, term_text}
+use Rattle.hpr_print.proofs.Utf8.{num_utf8, prefix_utf8, bracketed_utf8, infix_utf8}
+use Rattle.hpr_print.proofs.expressions.+put_expr.Goals as goal
+
+pub put_expr-returns-in-Num-clause-utf8 : goal.put_expr-returns-in-Num-clause-utf8
+put_expr-returns-in-Num-clause-utf8 t c =
+    let is : term_of c.args.expr.now ≡ num c.in-Num.number = ap term_of c.in-Num.is in
+    let below : c.in-Num.number < 2 ^ 64 = omega (arith, c.value.ensures.literal) in
+    on_ok_weaker c.put_number.result (λ _. num_utf8 (term_of c.args.expr.now) c.in-Num.number is below) c.put_number.ensures
+
+pub put_expr-returns-in_ok-put-in-Prefix-clause-utf8 : goal.put_expr-returns-in_ok-put-in-Prefix-clause-utf8
+put_expr-returns-in_ok-put-in-Prefix-clause-utf8 t c =
+    let inner = term_of c.expr-inner.result.now in
+    let is : term_of c.args.expr.now ≡ prefix c.in-Prefix.op inner = search rules in
+    let brackets : nat_lt c.level.result 6 ≡ nat_lt (level_of inner) 6 = ap (λ n. nat_lt n 6) c.level.ensures in
+    on_ok_weaker c.put_operand.result (λ h. prefix_utf8 (term_of c.args.expr.now) c.in-Prefix.op inner (nat_lt c.level.result 6) is brackets h) c.put_operand.ensures.utf8
+
+pub put_expr-returns-in_ok-put-in-Infix-3-clause-utf8 : goal.put_expr-returns-in_ok-put-in-Infix-3-clause-utf8
+put_expr-returns-in_ok-put-in-Infix-3-clause-utf8 t c =
+    let op = c.in-Infix.op in
+    let first = term_of c.expr-first.result.now in
+    let second = term_of c.expr-second.result.now in
+    let is : term_of c.args.expr.now ≡ infix' op first second = search rules in
+    let left : c.if-level-binds.is_loose ≡ (nat_lt (level_of first) (level_of_sign op) || ((level_of_sign op == 3) && (level_of first == 3))) = search rules in
+    let right : nat_le c.level-in-Infix-2.result c.level_of_sign-binds.result ≡ nat_le (level_of second) (level_of_sign op) = cc in
+    on_ok_weaker c.put_operand-in-Infix-2.result
+    (λ h. infix_utf8 (term_of c.args.expr.now) op first second c.if-level-binds.is_loose _ is left right c.in_ok-put_operand-in-Infix.ensures.utf8 h)
+    c.put_operand-in-Infix-2.ensures.utf8
+
+pub put_operand-returns-in_ok-put_expr-clause-utf8 : goal.put_operand-returns-in_ok-put_expr-clause-utf8
+put_operand-returns-in_ok-put_expr-clause-utf8 t c =
+    on_ok_weaker c.put-then-is_bracketed.result (λ _. bracketed_utf8 c.args.is_bracketed (term_text (term_of c.args.expr.now)) (c.in_ok-put_expr.ensures).utf8) c.put-then-is_bracketed.ensures
