@@ -1,0 +1,17 @@
+use Rattle.std.proofs.Common.{◌≡◌, ap, length, arith}
+use Rattle.hpr_affected.proofs.NumberRows.{numbers_none, numbers_more, numbers_all, vertex_read}
+use Rattle.hpr_affected.proofs.lacking.numbers_in.Goals as goal
+
+pub loop-vertex-init : goal.loop-vertex-init
+loop-vertex-init c = numbers_none _ _ _ c.new-numbers.ensures.items
+
+pub loop-vertex-preserved : goal.loop-vertex-preserved
+loop-vertex-preserved c =
+    numbers_more c.args.graph.now c.args.other.now c.loop-vertex.numbers.items _ c.number_of.result c.loop-vertex.vertex-index c.vertex-item.result c.loop-vertex.invariant
+    (vertex_read _ _ c.loop-vertex.vertex-index c.vertex-item.result c.vertices-vertex-items.ensures.vertices c.loop-vertex-test.true c.vertex-item.is)
+    c.number_of.ensures.found c.number_of.ensures.stranger.0 c.in_ok-push.ensures.items
+
+pub returns : goal.returns
+returns c =
+    let all : length c.vertices-vertex-items.result.now ≡ length c.args.graph.now.vertices = ap length c.vertices-vertex-items.ensures.vertices in
+    numbers_all _ _ _ c.loop-vertex.vertex-index c.loop-vertex.invariant (omega (arith, all, c.loop-vertex-test.false))

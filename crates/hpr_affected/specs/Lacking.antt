@@ -1,0 +1,66 @@
+-- What of a graph another lacks.
+--
+-- AreNumbersIn g h ns             == for each vertex of g its number in h, none exactly where h lacks it
+-- IsThere h ns at l               == h has the link l into the vertex `at` by the numbers there
+-- IsKnown ns known l              == the link l by the numbers there is one of the known
+-- AreWithout K links lacks        == of these links those that have not K
+-- links_at rows at                == the row with this number, empty past the last
+-- IsOneWay g h ns rows            == the numbers in h of the vertices of g, and for each the links into it that are not there
+-- ThirdMarked marks k             == the loop of a carried link is marked, and so is the shared use of an order link
+-- IsInside marks l                == the source of the link is marked, and so is its loop or shared use
+-- NoneInside marks links          == none of the links is so
+-- IsMarkedThere ns others at      == the vertex has a number there, and that is marked among the others
+-- IsKept ns rows marks others at  == where the vertex is marked, it is marked there, and no link into it that lies inside is lacking
+-- AllKept ns rows marks others    == so is each vertex
+use Rattle.std.specs.Prelude.{◌≡◌, ℕ, ◌<◌, ◌⊎◌, Bool, Option, Some, None, List, [], Contains, slice_get, slice_index_or, length}
+use Rattle.hpr_search.specs.Marks.{IsMarked}
+use Rattle.hpr_graph.specs.declared.vertex.Vertex.{Vertex}
+use Rattle.hpr_graph.specs.declared.link.LinkKind.{LinkKind}
+use Rattle.hpr_graph.specs.declared.link.LinkKind.TheVariants.{Control, Independent, Carried, Order}
+use Rattle.hpr_graph.specs.declared.link.Link.{Link}
+use Rattle.hpr_graph.specs.Numbered.{Numbered, HasVertex, HasLink, row_of}
+use Rattle.hpr_graph.specs.Moves.{number_at, moved, ArePlaced}
+
+pub record AreNumbersIn (g h : Numbered) (ns : List (Option ℕ)) : Type 0 where
+  pub count : length ns ≡ length g.vertices
+  pub placed : ArePlaced g.vertices ns h.vertices
+  pub strangers : (i : ℕ) (v : Vertex) → slice_get g.vertices i ≡ Some v → number_at ns i ≡ None → ¬ HasVertex h v
+
+abbrev pub IsThere : Numbered → List (Option ℕ) → ℕ → Link → Type 0
+IsThere h ns at l = (to : ℕ) × (m : Link) × (number_at ns at ≡ Some to) × (moved ns l ≡ Some m) × HasLink h to m
+
+abbrev pub IsKnown : List (Option ℕ) → List Link → Link → Type 0
+IsKnown ns known l = (m : Link) × (moved ns l ≡ Some m) × Contains known m
+
+pub record AreWithout (K : Link → Type 0) (links lacks : List Link) : Type 0 where
+  pub only : (l : Link) → Contains lacks l → Contains links l × ¬ K l
+  pub all : (l : Link) → Contains links l → Contains lacks l ⊎ K l
+
+abbrev pub links_at : List (List Link) → ℕ → List Link
+links_at rows at = slice_index_or rows at []
+
+pub record IsOneWay (g h : Numbered) (ns : List (Option ℕ)) (rows : List (List Link)) : Type 0 where
+  pub numbers : AreNumbersIn g h ns
+  pub count : length rows ≡ length g.vertices
+  pub lacking : (at : ℕ) → at < length g.vertices → AreWithout (IsThere h ns at) (row_of g at) (links_at rows at)
+
+abbrev pub ThirdMarked : List Bool → LinkKind → Type 0
+ThirdMarked marks (Control label) = Unit {0}
+ThirdMarked marks Independent = Unit {0}
+ThirdMarked marks (Carried w) = IsMarked marks w
+ThirdMarked marks (Order u) = IsMarked marks u
+
+abbrev pub IsInside : List Bool → Link → Type 0
+IsInside marks l = IsMarked marks l.from × ThirdMarked marks l.kind
+
+abbrev pub NoneInside : List Bool → List Link → Type 0
+NoneInside marks links = (l : Link) → Contains links l → ¬ IsInside marks l
+
+abbrev pub IsMarkedThere : List (Option ℕ) → List Bool → ℕ → Type 0
+IsMarkedThere ns others at = (to : ℕ) × (number_at ns at ≡ Some to) × IsMarked others to
+
+abbrev pub IsKept : List (Option ℕ) → List (List Link) → List Bool → List Bool → ℕ → Type 0
+IsKept ns rows marks others at = IsMarked marks at → IsMarkedThere ns others at × NoneInside marks (links_at rows at)
+
+abbrev pub AllKept : List (Option ℕ) → List (List Link) → List Bool → List Bool → Type 0
+AllKept ns rows marks others = (at : ℕ) → IsKept ns rows marks others at

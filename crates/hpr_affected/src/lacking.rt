@@ -1,0 +1,105 @@
+//! What of a graph another lacks.
+ghost use Rattle.std.specs.Prelude.{◌≡◌, ◌↔◌, ◌<◌, ℕ, IfOk, IsTrue, length};
+ghost use Rattle.std.specs.List.Sorted.{IsSorted};
+ghost use Rattle.hpr_graph.specs.Numbered.{row_of, rows_of};
+ghost use Rattle.hpr_affected.specs.Lacking.{AreNumbersIn, AreWithout, IsKnown, IsOneWay, IsThere, links_at};
+
+use crate::links::{has_sorted, moved, number_at, sorted};
+use crate::lists::push_if;
+use hpr_graph::{Graph, Link, NoMemory};
+use std::alloc::Global;
+
+/// The vertices of a graph by their numbers in another, and for each the links into it that the other
+/// lacks.
+#[derive(Drop)]
+pub(crate) struct OneWay {
+    pub(crate) numbers: Vec<Option<usize>>,
+    pub(crate) rows: Vec<Vec<Link>>,
+}
+
+/// What of the graph the other lacks. Looks each vertex up, and sorts the links into each.
+pub(crate) fn one_way(alloc: Global, graph: &Graph, other: &Graph) -> Result<OneWay, NoMemory>
+    ensures { IfOk result (λ way. IsOneWay graph.now other.now way.numbers.items (rows_of way.rows.items)) }
+{
+    let numbers = numbers_in(alloc, graph, other)?;
+    let rows = lacking_rows(alloc, graph, other, &numbers)?;
+    Ok(OneWay { numbers, rows })
+}
+
+/// The number of each vertex of the graph in the other, where it is there.
+fn numbers_in(alloc: Global, graph: &Graph, other: &Graph) -> Result<Vec<Option<usize>>, NoMemory>
+    ensures { IfOk result (λ ns. AreNumbersIn graph.now other.now ns.items) }
+{
+    let mut numbers = Vec::new(alloc);
+    for vertex in graph.vertices() {
+        numbers.push(other.number_of(vertex))?;
+    }
+    Ok(numbers)
+}
+
+/// For each vertex of the graph the links into it that the other lacks.
+fn lacking_rows(
+    alloc: Global,
+    graph: &Graph,
+    other: &Graph,
+    numbers: &[Option<usize>],
+) -> Result<Vec<Vec<Link>>, NoMemory>
+    requires { AreNumbersIn graph.now other.now numbers.now }
+    ensures count { IfOk result (λ rows. length rows.items ≡ length graph.now.vertices) }
+    ensures lacking { IfOk result (λ rows. (at : ℕ) → at < length graph.now.vertices → AreWithout (IsThere other.now numbers.now at) (row_of graph.now at) (links_at (rows_of rows.items) at)) }
+{
+    let mut rows = Vec::new(alloc);
+    for at in 0..graph.vertex_count() {
+        rows.push(lacking_row(alloc, graph, other, numbers, at)?)?;
+    }
+    Ok(rows)
+}
+
+/// The links into the vertex `at` of the graph that the other lacks.
+fn lacking_row(
+    alloc: Global,
+    graph: &Graph,
+    other: &Graph,
+    numbers: &[Option<usize>],
+    at: usize,
+) -> Result<Vec<Link>, NoMemory>
+    requires numbers { AreNumbersIn graph.now other.now numbers.now }
+    requires at { at < length graph.now.vertices }
+    ensures { IfOk result (λ lacks. AreWithout (IsThere other.now numbers.now at) (row_of graph.now at) lacks.items) }
+{
+    match number_at(numbers, at) {
+        Some(to) => {
+            let known = sorted(alloc, other.edges_into(to))?;
+            lacking_among(alloc, graph.edges_into(at), numbers, &known)
+        }
+        None => Ok(graph.edges_into(at).to_vec(alloc)?),
+    }
+}
+
+/// Those of the links that aren't among the known ones by their numbers there. The known links ascend.
+fn lacking_among(
+    alloc: Global,
+    links: &[Link],
+    numbers: &[Option<usize>],
+    known: &[Link],
+) -> Result<Vec<Link>, NoMemory>
+    requires { IsSorted ⟦<Link as Ord>⟧.cmp known.now }
+    ensures { IfOk result (λ lacks. AreWithout (IsKnown numbers.now known.now) links.now lacks.items) }
+{
+    let mut lacks = Vec::new(alloc);
+    for link in links {
+        push_if(!is_known(*link, numbers, known), *link, &mut lacks)?;
+    }
+    Ok(lacks)
+}
+
+/// Whether the link by its numbers there is among the known ones.
+fn is_known(link: Link, numbers: &[Option<usize>], known: &[Link]) -> bool
+    requires { IsSorted ⟦<Link as Ord>⟧.cmp known.now }
+    ensures { IsTrue result ↔ IsKnown numbers.now known.now link }
+{
+    match moved(link, numbers) {
+        Some(moved) => has_sorted(known, moved),
+        None => false,
+    }
+}

@@ -1,0 +1,17 @@
+//! What a variant of a program changed, and what three versions share: affected and preserved points
+//! (Horwitz, Prins and Reps 1989).
+#![tactic(auto)]
+
+mod comparison;
+mod kept;
+mod lacking;
+mod links;
+mod lists;
+mod points;
+
+pub use comparison::Comparison;
+pub use hpr_graph::{Graph, NoMemory};
+pub use points::{affected, preserved};
+
+#[cfg(test)]
+mod tests;

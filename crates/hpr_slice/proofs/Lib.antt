@@ -1,0 +1,6 @@
+pub mod Lists
+pub mod RowLists
+mod RowLaws
+mod SourceRows
+mod Walks
+mod Marked

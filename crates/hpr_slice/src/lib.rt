@@ -1,0 +1,15 @@
+//! Slices of dependence graphs, and what is reached from some of their vertices.
+//!
+//! The slices are those of Reps and Yang (1988).
+#![tactic(auto)]
+
+mod rows;
+mod slices;
+mod sources;
+
+pub use hpr_graph::{Graph, NoMemory};
+pub use slices::{forward, slice};
+pub use sources::Sources;
+
+#[cfg(test)]
+mod tests;
