@@ -8,6 +8,12 @@ pub mod PieceLemmas
 pub mod FairLemmas
 pub mod IntegrateLemmas
 pub mod RunLemmas
+pub mod CommandLemmas
+pub mod GraphLemmas
+pub mod SliceLemmas
+pub mod AffectedLemmas
+pub mod OtherLemmas
 pub mod PlainLemmas
 pub mod RangeLemmas
+pub mod AskedLemmas
 pub mod PlaceLemmas

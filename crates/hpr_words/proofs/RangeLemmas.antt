@@ -1,14 +1,14 @@
 -- The numbers of what is taken are in their range.
-use Rattle.std.proofs.Common.{◌≡◌, ◌≤◌, ℕ, Bool, true, false, cond, List, Option, Some, None, Result, Ok, Err, IfOk, refl, ap, subst, codes, arith, unwrap_or}
+use Rattle.std.proofs.Common.{◌≡◌, ◌≤◌, ℕ, Bool, true, false, cond, List, ◌∷◌, Option, Some, None, Result, Ok, Err, IfOk, refl, ap, subst, codes, arith, unwrap_or}
 use Rattle.std.specs.Str.Parse.{digits_value, without_leading_plus}
 use Rattle.clap.proofs.ValueTestLemmas.{accepts-Accepts}
 use Rattle.clap.specs.ValueTests.{accepts}
 use Rattle.clap.specs.Walk.{is_empty}
 use Rattle.clap.specs.Words.{App, Row, fault_of, first_of, matches_of}
 use Rattle.clap.specs.declared.builder.value_parser.ValueParser.TheVariants.{Unsigned}
-use Rattle.hpr_words.specs.Commands.{integrate_app, run_app}
+use Rattle.hpr_words.specs.Commands.{integrate_app, run_app, slice_app}
 use Rattle.hpr_words.specs.Request.{IsInRange, Request, Text}
-use Rattle.hpr_words.specs.Taken.{integrate_in, integrate_with, list_in, number_in, number_of, number_or, run_in, run_with, taken_by}
+use Rattle.hpr_words.specs.Taken.{integrate_in, integrate_with, list_in, number_in, number_of, number_or, run_in, run_with, slice_in, slice_with, taken_by}
 use Rattle.hpr_words.proofs.PieceLemmas.{none_some}
 
 number_of-range : (most : ℕ) (text : Text) (n : ℕ) → number_of most text ≡ Some n → (1 ≤ n) × (n ≤ most)
@@ -35,6 +35,10 @@ run_with-range : (file : Option Text) (states : List Text) (o : Option ℕ) (r :
 run_with-range (Some file) states (Some steps) r range e = subst IsInRange (ap (λ o. unwrap_or o r) e) (range steps refl)
 run_with-range file states o r range e = absurd (none_some r e)
 
+slice_with-range : (file : Option Text) (points : List Text) (r : Request) → slice_with file points ≡ Some r → IsInRange r
+slice_with-range (Some file) (point ∷ points) r e = subst IsInRange (ap (λ o. unwrap_or o r) e) (omega arith)
+slice_with-range file points r e = absurd (none_some r e)
+
 taken_by-range : (app : App) (request_in : List Row → Option Request) → ((rows : List Row) (r : Request) → request_in rows ≡ Some r → IsInRange r)
     → (words : List Text) (r : Request) → taken_by app request_in words ≡ Some r → IsInRange r
 taken_by-range app request_in range words r e = go (is_empty (fault_of app words)) e
@@ -52,6 +56,9 @@ pub run_taken-range : (words : List Text) (r : Request) → taken_by run_app run
 run_taken-range = taken_by-range run_app run_in (λ rows r.
     run_with-range (first_of (codes "file") rows) (list_in (codes "state") rows) (number_in (codes "steps") 1000000000 1000000 rows) r
     (λ n. number_or-range 1000000000 1000000 (first_of (codes "steps") rows) n (omega arith) (omega arith)))
+
+pub slice_taken-range : (words : List Text) (r : Request) → taken_by slice_app slice_in words ≡ Some r → IsInRange r
+slice_taken-range = taken_by-range slice_app slice_in (λ rows r. slice_with-range (first_of (codes "file") rows) (list_in (codes "point") rows) r)
 
 pub IfOk-range : {X E : Type 0} (f : X → Request) (r : Result X E) (asked : Option Request) → ((q : Request) → asked ≡ Some q → IsInRange q)
     → IfOk r (λ x. asked ≡ Some (f x)) → IfOk r (λ x. IsInRange (f x))

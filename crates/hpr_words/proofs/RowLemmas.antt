@@ -113,6 +113,10 @@ abbrev pub first_list : List Text → List Text → List Text
 first_list [] ys = ys
 first_list (x ∷ xs) ys = x ∷ xs
 
+pub first_list-none : (xs : List Text) → first_list xs [] ≡ xs
+first_list-none [] = refl
+first_list-none (x ∷ xs) = refl
+
 kept-kept : (o : Option Entry) (xs ys : List Text) → kept (kept o xs) ys ≡ kept o (first_list xs ys)
 kept-kept (Some e) xs ys = refl
 kept-kept None [] ys = refl
@@ -171,16 +175,17 @@ entry-with_default id (a ∷ rules) rows =
 
 -- what is asked of rows, by their entries
 module _ (id : Text) (rows : List Row) (vs : List Text) where
-  pub first_of-entry : entry id rows ≡ told vs → first_of id rows ≡ slice_get vs 0
-  first_of-entry e = by_entry (found id rows) ∙ (ap (option_and_then (λ (x : Entry). slice_get x.0 0)) e ∙ of_told vs)
+  pub first_of-entry : (defaults : List Text) → entry id rows ≡ kept (told vs) defaults → first_of id rows ≡ slice_get (first_list vs defaults) 0
+  first_of-entry defaults e = by_entry (found id rows) ∙ (ap (option_and_then (λ (x : Entry). slice_get x.0 0)) e ∙ of_told vs defaults)
     where
       by_entry : (o : Option Row) → option_and_then (λ (r : Row). slice_get r.values 0) o ≡ option_and_then (λ (x : Entry). slice_get x.0 0) (option_map entry_of o)
       by_entry None = refl
       by_entry (Some r) = refl
 
-      of_told : (ws : List Text) → option_and_then (λ (x : Entry). slice_get x.0 0) (told ws) ≡ slice_get ws 0
-      of_told [] = refl
-      of_told (w ∷ ws) = refl
+      of_told : (ws ds : List Text) → option_and_then (λ (x : Entry). slice_get x.0 0) (kept (told ws) ds) ≡ slice_get (first_list ws ds) 0
+      of_told [] [] = refl
+      of_told [] (d ∷ ds) = refl
+      of_told (w ∷ ws) ds = refl
 
   pub all_of-entry : entry id rows ≡ told vs → unwrap_or (all_of id rows) [] ≡ vs
   all_of-entry e = by_entry (found id rows) ∙ (ap values_before e ∙ of_told vs)

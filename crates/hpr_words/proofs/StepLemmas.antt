@@ -125,6 +125,7 @@ pub record IsFlag (s : Shape) (word name : Text) (a : Rule) : Type 0 where
   pub reads : long_of word ≡ Some (name, None)
   pub no_dashes : bytes_eq word (45 ∷ 45 ∷ []) ≡ false
   pub found : arg_by_long s.rules name ≡ Some a
+  pub by_id : arg_by_id s.rules a.id ≡ Some a
   pub takes : takes_values a ≡ false
 
 -- a flag is used at once

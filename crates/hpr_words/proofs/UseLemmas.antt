@@ -17,8 +17,9 @@ use Rattle.clap.specs.Simple.{Shape}
 use Rattle.clap.specs.Takes.{is_given, value_passes}
 use Rattle.clap.specs.Walk.{Row, Rule, Text, action_of, arg_by_id, has_row, is_append, is_empty}
 use Rattle.clap.specs.Walk.{most_values, nothing_held, reading_by, rows_after, used, used_as, with_default, with_values, without}
-use Rattle.hpr_words.proofs.Items.{Item, item_put, item_rule, item_values, is_plain, place_after, rows_from, words_of}
+use Rattle.hpr_words.proofs.Items.{Item, flag, item_put, item_rule, item_values, is_plain, place_after, rows_from, valued, word, words_of}
 use Rattle.hpr_words.proofs.ItemLemmas.{AreTaken, Fits, items_taken}
+use Rattle.hpr_words.proofs.StepLemmas.{IsFlag, IsOption, IsPositional}
 use Rattle.hpr_words.proofs.RowLemmas.{added, defaults_of, entry, entry-with_default, entry-with_values, has_row-none, is_given-entry, kept, same_text, told}
 
 -- a use may come where it is no second one
@@ -91,6 +92,37 @@ pub record Passes (s : Shape) (item : Item) : Type 0 where
   pub quiet : (rows : List Row) → MayCome (item_rule item) rows → use_fault s.args_override_self (item_rule item) (item_values item) rows ≡ []
   pub leaves : (rows : List Row) → MayCome (item_rule item) rows
       → used (item_rule item) (item_values item) rows ≡ with_values (item_rule item).id (reading_by (item_rule item)) CommandLine (item_put item) rows
+
+module _ (s : Shape) (a : Rule) where
+  pub word_passes : (position : ℕ) (v : Text) → IsPositional s position a → IsOfOne a → value_passes a v ≡ true → Passes s (word a v)
+  word_passes position v is one passes = record {
+    by_id = is.by_id;
+    first = v;
+    rest = [];
+    puts = refl;
+    quiet = λ rows may. use_fault-one s.args_override_self a v rows one passes may;
+    leaves = λ rows may. used-one a v rows one may;
+  }
+
+  pub valued_passes : (dashed name v : Text) → IsOption s dashed name a → IsOfOne a → value_passes a v ≡ true → Passes s (valued a dashed name v)
+  valued_passes dashed name v is one passes = record {
+    by_id = is.by_id;
+    first = v;
+    rest = [];
+    puts = refl;
+    quiet = λ rows may. use_fault-one s.args_override_self a v rows one passes may;
+    leaves = λ rows may. used-one a v rows one may;
+  }
+
+  pub flag_passes : (dashed name v : Text) → IsFlag s dashed name a → IsOfNone a → a.missing ≡ v ∷ [] → Passes s (flag a dashed name)
+  flag_passes dashed name v is none stands = record {
+    by_id = is.by_id;
+    first = v;
+    rest = [];
+    puts = stands;
+    quiet = λ rows may. use_fault-none a rows none may s.args_override_self;
+    leaves = λ rows may. used-none a rows none may;
+  }
 
 abbrev pub ArePassing : Shape → ℕ → List Item → Type 0
 ArePassing s position [] = Unit {0}

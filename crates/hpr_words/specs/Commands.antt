@@ -2,12 +2,17 @@
 --
 -- name_rule id         == a positional of one word, which must be given
 -- list_rule id         == a positional of any number of words
+-- filled_list_rule id  == a positional of one word or more
 -- number_rule id most  == the option `--id`, whose value is a number from 1 to most
+-- flag_rule id         == the flag `--id`
 -- integrate_app        == `integrate BASE A B [--tries N]`
 -- run_app              == `run FILE [STATE..] [--steps N]`
+-- graph_app            == `graph FILE [--json]`
+-- slice_app            == `slice FILE POINT..`
+-- affected_app         == `affected BASE A`
 use Rattle.std.specs.Prelude.{ℕ, Some, true, codes}
 use Rattle.clap.specs.Words.{App, Rule, Text, new_app, new_rule, with_rule}
-use Rattle.clap.specs.declared.builder.action.ArgAction.TheVariants.{Append}
+use Rattle.clap.specs.declared.builder.action.ArgAction.TheVariants.{Append, SetTrue}
 use Rattle.clap.specs.declared.builder.value_parser.ValueParser.TheVariants.{Unsigned}
 
 abbrev pub name_rule : Text → Rule
@@ -16,8 +21,14 @@ name_rule id = record (new_rule id) { required = true }
 abbrev pub list_rule : Text → Rule
 list_rule id = record (new_rule id) { action = Some Append }
 
+abbrev pub filled_list_rule : Text → Rule
+filled_list_rule id = record (list_rule id) { required = true }
+
 abbrev pub number_rule : Text → ℕ → Rule
 number_rule id most = record (new_rule id) { long = Some id; parser = Some (Unsigned 1 most) }
+
+abbrev pub flag_rule : Text → Rule
+flag_rule id = record (new_rule id) { long = Some id; action = Some SetTrue }
 
 abbrev pub integrate_app : App
 integrate_app = with_rule (with_rule (with_rule (with_rule (new_app (codes "integrate"))
@@ -26,3 +37,12 @@ integrate_app = with_rule (with_rule (with_rule (with_rule (new_app (codes "inte
 abbrev pub run_app : App
 run_app = with_rule (with_rule (with_rule (new_app (codes "run"))
     (name_rule (codes "file"))) (list_rule (codes "state"))) (number_rule (codes "steps") 1000000000)
+
+abbrev pub graph_app : App
+graph_app = with_rule (with_rule (new_app (codes "graph")) (name_rule (codes "file"))) (flag_rule (codes "json"))
+
+abbrev pub slice_app : App
+slice_app = with_rule (with_rule (new_app (codes "slice")) (name_rule (codes "file"))) (filled_list_rule (codes "point"))
+
+abbrev pub affected_app : App
+affected_app = with_rule (with_rule (new_app (codes "affected")) (name_rule (codes "base"))) (name_rule (codes "a"))

@@ -1,8 +1,8 @@
 //! The kinds of arguments that commands have.
 ghost use Rattle.std.specs.Prelude.{◌≡◌, [], false, true, map, string_bytes, IfOk, IsErrOf, option_map, Some, None};
-ghost use Rattle.hpr_words.specs.Commands.{name_rule, list_rule, number_rule};
+ghost use Rattle.hpr_words.specs.Commands.{filled_list_rule, flag_rule, name_rule, list_rule, number_rule};
 ghost use Rattle.hpr_words.specs.Taken as spec;
-ghost use Rattle.hpr_words.specs.Taken.{number_in, list_in};
+ghost use Rattle.hpr_words.specs.Taken.{flag_in, number_in, list_in};
 ghost use Rattle.clap.specs.Walk.{is_empty};
 ghost use Rattle.clap.specs.Words.{app_of, fault_of, first_of, found_of, is_simple_and_free, rule_of, matches_of, rows_of};
 
@@ -45,6 +45,14 @@ pub fn list_arg<'a>(alloc: Global, id: &'a str) -> Arg<'a>
     Arg::new(alloc, id).action(ArgAction::Append)
 }
 
+/// A positional of one word or more.
+pub fn filled_list_arg<'a>(alloc: Global, id: &'a str) -> Arg<'a>
+    ensures rule { rule_of result ≡ filled_list_rule id.entry.now }
+    ensures local { result.global ≡ false }
+{
+    list_arg(alloc, id).required(true)
+}
+
 /// An option whose value is a number from 1 to `most`.
 pub fn number_arg<'a>(alloc: Global, id: &'a str, most: u32) -> Arg<'a>
     ensures rule { rule_of result ≡ number_rule id.entry.now most }
@@ -53,6 +61,14 @@ pub fn number_arg<'a>(alloc: Global, id: &'a str, most: u32) -> Arg<'a>
     Arg::new(alloc, id)
         .long(id)
         .value_parser(clap::value_parser!(u64).range(1..=i64::from(most)))
+}
+
+/// A flag.
+pub fn flag_arg<'a>(alloc: Global, id: &'a str) -> Arg<'a>
+    ensures rule { rule_of result ≡ flag_rule id.entry.now }
+    ensures local { result.global ≡ false }
+{
+    Arg::new(alloc, id).long(id).action(ArgAction::SetTrue)
 }
 
 /// The word of a positional of one word.
@@ -87,6 +103,16 @@ pub fn number_from(matches: &ArgMatches<'_>, id: &str, most: u32, default: u64) 
     match name_from(matches, id) {
         Some(text) => number_of(text, most),
         None => Some(default),
+    }
+}
+
+/// Whether a flag is given.
+pub fn flag_from(matches: &ArgMatches<'_>, id: &str) -> bool
+    ensures { result ≡ flag_in id.now (rows_of (found_of matches.now)) }
+{
+    match name_from(matches, id) {
+        Some(text) => text == "true",
+        None => false,
     }
 }
 

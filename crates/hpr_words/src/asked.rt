@@ -4,9 +4,12 @@ ghost use Rattle.hpr_words.specs.Asked.{request};
 ghost use Rattle.hpr_words.specs.Request.{IsInRange};
 ghost use Rattle.hpr_words.specs.Taken.{taken};
 
+use crate::affected::read_affected;
+use crate::graph::read_graph;
 use crate::integrate::read_integrate;
 use crate::run::read_run;
-use std::alloc::Global;
+use crate::slice::read_slice;
+use std::alloc::{AllocError, Global};
 
 /// What the words of a command line ask for. The commands are our profile.
 #[derive(Drop)]
@@ -27,6 +30,22 @@ pub enum Asked<'a> {
         states: Vec<&'a str>,
         steps: u64,
     },
+    /// `graph FILE [--json]`: show the graph of the program of a file, as JSON or as text.
+    Graph {
+        file: &'a str,
+        json: bool,
+    },
+    /// `slice FILE POINT..`: show the slice of the graph of the program of a file for at least one
+    /// point. The words of the points, which nothing has read yet, stand in their order.
+    Slice {
+        file: &'a str,
+        points: Vec<&'a str>,
+    },
+    /// `affected BASE A`: show the affected points of a variant of base.
+    Affected {
+        base: &'a str,
+        a: &'a str,
+    },
 }
 
 /// Why words are not read.
@@ -37,6 +56,17 @@ pub enum WordsError {
     Refused,
     /// Memory ran out.
     Memory,
+}
+
+impl From<AllocError> for WordsError {
+    ghost use Rattle.std.specs.Prelude.{◌≡◌};
+    ghost use Rattle.hpr_words.specs.declared.asked.WordsError.TheVariants.{Memory};
+
+    ghost from_gives = { λ _ e. e ≡ Memory };
+
+    fn from(_error: AllocError) -> WordsError {
+        WordsError::Memory
+    }
 }
 
 /// What the words ask for, without the program's name. The first one picks the command, which takes
@@ -50,14 +80,15 @@ pub fn read_words<'a>(alloc: Global, words: &'a [String]) -> Result<Asked<'a>, W
     ensures in_range { IfOk result (λ a. IsInRange (request a)) }
     ensures refused { IsErrOf result WordsError.Refused → taken (map string_bytes words.entry.now) ≡ None }
 {
-    if words.is_empty() {
-        return Err(WordsError::Refused);
+    match words.first() {
+        Some(command) => match command.as_str() {
+            "integrate" => read_integrate(alloc, words),
+            "run" => read_run(alloc, words),
+            "graph" => read_graph(alloc, words),
+            "slice" => read_slice(alloc, words),
+            "affected" => read_affected(alloc, words),
+            _ => Err(WordsError::Refused),
+        },
+        None => Err(WordsError::Refused),
     }
-    if words[0].as_str() == "integrate" {
-        return read_integrate(alloc, words);
-    }
-    if words[0].as_str() == "run" {
-        return read_run(alloc, words);
-    }
-    Err(WordsError::Refused)
 }

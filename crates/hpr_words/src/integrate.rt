@@ -19,16 +19,8 @@ pub fn read_integrate<'a>(alloc: Global, words: &'a [String]) -> Result<Asked<'a
     ensures taken { IfOk result (λ a. taken_by integrate_app integrate_in (map string_bytes words.entry.now) ≡ Some (request a)) }
     ensures refused { IsErrOf result WordsError.Refused → taken_by integrate_app integrate_in (map string_bytes words.entry.now) ≡ None }
 {
-    match integrate_command(alloc) {
-        Ok(command) => {
-            let matches = parse(command, words)?;
-            match integrate_from(&matches) {
-                Some(asked) => Ok(asked),
-                None => Err(WordsError::Refused),
-            }
-        }
-        Err(_) => Err(WordsError::Memory),
-    }
+    let matches = parse(integrate_command(alloc)?, words)?;
+    integrate_from(&matches).ok_or(WordsError::Refused)
 }
 
 fn integrate_command<'a>(alloc: Global) -> Result<Command<'a>, AllocError>

@@ -19,17 +19,8 @@ pub fn read_run<'a>(alloc: Global, words: &'a [String]) -> Result<Asked<'a>, Wor
     ensures taken { IfOk result (λ a. taken_by run_app run_in (map string_bytes words.entry.now) ≡ Some (request a)) }
     ensures refused { IsErrOf result WordsError.Refused → taken_by run_app run_in (map string_bytes words.entry.now) ≡ None }
 {
-    match run_command(alloc) {
-        Ok(command) => {
-            let matches = parse(command, words)?;
-            match run_from(alloc, &matches) {
-                Ok(Some(asked)) => Ok(asked),
-                Ok(None) => Err(WordsError::Refused),
-                Err(_) => Err(WordsError::Memory),
-            }
-        }
-        Err(_) => Err(WordsError::Memory),
-    }
+    let matches = parse(run_command(alloc)?, words)?;
+    run_from(alloc, &matches)?.ok_or(WordsError::Refused)
 }
 
 fn run_command<'a>(alloc: Global) -> Result<Command<'a>, AllocError>

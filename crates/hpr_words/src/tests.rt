@@ -48,6 +48,32 @@ fn takes_run(alloc: Global, line: &str, wanted: &str, most: u64) -> Result<bool,
     }
 }
 
+fn takes_graph(alloc: Global, line: &str, name: &str, wanted: bool) -> Result<bool, Fail> {
+    let words = words_of(alloc, line)?;
+    match read_words(alloc, words.as_slice()) {
+        Ok(Asked::Graph { file, json }) => Ok(file == name && json == wanted),
+        _ => Ok(false),
+    }
+}
+
+fn takes_slice(alloc: Global, line: &str, wanted: &str) -> Result<bool, Fail> {
+    let words = words_of(alloc, line)?;
+    match read_words(alloc, words.as_slice()) {
+        Ok(Asked::Slice { file, points }) => {
+            Ok(file == "F" && joined(alloc, points.as_slice())?.as_str() == wanted)
+        }
+        _ => Ok(false),
+    }
+}
+
+fn takes_affected(alloc: Global, line: &str, names: [&str; 2]) -> Result<bool, Fail> {
+    let words = words_of(alloc, line)?;
+    match read_words(alloc, words.as_slice()) {
+        Ok(Asked::Affected { base, a }) => Ok(base == names[0] && a == names[1]),
+        _ => Ok(false),
+    }
+}
+
 #[test]
 fn takes_integrations(rt: HostRuntime) -> Result<(), Fail> {
     let names = ["X", "Y", "Z"];
@@ -103,6 +129,44 @@ fn takes_runs(rt: HostRuntime) -> Result<(), Fail> {
 }
 
 #[test]
+fn takes_graphs(rt: HostRuntime) -> Result<(), Fail> {
+    for (line, file, json) in [
+        ("graph F", "F", false),
+        ("graph F --json", "F", true),
+        ("graph --json F", "F", true),
+        ("graph -- --json", "--json", false),
+        ("graph --json -- -F", "-F", true),
+    ] {
+        assert!(rt; takes_graph(rt.alloc(), line, file, json)?, "at {line}");
+    }
+    Ok(())
+}
+
+#[test]
+fn takes_slices(rt: HostRuntime) -> Result<(), Fail> {
+    for (line, points) in [
+        ("slice F entry", "entry "),
+        ("slice F final:x 1.3 init:y", "final:x 1.3 init:y "),
+        ("slice F 1.3 1.3", "1.3 1.3 "),
+        ("slice F -- -1", "-1 "),
+    ] {
+        assert!(rt; takes_slice(rt.alloc(), line, points)?, "at {line}");
+    }
+    Ok(())
+}
+
+#[test]
+fn takes_affected_points(rt: HostRuntime) -> Result<(), Fail> {
+    for (line, names) in [
+        ("affected X Y", ["X", "Y"]),
+        ("affected -- -X Y", ["-X", "Y"]),
+    ] {
+        assert!(rt; takes_affected(rt.alloc(), line, names)?, "at {line}");
+    }
+    Ok(())
+}
+
+#[test]
 fn refuses_words(rt: HostRuntime) -> Result<(), Fail> {
     let none: [String; 0] = [];
     assert!(rt; matches!(read_words(rt.alloc(), &none), Err(WordsError::Refused)));
@@ -131,6 +195,28 @@ fn refuses_words(rt: HostRuntime) -> Result<(), Fail> {
         "run F --steps 6 --steps 6",
         "run F --trace=true",
         "run F -x=1",
+        "graph",
+        "graph --json",
+        "graph F G",
+        "graph F --json --json",
+        "graph F --json=true",
+        "graph F --json=",
+        "graph F --json true",
+        "graph F --jso",
+        "graph F --steps 6",
+        "graph F -h",
+        "graph -F",
+        "slice",
+        "slice F",
+        "slice F --",
+        "slice F -1",
+        "slice F entry --json",
+        "slice F entry -h",
+        "affected",
+        "affected X",
+        "affected X Y Z",
+        "affected X Y --json",
+        "affected X Y --help",
     ] {
         let words = words_of(rt.alloc(), line)?;
         let refused = matches!(
