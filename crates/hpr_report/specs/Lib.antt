@@ -1,1 +1,4 @@
 pub mod Texts
+pub mod GraphTexts
+pub mod GraphJson
+pub mod AffectedText

@@ -1,8 +1,17 @@
 //! The texts of reports.
 #![tactic(auto)]
 
+mod graphs;
+mod objects;
 mod outcome;
+mod points;
+
+pub use graphs::{edge_text, graph_text, vertex_text};
+pub use objects::graph_json;
+pub use outcome::outcome_text;
+pub use points::affected_text;
+
+#[cfg(test)]
+mod graph_tests;
 #[cfg(test)]
 mod tests;
-
-pub use outcome::outcome_text;

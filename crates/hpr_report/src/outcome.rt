@@ -38,7 +38,7 @@ fn fault_word(fault: Fault) -> &'static str
 }
 
 /// The tag as it is written in a program.
-fn tag_name(alloc: Global, tag: &Tag) -> Result<String, AllocError>
+pub(crate) fn tag_name(alloc: Global, tag: &Tag) -> Result<String, AllocError>
     ensures { IfOk result (λ text. string_bytes text ≡ tag_text tag.now) }
 {
     let author = tag.author;

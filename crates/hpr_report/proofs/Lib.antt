@@ -1,0 +1,5 @@
+mod Rows
+mod Places
+mod Whole
+mod Marked
+pub mod OneText

@@ -1,0 +1,148 @@
+//! Vertices, edges and graphs.
+ghost use Rattle.std.specs.Prelude.{◌≡◌, ◌++◌, ◌<◌, length, map, IfOk, OnOk, codes, string_bytes};
+ghost use Rattle.hpr_syntax.specs.Print.{content_text};
+ghost use Rattle.hpr_graph.specs.Numbered.{IsLink, graph_in};
+ghost use Rattle.hpr_graph.specs.InOrder.{edge_of, row_edges, edges_of};
+ghost use Rattle.hpr_report.specs.GraphTexts.{vertex_words, vertex_text, edge_text, on_lines, IsGraphText};
+
+use crate::outcome::tag_name;
+use hpr_graph::{Content, Edge, Graph, Kind, Link, NoMemory, Vertex};
+use hpr_print::content_text;
+use std::alloc::Global;
+
+/// A vertex in brackets: `[entry]`, `[init NAME]`, `[final NAME]`, and for a part its tag and what it
+/// says, as `[1.2 x := 1]`. It fails only for want of memory. The text is our profile.
+pub fn vertex_text(alloc: Global, vertex: &Vertex) -> Result<String, NoMemory>
+    ensures { IfOk result (λ text. string_bytes text ≡ vertex_text vertex.now) }
+{
+    let words = vertex_words(alloc, vertex)?;
+    Ok(format!(in alloc; "[{words}]")?)
+}
+
+/// What a vertex is, without the brackets.
+pub(crate) fn vertex_words(alloc: Global, vertex: &Vertex) -> Result<String, NoMemory>
+    ensures { IfOk result (λ text. string_bytes text ≡ vertex_words vertex.now) }
+{
+    match vertex {
+        Vertex::Entry => Ok(String::from_str(alloc, "entry")?),
+        Vertex::Init(name) => {
+            let name = name.text();
+            Ok(format!(in alloc; "init {name}")?)
+        }
+        Vertex::Part(tag, content) => {
+            let tag = tag_name(alloc, tag)?;
+            let content = content_words(alloc, content)?;
+            Ok(format!(in alloc; "{tag} {content}")?)
+        }
+        Vertex::Final(name) => {
+            let name = name.text();
+            Ok(format!(in alloc; "final {name}")?)
+        }
+    }
+}
+
+/// What a part says.
+fn content_words(alloc: Global, content: &Content) -> Result<String, NoMemory>
+    ensures { IfOk result (λ text. string_bytes text ≡ content_text content.now) }
+{
+    match String::from_utf8(content_text(alloc, content)?) {
+        Ok(text) => Ok(text),
+        Err(_) => unreachable!(),
+    }
+}
+
+/// An edge from its source to its target, each in brackets: `control LABEL FROM -> TO`,
+/// `flow NAME FROM -> TO`, `carried NAME FROM -> TO by LOOP`, `order FROM -> TO for USE`. It fails only
+/// for want of memory. The text is our profile.
+pub fn edge_text(alloc: Global, edge: &Edge) -> Result<String, NoMemory>
+    ensures { IfOk result (λ text. string_bytes text ≡ edge_text edge.now) }
+{
+    let from = vertex_text(alloc, &edge.from)?;
+    let to = vertex_text(alloc, &edge.to)?;
+    match &edge.kind {
+        Kind::Control(label) => Ok(format!(in alloc; "control {label} {from} -> {to}")?),
+        Kind::Independent(name) => {
+            let name = name.text();
+            Ok(format!(in alloc; "flow {name} {from} -> {to}")?)
+        }
+        Kind::Carried(name, by) => {
+            let name = name.text();
+            let by = vertex_text(alloc, by)?;
+            Ok(format!(in alloc; "carried {name} {from} -> {to} by {by}")?)
+        }
+        Kind::Order(used) => {
+            let used = vertex_text(alloc, used)?;
+            Ok(format!(in alloc; "order {from} -> {to} for {used}")?)
+        }
+    }
+}
+
+/// A graph: the line `vertices N` and a line for each vertex, the line `edges N` and a line for each
+/// edge, both in their order. Each line ends with a newline. It fails only for want of memory. The text
+/// is our profile.
+pub fn graph_text(alloc: Global, graph: &Graph) -> Result<Vec<u8>, NoMemory>
+    ensures { IfOk result (λ text. IsGraphText (graph_in graph.now) text.items) }
+{
+    let graph = graph.in_order()?;
+    let vertex_count = graph.vertex_count();
+    let edge_count = graph.edge_count();
+    let mut out = format!(in alloc; "vertices {vertex_count}\n")?.into_bytes();
+    put_vertices(alloc, &mut out, graph.vertices())?;
+    out.extend_from_slice(format!(in alloc; "edges {edge_count}\n")?.as_bytes())?;
+    put_edges(alloc, &mut out, &graph)?;
+    Ok(out)
+}
+
+/// Puts a text and a newline.
+fn put_line(out: &mut Vec<u8>, text: &str) -> Result<(), NoMemory>
+    ensures { OnOk result (out.new.items ≡ out.old.items ++ (text.now ++ codes "\n")) }
+{
+    out.extend_from_slice(text.as_bytes())?;
+    out.push(b'\n')?;
+    Ok(())
+}
+
+/// Puts a line for each vertex.
+pub(crate) fn put_vertices(
+    alloc: Global,
+    out: &mut Vec<u8>,
+    vertices: &[Vertex],
+) -> Result<(), NoMemory>
+    ensures { OnOk result (out.new.items ≡ out.old.items ++ on_lines (map vertex_text vertices.now)) }
+{
+    for vertex in vertices {
+        put_line(out, vertex_text(alloc, vertex)?.as_str())?;
+    }
+    Ok(())
+}
+
+/// Puts a line for each edge, vertex by vertex.
+fn put_edges(alloc: Global, out: &mut Vec<u8>, graph: &Graph) -> Result<(), NoMemory>
+    ensures { OnOk result (out.new.items ≡ out.old.items ++ on_lines (map edge_text (edges_of graph.now))) }
+{
+    for to in 0..graph.vertices().len() {
+        put_row(alloc, out, graph, to)?;
+    }
+    Ok(())
+}
+
+/// Puts a line for each edge into one vertex.
+fn put_row(alloc: Global, out: &mut Vec<u8>, graph: &Graph, to: usize) -> Result<(), NoMemory>
+    requires { to < length graph.now.vertices }
+    ensures { OnOk result (out.new.items ≡ out.old.items ++ on_lines (map edge_text (row_edges graph.now to))) }
+{
+    for link in graph.edges_into(to) {
+        put_line(out, link_text(alloc, graph, to, *link)?.as_str())?;
+    }
+    Ok(())
+}
+
+/// The edge that a link is.
+#[tactic(auto, using(hpr_graph::proofs::InOrder::edge_is))]
+fn link_text(alloc: Global, graph: &Graph, to: usize, link: Link) -> Result<String, NoMemory>
+    requires { IsLink graph.now to link }
+    ensures { IfOk result (λ text. string_bytes text ≡ edge_text (edge_of graph.now.vertices to link)) }
+{
+    let edge = graph.edge(to, link)?;
+    edge_text(alloc, &edge)
+}
