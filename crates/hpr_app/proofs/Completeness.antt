@@ -1,5 +1,5 @@
 -- Where nothing failed and each file spells a program, the outcome is the one that those programs have.
-use Rattle.std.proofs.Common.{◌≡◌, ℕ, arith, List, refl, ap, sym, ◌∙◌, subst, inl, inr, ◌⊎◌, Option, Some, None, Ok}
+use Rattle.std.proofs.Common.{◌≡◌, ℕ, suc, Bool, All, arith, List, [], ◌∷◌, refl, ap, sym, ◌∙◌, subst, inl, inr, ◌⊎◌, Option, Some, None, Ok}
 use Rattle.hpr_io.specs.Counts.{Rose}
 use Rattle.hpr_io.specs.Files.{Files, bytes_of}
 use Rattle.hpr_io.specs.Taken.{taken_then}
@@ -7,14 +7,25 @@ use Rattle.hpr_syntax.specs.Grammar.{tagged}
 use Rattle.hpr_syntax.specs.Shape.{shape}
 use Rattle.hpr_syntax.specs.Tree.{Tree}
 use Rattle.hpr_syntax.specs.Values.{Values}
+use Rattle.hpr_graph.specs.Graphs.{Graph}
+use Rattle.hpr_graph.specs.Points.{IsAffected}
+use Rattle.hpr_graph.specs.ProgramGraph.{graph_of}
+use Rattle.hpr_graph.specs.Slices.{slice_of}
+use Rattle.hpr_report.specs.AffectedText.{IsAffectedText}
+use Rattle.hpr_report.specs.GraphTexts.{IsGraphText}
 use Rattle.hpr_text.proofs.Texts.{one_tree}
-use Rattle.hpr_words.specs.Request.{Request, Text, integrate, run}
+use Rattle.hpr_words.specs.Request.{Request, Text, integrate, run, graph, slice, affected}
 use Rattle.hpr_app.specs.Complete.{DonePrinting, Completes, RequestCompletes, Runs}
-use Rattle.hpr_app.specs.Decision.{Decision}
-use Rattle.hpr_app.specs.Integrate.{OnFile, Prints, OneSideOutcome, IntegrateOutcome}
+use Rattle.hpr_app.specs.Decision.{Decision, Prints}
+use Rattle.hpr_app.specs.AffectedFiles.{AffectedPoints, AffectedOutcome}
+use Rattle.hpr_app.specs.GraphFile.{IsShown, Graphed, GraphOutcome}
+use Rattle.hpr_app.specs.Graphs.{HasTooManyEdges, OnGraph}
+use Rattle.hpr_app.specs.Integrate.{OnFile, IsOneSideText, OneSideOutcome, IntegrateOutcome}
 use Rattle.hpr_app.specs.Outcome.{RequestOutcome, OutcomeIfTold}
+use Rattle.hpr_app.specs.Points.{IsFirstStranger, IsNamed, IsPoint, OnPoints}
 use Rattle.hpr_app.specs.Refusals.{IsFileOf, IsCause}
 use Rattle.hpr_app.specs.RunFile.{OnState, Ran, RunOutcome}
+use Rattle.hpr_app.specs.SliceFile.{Sliced, SliceOutcome}
 use Rattle.hpr_app.specs.States.{states_of}
 use Rattle.hpr_app.specs.Ends.{Change, Ends, Decided, status_of, text_of}
 use Rattle.hpr_app.specs.declared.refusals.Refusal.{Refusal}
@@ -35,14 +46,14 @@ pub of_program : (fs : Files) (file : List ℕ) (next : Tree → Type 0) (r : De
 of_program fs file next r p (inl (_, (why, cause, _), _)) is = absurd (not_refused (bytes_of fs file) why p cause is)
 of_program fs file next r p (inr (q, h, n)) is = subst next (one_tree tagged (bytes_of fs file) q p h.spelled is.spelled) n
 
-module _ (p q r : Tree) (old new : Option (List ℕ)) (s : Status) where
-  done_printing : (other : Tree) (d : Decision) → s ≡ status_of d → new ≡ taken_then old (text_of d) → Prints p q r other d → DonePrinting p q r other old new s
-  done_printing other d is took (bytes, text, same) = (is ∙ ap status_of same, bytes, text, took ∙ ap (λ x. taken_then old (text_of x)) same)
+done_printing : (P : List ℕ → Type 0) (old new : Option (List ℕ)) (s : Status) (d : Decision) → s ≡ status_of d → new ≡ taken_then old (text_of d) → Prints P d → DonePrinting P old new s
+done_printing P old new s d is took (bytes, text, same) = (is ∙ ap status_of same, bytes, text, took ∙ ap (λ x. taken_then old (text_of x)) same)
 
+module _ (p q r : Tree) (old new : Option (List ℕ)) (s : Status) where
   -- the outcome of three programs completes the call
   completes_so : (d : Decision) → s ≡ status_of d → new ≡ taken_then old (text_of d) → OneSideOutcome p q r d → Completes p q r old new s
-  completes_so d is took (inl (e, prints)) = inl (e, done_printing q d is took prints)
-  completes_so d is took (inr (inl (n, e, prints))) = inr (inl (n, e, done_printing r d is took prints))
+  completes_so d is took (inl (e, prints)) = inl (e, done_printing (IsOneSideText p q r q) old new s d is took prints)
+  completes_so d is took (inr (inl (n, e, prints))) = inr (inl (n, e, done_printing (IsOneSideText p q r r) old new s d is took prints))
   completes_so d is took (inr (inr (n, m, same))) = inr (inr (n, m, is ∙ ap status_of same))
 
   of_three : (fs : Files) (base a b : List ℕ) (d : Decision) → s ≡ status_of d → new ≡ taken_then old (text_of d) → IntegrateOutcome fs base a b d
@@ -60,10 +71,52 @@ module _ (state : Values) (p : Tree) (old new : Option (List ℕ)) (s : Status) 
       let same = of_program fs file (λ q. Ran q state steps d) d p on_state hp in
       (is ∙ ap status_of same, took ∙ ap (λ x. taken_then old (text_of x)) same)
 
+-- a graph that hasn't too many edges is not refused
+pub of_program_graph : (file : Text) (p : Tree) (next : Type 0) (r : Decision) → (HasTooManyEdges p → ⊥) → OnGraph file p next r → next
+of_program_graph file p next r few (inl (many, _)) = absurd (few many)
+of_program_graph file p next r few (inr (_, n)) = n
+
+-- where each word is that for a vertex, no point is refused
+pub not_stranger : (P : Text → Type 0) (words : List Text) (word : Text) → IsFirstStranger P words word → All P words → ⊥
+not_stranger P [] word h all = h
+not_stranger P (w ∷ ws) word (inl (n, _)) all = n (all 0 w (omega arith))
+not_stranger P (w ∷ ws) word (inr (_, later)) all = not_stranger P ws word later (λ k d low. all (suc k) d (omega (arith, low)))
+
+pub of_points : (g : Graph) (words : List Text) (next : Type 0) (r : Decision) → All (IsNamed g) words → OnPoints g words next r → next
+of_points g words next r all (inl (word, first, _)) = absurd (not_stranger (IsNamed g) words word first all)
+of_points g words next r all (inr (_, n)) = n
+
+module _ (old new : Option (List ℕ)) (s : Status) (fs : Files) (d : Decision) (is : s ≡ status_of d) (took : new ≡ taken_then old (text_of d)) where
+  of_graph : (file : Text) (json : Bool) (p : Tree) → GraphOutcome fs file json d → IsFileOf (bytes_of fs file) p → (HasTooManyEdges p → ⊥)
+      → DonePrinting (IsShown json (graph_of p)) old new s
+  of_graph file json p o hp few =
+      done_printing (IsShown json (graph_of p)) old new s d is took
+      (of_program_graph file p (Prints (IsShown json (graph_of p)) d) d few (of_program fs file (λ q. Graphed file q json d) d p o hp))
+
+  of_slice : (file : Text) (points : List Text) (p : Tree) → SliceOutcome fs file points d → IsFileOf (bytes_of fs file) p → (HasTooManyEdges p → ⊥)
+      → All (IsNamed (graph_of p)) points → DonePrinting (IsGraphText (slice_of (graph_of p) (IsPoint points))) old new s
+  of_slice file points p o hp few named =
+      let Shown = Prints (IsGraphText (slice_of (graph_of p) (IsPoint points))) d in
+      done_printing (IsGraphText (slice_of (graph_of p) (IsPoint points))) old new s d is took
+      (of_points (graph_of p) points Shown d named
+      (of_program_graph file p (OnPoints (graph_of p) points Shown d) d few (of_program fs file (λ q. Sliced file q points d) d p o hp)))
+
+  of_affected : (base a : Text) (p q : Tree) → AffectedOutcome fs base a d → IsFileOf (bytes_of fs base) p → IsFileOf (bytes_of fs a) q
+      → (HasTooManyEdges p → ⊥) → (HasTooManyEdges q → ⊥) → DonePrinting (IsAffectedText (IsAffected (graph_of q) (graph_of p))) old new s
+  of_affected base a p q o hp hq few few_too =
+      let Shown = Prints (IsAffectedText (IsAffected (graph_of q) (graph_of p))) d in
+      let on_a = of_program fs base (λ p. OnFile fs a (λ q. AffectedPoints base p a q d) d) d p o hp in
+      done_printing (IsAffectedText (IsAffected (graph_of q) (graph_of p))) old new s d is took
+      (of_program_graph a q Shown d few_too
+      (of_program_graph base p (OnGraph a q Shown d) d few (of_program fs a (λ q. AffectedPoints base p a q d) d q on_a hq)))
+
 request_completes : (request : Request) (fs : Files) (old new : Option (List ℕ)) (s : Status) (d : Decision) → s ≡ status_of d → new ≡ taken_then old (text_of d)
     → RequestOutcome request fs d → RequestCompletes request fs old new s
 request_completes (integrate base a b tries) fs old new s d is took o = λ p q r hp hq hr. of_three p q r old new s fs base a b d is took o hp hq hr
 request_completes (run file words steps) fs old new s d is took o = λ state p told hp. of_run state p old new s fs file words steps d is took o told hp
+request_completes (graph file json) fs old new s d is took o = λ p hp few. of_graph old new s fs d is took file json p o hp few
+request_completes (slice file points) fs old new s d is took o = λ p hp few named. of_slice old new s fs d is took file points p o hp few named
+request_completes (affected base a) fs old new s d is took o = λ p q hp hq few few_too. of_affected old new s fs d is took base a p q o hp hq few few_too
 
 module _ (request : Request) (fs : Files) (reads : List ℕ → Type 0) (before now : ℕ) (out err : Change)
     (read : Rose before now → ⊥) (written : Rose out.before out.now → ⊥) where

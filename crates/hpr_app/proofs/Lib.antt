@@ -1,5 +1,6 @@
 pub mod FileLemmas
 pub mod IssuedRows
+pub mod ReadLemmas
 pub mod IntegrateLemmas
 pub mod ValueLemmas
 pub mod StateLemmas
@@ -9,3 +10,7 @@ pub mod Completeness
 pub mod Ascending
 pub mod Once
 pub mod Theorem
+pub mod GraphLemmas
+pub mod PointLemmas
+pub mod SliceLemmas
+pub mod AffectedLemmas

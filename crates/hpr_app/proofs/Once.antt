@@ -1,5 +1,5 @@
 -- The words and the files make one decision.
-use Rattle.std.proofs.Common.{◌≡◌, ℕ, arith, List, refl, sym, ap, ◌∙◌, subst, inl, inr, Option, Some, None, Result, Ok, Err}
+use Rattle.std.proofs.Common.{◌≡◌, ℕ, arith, List, [], ◌∷◌, refl, sym, ap, ◌∙◌, subst, inl, inr, Option, Some, None, Result, Ok, Err}
 use Rattle.hpr_io.specs.Counts.{Rose}
 use Rattle.hpr_io.specs.Files.{Files, bytes_of}
 use Rattle.hpr_scan.specs.Place.{IsPlace}
@@ -9,24 +9,35 @@ use Rattle.hpr_syntax.specs.Print.{text}
 use Rattle.hpr_syntax.specs.Shape.{shape}
 use Rattle.hpr_syntax.specs.Tree.{Tree}
 use Rattle.hpr_syntax.specs.Values.{Values}
+use Rattle.hpr_graph.specs.Graphs.{Graph}
+use Rattle.hpr_graph.specs.Points.{IsAffected}
+use Rattle.hpr_graph.specs.ProgramGraph.{graph_of}
+use Rattle.hpr_graph.specs.Slices.{slice_of}
+use Rattle.hpr_report.specs.AffectedText.{IsAffectedText}
+use Rattle.hpr_report.specs.GraphTexts.{IsGraphText}
+use Rattle.hpr_report.proofs.OneText.{one_graph_text, one_affected_text}
 use Rattle.hpr_text.specs.Answers.{IsMisshapen}
 use Rattle.hpr_text.proofs.Texts.{one_tree}
 use Rattle.hpr_app.specs.Complete.{IsRefusedCall}
-use Rattle.hpr_app.specs.Decision.{Decision, prints, refuses}
+use Rattle.hpr_app.specs.Decision.{Decision, Prints, prints, refuses}
 use Rattle.hpr_app.specs.Ends.{Change, Ends, Decided, SaysIfAny, has_text, message_of, status_of}
-use Rattle.hpr_app.specs.Integrate.{OnFile, IsOneSided, Prints, OneSideOutcome}
+use Rattle.hpr_app.specs.GraphFile.{IsShown}
+use Rattle.hpr_app.specs.Graphs.{OnGraph}
+use Rattle.hpr_app.specs.Integrate.{OnFile, IsOneSided, IsOneSideText, OneSideOutcome}
 use Rattle.hpr_app.specs.Outcome.{RequestOutcome, Outcome, OutcomeIfTold}
+use Rattle.hpr_app.specs.Points.{IsFirstStranger, IsNamed, IsPoint, OnPoints, no_such_point}
 use Rattle.hpr_app.specs.Refusals.{IsCause, IsRefused, refusal_text}
 use Rattle.hpr_app.specs.RunFile.{OnState}
 use Rattle.hpr_app.specs.States.{RefusedWord, states_of}
-use Rattle.hpr_words.specs.Request.{Request, integrate, run}
+use Rattle.hpr_words.specs.Request.{Request, Text, integrate, run, graph, slice, affected}
 use Rattle.hpr_app.specs.declared.answer.Kind.TheVariants.{Done}
 use Rattle.hpr_app.specs.declared.refusals.Refusal.{Refusal}
 use Rattle.hpr_app.specs.declared.refusals.Refusal.TheVariants as refusal
 use Rattle.hpr_app.specs.declared.status.Status.{Status}
 use Rattle.hpr_app.specs.declared.status.Status.TheVariants as status
 use Rattle.hpr_app.proofs.Ascending.{one_order}
-use Rattle.hpr_app.proofs.Completeness.{not_refused}
+use Rattle.hpr_app.proofs.Completeness.{not_refused, not_stranger}
+use Rattle.hpr_app.proofs.GraphLemmas.{one_shown}
 
 one_place : (L : List ℕ → Type 0) (bytes : List ℕ) (m n : ℕ) → IsPlace L bytes m → IsPlace L bytes n → m ≡ n
 one_place L bytes m n h k = omega (arith, h.longest n k.within k.viable, k.longest m h.within h.viable)
@@ -57,10 +68,13 @@ one_sided : (base a b other m n : Tree) → IsOneSided base a b other m → IsOn
 one_sided base a b other m n h k =
     same_tree m n (h.issued ∙ sym k.issued) (sym h.body ∙ k.body) (one_order other.finals m.finals n.finals h.names k.names h.ascending k.ascending)
 
-one_text : (base a b other : Tree) (r s : Decision) → Prints base a b other r → Prints base a b other s → r ≡ s
-one_text base a b other r s (bytes, (m, h, is), prints_it) (more, (n, k, so), prints_too) =
-    let same : bytes ≡ more = is ∙ ap text (one_sided base a b other m n h k) ∙ sym so in
-    prints_it ∙ ap (prints Done) same ∙ sym prints_too
+-- where one text has P, what prints it is one decision
+one_printed : (P : List ℕ → Type 0) → ((x y : List ℕ) → P x → P y → x ≡ y) → (r s : Decision) → Prints P r → Prints P s → r ≡ s
+one_printed P one r s (x, h, is) (y, k, so) = is ∙ ap (prints Done) (one x y h k) ∙ sym so
+
+one_text : (base a b other : Tree) (r s : Decision) → Prints (IsOneSideText base a b other) r → Prints (IsOneSideText base a b other) s → r ≡ s
+one_text base a b other =
+    one_printed (IsOneSideText base a b other) (λ x y (m, h, is) (n, k, so). is ∙ ap text (one_sided base a b other m n h k) ∙ sym so)
 
 one_side : (base a b : Tree) (r s : Decision) → OneSideOutcome base a b r → OneSideOutcome base a b s → r ≡ s
 one_side base a b r s (inl (_, h)) (inl (_, k)) = one_text base a b a r s h k
@@ -72,6 +86,25 @@ one_side base a b r s (inr (inl (_, e, _))) (inr (inr (_, n, _))) = absurd (n e)
 one_side base a b r s (inr (inr (n, _, _))) (inl (e, _)) = absurd (n e)
 one_side base a b r s (inr (inr (_, n, _))) (inr (inl (_, e, _))) = absurd (n e)
 one_side base a b r s (inr (inr (_, _, is))) (inr (inr (_, _, so))) = is ∙ sym so
+
+one_on_graph : (r s : Decision) (file : Text) (p : Tree) (next also : Type 0) → (next → also → r ≡ s) → OnGraph file p next r → OnGraph file p also s → r ≡ s
+one_on_graph r s file p next also rest (inl (_, is)) (inl (_, so)) = is ∙ sym so
+one_on_graph r s file p next also rest (inl (many, _)) (inr (few, _)) = absurd (few many)
+one_on_graph r s file p next also rest (inr (few, _)) (inl (many, _)) = absurd (few many)
+one_on_graph r s file p next also rest (inr (_, h)) (inr (_, k)) = rest h k
+
+one_stranger : (P : Text → Type 0) (words : List Text) (x y : Text) → IsFirstStranger P words x → IsFirstStranger P words y → x ≡ y
+one_stranger P [] x y h k = absurd h
+one_stranger P (w ∷ ws) x y (inl (_, is)) (inl (_, so)) = is ∙ sym so
+one_stranger P (w ∷ ws) x y (inl (n, _)) (inr (p, _)) = absurd (n p)
+one_stranger P (w ∷ ws) x y (inr (p, _)) (inl (n, _)) = absurd (n p)
+one_stranger P (w ∷ ws) x y (inr (_, h)) (inr (_, k)) = one_stranger P ws x y h k
+
+one_on_points : (r s : Decision) (g : Graph) (words : List Text) (next also : Type 0) → (next → also → r ≡ s) → OnPoints g words next r → OnPoints g words also s → r ≡ s
+one_on_points r s g words next also rest (inl (x, h, is)) (inl (y, k, so)) = is ∙ ap (λ w. refuses (no_such_point w)) (one_stranger (IsNamed g) words x y h k) ∙ sym so
+one_on_points r s g words next also rest (inl (x, h, _)) (inr (all, _)) = absurd (not_stranger (IsNamed g) words x h all)
+one_on_points r s g words next also rest (inr (all, _)) (inl (y, k, _)) = absurd (not_stranger (IsNamed g) words y k all)
+one_on_points r s g words next also rest (inr (_, h)) (inr (_, k)) = rest h k
 
 module _ (fs : Files) (r s : Decision) where
   one_on_file : (file : List ℕ) (next also : Tree → Type 0) → ((p : Tree) → next p → also p → r ≡ s) → OnFile fs file next r → OnFile fs file also s → r ≡ s
@@ -88,6 +121,19 @@ module _ (fs : Files) (r s : Decision) where
   one_outcome (integrate base a b tries) h k =
       one_on_file base _ _ (λ p h k. one_on_file a _ _ (λ q h k. one_on_file b _ _ (λ o h k. one_side p q o r s h k) h k) h k) h k
   one_outcome (run file words steps) h k = one_on_state (states_of words) _ _ (λ state h k. one_on_file file _ _ (λ p h k. h ∙ sym k) h k) h k
+  one_outcome (graph file json) h k =
+      one_on_file file _ _ (λ p h k. one_on_graph r s file p _ _ (λ h k. one_printed (IsShown json (graph_of p)) (one_shown json (graph_of p)) r s h k) h k) h k
+  one_outcome (slice file points) h k =
+      one_on_file file _ _
+      (λ p h k. one_on_graph r s file p _ _
+      (λ h k. one_on_points r s (graph_of p) points _ _
+      (λ h k. (let part = slice_of (graph_of p) (IsPoint points) in one_printed (IsGraphText part) (one_graph_text part) r s h k)) h k) h k) h k
+  one_outcome (affected base a) h k =
+      one_on_file base _ _
+      (λ p h k. one_on_file a _ _
+      (λ q h k. one_on_graph r s base p _ _
+      (λ h k. one_on_graph r s a q _ _
+      (λ h k. (let P = IsAffected (graph_of q) (graph_of p) in one_printed (IsAffectedText P) (one_affected_text P) r s h k)) h k) h k) h k) h k
 
 pub one_decision : (request : Option Request) (fs : Files) (r s : Decision) → Outcome request fs r → Outcome request fs s → r ≡ s
 one_decision None fs r s h k = h ∙ sym k

@@ -11,7 +11,7 @@ use Rattle.hpr_syntax.specs.Meaning.{Keeps}
 use Rattle.hpr_syntax.proofs.OneSide.{kept_by_a, kept_by_b}
 use Rattle.hpr_syntax.proofs.Raises.{one_side_spelled}
 use Rattle.hpr_text.proofs.Texts.{one_tree}
-use Rattle.hpr_words.specs.Request.{Request, integrate, run}
+use Rattle.hpr_words.specs.Request.{Request, integrate, run, graph, slice, affected}
 use Rattle.hpr_app.specs.Decision.{Decision, prints, refuses, not_built, usage}
 use Rattle.hpr_app.specs.Integrate.{IsOneSided, OneSideOutcome, IntegrateOutcome}
 use Rattle.hpr_app.specs.Refusals.{IsFileOf}
@@ -67,6 +67,9 @@ outcome_keeps fs base a b k bytes (inr (p, hp, inr (q, hq, inr (r, hr, o)))) =
 request_keeps : (request : Request) (fs : Files) (k : Kind) (bytes : List ℕ) → RequestOutcome request fs (prints k bytes) → KeepsMeaning request fs bytes
 request_keeps (integrate base a b tries) fs k bytes h = outcome_keeps fs base a b k bytes h
 request_keeps (run file words steps) fs k bytes h = tt
+request_keeps (graph file json) fs k bytes h = tt
+request_keeps (slice file points) fs k bytes h = tt
+request_keeps (affected base a) fs k bytes h = tt
 
 abbrev pub Kept : Request → Files → List ℕ → Option (List ℕ) → Type 0
 Kept request fs old new = (bytes : List ℕ) × (new ≡ Some (old ++ bytes)) × KeepsMeaning request fs bytes

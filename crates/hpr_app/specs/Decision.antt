@@ -2,11 +2,16 @@
 --
 -- Decision == a text for `out` with the kind of its status; or a file is refused, with a message for `err`; or the case is not built yet;
 --             or the words are no call
-use Rattle.std.specs.Prelude.{ℕ, List}
+-- Prints P r == the command did what it is for, and r prints a text that has P
+use Rattle.std.specs.Prelude.{◌≡◌, ℕ, List}
 use Rattle.hpr_app.specs.declared.answer.Kind.{Kind}
+use Rattle.hpr_app.specs.declared.answer.Kind.TheVariants.{Done}
 
 pub data Decision : Type 0 where
   prints : Kind → List ℕ → Decision
   refuses : (message : List ℕ) → Decision
   not_built : Decision
   usage : Decision
+
+abbrev pub Prints : (List ℕ → Type 0) → Decision → Type 0
+Prints P r = (bytes : List ℕ) × P bytes × (r ≡ prints Done bytes)

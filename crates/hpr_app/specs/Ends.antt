@@ -20,7 +20,7 @@ use Rattle.hpr_app.specs.declared.status.Status.TheVariants as status
 use Rattle.hpr_app.specs.Decision.{Decision, prints, refuses, not_built, usage}
 
 abbrev pub usage_text : List ℕ
-usage_text = codes "usage: hpr integrate BASE A B [--tries N]\n       hpr run FILE [STATE..] [--steps N]\n"
+usage_text = codes "usage: hpr integrate BASE A B [--tries N]\n       hpr run FILE [STATE..] [--steps N]\n       hpr graph FILE [--json]\n       hpr slice FILE POINT..\n       hpr affected BASE A\n"
 
 abbrev pub not_built_text : List ℕ
 not_built_text = codes "hpr: not built yet\n"

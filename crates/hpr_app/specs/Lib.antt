@@ -5,6 +5,12 @@ pub mod Reads
 pub mod Integrate
 pub mod RunFile
 pub mod ReadsState
+pub mod Graphs
+pub mod GraphFile
+pub mod Points
+pub mod ReadsPoints
+pub mod SliceFile
+pub mod AffectedFiles
 pub mod Outcome
 pub mod Ends
 pub mod Answer

@@ -6,14 +6,20 @@
 -- OneDecision                    == the words and the files make at most one decision
 use Rattle.std.specs.Prelude.{◌≡◌, Option, Some, None}
 use Rattle.hpr_io.specs.Files.{Files}
-use Rattle.hpr_words.specs.Request.{Request, integrate, run}
+use Rattle.hpr_words.specs.Request.{Request, integrate, run, graph, slice, affected}
 use Rattle.hpr_app.specs.Decision.{Decision, usage}
 use Rattle.hpr_app.specs.Integrate.{IntegrateOutcome}
 use Rattle.hpr_app.specs.RunFile.{RunOutcome}
+use Rattle.hpr_app.specs.GraphFile.{GraphOutcome}
+use Rattle.hpr_app.specs.SliceFile.{SliceOutcome}
+use Rattle.hpr_app.specs.AffectedFiles.{AffectedOutcome}
 
 abbrev pub RequestOutcome : Request → Files → Decision → Type 0
 RequestOutcome (integrate base a b tries) files r = IntegrateOutcome files base a b r
 RequestOutcome (run file states steps) files r = RunOutcome files file states steps r
+RequestOutcome (graph file json) files r = GraphOutcome files file json r
+RequestOutcome (slice file points) files r = SliceOutcome files file points r
+RequestOutcome (affected base a) files r = AffectedOutcome files base a r
 
 abbrev pub Outcome : Option Request → Files → Decision → Type 0
 Outcome None files r = r ≡ usage

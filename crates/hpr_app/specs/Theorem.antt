@@ -8,7 +8,7 @@ use Rattle.hpr_syntax.specs.Shape.{IsProgram}
 use Rattle.hpr_syntax.specs.Grammar.{tagged}
 use Rattle.hpr_syntax.specs.Spelling.{Spells}
 use Rattle.hpr_syntax.specs.Meaning.{Keeps}
-use Rattle.hpr_words.specs.Request.{Request, integrate, run}
+use Rattle.hpr_words.specs.Request.{Request, integrate, run, graph, slice, affected}
 
 pub record IsKeepingText (base a b bytes : List ℕ) : Type 0 where
   pub printed : Tree
@@ -19,3 +19,6 @@ pub record IsKeepingText (base a b bytes : List ℕ) : Type 0 where
 abbrev pub KeepsMeaning : Request → Files → List ℕ → Type 0
 KeepsMeaning (integrate base a b tries) files bytes = IsKeepingText (bytes_of files base) (bytes_of files a) (bytes_of files b) bytes
 KeepsMeaning (run file states steps) files bytes = Unit {0}
+KeepsMeaning (graph file json) files bytes = Unit {0}
+KeepsMeaning (slice file points) files bytes = Unit {0}
+KeepsMeaning (affected base a) files bytes = Unit {0}

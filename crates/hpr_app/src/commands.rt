@@ -5,9 +5,12 @@ ghost use Rattle.hpr_app.specs.Outcome.{OutcomeIfTold};
 ghost use Rattle.hpr_app.specs.Reads.{MayRead, files_of};
 ghost use Rattle.hpr_app.specs.Answer.{Decides};
 
+use crate::affected::affected_files;
 use crate::answer::{Report, Stop};
+use crate::graph::graph_file;
 use crate::integrate::integrate_files;
 use crate::run::run_file;
+use crate::slice::slice_file;
 use hpr_io::Shelf;
 use hpr_words::Asked;
 use std::alloc::Global;
@@ -29,5 +32,8 @@ pub fn decide<S: Shelf>(alloc: Global, asked: Asked<'_>, shelf: &mut S) -> Resul
             states,
             steps,
         } => run_file(alloc, file, states.as_slice(), steps, shelf),
+        Asked::Graph { file, json } => graph_file(alloc, file, json, shelf),
+        Asked::Slice { file, points } => slice_file(alloc, file, points.as_slice(), shelf),
+        Asked::Affected { base, a } => affected_files(alloc, base, a, shelf),
     }
 }

@@ -2,7 +2,7 @@
 ghost use Rattle.std.specs.Prelude.{◌≡◌, [], ◌∷◌, Contains, IsTrue, IfOk, OnOk};
 ghost use Rattle.hpr_syntax.specs.Issued.{raised_by};
 ghost use Rattle.hpr_app.specs.Files.{IfTold};
-ghost use Rattle.hpr_app.specs.Integrate.{IntegrateOutcome, OneSideOutcome, PrintsText};
+ghost use Rattle.hpr_app.specs.Integrate.{IntegrateOutcome, OneSideOutcome, IsOneSideText};
 ghost use Rattle.hpr_app.specs.Answer.{Decides, Merges};
 
 use crate::answer::{Kind, Report, Stop};
@@ -63,7 +63,7 @@ fn printed(
     b: &Program,
     other: &Program,
 ) -> Result<Vec<u8>, NoMemory>
-    ensures { IfOk result (λ v. PrintsText base.now a.now b.now other.now v.items) }
+    ensures { IfOk result (λ v. IsOneSideText base.now a.now b.now other.now v.items) }
 {
     let mut issued = base.issued().copy(alloc)?;
     raise_all(&mut issued, a.issued())?;

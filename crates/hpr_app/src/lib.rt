@@ -2,13 +2,18 @@
 //! the answer.
 #![tactic(auto)]
 
+mod affected;
 mod answer;
 mod commands;
 mod files;
+mod graph;
+mod graphs;
 mod integrate;
 pub mod laws;
+mod points;
 mod refusals;
 mod run;
+mod slice;
 mod states;
 mod status;
 
@@ -37,8 +42,10 @@ use std::alloc::Global;
 ///
 /// The words of a state are judged from left to right, before any file is read; then each file
 /// before the next one is fetched: one that has more than 4,194,304 bytes, spells no tree, or spells
-/// a tree that is no program is refused. All text of `out` is made before its first byte is put.
-/// Faults of `err` change no status.
+/// a tree that is no program is refused. So is a file whose program has a graph of more than
+/// 1,000,000 edges, where the command needs it; then the first word for a point that names no vertex
+/// is refused. All text of `out` is made before its first byte is put. Faults of `err` change no
+/// status.
 pub fn hpr<S: Shelf, O: Sink, E: Sink>(
     alloc: Global,
     words: &[String],
@@ -63,7 +70,7 @@ pub fn hpr<S: Shelf, O: Sink, E: Sink>(
     ensures read_grew { S.faults shelf.old < S.faults shelf.new → (result ≡ Status.ReadFault) ⊎ (result ≡ Status.Memory) }
     ensures write_grew { O.faults out.old < O.faults out.new → result ≡ Status.WriteFault }
 
-    // Where no read and no write failed and each file spells a program, the command does what it is for, if memory was found.
+    // Where no read and no write failed and nothing is refused, the command does what it is for, if memory was found.
     ensures complete { (asked : Request) (fs : Files) → taken (map string_bytes words.now) ≡ Some asked → S.files shelf.old ≡ Some fs
         → ¬ Rose (S.faults shelf.old) (S.faults shelf.new) → ¬ Rose (O.faults out.old) (O.faults out.new)
         → (result ≡ Status.Memory) ⊎ RequestCompletes asked fs (O.taken out.old) (O.taken out.new) result }

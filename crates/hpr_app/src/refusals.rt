@@ -45,7 +45,7 @@ pub fn about(alloc: Global, file: &str, text: &str) -> Result<String, AllocError
 }
 
 /// The tag as it is written in a program.
-fn tag_name(alloc: Global, tag: &Tag) -> Result<String, AllocError>
+pub fn tag_name(alloc: Global, tag: &Tag) -> Result<String, AllocError>
     ensures { IfOk result (λ text. string_bytes text ≡ tag_text tag.now) }
 {
     let author = tag.author;

@@ -1,10 +1,14 @@
-use Rattle.std.proofs.Common.{ap, map, string_bytes, sym, Err}
+use Rattle.std.proofs.Common.{All, IsTrue, ap, map, string_bytes, subst, sym, Err}
+use Rattle.hpr_app.specs.Reads.{files_of_taken}
 use Rattle.hpr_app.proofs.Completeness.{asked_completes}
 use Rattle.hpr_app.proofs.EndsLemmas.{Ends-for}
 use Rattle.hpr_app.proofs.Once.{asked_refused}
 use Rattle.hpr_app.proofs.Theorem.{asked_keeps}
 use Rattle.hpr_app.proofs.WordLemmas.{plain_is_taken}
 use Rattle.hpr_app.proofs.hpr.Goals as goal
+
+pub run_asked-requires : goal.run_asked-requires
+run_asked-requires g c = subst (λ o. All (λ name. IsTrue (g.S.Shelf.serves c.args.shelf.now name)) (files_of_taken o)) c.in-Ok.ensures.taken c.requires
 
 pub returns-in-Ok-clause-ends : goal.returns-in-Ok-clause-ends
 returns-in-Ok-clause-ends g c = Ends-for _ _ _ _ _ _ _ _ (sym c.in-Ok.ensures.taken) c.run_asked.ensures.ends

@@ -5,3 +5,12 @@ returns-in-Integrate g c = rw c.in-Integrate.is c.integrate_files.ensures
 
 pub returns-in-Run : goal.returns-in-Run
 returns-in-Run g c = rw c.in-Run.is (rw c.as_slice.ensures.value at c.run_file.ensures)
+
+pub returns-in-Graph : goal.returns-in-Graph
+returns-in-Graph g c = rw c.in-Graph.is c.graph_file.ensures
+
+pub returns-in-Slice : goal.returns-in-Slice
+returns-in-Slice g c = rw c.in-Slice.is (rw c.as_slice-in-Slice.ensures.value at c.slice_file.ensures)
+
+pub returns-in-Affected : goal.returns-in-Affected
+returns-in-Affected g c = rw c.in-Affected.is c.affected_files.ensures

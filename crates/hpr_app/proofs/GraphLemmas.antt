@@ -1,0 +1,24 @@
+-- A graph is shown in one way, and so is one that is the same.
+use Rattle.std.proofs.Common.{◌≡◌, ℕ, Bool, true, false, List, refl, inr}
+use Rattle.hpr_syntax.specs.Tree.{Tree}
+use Rattle.hpr_graph.specs.Graphs.{Graph, Same}
+use Rattle.hpr_graph.specs.ProgramGraph.{graph_of}
+use Rattle.hpr_report.proofs.OneText.{one_graph_text, one_graph_json, graph_text_same, graph_json_same}
+use Rattle.hpr_words.specs.Request.{Text}
+use Rattle.hpr_app.specs.Decision.{prints}
+use Rattle.hpr_app.specs.GraphFile.{IsShown, Graphed}
+use Rattle.hpr_app.specs.Graphs.{HasTooManyEdges}
+use Rattle.hpr_app.specs.declared.answer.Kind.TheVariants.{Done}
+
+pub one_shown : (json : Bool) (g : Graph) (x y : List ℕ) → IsShown json g x → IsShown json g y → x ≡ y
+one_shown true g x y h k = one_graph_json g x y h k
+one_shown false g x y h k = one_graph_text g x y h k
+
+pub shown_same : (json : Bool) (g h : Graph) (bytes : List ℕ) → Same g h → IsShown json g bytes → IsShown json h bytes
+shown_same true g h bytes same is = graph_json_same g h bytes same is
+shown_same false g h bytes same is = graph_text_same g h bytes same is
+
+-- the graph that was made is that of the program
+pub decided : (file : Text) (p : Tree) (json : Bool) (g : Graph) (bytes : List ℕ) → Same g (graph_of p) → (HasTooManyEdges p → ⊥) → IsShown json g bytes
+    → Graphed file p json (prints Done bytes)
+decided file p json g bytes same few is = inr (few, (bytes, shown_same json g (graph_of p) bytes same is, refl))

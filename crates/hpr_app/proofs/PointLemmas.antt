@@ -1,0 +1,159 @@
+-- Words, and the texts of the vertices that they name.
+use Rattle.std.proofs.Common.{◌≡◌, ℕ, zero, suc, ◌+◌, ◌<◌, ◌≤◌, ◌⊎◌, ◌↔◌, inl, inr, Bool, true, false, IsTrue, List, [], ◌∷◌, length, take, get_or, map, All, Contains, Some, slice_get, arith, refl, sym, ap, subst, ◌∙◌, below_more}
+use Rattle.std.proofs.lemmas.List.{length-map, get_or-map, take_all}
+use Rattle.std.proofs.lemmas.List.Elements.{All-more, All-weaker, Contains-get_or}
+use Rattle.std.proofs.lemmas.Option.{slice_get-get_or, slice_get_within}
+use Rattle.std.proofs.lemmas.Slice.Eq.{bytes_eq-Decides}
+use Rattle.std.specs.Str.{bytes_eq}
+use Rattle.hpr_graph.specs.Graphs.{Graph, Same}
+use Rattle.hpr_graph.specs.Numbered.{Numbered, graph_in}
+use Rattle.hpr_build.proofs.Once.{among_map, map_among, map_of_item}
+use Rattle.hpr_words.specs.Request.{Text}
+use Rattle.hpr_app.specs.Points.{IsFirstStranger, IsNamed, point_text}
+use Rattle.hpr_app.specs.ReadsPoints.{AreNumbersFor, AreNumbersIn, RefusesPoint, TakesText}
+use Rattle.hpr_app.specs.declared.answer.Stop.{Stop}
+use Rattle.hpr_app.specs.declared.answer.Stop.TheVariants as stop
+
+some_same : (x y : Text) → Some x ≡ Some y → x ≡ y
+some_same x y e = cc
+
+-- what a test tells that fails
+pub fails : (b : Bool) (P : Type 0) → (IsTrue b ↔ P) → b ≡ false → ¬ P
+fails b P tells e h = let no : false ≡ true = sym e ∙ tells.1 h in absurd cc
+
+-- what a comparison tells
+pub alike : (b : Bool) (x y : Text) → b ≡ bytes_eq x y → b ≡ true → x ≡ y
+alike b x y is e = (bytes_eq-Decides x y).0 (sym is ∙ e)
+
+pub unlike : (b : Bool) (x y : Text) → b ≡ bytes_eq x y → b ≡ false → ¬ (x ≡ y)
+unlike b x y is e same = let no : false ≡ true = sym e ∙ is ∙ (bytes_eq-Decides x y).1 same in absurd cc
+
+-- the first word of which P doesn't hold, behind those of which it holds
+first_stranger : (P : Text → Type 0) (words : List Text) (i : ℕ) (word : Text) → i < length words → word ≡ get_or words i word → All P (take i words) → ¬ P word
+    → IsFirstStranger P words word
+first_stranger P [] i word low here before not = absurd (omega (arith, low))
+first_stranger P (w ∷ ws) zero word low here before not = inl (subst (λ x. ¬ P x) here not, here)
+first_stranger P (w ∷ ws) (suc i) word low here before not =
+    inr (before 0 w (omega arith), first_stranger P ws i word (omega (arith, low)) here (λ k d l. before (suc k) d (omega (arith, l))) not)
+
+stranger_map : (P Q : Text → Type 0) → ((w : Text) → P w ↔ Q w) → (words : List Text) (word : Text) → IsFirstStranger P words word → IsFirstStranger Q words word
+stranger_map P Q f [] word h = h
+stranger_map P Q f (w ∷ ws) word (inl (n, is)) = inl (λ q. n ((f w).1 q), is)
+stranger_map P Q f (w ∷ ws) word (inr (p, later)) = inr ((f w).0 p, stranger_map P Q f ws word later)
+
+pub refuses_map : (P Q : Text → Type 0) → ((w : Text) → P w ↔ Q w) → (words : List Text) (s : Stop) → RefusesPoint P words s → RefusesPoint Q words s
+refuses_map P Q f words stop.NotBuilt h = h
+refuses_map P Q f words (stop.Refused message) (word, first, is) = (word, stranger_map P Q f words word first, is)
+refuses_map P Q f words (stop.ReadFault message) h = h
+refuses_map P Q f words stop.Memory h = tt
+
+-- texts that are read one after another
+module _ {X : Type 0} (f : X → Text) (xs : List X) where
+  within : (i : ℕ) → i < length xs → i < length (map f xs)
+  within i low = subst (λ n. i < n) (sym (length-map xs f)) low
+
+  here : (i : ℕ) (d : X) → i < length xs → f (get_or xs i d) ≡ get_or (map f xs) i (f (get_or xs i d))
+  here i d low = sym (get_or-map f xs i d (f (get_or xs i d)) low)
+
+  module _ (P : Text → Type 0) where
+    abbrev pub Judged : ℕ → Type 0
+    Judged i = All P (take i (map f xs))
+
+    pub judged_more : (i : ℕ) (d : X) → i < length xs → Judged i → P (f (get_or xs i d)) → Judged (i + 1)
+    judged_more i d low before p = All-more P (map f xs) i (f (get_or xs i d)) (within i low) before (subst P (here i d low) p)
+
+    pub judged_all : (i : ℕ) → length xs ≤ i → Judged i → All P (map f xs)
+    judged_all i past before = subst (All P) (take_all i (map f xs) (subst (λ n. n ≤ i) (sym (length-map xs f)) past)) before
+
+    pub stranger_at : (i : ℕ) (d : X) → i < length xs → Judged i → ¬ P (f (get_or xs i d)) → IsFirstStranger P (map f xs) (f (get_or xs i d))
+    stranger_at i d low before not = first_stranger P (map f xs) i (f (get_or xs i d)) (within i low) (here i d low) before not
+
+  pub text_at : (i : ℕ) (x : X) (text : Text) → i < length xs → x ≡ get_or xs i x → text ≡ f x → slice_get (map f xs) i ≡ Some text
+  text_at i x text low is e = slice_get-get_or (map f xs) i text (within i low) ∙ ap (λ t. Some t) (get_or-map f xs i x text low ∙ ap f (sym is) ∙ sym e)
+
+  -- one of the texts is found, or none is
+  module _ (text : Text) (i : ℕ) where
+    pub found : (d : X) → i < length xs → f (get_or xs i d) ≡ text → IsTrue true ↔ Contains (map f xs) text
+    found d low is = (λ t. subst (Contains (map f xs)) is (i, within i low, get_or-map f xs i d (f (get_or xs i d)) low), λ h. refl)
+
+    none : length xs ≤ i → Judged (λ t. ¬ (t ≡ text)) i → ¬ Contains (map f xs) text
+    none past before (k, low, is) = judged_all (λ t. ¬ (t ≡ text)) i past before k text low is
+
+    pub not_found : length xs ≤ i → Judged (λ t. ¬ (t ≡ text)) i → IsTrue false ↔ Contains (map f xs) text
+    not_found past before = (λ t. absurd cc, λ h. absurd (none past before h))
+
+-- the places of the first texts that are among the words
+pub record AreNumbersTo (texts words : List Text) (numbers : List ℕ) (i : ℕ) : Type 0 where
+  pub below : (n : ℕ) → Contains numbers n → n < i
+  pub exact : (at : ℕ) → at < i → (text : Text) → slice_get texts at ≡ Some text → Contains numbers at ↔ Contains words text
+
+module _ (texts words : List Text) where
+  pub no_numbers : AreNumbersTo texts words [] 0
+  no_numbers = record { below = λ n h. absurd (omega (arith, h.1)); exact = λ at low. absurd (omega (arith, low)) }
+
+  module _ (old new : List ℕ) (i : ℕ) (text : Text) (at_i : slice_get texts i ≡ Some text) (before : AreNumbersTo texts words old i)
+      (takes : TakesText words text i old new) where
+    below_next : (n : ℕ) → Contains old n ⊎ ((n ≡ i) × Contains words text) → n < i + 1
+    below_next n (inl h) = let low : n < i = before.below n h in omega (arith, low)
+    below_next n (inr (e, _)) = omega (arith, e)
+
+    old_from : (at : ℕ) → at < i → Contains old at ⊎ ((at ≡ i) × Contains words text) → Contains old at
+    old_from at low (inl h) = h
+    old_from at low (inr (e, _)) = absurd (omega (arith, low, e))
+
+    named_from : Contains old i ⊎ ((i ≡ i) × Contains words text) → Contains words text
+    named_from (inl h) = let low : i < i = before.below i h in absurd (omega (arith, low))
+    named_from (inr (_, h)) = h
+
+    exact_before : (at : ℕ) → at < i → (t : Text) → slice_get texts at ≡ Some t → Contains new at ↔ Contains words t
+    exact_before at low t is =
+        (λ h. (before.exact at low t is).0 (old_from at low ((takes at).0 h)), λ h. (takes at).1 (inl ((before.exact at low t is).1 h)))
+
+    exact_here : (t : Text) → slice_get texts i ≡ Some t → Contains new i ↔ Contains words t
+    exact_here t is =
+        let same : text ≡ t = some_same text t (sym at_i ∙ is) in
+        (λ h. subst (Contains words) same (named_from ((takes i).0 h)), λ h. (takes i).1 (inr (refl, subst (Contains words) (sym same) h)))
+
+    pub one_more_text : AreNumbersTo texts words new (i + 1)
+    one_more_text = record {
+      below = λ n h. below_next n ((takes n).0 h);
+      exact = below_more _ _ exact_before exact_here;
+    }
+
+  pub all_numbers : (numbers : List ℕ) (i : ℕ) → i ≡ length texts → AreNumbersTo texts words numbers i → AreNumbersIn texts words numbers
+  all_numbers numbers i all h = record {
+    within = λ k d low. (let m : get_or numbers k d < i = h.below (get_or numbers k d) (Contains-get_or numbers k d low) in omega (arith, all, m));
+    exact = λ at t is. (let low : at < length texts = slice_get_within texts at t is in h.exact at (omega (arith, all, low)) t is);
+  }
+
+-- the texts of the vertices of a graph
+module _ (g : Numbered) where
+  abbrev vertex_texts : List Text
+  vertex_texts = map point_text g.vertices
+
+  text_names : (word : Text) → Contains vertex_texts word ↔ IsNamed (graph_in g) word
+  text_names word = (
+    λ h. (let (v, has, is) = among_map point_text g.vertices word h in (v, has, sym is)),
+    λ (v, has, is). subst (Contains vertex_texts) (sym is) (map_among point_text g.vertices v has),
+  )
+
+  numbers_of : (words : List Text) (numbers : List ℕ) → AreNumbersIn vertex_texts words numbers → AreNumbersFor g words numbers
+  numbers_of words numbers h = record {
+    within = subst (λ n. All (λ m. m < n) numbers) (length-map g.vertices point_text) h.within;
+    exact = λ at v is. h.exact at (point_text v) (map_of_item point_text g.vertices at v is);
+  }
+
+  -- what is found and judged of the texts is so of the vertices
+  module _ (texts words : List Text) (are : texts ≡ vertex_texts) where
+    pub numbers_for : (numbers : List ℕ) → AreNumbersIn texts words numbers → AreNumbersFor g words numbers
+    numbers_for numbers h = numbers_of words numbers (subst (λ ts. AreNumbersIn ts words numbers) are h)
+
+    pub named_all : All (Contains texts) words → All (IsNamed (graph_in g)) words
+    named_all all = All-weaker (Contains vertex_texts) (IsNamed (graph_in g)) (λ w. (text_names w).0) words (subst (λ ts. All (Contains ts) words) are all)
+
+    pub named_refused : (s : Stop) → RefusesPoint (Contains texts) words s → RefusesPoint (IsNamed (graph_in g)) words s
+    named_refused s h = refuses_map (Contains vertex_texts) (IsNamed (graph_in g)) text_names words s (subst (λ ts. RefusesPoint (Contains ts) words s) are h)
+
+-- the same graphs name the same
+pub named_same : (g h : Graph) → Same g h → (word : Text) → IsNamed g word ↔ IsNamed h word
+named_same g h same word = (λ (v, has, is). (v, (same.0 v).0 has, is), λ (v, has, is). (v, (same.0 v).1 has, is))

@@ -1,0 +1,11 @@
+use Rattle.std.proofs.Common.{map}
+use Rattle.hpr_app.specs.SliceFile.{Sliced}
+use Rattle.hpr_app.proofs.ReadLemmas.{past_last_file}
+use Rattle.hpr_app.proofs.slice.slice_file.Goals as goal
+
+pub returns : goal.returns
+returns g c =
+    let name = c.args.file.now in
+    let points = map (λ w. w.now) c.args.points.now in
+    past_last_file (g.S.Shelf.files c.args.shelf.now) _ _ _ name (λ p r. Sliced name p points r) c.in_ok-program.program c.show_slice.result
+    c.in_ok-program.ensures.reads.0 c.in_ok-program.ensures.reads.1 c.show_slice.ensures

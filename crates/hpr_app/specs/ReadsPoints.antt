@@ -1,0 +1,41 @@
+-- What reading the words for points comes to.
+--
+-- RefusesPoint P words stop        == the first of the words of which P doesn't hold is named in the message; or memory ran out
+-- JudgesPoints P words result      == P holds of each word; or as above
+-- AreNumbersIn texts words numbers == the places of exactly those texts that are among the words
+-- TakesText words text at old new  == the place `at` stands behind the numbers where the text is among the words, and nothing else does
+-- AreNumbersFor g words numbers    == the numbers of exactly those vertices of g for which one of the words is
+-- ReadsPoints g words result       == these numbers, where each word is that for a vertex of g; or as above
+use Rattle.std.specs.Prelude.{◌≡◌, ◌⊎◌, ◌↔◌, ◌<◌, ℕ, Some, List, Contains, All, slice_get, length, Vec, Result, Ok, Err, string_bytes}
+use Rattle.std.specs.Global.{Global}
+use Rattle.hpr_graph.specs.declared.vertex.Vertex.{Vertex}
+use Rattle.hpr_graph.specs.Numbered.{Numbered, graph_in}
+use Rattle.hpr_words.specs.Request.{Text}
+use Rattle.hpr_app.specs.Points.{IsFirstStranger, IsNamed, IsPoint, no_such_point}
+use Rattle.hpr_app.specs.declared.answer.Stop.{Stop}
+use Rattle.hpr_app.specs.declared.answer.Stop.TheVariants as stop
+
+abbrev pub RefusesPoint : (Text → Type 0) → List Text → Stop → Type 0
+RefusesPoint P words stop.NotBuilt = ⊥
+RefusesPoint P words (stop.Refused message) = (word : Text) × IsFirstStranger P words word × (string_bytes message ≡ no_such_point word)
+RefusesPoint P words (stop.ReadFault message) = ⊥
+RefusesPoint P words stop.Memory = Unit {0}
+
+abbrev pub JudgesPoints : (Text → Type 0) → List Text → Result (Unit {0}) Stop → Type 0
+JudgesPoints P words (Ok u) = All P words
+JudgesPoints P words (Err s) = RefusesPoint P words s
+
+pub record AreNumbersIn (texts words : List Text) (numbers : List ℕ) : Type 0 where
+  pub within : All (λ n. n < length texts) numbers
+  pub exact : (at : ℕ) (text : Text) → slice_get texts at ≡ Some text → Contains numbers at ↔ Contains words text
+
+abbrev pub TakesText : List Text → Text → ℕ → List ℕ → List ℕ → Type 0
+TakesText words text at old new = (n : ℕ) → Contains new n ↔ (Contains old n ⊎ ((n ≡ at) × Contains words text))
+
+pub record AreNumbersFor (g : Numbered) (words : List Text) (numbers : List ℕ) : Type 0 where
+  pub within : All (λ n. n < length g.vertices) numbers
+  pub exact : (at : ℕ) (v : Vertex) → slice_get g.vertices at ≡ Some v → Contains numbers at ↔ IsPoint words v
+
+abbrev pub ReadsPoints : Numbered → List Text → Result (Vec ℕ Global) Stop → Type 0
+ReadsPoints g words (Ok numbers) = All (IsNamed (graph_in g)) words × AreNumbersFor g words numbers.items
+ReadsPoints g words (Err s) = RefusesPoint (IsNamed (graph_in g)) words s

@@ -1,0 +1,54 @@
+//! The command `graph`.
+ghost use Rattle.std.specs.Prelude.{IsTrue, IfOk, Some};
+ghost use Rattle.hpr_graph.specs.Numbered.{graph_in};
+ghost use Rattle.hpr_words.specs.Request.{graph};
+ghost use Rattle.hpr_app.specs.Outcome.{OutcomeIfTold};
+ghost use Rattle.hpr_app.specs.Reads.{MayRead};
+ghost use Rattle.hpr_app.specs.GraphFile.{Graphed, IsShown};
+ghost use Rattle.hpr_app.specs.Answer.{Decides, Merges};
+
+use crate::answer::{Kind, Report, Stop};
+use crate::files::read_program;
+use crate::graphs::make_graph;
+use hpr_graph::Graph;
+use hpr_io::Shelf;
+use hpr_report::{graph_json, graph_text};
+use hpr_syntax::{NoMemory, Program};
+use std::alloc::Global;
+
+/// Shows the graph of the program of a file, as a JSON value where that is asked for.
+pub fn graph_file<S: Shelf>(
+    alloc: Global,
+    file: &str,
+    json: bool,
+    shelf: &mut S,
+) -> Result<Report, Stop>
+    requires { IsTrue (S.serves shelf.old file.now) }
+    ensures { Decides (OutcomeIfTold (Some (graph file.now json)) (S.files shelf.old)) (MayRead (graph file.now json)) (S.faults shelf.old) (S.faults shelf.new) result }
+{
+    let program = read_program(alloc, file, shelf)?;
+    show_graph(alloc, file, &program, json)
+}
+
+/// The answer for the program of a file.
+fn show_graph(alloc: Global, file: &str, program: &Program, json: bool) -> Result<Report, Stop>
+    ensures { Merges (Graphed file.now program.now json) result }
+{
+    let graph = make_graph(alloc, file, program)?;
+    let text = shown(alloc, &graph, json)?;
+    Ok(Report {
+        kind: Kind::Done,
+        text,
+    })
+}
+
+/// The text of a graph, or its JSON value.
+fn shown(alloc: Global, graph: &Graph, json: bool) -> Result<Vec<u8>, NoMemory>
+    ensures { IfOk result (λ v. IsShown json (graph_in graph.now) v.items) }
+{
+    if json {
+        graph_json(alloc, graph)
+    } else {
+        graph_text(alloc, graph)
+    }
+}
