@@ -25,7 +25,7 @@ pub struct Ending {
 
 /// The text for words that are no call.
 pub(crate) const USAGE: &[u8] =
-    b"usage: hpr integrate BASE A B [--tries N]\n       hpr run FILE [STATE..] [--steps N]\n";
+    b"usage: hpr integrate BASE A B [--tries N]\n       hpr run FILE [STATE..] [--steps N]\n       hpr graph FILE [--json]\n       hpr slice FILE POINT..\n       hpr affected BASE A\n";
 
 /// A call where the file F has this text, and what comes of it.
 pub(crate) struct Row {
@@ -42,14 +42,47 @@ pub(crate) fn first_wrong(alloc: Global, rows: &[Row]) -> Result<Option<&'static
     for row in rows {
         let bytes = Vec::from_slice(alloc, row.text)?;
         let ending = ending_with_file(alloc, row.words, "F", bytes)?;
-        if ending.status != row.status
-            || ending.out.as_slice() != row.out
-            || ending.err.as_slice() != row.err
-        {
+        if !ends_so(&ending, row.status, row.out, row.err) {
             return Ok(Some(row.shows));
         }
     }
     Ok(None)
+}
+
+/// A call over some files, and what comes of it.
+pub(crate) struct FilesRow {
+    pub shows: &'static str,
+    pub words: &'static [&'static str],
+    pub files: &'static [(&'static str, &'static [u8])],
+    pub status: Status,
+    pub out: &'static [u8],
+    pub err: &'static [u8],
+}
+
+/// The same of calls over some files.
+pub(crate) fn first_wrong_of(
+    alloc: Global,
+    rows: &[FilesRow],
+) -> Result<Option<&'static str>, Fail> {
+    for row in rows {
+        let call = Call {
+            words: row.words,
+            files: row.files,
+            failing_reads: &[],
+            failing_writes: &[],
+            step: 4096,
+            room: 4096,
+        };
+        let ending = ending_of(alloc, &call)?;
+        if !ends_so(&ending, row.status, row.out, row.err) {
+            return Ok(Some(row.shows));
+        }
+    }
+    Ok(None)
+}
+
+fn ends_so(ending: &Ending, status: Status, out: &[u8], err: &[u8]) -> bool {
+    ending.status == status && ending.out.as_slice() == out && ending.err.as_slice() == err
 }
 
 /// Makes the call with these words where there is one file.

@@ -1,5 +1,5 @@
 //! The command `integrate`.
-use crate::calls::{Call, USAGE, ending_of};
+use crate::calls::{Call, FilesRow, USAGE, ending_of, first_wrong_of};
 use hpr_app::Status;
 use std::test::Fail;
 
@@ -63,18 +63,8 @@ const NOT_BUILT: &[u8] = b"hpr: not built yet\n";
 
 const CANNOT_WRITE: &[u8] = b"hpr: cannot write output\n";
 
-/// A call over a shelf and sinks that don't fail by themselves.
-struct Row {
-    shows: &'static str,
-    words: &'static [&'static str],
-    files: Files,
-    status: Status,
-    out: &'static [u8],
-    err: &'static [u8],
-}
-
-static ROWS: [Row; 14] = [
-    Row {
+static ROWS: [FilesRow; 14] = [
+    FilesRow {
         shows: "one variant adds a part",
         words: WORDS,
         files: A_PART_ADDED,
@@ -82,7 +72,7 @@ static ROWS: [Row; 14] = [
         out: MERGED,
         err: b"",
     },
-    Row {
+    FilesRow {
         shows: "the other variant adds a part: the greatest issued numbers, and the finals ascending by bytes",
         words: WORDS,
         files: B_PART_ADDED,
@@ -90,7 +80,7 @@ static ROWS: [Row; 14] = [
         out: MERGED_B,
         err: b"",
     },
-    Row {
+    FilesRow {
         shows: "finals ascending by bytes",
         words: WORDS,
         files: FINALS_ADDED,
@@ -98,7 +88,7 @@ static ROWS: [Row; 14] = [
         out: b"program\nend(B, _a, b)\n",
         err: b"",
     },
-    Row {
+    FilesRow {
         shows: "empty programs",
         words: WORDS,
         files: EMPTY_PROGRAMS,
@@ -106,7 +96,7 @@ static ROWS: [Row; 14] = [
         out: b"program\nend()\n",
         err: b"",
     },
-    Row {
+    FilesRow {
         shows: "not built yet: both variants change an assignment",
         words: WORDS,
         files: BOTH_CHANGED,
@@ -114,7 +104,7 @@ static ROWS: [Row; 14] = [
         out: b"",
         err: NOT_BUILT,
     },
-    Row {
+    FilesRow {
         shows: "an absent file",
         words: WORDS,
         files: NO_A,
@@ -122,7 +112,7 @@ static ROWS: [Row; 14] = [
         out: b"",
         err: b"hpr: cannot read A\n",
     },
-    Row {
+    FilesRow {
         shows: "no words",
         words: &[],
         files: EMPTY_PROGRAMS,
@@ -130,7 +120,7 @@ static ROWS: [Row; 14] = [
         out: b"",
         err: USAGE,
     },
-    Row {
+    FilesRow {
         shows: "a word too few",
         words: &["integrate", "BASE", "A"],
         files: EMPTY_PROGRAMS,
@@ -138,7 +128,7 @@ static ROWS: [Row; 14] = [
         out: b"",
         err: USAGE,
     },
-    Row {
+    FilesRow {
         shows: "a word too many",
         words: &["integrate", "BASE", "A", "B", "B"],
         files: EMPTY_PROGRAMS,
@@ -146,7 +136,7 @@ static ROWS: [Row; 14] = [
         out: b"",
         err: USAGE,
     },
-    Row {
+    FilesRow {
         shows: "another command",
         words: &["merge", "BASE", "A", "B"],
         files: EMPTY_PROGRAMS,
@@ -154,7 +144,7 @@ static ROWS: [Row; 14] = [
         out: b"",
         err: USAGE,
     },
-    Row {
+    FilesRow {
         shows: "tries of 0",
         words: &["integrate", "BASE", "A", "B", "--tries", "0"],
         files: EMPTY_PROGRAMS,
@@ -162,7 +152,7 @@ static ROWS: [Row; 14] = [
         out: b"",
         err: USAGE,
     },
-    Row {
+    FilesRow {
         shows: "finals in another order, and one try",
         words: &["integrate", "BASE", "A", "B", "--tries", "1"],
         files: FINALS_IN_ANOTHER_ORDER,
@@ -170,7 +160,7 @@ static ROWS: [Row; 14] = [
         out: b"program\nissued 1:5, 2:1\n1.1: sum := 0;\n1.2: x := 1;\n1.3: while x < 11 do\n  1.4: sum := sum + x;\n  1.5: x := x + 1;\nod\n2.1: mean := sum / 10;\nend(mean, sum)\n",
         err: b"",
     },
-    Row {
+    FilesRow {
         shows: "an empty word is a file that is absent",
         words: &["integrate", "BASE", "", "B"],
         files: EMPTY_PROGRAMS,
@@ -178,7 +168,7 @@ static ROWS: [Row; 14] = [
         out: b"",
         err: b"hpr: cannot read \n",
     },
-    Row {
+    FilesRow {
         shows: "a word that begins like an option",
         words: &["integrate", "BASE", "A", "-B"],
         files: EMPTY_PROGRAMS,
@@ -190,21 +180,7 @@ static ROWS: [Row; 14] = [
 
 #[test]
 fn calls_end_with_their_status_and_texts(rt: HostRuntime) -> Result<(), Fail> {
-    for row in ROWS.iter() {
-        let call = Call {
-            words: row.words,
-            files: row.files,
-            failing_reads: &[],
-            failing_writes: &[],
-            step: 4096,
-            room: 4096,
-        };
-        let ending = ending_of(rt.alloc(), &call)?;
-        let shows = row.shows;
-        assert_eq!(rt; ending.status, row.status, "{shows}");
-        assert_eq!(rt; ending.out.as_slice(), row.out, "{shows}");
-        assert_eq!(rt; ending.err.as_slice(), row.err, "{shows}");
-    }
+    assert_eq!(rt; first_wrong_of(rt.alloc(), &ROWS)?, None);
     Ok(())
 }
 

@@ -3,7 +3,11 @@
 #![tactic(auto)]
 
 #[cfg(test)]
+mod affected;
+#[cfg(test)]
 mod calls;
+#[cfg(test)]
+mod graph;
 #[cfg(test)]
 mod integrate;
 #[cfg(test)]
@@ -14,5 +18,7 @@ mod refusals;
 mod run;
 #[cfg(test)]
 mod run_texts;
+#[cfg(test)]
+mod slice;
 #[cfg(test)]
 mod steady;
