@@ -1,0 +1,214 @@
+-- The links that are added to a slice are the edges that are added to it, in their order.
+use Rattle.std.proofs.Common.{◌≡◌, ℕ, zero, suc, ◌+◌, ◌<◌, ◌⊎◌, inl, inr, Bool, Some, None, List, [], ◌∷◌, ◌++◌, length, map, Contains, slice_get, refl, sym, ap, ◌∙◌, subst, arith}
+use Rattle.std.specs.Ordering.{ordering_then}
+use Rattle.std.specs.declared.cmp.Ordering.{Ordering}
+use Rattle.std.specs.declared.cmp.Ordering.TheVariants.{Less}
+use Rattle.std.proofs.lemmas.Bool.{cases_lt}
+use Rattle.hpr_graph.specs.declared.vertex.Vertex.{Vertex}
+use Rattle.hpr_graph.specs.declared.edge.Kind.{Kind}
+use Rattle.hpr_graph.specs.declared.edge.Edge.{Edge}
+use Rattle.hpr_graph.specs.declared.link.LinkKind.{LinkKind}
+use Rattle.hpr_graph.specs.declared.link.LinkKind.TheVariants.{Control, Independent, Carried, Order}
+use Rattle.hpr_graph.specs.declared.link.Link.{Link}
+use Rattle.hpr_graph.specs.Graphs.{OnThird}
+use Rattle.hpr_graph.specs.Numbered.{Numbered, HasLink, IsKindAt, IsEdgeAt, IsNumbered, graph_in, row_items, row_of}
+use Rattle.hpr_graph.specs.Order.{vertex_cmp, kind_cmp, edge_cmp}
+use Rattle.hpr_graph.specs.InOrder.{Ascends, RowsAscend, edge_of, edges_from, edges_of}
+use Rattle.hpr_graph.specs.Slices.{ReachesOne}
+use Rattle.hpr_graph.specs.Conflicts.{IsAdded, IsLeast}
+use Rattle.hpr_graph.proofs.EdgeList.{edge_link}
+use Rattle.hpr_graph.proofs.InOrder.{edge_is, edges_in_order}
+use Rattle.hpr_graph.proofs.Laws.{one_edge}
+use Rattle.hpr_slice.specs.Vertices.{IsOneOf, MarksExactly}
+use Rattle.hpr_slice.proofs.Lists.{some_inj, contains_at, place_of}
+use Rattle.hpr_affected.specs.Lacking.{ThirdMarked}
+use Rattle.hpr_merge.specs.Added.{IsAddedLink, IsFirstAdded}
+use Rattle.hpr_merge.specs.Beside.{Pair, AreBeside, IsBeside, IsLeastAdded}
+use Rattle.hpr_merge.proofs.Searches.{link_cmp}
+use Rattle.hpr_merge.proofs.EdgeOrder.{edge_never}
+
+-- marks on the numbers of an edge, and what holds of its vertices
+module _ (g : Numbered) (P : Vertex → Type 0) (marks : List Bool) (m : MarksExactly g P marks) where
+  third_marked : (k : LinkKind) (v : Vertex) (e : Kind) → IsKindAt g.vertices k v e → OnThird P e → ThirdMarked marks k
+  third_marked (Control label) v e is t = tt
+  third_marked Independent v e is t = tt
+  third_marked (Carried w) v e (x, y, d, at, is) t = (m.exact w y at).1 (subst (OnThird P) is t)
+  third_marked (Order u) v e (y, at, is) t = (m.exact u y at).1 (subst (OnThird P) is t)
+
+  marked_third : (k : LinkKind) (v : Vertex) (e : Kind) → IsKindAt g.vertices k v e → ThirdMarked marks k → OnThird P e
+  marked_third (Control label) v e is t = subst (OnThird P) (sym is) tt
+  marked_third Independent v e (x, d, is) t = subst (OnThird P) (sym is) tt
+  marked_third (Carried w) v e (x, y, d, at, is) t = subst (OnThird P) (sym is) ((m.exact w y at).0 t)
+  marked_third (Order u) v e (y, at, is) t = subst (OnThird P) (sym is) ((m.exact u y at).0 t)
+
+-- the places of edges in the list of all edges row by row
+module _ {X Y : Type 0} (f : X → Y) where
+  at_map : (xs : List X) (i : ℕ) (x : X) → slice_get xs i ≡ Some x → slice_get (map f xs) i ≡ Some (f x)
+  at_map [] i x h = absurd cc
+  at_map (y ∷ xs) zero x h = ap (λ (z : X). Some (f z)) (some_inj y x h)
+  at_map (y ∷ xs) (suc i) x h = at_map xs i x h
+
+module _ {X : Type 0} where
+  at_front : (xs ys : List X) (i : ℕ) (x : X) → slice_get xs i ≡ Some x → slice_get (xs ++ ys) i ≡ Some x
+  at_front [] ys i x h = absurd cc
+  at_front (y ∷ xs) ys zero x h = h
+  at_front (y ∷ xs) ys (suc i) x h = at_front xs ys i x h
+
+  at_back : (xs ys : List X) (i : ℕ) (y : X) → slice_get ys i ≡ Some y → slice_get (xs ++ ys) (length xs + i) ≡ Some y
+  at_back [] ys i y h = let same : i ≡ 0 + i = omega arith in subst (λ (n : ℕ). slice_get ys n ≡ Some y) same h
+  at_back (x ∷ xs) ys i y h = let same : suc (length xs + i) ≡ suc (length xs) + i = omega arith in subst (λ (n : ℕ). slice_get (x ∷ (xs ++ ys)) n ≡ Some y) same (at_back xs ys i y h)
+
+row_place : (vs : List Vertex) (n : ℕ) (rows : List (List Link)) (r : ℕ) → (o : ℕ) × ((i : ℕ) (l : Link) → slice_get (row_items (slice_get rows r)) i ≡ Some l → slice_get (edges_from vs n rows) (o + i) ≡ Some (edge_of vs (n + r) l))
+row_place vs n [] r = (0, λ i l h. absurd cc)
+row_place vs n (row ∷ rows) zero = (
+  0,
+  λ i l h.
+      (let same : i ≡ 0 + i = omega arith in
+      let none : n ≡ n + 0 = omega arith in
+      subst (λ (k : ℕ). slice_get (map (edge_of vs n) row ++ edges_from vs (n + 1) rows) k ≡ Some (edge_of vs (n + 0) l)) same
+      (subst (λ (k : ℕ). slice_get (map (edge_of vs n) row ++ edges_from vs (n + 1) rows) i ≡ Some (edge_of vs k l)) none
+      (at_front (map (edge_of vs n) row) (edges_from vs (n + 1) rows) i (edge_of vs n l) (at_map (edge_of vs n) row i l h)))),
+)
+row_place vs n (row ∷ rows) (suc r) =
+    let (o, place) = row_place vs (n + 1) rows r in
+    let before = length (map (edge_of vs n) row) in (
+      before + o,
+      λ i l h.
+          (let same : before + (o + i) ≡ (before + o) + i = omega arith in
+          let one : (n + 1) + r ≡ n + suc r = omega arith in
+          subst (λ (k : ℕ). slice_get (map (edge_of vs n) row ++ edges_from vs (n + 1) rows) k ≡ Some (edge_of vs (n + suc r) l)) same
+          (subst (λ (k : ℕ). slice_get (map (edge_of vs n) row ++ edges_from vs (n + 1) rows) (before + (o + i)) ≡ Some (edge_of vs k l)) one
+          (at_back (map (edge_of vs n) row) (edges_from vs (n + 1) rows) (o + i) (edge_of vs ((n + 1) + r) l) (place i l h)))),
+    )
+
+first_less : (a b : Ordering) → a ≡ Less → ordering_then a b ≡ Less
+first_less a b e = ap (λ (o : Ordering). ordering_then o b) e
+
+-- edges by their links in a graph that is in order
+module _ (m : Numbered) (km : IsNumbered m) (up : Ascends vertex_cmp m.vertices) (rows : RowsAscend link_cmp m) where
+  in_row : (to i j : ℕ) (l l' : Link) (e f : Edge) → i < j → slice_get (row_of m to) i ≡ Some l → slice_get (row_of m to) j ≡ Some l' → IsEdgeAt m.vertices to l e → IsEdgeAt m.vertices to l' f → edge_cmp e f ≡ Less
+  in_row to i j l l' e f less at at' is is' =
+      let (o, place) = row_place m.vertices 0 m.links to in
+      let none : 0 + to ≡ to = omega arith in
+      let e_at : slice_get (edges_of m) (o + i) ≡ Some e = place i l at ∙ ap (λ (n : ℕ). Some (edge_of m.vertices n l)) none ∙ ap Some (sym (edge_is m.vertices to l e is)) in
+      let f_at : slice_get (edges_of m) (o + j) ≡ Some f = place j l' at' ∙ ap (λ (n : ℕ). Some (edge_of m.vertices n l')) none ∙ ap Some (sym (edge_is m.vertices to l' f is')) in
+      (edges_in_order m km up rows).0 (o + i) (o + j) e f (omega (arith, less)) e_at f_at
+
+  by_target : (to t : ℕ) (l l' : Link) (e f : Edge) → to < t → IsEdgeAt m.vertices to l e → IsEdgeAt m.vertices t l' f → edge_cmp e f ≡ Less
+  by_target to t l l' e f less is is' =
+      first_less (vertex_cmp e.to f.to) (ordering_then (vertex_cmp e.from f.from) (kind_cmp e.kind f.kind)) (up to t e.to f.to less is.0 is'.0)
+
+  -- an edge that comes before another has a link before its link
+  comes_first : (to i t : ℕ) (l l' : Link) (e f : Edge) → slice_get (row_of m to) i ≡ Some l → IsEdgeAt m.vertices to l e → HasLink m t l' → IsEdgeAt m.vertices t l' f → edge_cmp f e ≡ Less
+      → (t < to) ⊎ ((t ≡ to) × ((j : ℕ) × (j < i) × (slice_get (row_of m to) j ≡ Some l')))
+  comes_first to i t l l' e f at is has is' less = elim (cases_lt t to) [
+    | inl before ↦ inl before
+    | inr after ↦ elim (cases_lt to t) [
+      | inl later ↦ absurd (edge_never e f (by_target to t l l' e f later is is') less)
+      | inr here ↦
+          (let same : t ≡ to = omega (arith, after, here) in
+          let has_here : HasLink m to l' = subst (λ (n : ℕ). HasLink m n l') same has in
+          let is_here : IsEdgeAt m.vertices to l' f = subst (λ (n : ℕ). IsEdgeAt m.vertices n l' f) same is' in
+          let (j, at') = place_of (row_of m to) l' has_here in
+          inr (
+            same,
+            elim (cases_lt j i) [
+              | inl first ↦ (j, first, at')
+              | inr not_first ↦ elim (cases_lt i j) [
+                | inl behind ↦ absurd (edge_never e f (in_row to i j l l' e f behind at at' is is_here) less)
+                | inr not_behind ↦ absurd
+                    (let place : j ≡ i = omega (arith, not_first, not_behind) in
+                    let link : l' ≡ l = some_inj l' l (sym at' ∙ ap (slice_get (row_of m to)) place ∙ at) in
+                    let edge : f ≡ e = one_edge m.vertices to l f e (subst (λ (x : Link). IsEdgeAt m.vertices to x f) link is_here) is in
+                    let itself : edge_cmp e e ≡ Less = subst (λ (x : Edge). edge_cmp x e ≡ Less) edge less in
+                    edge_never e e itself itself)
+              ]
+            ],
+          ))
+    ]
+  ]
+
+-- a graph beside another, with the marks of the slices at one vertex
+module _ (m k : Numbered) (km : IsNumbered m) (kk : IsNumbered k) (b : AreBeside link_cmp m k) (v : Vertex) (grown own : List Bool) (mg : MarksExactly m (ReachesOne (graph_in m) (λ s. s ≡ v)) grown) (mk : MarksExactly k (ReachesOne (graph_in k) (λ s. s ≡ v)) own) where
+  abbrev Wide : Vertex → Type 0
+  Wide = ReachesOne (graph_in m) (λ s. s ≡ v)
+
+  abbrev Narrow : Vertex → Type 0
+  Narrow = ReachesOne (graph_in k) (λ s. s ≡ v)
+
+  there : (to : ℕ) (l : Link) (e : Edge) → IsEdgeAt m.vertices to l e → IsEdgeAt k.vertices to l e
+  there to l e is = subst (λ (vs : List Vertex). IsEdgeAt vs to l e) (sym b.vertices) is
+
+  added_edge : (to : ℕ) (l : Link) (e : Edge) → HasLink m to l → IsEdgeAt m.vertices to l e → IsAddedLink k grown own to l → IsAdded (graph_in m) (graph_in k) v e
+  added_edge to l e has is (in_wide, in_narrow, (inside, new)) =
+      let is_k = there to l e is in (
+        ((to, l, has, is), ((mg.exact to e.to is.0).0 in_wide, (mg.exact l.from e.from is.1).0 inside.0, marked_third m Wide grown mg l.kind e.from e.kind is.2 inside.1)),
+        λ (has_k, (to_k, from_k, third_k)). new (edge_link k kk.once to l e is_k has_k, ((mk.exact l.from e.from is_k.1).1 from_k, third_marked k Narrow own mk l.kind e.from e.kind is_k.2 third_k)),
+        (contains_at k.vertices to e.to is_k.0, (mk.exact to e.to is_k.0).0 in_narrow),
+      )
+
+  added_link : (to : ℕ) (l : Link) (e : Edge) → IsEdgeAt m.vertices to l e → IsAdded (graph_in m) (graph_in k) v e → IsAddedLink k grown own to l
+  added_link to l e is ((has_m, (to_m, from_m, third_m)), new, (at_k, reaches)) =
+      let is_k = there to l e is in (
+        (mg.exact to e.to is.0).1 to_m,
+        (mk.exact to e.to is_k.0).1 reaches,
+        (
+          ((mg.exact l.from e.from is.1).1 from_m, third_marked m Wide grown mg l.kind e.from e.kind is.2 third_m),
+          λ (has, inside). new ((to, l, has, is_k), (reaches, (mk.exact l.from e.from is_k.1).0 inside.0, marked_third k Narrow own mk l.kind e.from e.kind is_k.2 inside.1)),
+        ),
+      )
+
+  -- where no link is added, no edge is
+  pub none_added : IsFirstAdded m k grown own None → IsLeastAdded (graph_in m) (graph_in k) v None
+  none_added none e (((to, l, has, is), inside), new, own_to) = none to l has (added_link to l e is (((to, l, has, is), inside), new, own_to))
+
+  -- the first link that is added is the least edge
+  pub least_added : (to : ℕ) (l : Link) (e : Edge) → IsFirstAdded m k grown own (Some (to, l)) → IsEdgeAt m.vertices to l e → IsLeast (IsAdded (graph_in m) (graph_in k) v) e
+  least_added to l e ((adds, (i, at, first)), before) is = (
+    added_edge to l e (contains_at (row_of m to) i l at) is adds,
+    λ f (((t, l', has, is'), inside), new, own_to) less.
+        (let adds' = added_link t l' f is' (((t, l', has, is'), inside), new, own_to) in
+        elim (comes_first m km b.order b.rows to i t l l' e f at is has is' less) [
+          | inl earlier ↦ before t l' earlier has adds'
+          | inr (same, (j, left, at')) ↦ first j l' left at' (subst (λ (n : ℕ). IsAddedLink k grown own n l') same adds')
+        ]),
+  )
+
+in_one : (x y : ℕ) → Contains (x ∷ []) y → x ≡ y
+in_one x y (zero, l, e) = e
+in_one x y (suc k, l, e) = absurd (omega (arith, l))
+
+-- the marks at the number of a vertex are those of its slice
+marks_at : (g : Numbered) (at : ℕ) (v : Vertex) (marks : List Bool) → slice_get g.vertices at ≡ Some v → MarksExactly g (ReachesOne (graph_in g) (IsOneOf g (at ∷ []))) marks → MarksExactly g (ReachesOne (graph_in g) (λ s. s ≡ v)) marks
+marks_at g at v marks at_v m = record {
+  count = m.count;
+  exact = λ n w at_w. (
+    λ marked.
+        (let (s, es, (k, has, at_k), leads) = (m.exact n w at_w).0 marked in
+        (s, es, some_inj s v (sym at_k ∙ ap (slice_get g.vertices) (sym (in_one at k has)) ∙ at_v), leads)),
+    λ (s, es, is, leads). (m.exact n w at_w).1 (s, es, (at, (0, omega arith, refl), at_v ∙ ap Some (sym is)), leads),
+  );
+}
+
+abbrev MarksOne : Numbered → ℕ → List Bool → Type 0
+MarksOne g at marks = MarksExactly g (ReachesOne (graph_in g) (IsOneOf g (at ∷ []))) marks
+
+marks_read : (w g : Numbered) (at : ℕ) (v : Vertex) (marks read : List Bool) → w ≡ g → read ≡ marks → slice_get g.vertices at ≡ Some v → MarksOne w at marks → MarksExactly g (ReachesOne (graph_in g) (λ s. s ≡ v)) read
+marks_read w g at v marks read same is at_v m = marks_at g at v read at_v (subst (λ (xs : List Bool). MarksOne g at xs) (sym is) (subst (λ (x : Numbered). MarksOne x at marks) same m))
+
+abbrev pair_of : Numbered → Numbered → Pair
+pair_of m k = record { merged = m; own = k }
+
+-- what a search for the first added link says of the pair
+module _ (m k w n : Numbered) (p : Pair) (b : IsBeside link_cmp m k w n) (is : pair_of m k ≡ p) (at : ℕ) (wide narrow grown own : List Bool) (mw : MarksOne w at wide) (mn : MarksOne n at narrow) (gw : grown ≡ wide) (on : own ≡ narrow) where
+  pub pair_none : IsFirstAdded m k grown own None → (v : Vertex) → slice_get p.merged.vertices at ≡ Some v → IsLeastAdded (graph_in p.merged) (graph_in p.own) v None
+  pair_none none v =
+      subst (λ (s : Pair). slice_get s.merged.vertices at ≡ Some v → IsLeastAdded (graph_in s.merged) (graph_in s.own) v None) is
+      (λ at_v. none_added m k b.merged b.own b.beside v grown own (marks_read w m at v wide grown b.wide_is gw at_v mw)
+      (marks_read n k at v narrow own b.narrow_is on (ap (λ (vs : List Vertex). slice_get vs at) b.beside.vertices ∙ at_v) mn) none)
+
+  pub pair_some : (to : ℕ) (l : Link) (e : Edge) → IsFirstAdded m k grown own (Some (to, l)) → IsEdgeAt m.vertices to l e → (v : Vertex) → slice_get p.merged.vertices at ≡ Some v → IsLeastAdded (graph_in p.merged) (graph_in p.own) v (Some e)
+  pair_some to l e first edge v =
+      subst (λ (s : Pair). slice_get s.merged.vertices at ≡ Some v → IsLeastAdded (graph_in s.merged) (graph_in s.own) v (Some e)) is
+      (λ at_v. least_added m k b.merged b.own b.beside v grown own (marks_read w m at v wide grown b.wide_is gw at_v mw)
+      (marks_read n k at v narrow own b.narrow_is on (ap (λ (vs : List Vertex). slice_get vs at) b.beside.vertices ∙ at_v) mn) to l e first edge)

@@ -1,0 +1,10 @@
+mod Searches
+mod FirstLinks
+mod EdgeOrder
+mod Decided
+mod AddedLinks
+mod Widened
+mod ConflictLists
+mod BothSides
+pub mod EdgeStands
+pub mod ProgramLoops

@@ -1,0 +1,88 @@
+-- A graph with the vertices of another too.
+use Rattle.std.proofs.Common.{◌≡◌, ℕ, zero, suc, ◌+◌, ◌<◌, ◌↔◌, ◌⊎◌, inl, inr, Some, List, [], ◌∷◌, ◌++◌, length, take, get_or, Contains, slice_get, sym, ap, ◌∙◌, subst, arith}
+use Rattle.std.proofs.lemmas.List.{take_more}
+use Rattle.std.proofs.lemmas.Option.{slice_get-get_or}
+use Rattle.hpr_graph.specs.declared.vertex.Vertex.{Vertex}
+use Rattle.hpr_graph.specs.declared.edge.Edge.{Edge}
+use Rattle.hpr_graph.specs.Graphs.{Graph, Same, IsOnce, union_of}
+use Rattle.hpr_graph.specs.Numbered.{Numbered, HasEdge, HasVertex, graph_in}
+use Rattle.hpr_graph.specs.Slices.{LeadsTo, ReachesOne, slice_at}
+use Rattle.hpr_graph.specs.Conflicts.{IsAdded, IsLeast}
+use Rattle.hpr_graph.proofs.Laws.{IsClosed, vertices_map}
+use Rattle.hpr_slice.proofs.Lists.{in_none}
+
+taken_at : {X : Type 0} (xs : List X) (i : ℕ) (x : X) → Contains (take i xs) x → (j : ℕ) × (j < i) × (slice_get xs j ≡ Some x)
+taken_at [] zero x h = absurd (in_none x h)
+taken_at [] (suc i) x h = absurd (in_none x h)
+taken_at (y ∷ ys) zero x h = absurd (in_none x h)
+taken_at (y ∷ ys) (suc i) x (zero, l, e) = (0, omega arith, ap Some e)
+taken_at (y ∷ ys) (suc i) x (suc k, l, e) = let (j, less, at) = taken_at ys i x (k, omega (arith, l), e) in (suc j, omega (arith, less), at)
+
+-- a vertex isn't among those before it
+pub fresh : (vs us : List Vertex) (k : ℕ) (v copy : Vertex) → IsOnce vs → k < length vs → v ≡ get_or vs k v → copy ≡ v → us ≡ take k vs → ¬ Contains us copy
+fresh vs us k v copy once l is same before has =
+    let (j, less, at) = taken_at vs k copy (subst (λ (xs : List Vertex). Contains xs copy) before has) in
+    let at_k : slice_get vs k ≡ Some copy = slice_get-get_or vs k v l ∙ ap Some (sym (same ∙ is)) in
+    let e = once j k copy at at_k in
+    omega (arith, less, e)
+
+-- one vertex more
+pub vertices_more : (vs : List Vertex) (k : ℕ) (v copy : Vertex) (us us' : List Vertex) → k < length vs → v ≡ get_or vs k v → copy ≡ v → us ≡ take k vs → us' ≡ us ++ copy ∷ [] → us' ≡ take (k + 1) vs
+vertices_more vs k v copy us us' l is same before items =
+    items ∙ ap (λ (ys : List Vertex). ys ++ copy ∷ []) before ∙ ap (λ (w : Vertex). take k vs ++ w ∷ []) (same ∙ is) ∙ sym (take_more vs k v l)
+
+-- the vertices and edges of what is put together
+module _ (bare g other u r : Numbered) (vertices : bare.vertices ≡ other.vertices) (none : (e : Edge) → ¬ HasEdge bare e) (united : Same (graph_in u) (union_of (graph_in bare) (graph_in g))) (ordered : Same (graph_in r) (graph_in u)) where
+  pub all_vertices : (v : Vertex) → HasVertex r v ↔ (HasVertex g v ⊎ HasVertex other v)
+  all_vertices v = (
+    λ h. elim ((united.0 v).0 ((ordered.0 v).0 h)) [ inl of_bare ↦ inr (subst (λ (vs : List Vertex). Contains vs v) vertices of_bare) | inr of_g ↦ inl of_g ],
+    λ h. elim h [
+      | inl of_g ↦ (ordered.0 v).1 ((united.0 v).1 (inr of_g))
+      | inr of_other ↦ (ordered.0 v).1 ((united.0 v).1 (inl (subst (λ (vs : List Vertex). Contains vs v) (sym vertices) of_other)))
+    ],
+  )
+
+  pub all_edges : (e : Edge) → HasEdge r e ↔ HasEdge g e
+  all_edges e = (
+    λ h. elim ((united.1 e).0 ((ordered.1 e).0 h)) [ inl of_bare ↦ absurd (none e of_bare) | inr of_g ↦ of_g ],
+    λ h. (ordered.1 e).1 ((united.1 e).1 (inr h)),
+  )
+
+-- what leads in one graph leads in another with all of its edges
+leads_over : (g h : Graph) → ((e : Edge) → g.edge e → h.edge e) → (a : Vertex) (es : List Edge) (b : Vertex) → LeadsTo g a es b → LeadsTo h a es b
+leads_over g h into a [] b w = w
+leads_over g h into a (e ∷ es) b w = (into e w.0, w.1, w.2, leads_over g h into e.to es b w.3)
+
+reaches_over : (g h : Graph) → ((e : Edge) → g.edge e → h.edge e) → (v w : Vertex) → ReachesOne g (λ s. s ≡ v) w → ReachesOne h (λ s. s ≡ v) w
+reaches_over g h into v w (s, es, is, leads) = (s, es, is, leads_over g h into w es s leads)
+
+edges_over : (g h : Graph) → ((e : Edge) → g.edge e → h.edge e) → (v : Vertex) (e : Edge) → (slice_at g v).edge e → (slice_at h v).edge e
+edges_over g h into v e (has, inside) = (into e has, vertices_map (ReachesOne g (λ s. s ≡ v)) (ReachesOne h (λ s. s ≡ v)) (reaches_over g h into v) e inside)
+
+-- what leads to a vertex of a closed graph is one of its vertices
+leads_from_vertex : (g : Graph) → IsClosed g → (a : Vertex) (es : List Edge) (b : Vertex) → g.vertex b → LeadsTo g a es b → g.vertex a
+leads_from_vertex g closed a [] b there w = subst g.vertex (sym w) there
+leads_from_vertex g closed a (e ∷ es) b there (has, l, from, rest) = subst g.vertex from (closed e has).1
+
+-- more vertices don't matter to what is added to a slice
+module _ (m m' g g' : Graph) (closed : IsClosed g) (same : (e : Edge) → m'.edge e ↔ m.edge e) (own : (e : Edge) → g'.edge e ↔ g.edge e) (wider : (v : Vertex) → g.vertex v → g'.vertex v) where
+  pub added_narrow : (v : Vertex) → g.vertex v → (e : Edge) → IsAdded m' g' v e → IsAdded m g v e
+  added_narrow v there e (in_m, new, (at_g, (s, es, is, leads))) =
+      let leads' = leads_over g' g (λ f. (own f).0) e.to es s leads in (
+        edges_over m' m (λ f. (same f).0) v e in_m,
+        λ old. new (edges_over g g' (λ f. (own f).1) v e old),
+        (leads_from_vertex g closed e.to es s (subst g.vertex (sym is) there) leads', (s, es, is, leads')),
+      )
+
+  pub added_wide : (v : Vertex) (e : Edge) → IsAdded m g v e → IsAdded m' g' v e
+  added_wide v e (in_m, new, (at_g, reaches)) = (
+    edges_over m m' (λ f. (same f).1) v e in_m,
+    λ old. new (edges_over g' g (λ f. (own f).0) v e old),
+    (wider e.to at_g, reaches_over g g' (λ f. (own f).1) v e.to reaches),
+  )
+
+  pub least_narrow : (v : Vertex) → g.vertex v → (e : Edge) → IsLeast (IsAdded m' g' v) e → IsLeast (IsAdded m g v) e
+  least_narrow v there e (adds, least) = (added_narrow v there e adds, λ f added. least f (added_wide v f added))
+
+  pub least_wide : (v : Vertex) → g.vertex v → (e : Edge) → IsLeast (IsAdded m g v) e → IsLeast (IsAdded m' g' v) e
+  least_wide v there e (adds, least) = (added_wide v e adds, λ f added. least f (added_narrow v there f added))

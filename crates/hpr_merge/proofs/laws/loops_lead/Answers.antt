@@ -1,0 +1,5 @@
+use Rattle.hpr_merge.proofs.ProgramLoops.{program_loops}
+use Rattle.hpr_merge.proofs.laws.loops_lead.Goals as goal
+
+pub returns : goal.returns
+returns c = program_loops

@@ -1,0 +1,4 @@
+pub mod Loops
+pub mod Added
+pub mod Beside
+pub mod SideConflicts
