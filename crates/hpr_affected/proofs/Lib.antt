@@ -1,8 +1,7 @@
-mod LinkOrder
 mod MovedLinks
 mod NumberRows
 mod LinkRows
-mod SliceMarks
+pub mod SliceMarks
 mod PointLists
 mod SharedTests
 pub mod NumberedPoints

@@ -5,7 +5,7 @@ use Rattle.std.proofs.lemmas.List.Elements.{Contains-push, Contains-push_cases, 
 use Rattle.hpr_graph.specs.declared.link.Link.{Link}
 use Rattle.hpr_graph.specs.Numbered.{Numbered, row_of}
 use Rattle.hpr_graph.specs.Moves.{number_at}
-use Rattle.hpr_slice.proofs.Lists.{some_inj, in_none, in_taken}
+use Rattle.hpr_graph.proofs.Lists.{some_inj, in_none, in_taken}
 use Rattle.hpr_affected.specs.Lacking.{AreWithout, IsKnown, IsThere}
 
 pub without_none : (K : Link → Type 0) (links lacks : List Link) → lacks ≡ [] → AreWithout K (take 0 links) lacks

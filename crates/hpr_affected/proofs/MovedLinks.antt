@@ -12,20 +12,11 @@ use Rattle.hpr_graph.specs.Numbered.{Numbered, HasVertex, HasEdge, IsKindAt, IsE
 use Rattle.hpr_graph.specs.Moves.{number_at, moved, moved_kind}
 use Rattle.hpr_graph.proofs.Laws.{closed_by_numbers}
 use Rattle.hpr_graph.proofs.EdgeList.{edge_link}
-use Rattle.hpr_slice.proofs.Lists.{some_inj}
+use Rattle.hpr_graph.proofs.Moving.{moved_edge}
 use Rattle.hpr_affected.specs.Lacking.{AreNumbersIn, IsThere}
-
-map_parts : (f : ℕ → LinkKind) (o : Option ℕ) (m : LinkKind) → option_map f o ≡ Some m → (j : ℕ) × (o ≡ Some j) × (f j ≡ m)
-map_parts f None m e = absurd cc
-map_parts f (Some j) m e = (j, refl, some_inj (f j) m e)
 
 abbrev link_with : ℕ → LinkKind → Link
 link_with from kind = record { from = from; kind = kind }
-
-link_parts : (o : Option ℕ) (k : Option LinkKind) (m : Link) → option_and_then (λ from. option_map (link_with from) k) o ≡ Some m → (o ≡ Some m.from) × (k ≡ Some m.kind)
-link_parts None k m e = absurd cc
-link_parts (Some j) None m e = absurd cc
-link_parts (Some j) (Some k) m e = let same : link_with j k ≡ m = some_inj (link_with j k) m e in (ap (λ (x : Link). Some x.from) same, ap (λ (x : Link). Some x.kind) same)
 
 link_whole : (o : Option ℕ) (k : Option LinkKind) (j : ℕ) (m : LinkKind) → o ≡ Some j → k ≡ Some m → option_and_then (λ from. option_map (link_with from) k) o ≡ Some (link_with j m)
 link_whole o k j m a b = rw (a, b) refl
@@ -42,20 +33,8 @@ module _ (g h : Numbered) (kh : IsNumbered h) (ns : List (Option ℕ)) (n : AreN
   pub number_of_one : (i : ℕ) (v : Vertex) → slice_get g.vertices i ≡ Some v → HasVertex h v → (j : ℕ) × (number_at ns i ≡ Some j)
   number_of_one i v at there = number_by i v (number_at ns i) refl at there
 
-  kind_there : (k m : LinkKind) (v : Vertex) (e : Kind) → moved_kind ns k ≡ Some m → IsKindAt g.vertices k v e → IsKindAt h.vertices m v e
-  kind_there (Control label) m v e mk is = subst (λ (x : LinkKind). IsKindAt h.vertices x v e) (some_inj (Control label) m mk) is
-  kind_there Independent m v e mk is = subst (λ (x : LinkKind). IsKindAt h.vertices x v e) (some_inj Independent m mk) is
-  kind_there (Carried w) m v e mk (x, y, d, at, is) =
-      let (j, number, same) = map_parts Carried (number_at ns w) m mk in
-      subst (λ (z : LinkKind). IsKindAt h.vertices z v e) same (x, y, d, same_at w j y number at, is)
-  kind_there (Order u) m v e mk (y, at, is) =
-      let (j, number, same) = map_parts Order (number_at ns u) m mk in
-      subst (λ (z : LinkKind). IsKindAt h.vertices z v e) same (y, same_at u j y number at, is)
-
   link_there : (at to : ℕ) (l m : Link) (e : Edge) → number_at ns at ≡ Some to → moved ns l ≡ Some m → IsEdgeAt g.vertices at l e → IsEdgeAt h.vertices to m e
-  link_there at to l m e number mv is =
-      let (from, kind) = link_parts (number_at ns l.from) (moved_kind ns l.kind) m mv in
-      (same_at at to e.to number is.0, same_at l.from m.from e.from from is.1, kind_there l.kind m.kind e.from e.kind kind is.2)
+  link_there at to l m e number mv is = (moved_edge g.vertices h.vertices ns n.placed at to l m e number mv).0 is
 
   -- where h has the link by its numbers there, it has the edge
   pub edge_from_there : (at : ℕ) (l : Link) (e : Edge) → IsEdgeAt g.vertices at l e → IsThere h ns at l → HasEdge h e

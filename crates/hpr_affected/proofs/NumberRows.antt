@@ -1,17 +1,14 @@
 -- The numbers of vertices in another graph, one vertex after another.
-use Rattle.std.proofs.Common.{◌≡◌, ℕ, zero, suc, ◌+◌, ◌<◌, ◌⊎◌, inl, inr, Option, Some, None, IfSome, IsNone, List, [], ◌∷◌, ◌++◌, length, get_or, slice_get, refl, sym, ap, ◌∙◌, subst, arith, length-append}
+use Rattle.std.proofs.Common.{◌≡◌, ℕ, zero, suc, ◌+◌, ◌<◌, inl, inr, Option, Some, None, IfSome, IsNone, List, [], ◌∷◌, ◌++◌, length, slice_get, refl, sym, ap, ◌∙◌, subst, arith, length-append}
 use Rattle.std.proofs.lemmas.Bool.{cases_eq}
 use Rattle.std.proofs.lemmas.List.{get_or_append_left, get_or_push}
-use Rattle.std.proofs.lemmas.Option.{slice_get_within, slice_get-get_or}
+use Rattle.std.proofs.lemmas.Option.{slice_get_within}
 use Rattle.hpr_graph.specs.declared.vertex.Vertex.{Vertex}
 use Rattle.hpr_graph.specs.Numbered.{Numbered, HasVertex}
 use Rattle.hpr_graph.specs.Moves.{number_at, ArePlaced}
-use Rattle.hpr_slice.proofs.Lists.{some_inj}
+use Rattle.hpr_graph.proofs.Lists.{some_inj}
+use Rattle.hpr_graph.proofs.Placed.{number_push}
 use Rattle.hpr_affected.specs.Lacking.{AreNumbersIn}
-
--- what the code reads of the vertices
-pub vertex_read : (us vs : List Vertex) (i : ℕ) (v : Vertex) → us ≡ vs → i < length us → v ≡ get_or us i v → slice_get vs i ≡ Some v
-vertex_read us vs i v same l is = ap (λ (xs : List Vertex). slice_get xs i) (sym same) ∙ slice_get-get_or us i v l ∙ ap Some (sym is)
 
 -- the numbers of the first so many vertices
 pub record AreNumbersTo (g h : Numbered) (ns : List (Option ℕ)) (n : ℕ) : Type 0 where
@@ -25,12 +22,6 @@ no_number (suc i) j h = cc
 
 pub numbers_none : (g h : Numbered) (ns : List (Option ℕ)) → ns ≡ [] → AreNumbersTo g h ns 0
 numbers_none g h ns e = rw e (record { count = refl; placed = λ i j is. absurd (no_number i j is); strangers = λ i v l. absurd (omega (arith, l)) })
-
-number_push : (ns : List (Option ℕ)) (o : Option ℕ) (i j : ℕ) → number_at (ns ++ o ∷ []) i ≡ Some j → (number_at ns i ≡ Some j) ⊎ ((i ≡ length ns) × (o ≡ Some j))
-number_push [] o zero j h = inr (refl, h)
-number_push [] o (suc i) j h = absurd (no_number i j h)
-number_push (n ∷ ns) o zero j h = inl h
-number_push (n ∷ ns) o (suc i) j h = elim (number_push ns o i j h) [ inl a ↦ inl a | inr b ↦ inr (ap suc b.0, b.1) ]
 
 pub numbers_more : (g h : Numbered) (ns ns' : List (Option ℕ)) (o : Option ℕ) (n : ℕ) (v : Vertex) → AreNumbersTo g h ns n → slice_get g.vertices n ≡ Some v → IfSome o (λ j. slice_get h.vertices j ≡ Some v) → (IsNone o → ¬ HasVertex h v) → ns' ≡ ns ++ o ∷ [] → AreNumbersTo g h ns' (n + 1)
 numbers_more g h ns ns' o n v a at found stranger is =

@@ -6,7 +6,7 @@ use Rattle.hpr_graph.specs.Numbered.{Numbered, HasVertex, graph_in}
 use Rattle.hpr_graph.specs.Slices.{slice_of}
 use Rattle.hpr_graph.proofs.Laws.{slice_same_on, closed_by_numbers}
 use Rattle.hpr_slice.specs.Vertices.{IsOneOf}
-use Rattle.hpr_slice.proofs.Lists.{place_of}
+use Rattle.hpr_graph.proofs.Lists.{place_of}
 use Rattle.hpr_affected.specs.Numbers.{AreNumbersOf}
 
 pub one_of_points : (g : Numbered) (P : Vertex → Type 0) (numbers : List ℕ) → AreNumbersOf g P numbers → (v : Vertex) → HasVertex g v → IsOneOf g numbers v ↔ P v

@@ -9,7 +9,7 @@ use Rattle.std.proofs.lemmas.List.Elements.{Contains-push, Contains-push_cases, 
 use Rattle.hpr_graph.specs.declared.vertex.Vertex.{Vertex}
 use Rattle.hpr_graph.specs.Numbered.{Numbered}
 use Rattle.hpr_graph.specs.InOrder.{Ascends}
-use Rattle.hpr_slice.proofs.Lists.{in_none, contains_at, at_push}
+use Rattle.hpr_graph.proofs.Lists.{in_none, contains_at, at_push}
 use Rattle.hpr_affected.specs.Numbers.{AreNumbersOf}
 
 -- of the vertices before the number n

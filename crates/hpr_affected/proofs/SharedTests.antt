@@ -3,7 +3,7 @@ use Rattle.std.proofs.Common.{◌≡◌, ℕ, ◌↔◌, Bool, true, false, not,
 use Rattle.hpr_graph.specs.declared.vertex.Vertex.{Vertex}
 use Rattle.hpr_graph.specs.Numbered.{Numbered, graph_in}
 use Rattle.hpr_graph.specs.Points.{IsShared, IsAffected}
-use Rattle.hpr_slice.proofs.Lists.{contains_at}
+use Rattle.hpr_graph.proofs.Lists.{contains_at}
 use Rattle.hpr_affected.specs.Comparison.{Sides}
 
 abbrev TestsShared : Numbered → Numbered → ℕ → Bool → Type 0

@@ -14,7 +14,7 @@ use Rattle.hpr_graph.specs.Moves.{number_at}
 use Rattle.hpr_graph.specs.Slices.{ReachesOne, slice_at}
 use Rattle.hpr_graph.proofs.Laws.{closed_by_numbers, same_from_within, within_from_same, same_turned}
 use Rattle.hpr_slice.specs.Vertices.{IsOneOf, MarksExactly}
-use Rattle.hpr_slice.proofs.Lists.{some_inj, contains_at, place_of, item_at}
+use Rattle.hpr_graph.proofs.Lists.{some_inj, contains_at, place_of, item_at}
 use Rattle.hpr_affected.specs.declared.lacking.OneWay.{OneWay}
 use Rattle.hpr_affected.specs.Comparison.{Sides, IsComparison}
 use Rattle.hpr_affected.specs.Lacking.{IsOneWay, AllKept, IsInside, ThirdMarked}
@@ -22,13 +22,13 @@ use Rattle.hpr_affected.proofs.MovedLinks.{same_at, number_of_one, edge_from_the
 
 -- marks on the numbers of an edge, and what holds of its vertices
 module _ (g : Numbered) (P : Vertex → Type 0) (marks : List Bool) (m : MarksExactly g P marks) where
-  third_marked : (k : LinkKind) (v : Vertex) (e : Kind) → IsKindAt g.vertices k v e → OnThird P e → ThirdMarked marks k
+  pub third_marked : (k : LinkKind) (v : Vertex) (e : Kind) → IsKindAt g.vertices k v e → OnThird P e → ThirdMarked marks k
   third_marked (Control label) v e is t = tt
   third_marked Independent v e is t = tt
   third_marked (Carried w) v e (x, y, d, at, is) t = (m.exact w y at).1 (subst (OnThird P) is t)
   third_marked (Order u) v e (y, at, is) t = (m.exact u y at).1 (subst (OnThird P) is t)
 
-  marked_third : (k : LinkKind) (v : Vertex) (e : Kind) → IsKindAt g.vertices k v e → ThirdMarked marks k → OnThird P e
+  pub marked_third : (k : LinkKind) (v : Vertex) (e : Kind) → IsKindAt g.vertices k v e → ThirdMarked marks k → OnThird P e
   marked_third (Control label) v e is t = subst (OnThird P) (sym is) tt
   marked_third Independent v e (x, d, is) t = subst (OnThird P) (sym is) tt
   marked_third (Carried w) v e (x, y, d, at, is) t = subst (OnThird P) (sym is) ((m.exact w y at).0 t)
@@ -83,7 +83,7 @@ in_one x y (zero, l, e) = e
 in_one x y (suc k, l, e) = absurd (omega (arith, l))
 
 -- the marks at the number of a vertex are those of its slice
-marks_at : (g : Numbered) (at : ℕ) (v : Vertex) (marks : List Bool) → slice_get g.vertices at ≡ Some v → MarksExactly g (ReachesOne (graph_in g) (IsOneOf g (at ∷ []))) marks → MarksExactly g (ReachesOne (graph_in g) (λ s. s ≡ v)) marks
+pub marks_at : (g : Numbered) (at : ℕ) (v : Vertex) (marks : List Bool) → slice_get g.vertices at ≡ Some v → MarksExactly g (ReachesOne (graph_in g) (IsOneOf g (at ∷ []))) marks → MarksExactly g (ReachesOne (graph_in g) (λ s. s ≡ v)) marks
 marks_at g at v marks at_v m = record {
   count = m.count;
   exact = λ n w at_w. (

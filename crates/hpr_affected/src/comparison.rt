@@ -8,7 +8,7 @@ ghost use Rattle.hpr_graph.specs.Points.{IsShared};
 
 use crate::kept::all_kept;
 use crate::lacking::{OneWay, one_way};
-use crate::links::number_at;
+use hpr_graph::links::number_at;
 use hpr_graph::{Graph, NoMemory};
 use hpr_slice::Sources;
 use std::alloc::Global;

@@ -5,7 +5,7 @@ ghost use Rattle.hpr_graph.specs.Numbered.{rows_of};
 ghost use Rattle.hpr_affected.specs.Lacking.{AllKept, IsInside, IsKept, IsMarkedThere, NoneInside};
 
 use crate::lacking::OneWay;
-use crate::links::number_at;
+use hpr_graph::links::number_at;
 use hpr_graph::{Link, LinkKind};
 
 fn is_marked(marks: &[bool], at: usize) -> bool

@@ -4,8 +4,8 @@ ghost use Rattle.std.specs.List.Sorted.{IsSorted};
 ghost use Rattle.hpr_graph.specs.Numbered.{row_of, rows_of};
 ghost use Rattle.hpr_affected.specs.Lacking.{AreNumbersIn, AreWithout, IsKnown, IsOneWay, IsThere, links_at};
 
-use crate::links::{has_sorted, moved, number_at, sorted};
 use crate::lists::push_if;
+use hpr_graph::links::{has_sorted, moved, number_at, sorted};
 use hpr_graph::{Graph, Link, NoMemory};
 use std::alloc::Global;
 

@@ -5,7 +5,6 @@
 mod comparison;
 mod kept;
 mod lacking;
-mod links;
 mod lists;
 mod points;
 

@@ -14,7 +14,7 @@ use Rattle.std.proofs.lemmas.List.Sorted.{IsPermutation-keeps, ranks_by, sorted_
 use Rattle.std.proofs.lemmas.Option.{slice_get-get_or, slice_get_within, get_or_from_slice_get}
 use Rattle.hpr_graph.specs.Graphs.{IsOnce}
 use Rattle.hpr_graph.specs.InOrder.{Ascends}
-use Rattle.hpr_graph.proofs.Lists.{contains_at, place_of, in_none, in_cons, in_here, in_later, get_set_same, get_set_other}
+use Rattle.hpr_graph.proofs.Lists.{some_inj, contains_at, place_of, in_none, in_cons, in_here, in_later, get_set_same, get_set_other}
 
 -- no two items come before each other
 abbrev pub Never : {X : Type 0} → (X → X → Ordering) → Type 0
@@ -155,9 +155,6 @@ came_once i j k m p q (inr (n, inr (o, b))) (inr (n', inl (c, d))) e = absurd (n
 came_once i j k m p q (inr (n, inr (o, b))) (inr (n', inr (o', d))) e = omega (arith, b, d, e)
 
 module _ {X : Type 0} where
-  some_inj : (x y : X) → Some x ≡ Some y → x ≡ y
-  some_inj x y e = cc
-
   came : (xs : List X) (i j : ℕ) → i < length xs → j < length xs → (k : ℕ) (x : X) → slice_get (swap xs i j) k ≡ Some x → (p : ℕ) × (slice_get xs p ≡ Some x) × Came i j k p
   came xs i j li lj k x at =
       let there : slice_get (set (set xs i (get_or xs j x)) j (get_or xs i x)) k ≡ Some x =

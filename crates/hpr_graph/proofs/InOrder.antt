@@ -26,7 +26,7 @@ use Rattle.hpr_graph.specs.Order.{vertex_cmp, kind_cmp, edge_cmp}
 use Rattle.hpr_graph.specs.InOrder.{Ascends, AreVerticesOf, AreEdgesOf, RowsAscend, vertex_at, name_at, kind_of, edge_of, edges_from, edges_of}
 use Rattle.hpr_graph.proofs.Ascending.{Rises, rises, ascends, rises_append, rises_map, in_map, map_in, ascending_one}
 use Rattle.hpr_graph.proofs.LinkOrder.{link_cmp}
-use Rattle.hpr_graph.proofs.Lists.{in_none}
+use Rattle.hpr_graph.proofs.Lists.{some_inj, in_none}
 use Rattle.hpr_graph.proofs.VertexOrder.{vertex_never, vertex_itself, edge_never}
 
 -- a graph has one order of its vertices and one of its edges
@@ -73,7 +73,7 @@ then_less Less b e = inl refl
 then_less Equal b e = inr (refl, e)
 then_less Greater b e = absurd cc
 
-first_less : (a b : Ordering) → a ≡ Less → ordering_then a b ≡ Less
+pub first_less : (a b : Ordering) → a ≡ Less → ordering_then a b ≡ Less
 first_less a b e = ap (λ (o : Ordering). ordering_then o b) e
 
 then_second : (a b : Ordering) → a ≡ Equal → b ≡ Less → ordering_then a b ≡ Less
@@ -81,9 +81,6 @@ then_second a b e l = ap (λ (o : Ordering). ordering_then o b) e ∙ l
 
 less_below : (a b : ℕ) → nat_cmp a b ≡ Less → a < b
 less_below a b e = ranked a b Less (sym e)
-
-some_inj : {X : Type 0} (x y : X) → Some x ≡ Some y → x ≡ y
-some_inj x y e = cc
 
 -- in one row, the order of links is that of their edges
 module _ (vs : List Vertex) (up : Ascends vertex_cmp vs) where

@@ -1,16 +1,17 @@
-mod Lists
+pub mod Lists
 mod Rows
 mod Numbers
 pub mod EdgeList
-mod LinkOrder
+pub mod Searches
+pub mod LinkOrder
 mod Orders
 pub mod Laws
-mod Moving
-mod Placed
+pub mod Moving
+pub mod Placed
 mod Joined
 mod Twinned
 mod Linked
 mod Ascending
-mod VertexOrder
+pub mod VertexOrder
 pub mod InOrder
 mod Reordered

@@ -10,7 +10,7 @@ use Rattle.hpr_graph.specs.Moves.{number_at, HasNumber, ArePlaced}
 use Rattle.hpr_graph.proofs.Lists.{contains_at}
 use Rattle.hpr_graph.proofs.Numbers.{grown_itself, grown_then}
 
-number_push : (ns : List (Option ℕ)) (o : Option ℕ) (i j : ℕ) → number_at (ns ++ o ∷ []) i ≡ Some j → (number_at ns i ≡ Some j) ⊎ ((i ≡ length ns) × (o ≡ Some j))
+pub number_push : (ns : List (Option ℕ)) (o : Option ℕ) (i j : ℕ) → number_at (ns ++ o ∷ []) i ≡ Some j → (number_at ns i ≡ Some j) ⊎ ((i ≡ length ns) × (o ≡ Some j))
 number_push [] o zero j h = inr (refl, h)
 number_push [] o (suc i) j h = absurd cc
 number_push (n ∷ ns) o zero j h = inl h

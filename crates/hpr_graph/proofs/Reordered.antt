@@ -1,8 +1,7 @@
 -- A graph put in its order.
-use Rattle.std.proofs.Common.{◌≡◌, ◌≢◌, ℕ, suc, ◌+◌, ◌<◌, ◌≤◌, ◌↔◌, ◌⊎◌, inl, inr, false, Option, Some, None, IsSome, IfSome, Result, Ok, Err, MatchResult, List, [], ◌∷◌, ◌++◌, length, set, take, get_or, Contains, slice_get, sum_by, refl, sym, ap, ◌∙◌, subst, arith}
+use Rattle.std.proofs.Common.{◌≡◌, ◌≢◌, ℕ, suc, ◌+◌, ◌<◌, ◌≤◌, ◌↔◌, ◌⊎◌, inl, inr, Option, Some, None, IsSome, IfSome, Result, Ok, Err, MatchResult, List, [], ◌∷◌, ◌++◌, length, set, take, get_or, Contains, slice_get, sum_by, refl, sym, ap, ◌∙◌, subst, arith}
 use Rattle.std.specs.declared.cmp.Ordering.{Ordering}
-use Rattle.std.specs.declared.cmp.Ordering.TheVariants.{Less, Equal, Greater}
-use Rattle.std.specs.Ordering.{ordering_reverse, is_lt}
+use Rattle.std.specs.declared.cmp.Ordering.TheVariants.{Less, Equal}
 use Rattle.std.specs.Result.{result_ok}
 use Rattle.std.specs.List.Sorted.{IsSorted, IsPermutation, IsBinarySearchResult, IsSearchInRange}
 use Rattle.std.proofs.lemmas.Bool.{cases_eq, cases_lt}
@@ -29,6 +28,7 @@ use Rattle.hpr_graph.proofs.Lists.{not_taken, get_set_same, get_set_other}
 use Rattle.hpr_graph.proofs.Numbers.{numbered, grown_itself}
 use Rattle.hpr_graph.proofs.Orders.{vertex_order}
 use Rattle.hpr_graph.proofs.Placed.{AllPlaced, all_begun, all_more}
+use Rattle.hpr_graph.proofs.Searches.{not_less, less_equal, greater_equal}
 use Rattle.hpr_graph.proofs.VertexOrder.{vertex_never, vertex_itself, vertex_tied}
 
 -- vertices after a sort
@@ -39,11 +39,6 @@ vertices_sorted vs us once moved up =
 
 pub row_sorted : (row new : List Link) → IsOnce row → IsPermutation row new → IsSorted link_cmp new → Ascends link_cmp new
 row_sorted row new once moved up = ascending_sorted link_cmp link_laws.total-law link_equal new (once_permuted row new moved once) up
-
-not_less : (o : Ordering) → ordering_reverse o ≡ Less → is_lt o ≡ false
-not_less Less e = absurd cc
-not_less Equal e = refl
-not_less Greater e = refl
 
 -- what a search among ascending vertices finds
 module _ (vs : List Vertex) (v : Vertex) (up : Ascends vertex_cmp vs) where
@@ -59,12 +54,6 @@ module _ (vs : List Vertex) (v : Vertex) (up : Ascends vertex_cmp vs) where
 
   itself : against v ≡ Equal
   itself = vertex_order v v ∙ vertex_itself v
-
-  less_equal : Less ≡ Equal → ⊥
-  less_equal e = cc
-
-  greater_equal : Greater ≡ Equal → ⊥
-  greater_equal e = cc
 
   pub vertex_found : (r : Result ℕ ℕ) → IsSearchInRange r (length vs) → IsBinarySearchResult against vs r → MatchResult r (λ i. slice_get vs i ≡ Some v) (λ i. ¬ Contains vs v)
   vertex_found (Ok i) range found =

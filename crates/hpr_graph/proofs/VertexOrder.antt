@@ -37,12 +37,12 @@ edge_never = never_both edge_cmp edge_total
 pub vertex_itself : (v : Vertex) → vertex_cmp v v ≡ Equal
 vertex_itself v = tied_itself vertex_total v
 
-then_equal : (a b : Ordering) → ordering_then a b ≡ Equal → (a ≡ Equal) × (b ≡ Equal)
+pub then_equal : (a b : Ordering) → ordering_then a b ≡ Equal → (a ≡ Equal) × (b ≡ Equal)
 then_equal Equal b e = (refl, e)
 then_equal Less b e = absurd cc
 then_equal Greater b e = absurd cc
 
-name_tied : (x y : List ℕ) → name_cmp x y ≡ Equal → x ≡ y
+pub name_tied : (x y : List ℕ) → name_cmp x y ≡ Equal → x ≡ y
 name_tied = slice_cmp-IsAntisymmetric nat_cmp-IsAntisymmetric
 
 tag_tied : (s t : Tag) → tag_cmp s t ≡ Equal → s ≡ t

@@ -8,3 +8,6 @@ pub mod Points
 pub mod Order
 pub mod Conflicts
 pub mod InOrder
+pub mod Rank
+pub mod Arrangements
+pub mod Answer

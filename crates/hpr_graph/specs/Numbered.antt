@@ -34,6 +34,9 @@ pub record Numbered : Type 0 where
 abbrev pub HasVertex : Numbered → Vertex → Type 0
 HasVertex g v = Contains g.vertices v
 
+abbrev pub IsOneOf : Numbered → List ℕ → Vertex → Type 0
+IsOneOf g ns v = (at : ℕ) × Contains ns at × (slice_get g.vertices at ≡ Some v)
+
 abbrev pub row_items : Option (List Link) → List Link
 row_items None = []
 row_items (Some row) = row

@@ -10,6 +10,7 @@ mod conflict;
 mod edge;
 mod graph;
 mod link;
+pub mod links;
 mod order;
 mod ordered;
 mod same;

@@ -7,9 +7,10 @@ ghost use Rattle.hpr_graph.specs.declared.edge.Edge.{Edge};
 ghost use Rattle.hpr_graph.specs.declared.link.Link.{Link};
 ghost use Rattle.hpr_graph.specs.Graphs.{Same, union_of, restrict_to};
 ghost use Rattle.hpr_graph.specs.Numbered.{HasVertex, HasLink, HasEdge, IsLink, IsNumbered, IsGrown, IsMarkedVertex, graph_in, row_of};
-ghost use Rattle.hpr_graph.specs.Moves.{HasNumber, ArePlaced, MovesLink, MovesEdge, MovesEdgeIn, moved, moved_kind, number_at};
+ghost use Rattle.hpr_graph.specs.Moves.{HasNumber, ArePlaced, MovesLink, MovesEdge, MovesEdgeIn, moved, number_at};
 
-use crate::{Graph, Link, LinkKind, Vertex};
+use crate::links::{has_sorted, moved, number_at, sorted};
+use crate::{Graph, Link, Vertex};
 use hpr_syntax::NoMemory;
 use std::alloc::Global;
 
@@ -164,52 +165,4 @@ fn add_moved(
         return Ok(());
     }
     target.push_new_link(to, moved)
-}
-
-/// The links in ascending order.
-fn sorted(alloc: Global, row: &[Link]) -> Result<Vec<Link>, NoMemory>
-    ensures sorted { IfOk result (λ links. IsSorted ⟦<Link as Ord>⟧.cmp links.items) }
-    ensures same { IfOk result (λ links. (l : Link) → Contains links.items l ↔ Contains row.now l) }
-{
-    let mut links = row.to_vec(alloc)?;
-    links.sort_unstable();
-    Ok(links)
-}
-
-/// Whether the link is one of these, which ascend.
-fn has_sorted(links: &[Link], link: Link) -> bool
-    requires { IsSorted ⟦<Link as Ord>⟧.cmp links.now }
-    ensures { IsTrue result ↔ Contains links.now link }
-{
-    links.binary_search(&link).is_ok()
-}
-
-/// The link by the numbers here, or none where one of its vertices has none.
-fn moved(link: Link, numbers: &[Option<usize>]) -> Option<Link>
-    ensures { result ≡ moved numbers.now link }
-{
-    let from = number_at(numbers, link.from)?;
-    let kind = moved_kind(link.kind, numbers)?;
-    Some(Link { from, kind })
-}
-
-fn moved_kind(kind: LinkKind, numbers: &[Option<usize>]) -> Option<LinkKind>
-    ensures { result ≡ moved_kind numbers.now kind }
-{
-    match kind {
-        LinkKind::Control(label) => Some(LinkKind::Control(label)),
-        LinkKind::Independent => Some(LinkKind::Independent),
-        LinkKind::Carried(w) => Some(LinkKind::Carried(number_at(numbers, w)?)),
-        LinkKind::Order(u) => Some(LinkKind::Order(number_at(numbers, u)?)),
-    }
-}
-
-fn number_at(numbers: &[Option<usize>], at: usize) -> Option<usize>
-    ensures { result ≡ number_at numbers.now at }
-{
-    if at < numbers.len() {
-        numbers[at]
-    } else {
-        None
-    }
 }

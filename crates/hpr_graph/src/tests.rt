@@ -2,7 +2,7 @@
 ghost use Rattle.std.specs.Prelude.{◌↔◌, IsTrue, Contains};
 
 use crate::{
-    Edge, Graph, Kind, Link, LinkKind, Vertex, compare_edges, compare_vertices, same_vertex,
+    Edge, Graph, Kind, Link, LinkKind, Vertex, compare_edges, compare_vertices, links, same_vertex,
 };
 use hpr_syntax::{Content, Expr, Literal, Name, Tag};
 use std::alloc::Global;
@@ -285,6 +285,26 @@ fn a_restriction_drops_an_edge_with_a_vertex_outside(rt: HostRuntime) -> Result<
     ];
     let want = build(&rt, rt.alloc(), &[4, 3, 1, 0], links.as_slice())?;
     assert!(rt; kept.same(&want));
+    Ok(())
+}
+
+// The vertices 0, 1 and 2 have there the numbers 2, none and 0.
+#[test]
+fn links_go_by_the_numbers_of_another_graph(rt: HostRuntime) -> Result<(), Fail> {
+    let numbers = [Some(2), None, Some(0)];
+    assert_eq!(rt; links::number_at(numbers.as_slice(), 2), Some(0));
+    assert_eq!(rt; links::number_at(numbers.as_slice(), 1), None);
+    assert_eq!(rt;
+        links::moved(order(0, 2), numbers.as_slice()),
+        Some(order(2, 0))
+    );
+    assert_eq!(rt; links::moved(carried(0, 1), numbers.as_slice()), None);
+    let row = [independent(3), control(1, true), independent(1)];
+    let ascending = links::sorted(rt.alloc(), row.as_slice())?;
+    let want = [control(1, true), independent(1), independent(3)];
+    assert_eq!(rt; ascending.as_slice(), want.as_slice());
+    assert!(rt; links::has_sorted(&ascending, independent(3)));
+    assert!(rt; !links::has_sorted(&ascending, independent(2)));
     Ok(())
 }
 

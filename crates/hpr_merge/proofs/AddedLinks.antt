@@ -1,45 +1,26 @@
 -- The links that are added to a slice are the edges that are added to it, in their order.
-use Rattle.std.proofs.Common.{◌≡◌, ℕ, zero, suc, ◌+◌, ◌<◌, ◌⊎◌, inl, inr, Bool, Some, None, List, [], ◌∷◌, ◌++◌, length, map, Contains, slice_get, refl, sym, ap, ◌∙◌, subst, arith}
+use Rattle.std.proofs.Common.{◌≡◌, ℕ, zero, suc, ◌+◌, ◌<◌, ◌⊎◌, inl, inr, Bool, Some, None, List, [], ◌∷◌, ◌++◌, length, map, slice_get, sym, ap, ◌∙◌, subst, arith}
 use Rattle.std.specs.Ordering.{ordering_then}
-use Rattle.std.specs.declared.cmp.Ordering.{Ordering}
 use Rattle.std.specs.declared.cmp.Ordering.TheVariants.{Less}
 use Rattle.std.proofs.lemmas.Bool.{cases_lt}
 use Rattle.hpr_graph.specs.declared.vertex.Vertex.{Vertex}
-use Rattle.hpr_graph.specs.declared.edge.Kind.{Kind}
 use Rattle.hpr_graph.specs.declared.edge.Edge.{Edge}
-use Rattle.hpr_graph.specs.declared.link.LinkKind.{LinkKind}
-use Rattle.hpr_graph.specs.declared.link.LinkKind.TheVariants.{Control, Independent, Carried, Order}
 use Rattle.hpr_graph.specs.declared.link.Link.{Link}
-use Rattle.hpr_graph.specs.Graphs.{OnThird}
-use Rattle.hpr_graph.specs.Numbered.{Numbered, HasLink, IsKindAt, IsEdgeAt, IsNumbered, graph_in, row_items, row_of}
+use Rattle.hpr_graph.specs.Numbered.{Numbered, HasLink, IsEdgeAt, IsNumbered, graph_in, row_items, row_of}
 use Rattle.hpr_graph.specs.Order.{vertex_cmp, kind_cmp, edge_cmp}
 use Rattle.hpr_graph.specs.InOrder.{Ascends, RowsAscend, edge_of, edges_from, edges_of}
 use Rattle.hpr_graph.specs.Slices.{ReachesOne}
 use Rattle.hpr_graph.specs.Conflicts.{IsAdded, IsLeast}
 use Rattle.hpr_graph.proofs.EdgeList.{edge_link}
-use Rattle.hpr_graph.proofs.InOrder.{edge_is, edges_in_order}
+use Rattle.hpr_graph.proofs.InOrder.{first_less, edge_is, edges_in_order}
 use Rattle.hpr_graph.proofs.Laws.{one_edge}
+use Rattle.hpr_graph.proofs.LinkOrder.{link_cmp}
 use Rattle.hpr_slice.specs.Vertices.{IsOneOf, MarksExactly}
-use Rattle.hpr_slice.proofs.Lists.{some_inj, contains_at, place_of}
-use Rattle.hpr_affected.specs.Lacking.{ThirdMarked}
+use Rattle.hpr_graph.proofs.Lists.{some_inj, contains_at, place_of, get_longer}
+use Rattle.hpr_affected.proofs.SliceMarks.{third_marked, marked_third, marks_at}
 use Rattle.hpr_merge.specs.Added.{IsAddedLink, IsFirstAdded}
 use Rattle.hpr_merge.specs.Beside.{Pair, AreBeside, IsBeside, IsLeastAdded}
-use Rattle.hpr_merge.proofs.Searches.{link_cmp}
-use Rattle.hpr_merge.proofs.EdgeOrder.{edge_never}
-
--- marks on the numbers of an edge, and what holds of its vertices
-module _ (g : Numbered) (P : Vertex → Type 0) (marks : List Bool) (m : MarksExactly g P marks) where
-  third_marked : (k : LinkKind) (v : Vertex) (e : Kind) → IsKindAt g.vertices k v e → OnThird P e → ThirdMarked marks k
-  third_marked (Control label) v e is t = tt
-  third_marked Independent v e is t = tt
-  third_marked (Carried w) v e (x, y, d, at, is) t = (m.exact w y at).1 (subst (OnThird P) is t)
-  third_marked (Order u) v e (y, at, is) t = (m.exact u y at).1 (subst (OnThird P) is t)
-
-  marked_third : (k : LinkKind) (v : Vertex) (e : Kind) → IsKindAt g.vertices k v e → ThirdMarked marks k → OnThird P e
-  marked_third (Control label) v e is t = subst (OnThird P) (sym is) tt
-  marked_third Independent v e (x, d, is) t = subst (OnThird P) (sym is) tt
-  marked_third (Carried w) v e (x, y, d, at, is) t = subst (OnThird P) (sym is) ((m.exact w y at).0 t)
-  marked_third (Order u) v e (y, at, is) t = subst (OnThird P) (sym is) ((m.exact u y at).0 t)
+use Rattle.hpr_graph.proofs.VertexOrder.{edge_never}
 
 -- the places of edges in the list of all edges row by row
 module _ {X Y : Type 0} (f : X → Y) where
@@ -49,11 +30,6 @@ module _ {X Y : Type 0} (f : X → Y) where
   at_map (y ∷ xs) (suc i) x h = at_map xs i x h
 
 module _ {X : Type 0} where
-  at_front : (xs ys : List X) (i : ℕ) (x : X) → slice_get xs i ≡ Some x → slice_get (xs ++ ys) i ≡ Some x
-  at_front [] ys i x h = absurd cc
-  at_front (y ∷ xs) ys zero x h = h
-  at_front (y ∷ xs) ys (suc i) x h = at_front xs ys i x h
-
   at_back : (xs ys : List X) (i : ℕ) (y : X) → slice_get ys i ≡ Some y → slice_get (xs ++ ys) (length xs + i) ≡ Some y
   at_back [] ys i y h = let same : i ≡ 0 + i = omega arith in subst (λ (n : ℕ). slice_get ys n ≡ Some y) same h
   at_back (x ∷ xs) ys i y h = let same : suc (length xs + i) ≡ suc (length xs) + i = omega arith in subst (λ (n : ℕ). slice_get (x ∷ (xs ++ ys)) n ≡ Some y) same (at_back xs ys i y h)
@@ -67,7 +43,7 @@ row_place vs n (row ∷ rows) zero = (
       let none : n ≡ n + 0 = omega arith in
       subst (λ (k : ℕ). slice_get (map (edge_of vs n) row ++ edges_from vs (n + 1) rows) k ≡ Some (edge_of vs (n + 0) l)) same
       (subst (λ (k : ℕ). slice_get (map (edge_of vs n) row ++ edges_from vs (n + 1) rows) i ≡ Some (edge_of vs k l)) none
-      (at_front (map (edge_of vs n) row) (edges_from vs (n + 1) rows) i (edge_of vs n l) (at_map (edge_of vs n) row i l h)))),
+      (get_longer (map (edge_of vs n) row) (edges_from vs (n + 1) rows) i (edge_of vs n l) (at_map (edge_of vs n) row i l h)))),
 )
 row_place vs n (row ∷ rows) (suc r) =
     let (o, place) = row_place vs (n + 1) rows r in
@@ -80,9 +56,6 @@ row_place vs n (row ∷ rows) (suc r) =
           (subst (λ (k : ℕ). slice_get (map (edge_of vs n) row ++ edges_from vs (n + 1) rows) (before + (o + i)) ≡ Some (edge_of vs k l)) one
           (at_back (map (edge_of vs n) row) (edges_from vs (n + 1) rows) (o + i) (edge_of vs ((n + 1) + r) l) (place i l h)))),
     )
-
-first_less : (a b : Ordering) → a ≡ Less → ordering_then a b ≡ Less
-first_less a b e = ap (λ (o : Ordering). ordering_then o b) e
 
 -- edges by their links in a graph that is in order
 module _ (m : Numbered) (km : IsNumbered m) (up : Ascends vertex_cmp m.vertices) (rows : RowsAscend link_cmp m) where
@@ -173,22 +146,6 @@ module _ (m k : Numbered) (km : IsNumbered m) (kk : IsNumbered k) (b : AreBeside
           | inr (same, (j, left, at')) ↦ first j l' left at' (subst (λ (n : ℕ). IsAddedLink k grown own n l') same adds')
         ]),
   )
-
-in_one : (x y : ℕ) → Contains (x ∷ []) y → x ≡ y
-in_one x y (zero, l, e) = e
-in_one x y (suc k, l, e) = absurd (omega (arith, l))
-
--- the marks at the number of a vertex are those of its slice
-marks_at : (g : Numbered) (at : ℕ) (v : Vertex) (marks : List Bool) → slice_get g.vertices at ≡ Some v → MarksExactly g (ReachesOne (graph_in g) (IsOneOf g (at ∷ []))) marks → MarksExactly g (ReachesOne (graph_in g) (λ s. s ≡ v)) marks
-marks_at g at v marks at_v m = record {
-  count = m.count;
-  exact = λ n w at_w. (
-    λ marked.
-        (let (s, es, (k, has, at_k), leads) = (m.exact n w at_w).0 marked in
-        (s, es, some_inj s v (sym at_k ∙ ap (slice_get g.vertices) (sym (in_one at k has)) ∙ at_v), leads)),
-    λ (s, es, is, leads). (m.exact n w at_w).1 (s, es, (at, (0, omega arith, refl), at_v ∙ ap Some (sym is)), leads),
-  );
-}
 
 abbrev MarksOne : Numbered → ℕ → List Bool → Type 0
 MarksOne g at marks = MarksExactly g (ReachesOne (graph_in g) (IsOneOf g (at ∷ []))) marks

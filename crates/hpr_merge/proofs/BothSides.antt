@@ -9,30 +9,24 @@ use Rattle.hpr_graph.specs.declared.conflict.Side.TheVariants.{A, B}
 use Rattle.hpr_graph.specs.declared.vertex.Vertex.{Vertex}
 use Rattle.hpr_graph.specs.declared.edge.Edge.{Edge}
 use Rattle.hpr_graph.specs.Graphs.{Graph, Same, union_of}
-use Rattle.hpr_graph.specs.Numbered.{Numbered, HasVertex, graph_in}
+use Rattle.hpr_graph.specs.Numbered.{Numbered, graph_in}
 use Rattle.hpr_graph.specs.Slices.{slice_of, slice_at}
 use Rattle.hpr_graph.specs.InOrder.{Ascends}
 use Rattle.hpr_graph.specs.Points.{IsAffected, IsPreserved, merged}
 use Rattle.hpr_graph.specs.Conflicts.{graph_on, IsAdded, IsLeast, IsConflictAt, ComesBefore, AreConflicts}
 use Rattle.hpr_graph.proofs.Laws.{closed_by_numbers, same_then, same_turned, slice_at_same, slice_same_on, union_same}
 use Rattle.hpr_slice.specs.Vertices.{IsOneOf}
-use Rattle.hpr_slice.proofs.Lists.{contains_at, place_of}
+use Rattle.hpr_graph.proofs.Lists.{contains_at}
 use Rattle.hpr_affected.specs.Numbers.{AreNumbersOf}
+use Rattle.hpr_affected.proofs.NumberedPoints.{one_of_points}
 use Rattle.hpr_merge.specs.SideConflicts.{AreSideConflicts}
 
--- the vertices with these numbers are those with the property
+-- the slice at the vertices with these numbers is that at those with the property
 module _ (g : Numbered) (P : Vertex → Type 0) (ns : List ℕ) (a : AreNumbersOf g P ns) where
-  pub one_of_points : (v : Vertex) → HasVertex g v → IsOneOf g ns v ↔ P v
-  one_of_points v there = (
-    λ (at, has, at_v). (a.exact at v at_v).0 has,
-    λ p. (let (at, at_v) = place_of g.vertices v there in (at, (a.exact at v at_v).1 p, at_v)),
-  )
-
-  -- and so are the slices
   pub points_slice : (ns' : List ℕ) (part : Graph) → ns' ≡ ns → Same part (slice_of (graph_in g) (IsOneOf g ns')) → Same part (slice_of (graph_in g) P)
   points_slice ns' part read same =
       same_then part (slice_of (graph_in g) (IsOneOf g ns)) (slice_of (graph_in g) P) (subst (λ (xs : List ℕ). Same part (slice_of (graph_in g) (IsOneOf g xs))) read same)
-      (slice_same_on (graph_in g) (IsOneOf g ns) P (closed_by_numbers g) one_of_points)
+      (slice_same_on (graph_in g) (IsOneOf g ns) P (closed_by_numbers g) (one_of_points g P ns a))
 
   pub points_within : (ns' : List ℕ) → ns' ≡ ns → All (λ p. p < length g.vertices) ns'
   points_within ns' read = subst (λ (xs : List ℕ). All (λ p. p < length g.vertices) xs) (sym read) a.within

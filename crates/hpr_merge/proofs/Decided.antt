@@ -1,5 +1,5 @@
 -- What a finite graph decides.
-use Rattle.std.proofs.Common.{◌≡◌, ◌⊎◌, inl, inr, zero, suc, List, [], ◌∷◌, Contains, refl, sym, ap, ◌∙◌, subst, arith}
+use Rattle.std.proofs.Common.{◌≡◌, ◌⊎◌, inl, inr, List, [], ◌∷◌, Contains, refl, sym, ap, ◌∙◌, subst}
 use Rattle.std.specs.declared.cmp.Ordering.{Ordering}
 use Rattle.std.specs.declared.cmp.Ordering.TheVariants.{Less, Equal, Greater}
 use Rattle.hpr_graph.specs.declared.vertex.Vertex.{Vertex}
@@ -9,9 +9,10 @@ use Rattle.hpr_graph.specs.declared.edge.Edge.{Edge}
 use Rattle.hpr_graph.specs.Graphs.{Graph, OnThird}
 use Rattle.hpr_graph.specs.Order.{vertex_cmp, edge_cmp}
 use Rattle.hpr_graph.specs.Slices.{Leads, LeadsTo, ReachesOne, slice_at}
-use Rattle.hpr_slice.proofs.Lists.{in_none}
+use Rattle.hpr_graph.proofs.Lists.{in_none, in_cons, in_here, in_later}
 use Rattle.hpr_merge.specs.Loops.{IsListed}
-use Rattle.hpr_merge.proofs.EdgeOrder.{edge_cases, edge_never, edge_total, vertex_tied, vertex_itself}
+use Rattle.hpr_merge.proofs.EdgeOrder.{edge_cases}
+use Rattle.hpr_graph.proofs.VertexOrder.{edge_never, edge_total, vertex_tied, vertex_itself}
 
 abbrev pub Decided : Type 0 → Type 0
 Decided P = P ⊎ ¬ P
@@ -37,16 +38,6 @@ edge_decided e f = elim (edge_cases e f) [
     | inr more ↦ inr (λ same. (let itself = subst (λ (x : Edge). edge_cmp f x ≡ Less) same more in edge_never f f itself itself))
   ]
 ]
-
-in_cons : (f e : Edge) (es : List Edge) → Contains (f ∷ es) e → (f ≡ e) ⊎ Contains es e
-in_cons f e es (zero, l, is) = inl is
-in_cons f e es (suc k, l, is) = inr (k, omega (arith, l), is)
-
-in_here : (e : Edge) (es : List Edge) → Contains (e ∷ es) e
-in_here e es = (0, omega arith, refl)
-
-in_later : (f e : Edge) (es : List Edge) → Contains es e → Contains (f ∷ es) e
-in_later f e es (k, l, is) = (suc k, omega (arith, l), is)
 
 listed_decided : (es : List Edge) (e : Edge) → Decided (Contains es e)
 listed_decided [] e = inr (in_none e)

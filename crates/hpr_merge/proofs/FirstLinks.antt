@@ -4,7 +4,7 @@ use Rattle.std.proofs.lemmas.Bool.{cases_eq}
 use Rattle.std.proofs.lemmas.Option.{slice_get-get_or, slice_get_within}
 use Rattle.hpr_graph.specs.declared.link.Link.{Link}
 use Rattle.hpr_graph.specs.Numbered.{Numbered, HasLink, IsNumbered, row_of}
-use Rattle.hpr_slice.proofs.Lists.{some_inj, place_of}
+use Rattle.hpr_graph.proofs.Lists.{some_inj, place_of}
 use Rattle.hpr_search.specs.Marks.{IsMarked}
 use Rattle.hpr_merge.specs.Added.{IsAddedLink, IsFirst, IsFirstAdded, IsMore}
 

@@ -9,7 +9,7 @@ use Rattle.hpr_graph.specs.Numbered.{Numbered, HasEdge, HasVertex, graph_in}
 use Rattle.hpr_graph.specs.Slices.{LeadsTo, ReachesOne, slice_at}
 use Rattle.hpr_graph.specs.Conflicts.{IsAdded, IsLeast}
 use Rattle.hpr_graph.proofs.Laws.{IsClosed, vertices_map}
-use Rattle.hpr_slice.proofs.Lists.{in_none}
+use Rattle.hpr_graph.proofs.Lists.{in_none}
 
 taken_at : {X : Type 0} (xs : List X) (i : ℕ) (x : X) → Contains (take i xs) x → (j : ℕ) × (j < i) × (slice_get xs j ≡ Some x)
 taken_at [] zero x h = absurd (in_none x h)

@@ -1,4 +1,3 @@
-pub mod Lists
 pub mod RowLists
 mod RowLaws
 mod SourceRows

@@ -1,10 +1,10 @@
 -- Rows of numbers that grow, and rows turned round.
 use Rattle.std.proofs.Common.{◌≡◌, ℕ, zero, suc, ◌+◌, ◌<◌, ◌≤◌, ◌↔◌, ◌⊎◌, inl, inr, List, [], ◌∷◌, ◌++◌, Vec, Global, All, length, set, take, get_or, Contains, refl, sym, ap, ◌∙◌, subst, arith}
 use Rattle.std.proofs.lemmas.Bool.{cases_eq}
-use Rattle.std.proofs.lemmas.List.{get_or_append_left, get_or_push, get_or-set_same, get_or-set_other, length-map, take_all}
+use Rattle.std.proofs.lemmas.List.{get_or-set_same, get_or-set_other, take_all}
 use Rattle.std.proofs.lemmas.List.Elements.{Contains-push, Contains-push_cases, Contains-append_left, Contains-get_or}
 use Rattle.hpr_slice.specs.Neighbours.{numbers_at, numbers_of, AreTurned, AreWithin}
-use Rattle.hpr_slice.proofs.Lists.{in_none, in_taken}
+use Rattle.hpr_graph.proofs.Lists.{in_none, in_taken}
 use Rattle.hpr_slice.proofs.RowLists.{read_row, length_rows}
 
 pub set_row : (rows : List (Vec ℕ Global)) (at : ℕ) (row : Vec ℕ Global) → numbers_of (set rows at row) ≡ set (numbers_of rows) at row.items

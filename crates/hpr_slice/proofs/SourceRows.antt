@@ -6,7 +6,7 @@ use Rattle.hpr_graph.specs.declared.vertex.Vertex.{Vertex}
 use Rattle.hpr_graph.specs.declared.link.Link.{Link}
 use Rattle.hpr_graph.specs.Numbered.{Numbered, IsNumbered, row_of}
 use Rattle.hpr_slice.specs.Neighbours.{Follows, HasSource, AreSources, AreWithin, numbers_at, numbers_of}
-use Rattle.hpr_slice.proofs.Lists.{in_taken}
+use Rattle.hpr_graph.proofs.Lists.{in_taken}
 use Rattle.hpr_slice.proofs.RowLists.{length_rows}
 use Rattle.hpr_slice.proofs.RowLaws.{row_within}
 

@@ -10,7 +10,7 @@ use Rattle.hpr_graph.specs.Graphs.{Graph}
 use Rattle.hpr_graph.specs.Numbered.{Numbered, IsKindAt, IsNumbered, HasEdge, graph_in}
 use Rattle.hpr_graph.specs.Slices.{Leads, LeadsTo}
 use Rattle.hpr_slice.specs.Neighbours.{Follows, AreSources, AreTurned, numbers_at}
-use Rattle.hpr_slice.proofs.Lists.{some_inj}
+use Rattle.hpr_graph.proofs.Lists.{some_inj}
 
 kind_leads : (vs : List Vertex) (k : LinkKind) (v : Vertex) (e : Kind) → IsKindAt vs k v e → Follows k → Leads e
 kind_leads vs (Control label) v e is t = subst Leads (sym is) tt

@@ -1,5 +1,6 @@
 use Rattle.std.proofs.Common.{◌≡◌, ap, length, arith}
-use Rattle.hpr_affected.proofs.NumberRows.{numbers_none, numbers_more, numbers_all, vertex_read}
+use Rattle.hpr_graph.proofs.Lists.{read_at}
+use Rattle.hpr_affected.proofs.NumberRows.{numbers_none, numbers_more, numbers_all}
 use Rattle.hpr_affected.proofs.lacking.numbers_in.Goals as goal
 
 pub loop-vertex-init : goal.loop-vertex-init
@@ -8,7 +9,7 @@ loop-vertex-init c = numbers_none _ _ _ c.new-numbers.ensures.items
 pub loop-vertex-preserved : goal.loop-vertex-preserved
 loop-vertex-preserved c =
     numbers_more c.args.graph.now c.args.other.now c.loop-vertex.numbers.items _ c.number_of.result c.loop-vertex.vertex-index c.vertex-item.result c.loop-vertex.invariant
-    (vertex_read _ _ c.loop-vertex.vertex-index c.vertex-item.result c.vertices-vertex-items.ensures.vertices c.loop-vertex-test.true c.vertex-item.is)
+    (read_at _ _ c.loop-vertex.vertex-index c.vertex-item.result c.vertices-vertex-items.ensures.vertices c.loop-vertex-test.true c.vertex-item.is)
     c.number_of.ensures.found c.number_of.ensures.stranger.0 c.in_ok-push.ensures.items
 
 pub returns : goal.returns

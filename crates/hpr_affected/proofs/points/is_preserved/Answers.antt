@@ -3,7 +3,7 @@ use Rattle.std.proofs.lemmas.Result.{IfOk-weaker}
 use Rattle.hpr_graph.specs.declared.vertex.Vertex.{Vertex}
 use Rattle.hpr_graph.specs.Numbered.{graph_in}
 use Rattle.hpr_graph.specs.Points.{IsInit, IsPreserved, IsShared}
-use Rattle.hpr_slice.proofs.Lists.{some_inj, contains_at}
+use Rattle.hpr_graph.proofs.Lists.{some_inj, contains_at}
 use Rattle.hpr_affected.proofs.SharedTests.{shared_test}
 use Rattle.hpr_affected.proofs.points.is_preserved.Goals as goal
 

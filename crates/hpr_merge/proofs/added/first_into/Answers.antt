@@ -3,7 +3,7 @@ use Rattle.hpr_graph.specs.declared.link.Link.{Link}
 use Rattle.hpr_graph.specs.InOrder.{Ascends}
 use Rattle.hpr_graph.specs.Numbered.{row_items, row_of}
 use Rattle.hpr_merge.proofs.FirstLinks.{first_into}
-use Rattle.hpr_merge.proofs.Searches.{link_cmp}
+use Rattle.hpr_graph.proofs.LinkOrder.{link_cmp}
 use Rattle.hpr_merge.proofs.added.first_into.Goals as goal
 
 pub first_more-requires : goal.first_more-requires

@@ -1,5 +1,5 @@
 use Rattle.std.proofs.Common.{Contains, refl, subst}
-use Rattle.hpr_slice.proofs.Lists.{contains_at}
+use Rattle.hpr_graph.proofs.Lists.{contains_at}
 use Rattle.hpr_merge.proofs.conflicts.is_one_of.Goals as goal
 
 pub returns-in-Some : goal.returns-in-Some

@@ -1,14 +1,16 @@
-//! Links by the numbers of another graph.
+//! Links by the numbers that their vertices have in another graph, and lists of links that ascend.
 ghost use Rattle.std.specs.Prelude.{◌≡◌, ◌↔◌, Contains, IfOk, IsTrue};
 ghost use Rattle.std.specs.List.Sorted.{IsSorted};
 ghost use Rattle.hpr_graph.specs.declared.link.Link.{Link};
 ghost use Rattle.hpr_graph.specs.Moves.{moved, moved_kind, number_at};
 
-use hpr_graph::{Link, LinkKind, NoMemory};
+use crate::{Link, LinkKind};
+use hpr_syntax::NoMemory;
 use std::alloc::Global;
 
-/// The number there, or none where there is none.
-pub(crate) fn number_at(numbers: &[Option<usize>], at: usize) -> Option<usize>
+/// The number there of the vertex with the number `at`, or none where it has none there. (Our profile: the definitions
+/// know vertices, and no numbers.)
+pub fn number_at(numbers: &[Option<usize>], at: usize) -> Option<usize>
     ensures { result ≡ number_at numbers.now at }
 {
     if at < numbers.len() {
@@ -16,6 +18,15 @@ pub(crate) fn number_at(numbers: &[Option<usize>], at: usize) -> Option<usize>
     } else {
         None
     }
+}
+
+/// The link by the numbers there, or none where one of its vertices has none there. (Our profile.)
+pub fn moved(link: Link, numbers: &[Option<usize>]) -> Option<Link>
+    ensures { result ≡ moved numbers.now link }
+{
+    let from = number_at(numbers, link.from)?;
+    let kind = moved_kind(link.kind, numbers)?;
+    Some(Link { from, kind })
 }
 
 fn moved_kind(kind: LinkKind, numbers: &[Option<usize>]) -> Option<LinkKind>
@@ -29,17 +40,8 @@ fn moved_kind(kind: LinkKind, numbers: &[Option<usize>]) -> Option<LinkKind>
     }
 }
 
-/// The link by the numbers there, or none where one of its vertices has none.
-pub(crate) fn moved(link: Link, numbers: &[Option<usize>]) -> Option<Link>
-    ensures { result ≡ moved numbers.now link }
-{
-    let from = number_at(numbers, link.from)?;
-    let kind = moved_kind(link.kind, numbers)?;
-    Some(Link { from, kind })
-}
-
-/// The links in ascending order.
-pub(crate) fn sorted(alloc: Global, links: &[Link]) -> Result<Vec<Link>, NoMemory>
+/// The links in ascending order, as `has_sorted` wants them. (Our profile.)
+pub fn sorted(alloc: Global, links: &[Link]) -> Result<Vec<Link>, NoMemory>
     ensures sorted { IfOk result (λ v. IsSorted ⟦<Link as Ord>⟧.cmp v.items) }
     ensures same { IfOk result (λ v. (l : Link) → Contains v.items l ↔ Contains links.now l) }
 {
@@ -48,8 +50,8 @@ pub(crate) fn sorted(alloc: Global, links: &[Link]) -> Result<Vec<Link>, NoMemor
     Ok(sorted)
 }
 
-/// Whether the link is one of these, which ascend.
-pub(crate) fn has_sorted(links: &[Link], link: Link) -> bool
+/// Whether the link is one of these, which ascend. (Our profile.)
+pub fn has_sorted(links: &[Link], link: Link) -> bool
     requires { IsSorted ⟦<Link as Ord>⟧.cmp links.now }
     ensures { IsTrue result ↔ Contains links.now link }
 {

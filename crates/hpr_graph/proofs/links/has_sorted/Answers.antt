@@ -1,7 +1,7 @@
 use Rattle.std.proofs.Common.{◌≡◌}
 use Rattle.std.specs.Result.{is_ok}
 use Rattle.hpr_graph.proofs.LinkOrder.{search_found}
-use Rattle.hpr_graph.proofs.sets.has_sorted.Goals as goal
+use Rattle.hpr_graph.proofs.links.has_sorted.Goals as goal
 
 pub returns : goal.returns
 returns c =

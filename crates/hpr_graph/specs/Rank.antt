@@ -1,0 +1,37 @@
+-- The rank of the parts of three programs: the order in which arrangements are tried (our profile).
+--
+-- parts_of tree      == the parts of a program as vertices, in preorder
+-- IsPutIn v next xs ys == ys is xs with v immediately before `next`, or at the end where there is no next; a vertex that is listed stays
+--                       where it is
+-- IsJoined vs xs ys  == ys is xs with each of vs put in, from the last to the first, before the one that follows it in vs
+-- IsRankOf a b base r == a's parts in preorder, then b's put in, then base's
+-- IsRank a b base r  == that; where a is the base, a and b change places
+-- StandsBefore r v w == v stands before w in the list
+use Rattle.std.specs.Prelude.{◌≡◌, ℕ, ◌<◌, ◌⊎◌, Option, Some, None, List, [], ◌∷◌, ◌++◌, map, Contains, slice_get}
+use Rattle.hpr_syntax.specs.Rows.{rows_of}
+use Rattle.hpr_syntax.specs.Tree.{Tree}
+use Rattle.hpr_graph.specs.declared.vertex.Vertex.{Vertex}
+use Rattle.hpr_graph.specs.declared.vertex.Vertex.TheVariants.{Part}
+
+abbrev pub parts_of : Tree → List Vertex
+parts_of tree = map (λ row. Part row.tag row.content) (rows_of None 0 tree.body)
+
+abbrev pub IsAddedAt : Vertex → Option Vertex → List Vertex → List Vertex → Type 0
+IsAddedAt v None xs ys = ys ≡ xs ++ v ∷ []
+IsAddedAt v (Some next) xs ys = (front back : List Vertex) × (xs ≡ front ++ next ∷ back) × (ys ≡ front ++ v ∷ next ∷ back)
+
+abbrev pub IsPutIn : Vertex → Option Vertex → List Vertex → List Vertex → Type 0
+IsPutIn v next xs ys = (Contains xs v × (ys ≡ xs)) ⊎ ((¬ Contains xs v) × IsAddedAt v next xs ys)
+
+abbrev pub IsJoined : List Vertex → List Vertex → List Vertex → Type 0
+IsJoined [] xs ys = ys ≡ xs
+IsJoined (v ∷ vs) xs ys = (zs : List Vertex) × IsJoined vs xs zs × IsPutIn v (slice_get vs 0) zs ys
+
+abbrev pub IsRankOf : Tree → Tree → Tree → List Vertex → Type 0
+IsRankOf a b base r = (xs : List Vertex) × IsJoined (parts_of b) (parts_of a) xs × IsJoined (parts_of base) xs r
+
+abbrev pub IsRank : Tree → Tree → Tree → List Vertex → Type 0
+IsRank a b base r = ((a ≡ base) × IsRankOf b a base r) ⊎ ((¬ (a ≡ base)) × IsRankOf a b base r)
+
+abbrev pub StandsBefore : List Vertex → Vertex → Vertex → Type 0
+StandsBefore r v w = (i j : ℕ) × (i < j) × (slice_get r i ≡ Some v) × (slice_get r j ≡ Some w)
