@@ -1,6 +1,7 @@
 //! Real files and streams, which tell nothing of their content. Nothing is proved of what the system itself does.
-ghost use Rattle.std.specs.Prelude.{◌≡◌, ◌≤◌, ◌↔◌, true, None, length, take, vec_len, IfOk, IfErr, IfSome, IsErr, IsErrOf};
+ghost use Rattle.std.specs.Prelude.{◌≡◌, ◌<◌, ◌≤◌, ◌↔◌, true, None, length, take, vec_len, IfOk, IfErr, IfSome, IsErr, IsErrOf};
 ghost use Rattle.std.specs.IoError.{error_kind};
+ghost use Rattle.hpr_io.specs.Counts.{Counted};
 ghost use Rattle.std.specs.Io.KnownBytes.{ReadConsumes, WriteAppends};
 
 use hpr_io::{FetchError, PutError, Shelf, Sink};
@@ -138,25 +139,18 @@ fn cause_of(error: &io::Error) -> FetchError
     }
 }
 
-/// A stream of the system. A contract sees it as the number of its failures.
+/// A stream of the system, with the number of its failures.
 #[derive(Drop)]
 pub struct StdSink<W: Write> {
     stream: W,
     faults: u64,
 }
 
-impl<W: Write> Model for StdSink<W> {
-    ghost use Rattle.std.specs.Prelude.{ℕ};
-
-    ghost Value = { ℕ };
-
-    ghost view = { λ s. s.faults };
-}
-
 impl<W: Write> StdSink<W> {
     /// A sink that has not failed yet.
     pub fn new(stream: W) -> Self
-        ensures { result ≡ 0 }
+        ensures stream { result.stream ≡ stream }
+        ensures faults { result.faults ≡ 0 }
     {
         StdSink { stream, faults: 0 }
     }
@@ -165,16 +159,33 @@ impl<W: Write> StdSink<W> {
 impl<W: Write> Sink for StdSink<W> {
     ghost taken = { λ _. None };
 
-    ghost faults = { λ s. s };
+    ghost faults = { λ s. s.faults };
 
-    fn put(&mut self, piece: &[u8]) -> Result<usize, PutError> {
-        match write_some(&mut self.stream, piece) {
-            Ok(count) if count > 0 || piece.is_empty() => Ok(count),
-            _ => {
-                self.faults = self.faults.saturating_add(1);
-                Err(PutError::Failed)
-            }
+    // What the stream holds of the piece is what the answer tells, where the stream tells what it holds.
+    fn put(&mut self, piece: &[u8]) -> Result<usize, PutError>
+        ensures within { IfOk result (λ n. n ≤ length piece.now) }
+        ensures moves { IfOk result (λ n. 0 < length piece.now → 0 < n) }
+        ensures bytes { WriteAppends (W.contents self.old.stream) (W.contents self.new.stream) result piece.now }
+        ensures count { Counted self.old.faults self.new.faults (IsErr result) }
+    {
+        let answer = put_on(&mut self.stream, piece);
+        if answer.is_err() {
+            self.faults = self.faults.saturating_add(1);
         }
+        answer
+    }
+}
+
+/// Writes bytes from the front of the piece, and answers how many the stream took: at least one where the piece is not
+/// empty. A write that takes none of them has failed, as has one that is interrupted each time.
+fn put_on<W: Write>(stream: &mut W, piece: &[u8]) -> Result<usize, PutError>
+    ensures within { IfOk result (λ n. n ≤ length piece.now) }
+    ensures moves { IfOk result (λ n. 0 < length piece.now → 0 < n) }
+    ensures bytes { WriteAppends (W.contents stream.old) (W.contents stream.new) result piece.now }
+{
+    match write_some(stream, piece) {
+        Ok(count) if count > 0 || piece.is_empty() => Ok(count),
+        _ => Err(PutError::Failed),
     }
 }
 

@@ -49,11 +49,11 @@ fn puts_to_real_files(rt: HostRuntime) -> Result<(), Fail> {
     Ok(())
 }
 
-// Gives and takes two bytes at every second call, and is interrupted at the others. It fails from the call `last` on.
+// Gives and takes two bytes at every second call, and is interrupted at the others. The call `fails` fails, and no other.
 #[derive(Drop)]
 struct Rough {
     calls: u32,
-    last: u32,
+    fails: u32,
 }
 
 impl Rough {
@@ -61,7 +61,7 @@ impl Rough {
         ensures { IfOk result (λ n. n ≤ room) }
     {
         self.calls = self.calls.saturating_add(1);
-        if self.calls >= self.last {
+        if self.calls == self.fails {
             return Err(io::Error::from(ErrorKind::Other));
         }
         if self.calls % 2 == 1 {
@@ -91,15 +91,15 @@ impl Write for Rough {
 fn goes_on_after_an_interruption_alone(rt: HostRuntime) -> Result<(), Fail> {
     let mut reader = Rough {
         calls: 0,
-        last: 100,
+        fails: 100,
     };
     assert_eq!(rt; read_front(&mut reader, rt.alloc(), 5)?.len(), 5);
-    let mut failing = Rough { calls: 0, last: 4 };
+    let mut failing = Rough { calls: 0, fails: 4 };
     assert_eq!(rt;
         read_front(&mut failing, rt.alloc(), 5).err(),
         Some(FetchError::Failed)
     );
-    let mut sink = StdSink::new(Rough { calls: 0, last: 4 });
+    let mut sink = StdSink::new(Rough { calls: 0, fails: 4 });
     assert_eq!(rt; put_all(&mut sink, b"abc"), Err(PutError::Failed));
     assert_eq!(rt; sink.faults, 1);
     Ok(())
