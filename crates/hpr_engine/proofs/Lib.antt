@@ -1,0 +1,5 @@
+pub mod OneContent
+pub mod OneSide
+pub mod OneList
+mod SameConflicts
+mod Merge

@@ -1,0 +1,5 @@
+use Rattle.hpr_engine.proofs.OneContent.{says_once}
+use Rattle.hpr_engine.proofs.laws.tags_say_once.Goals as goal
+
+pub returns : goal.returns
+returns c = says_once

@@ -1,0 +1,71 @@
+//! Three programs merged.
+ghost use Rattle.std.specs.Prelude.{◌≡◌, ◌≢◌, [], IfOk};
+ghost use Rattle.hpr_syntax.specs.Shape.{IsProgram};
+ghost use Rattle.hpr_graph.specs.Answer.{IsWithoutConflict, merged_of};
+ghost use Rattle.hpr_graph.specs.Conflicts.{AreConflicts};
+ghost use Rattle.hpr_graph.specs.Graphs.{Same};
+ghost use Rattle.hpr_graph.specs.Numbered.{graph_in};
+ghost use Rattle.hpr_graph.specs.ProgramGraph.{graph_of};
+ghost use Rattle.hpr_engine.specs.Limit.{AreInLimit, HasTooManyEdges};
+ghost use Rattle.hpr_engine.specs.Merging.{KeepsSlices};
+ghost use Rattle.hpr_engine.specs.Answers.{IfInterference, IfTooManyEdges, IsFirstTooLarge};
+
+use crate::stop::{Stop, Which};
+use hpr_build::{BuildError, graph_of};
+use hpr_graph::Graph;
+use hpr_merge::merge;
+use hpr_syntax::Program;
+use std::alloc::Global;
+
+/// The most edges that the graph of a program may have.
+pub const MOST_EDGES: usize = 1_000_000;
+
+/// The merged graph of two variants of a program and their base, where the variants don't interfere
+/// (Horwitz, Prins and Reps 1989). Each affected point has there the slice that it has in the graph of
+/// its variant. The limit on edges is our profile's.
+///
+/// Refuses with `TooManyEdges` where a graph of the three has more than 1,000,000 edges, and names the
+/// first of base, A and B; else with `Interference` where there is a conflict, and lists all of them;
+/// and with `Memory` where memory runs out.
+pub fn merge_programs(
+    alloc: Global,
+    base: &Program,
+    a: &Program,
+    b: &Program,
+) -> Result<Graph, Stop>
+    ensures graph { IfOk result (λ g. Same (graph_in g) (merged_of base.now a.now b.now)) }
+    ensures no_conflict { IfOk result (λ _. IsWithoutConflict base.now a.now b.now) }
+    ensures kept { IfOk result (λ _. KeepsSlices base.now a.now b.now) }
+    ensures within { IfOk result (λ _. AreInLimit base.now a.now b.now) }
+    ensures too_many { IfTooManyEdges result (λ which. IsFirstTooLarge base.now a.now b.now which) }
+    ensures conflicts { IfInterference result (λ cs. AreConflicts (graph_of base.now) (graph_of a.now) (graph_of b.now) cs) }
+    ensures interferes { IfInterference result (λ cs. cs ≢ []) }
+    ensures interferes_within { IfInterference result (λ _. AreInLimit base.now a.now b.now) }
+{
+    let base_graph = limited_graph(alloc, base, Which::Base)?;
+    let a_graph = limited_graph(alloc, a, Which::A)?;
+    let b_graph = limited_graph(alloc, b, Which::B)?;
+    let merged = merge(alloc, &base_graph, &a_graph, &b_graph)?;
+    let _vertices = merged.graph.vertices();
+    if merged.conflicts.is_empty() {
+        Ok(merged.graph)
+    } else {
+        Err(Stop::Interference(merged.conflicts))
+    }
+}
+
+/// The graph of a program, which is named where it has too many edges.
+fn limited_graph(alloc: Global, program: &Program, which: Which) -> Result<Graph, Stop>
+    ensures graph { IfOk result (λ g. Same (graph_in g) (graph_of program.now)) }
+    ensures program { IfOk result (λ _. IsProgram program.now) }
+    ensures within { IfOk result (λ _. ¬ HasTooManyEdges program.now) }
+    ensures too_many { IfTooManyEdges result (λ named. (named ≡ which) × HasTooManyEdges program.now) }
+    ensures no_interference { IfInterference result (λ _. ⊥) }
+{
+    let _body = program.body();
+    match graph_of(alloc, program, MOST_EDGES) {
+        Ok(graph) => Ok(graph),
+        Err(BuildError::TooManyEdges) => Err(Stop::TooManyEdges(which)),
+        Err(BuildError::Memory) => Err(Stop::Memory),
+    }
+}

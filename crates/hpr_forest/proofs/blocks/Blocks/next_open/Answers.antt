@@ -1,0 +1,24 @@
+use Rattle.std.proofs.Common.{ℕ, sym, ap, ◌∙◌, arith, Option}
+use Rattle.hpr_forest.specs.Open.{can_under}
+use Rattle.hpr_forest.specs.Remaining.{forest_of}
+use Rattle.hpr_forest.proofs.May.{follows_all}
+use Rattle.hpr_forest.proofs.Opened.{can_by_open}
+use Rattle.hpr_forest.proofs.blocks.Blocks.next_open.Goals as goal
+
+pub open_parent-under-requires-clause-within : goal.open_parent-under-requires-clause-within
+open_parent-under-requires-clause-within c = λ k d h. omega (arith, follows_all (forest_of c.args.self.now) c.args.placed.now c.requires.front k d h)
+
+pub returns-then-may_under-clause-can : goal.returns-then-may_under-clause-can
+returns-then-may_under-clause-can c =
+    sym (can_by_open (forest_of c.args.self.now) c.args.placed.now c.args.self.now.forest c.requires.front c.loop-item.item)
+    ∙ sym (ap (λ (u : Option ℕ). can_under (forest_of c.args.self.now) c.args.placed.now u c.loop-item.item) c.open_parent-under.ensures) ∙ sym c.may_under.ensures ∙ c.if-may_under.true
+
+pub returns-then-may_under-clause-least : goal.returns-then-may_under-clause-least
+returns-then-may_under-clause-least c = λ d h k.
+    sym (can_by_open (forest_of c.args.self.now) c.args.placed.now c.args.self.now.forest c.requires.front d)
+    ∙ sym (ap (λ (u : Option ℕ). can_under (forest_of c.args.self.now) c.args.placed.now u d) c.open_parent-under.ensures) ∙ c.loop-item.invariant d h k
+
+pub returns-clause-none : goal.returns-clause-none
+returns-clause-none c = λ d h k.
+    sym (can_by_open (forest_of c.args.self.now) c.args.placed.now c.args.self.now.forest c.requires.front d)
+    ∙ sym (ap (λ (u : Option ℕ). can_under (forest_of c.args.self.now) c.args.placed.now u d) c.open_parent-under.ensures) ∙ c.loop-item.invariant d h (omega (arith, c.len-item-end.ensures))

@@ -1,0 +1,5 @@
+pub mod Unique
+pub mod Lexicographic
+pub mod Leaves
+pub mod Marked
+mod Examples

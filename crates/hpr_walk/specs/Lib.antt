@@ -1,0 +1,4 @@
+pub mod Lists
+pub mod Choices
+pub mod Leaves
+pub mod Marks
