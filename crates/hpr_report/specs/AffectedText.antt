@@ -1,19 +1,15 @@
 -- The text of some vertices of a graph, as the affected points are reported.
 --
--- IsOneOf g numbers v      == v is the vertex of g with one of these numbers
 -- ArePoints P vs           == the list has exactly the vertices that have P, in their order
 -- affected_text vs         == these vertices, a line each, with their number before them
 -- IsAffectedText P text    == the text is that of the vertices that have P
-use Rattle.std.specs.Prelude.{◌≡◌, ℕ, ◌↔◌, Some, List, ◌++◌, Contains, slice_get, length, map, codes}
+use Rattle.std.specs.Prelude.{◌≡◌, ℕ, ◌↔◌, List, ◌++◌, Contains, length, map, codes}
 use Rattle.std.specs.Fmt.{decimal}
 use Rattle.hpr_graph.specs.declared.vertex.Vertex.{Vertex}
-use Rattle.hpr_graph.specs.Numbered.{Numbered}
+pub use Rattle.hpr_graph.specs.Numbered.{IsOneOf}
 use Rattle.hpr_graph.specs.Order.{vertex_cmp}
 use Rattle.hpr_graph.specs.InOrder.{Ascends}
 use Rattle.hpr_report.specs.GraphTexts.{vertex_text, on_lines}
-
-abbrev pub IsOneOf : Numbered → List ℕ → Vertex → Type 0
-IsOneOf g numbers v = (at : ℕ) × Contains numbers at × (slice_get g.vertices at ≡ Some v)
 
 abbrev pub ArePoints : (Vertex → Type 0) → List Vertex → Type 0
 ArePoints P vs = Ascends vertex_cmp vs × ((v : Vertex) → Contains vs v ↔ P v)

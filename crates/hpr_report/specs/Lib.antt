@@ -2,3 +2,4 @@ pub mod Texts
 pub mod GraphTexts
 pub mod GraphJson
 pub mod AffectedText
+pub mod ConflictsText

@@ -94,7 +94,7 @@ pub fn graph_text(alloc: Global, graph: &Graph) -> Result<Vec<u8>, NoMemory>
 }
 
 /// Puts a text and a newline.
-fn put_line(out: &mut Vec<u8>, text: &str) -> Result<(), NoMemory>
+pub(crate) fn put_line(out: &mut Vec<u8>, text: &str) -> Result<(), NoMemory>
     ensures { OnOk result (out.new.items ≡ out.old.items ++ (text.now ++ codes "\n")) }
 {
     out.extend_from_slice(text.as_bytes())?;

@@ -1,16 +1,20 @@
 //! The texts of reports.
 #![tactic(auto)]
 
+mod conflicts;
 mod graphs;
 mod objects;
 mod outcome;
 mod points;
 
+pub use conflicts::conflicts_text;
 pub use graphs::{edge_text, graph_text, vertex_text};
 pub use objects::graph_json;
 pub use outcome::outcome_text;
 pub use points::affected_text;
 
+#[cfg(test)]
+mod conflict_tests;
 #[cfg(test)]
 mod graph_tests;
 #[cfg(test)]

@@ -1,0 +1,49 @@
+//! The conflicts of an integration.
+ghost use Rattle.std.specs.Prelude.{◌≡◌, ◌++◌, map, IfOk, OnOk, string_bytes};
+ghost use Rattle.hpr_report.specs.GraphTexts.{on_lines};
+ghost use Rattle.hpr_report.specs.ConflictsText.{side_word, conflict_text, conflicts_text};
+
+use crate::graphs::{edge_text, put_line, vertex_text};
+use hpr_graph::{Conflict, NoMemory, Side};
+use std::alloc::Global;
+
+/// The conflicts of an integration: the line `interference N`, with their number, and a line
+/// `SIDE POINT: EDGE` for each, as they are listed. SIDE is `A` or `B`, POINT is the affected point as a
+/// vertex in brackets, and EDGE is the edge that shows the conflict. Each line ends with a newline. It
+/// fails only for want of memory. The text is our profile.
+pub fn conflicts_text(alloc: Global, conflicts: &[Conflict]) -> Result<Vec<u8>, NoMemory>
+    ensures { IfOk result (λ text. text.items ≡ conflicts_text conflicts.now) }
+{
+    let count = conflicts.len();
+    let mut out = format!(in alloc; "interference {count}\n")?.into_bytes();
+    put_conflicts(alloc, &mut out, conflicts)?;
+    Ok(out)
+}
+
+/// Puts a line for each conflict.
+fn put_conflicts(alloc: Global, out: &mut Vec<u8>, conflicts: &[Conflict]) -> Result<(), NoMemory>
+    ensures { OnOk result (out.new.items ≡ out.old.items ++ on_lines (map conflict_text conflicts.now)) }
+{
+    for conflict in conflicts {
+        put_line(out, conflict_text(alloc, conflict)?.as_str())?;
+    }
+    Ok(())
+}
+
+fn conflict_text(alloc: Global, conflict: &Conflict) -> Result<String, NoMemory>
+    ensures { IfOk result (λ text. string_bytes text ≡ conflict_text conflict.now) }
+{
+    let side = side_word(conflict.side);
+    let point = vertex_text(alloc, &conflict.point)?;
+    let edge = edge_text(alloc, &conflict.edge)?;
+    Ok(format!(in alloc; "{side} {point}: {edge}")?)
+}
+
+fn side_word(side: Side) -> &'static str
+    ensures { result.now ≡ side_word side }
+{
+    match side {
+        Side::A => "A",
+        Side::B => "B",
+    }
+}
