@@ -17,7 +17,7 @@ use Rattle.hpr_app.specs.AffectedFiles.{AffectedOutcome, AffectedPoints}
 use Rattle.hpr_app.specs.Answer.{StopIs, Decides, Merges}
 use Rattle.hpr_app.specs.Decision.{Decision, prints}
 use Rattle.hpr_app.specs.Files.{IfTold, Fails}
-use Rattle.hpr_app.specs.Graphs.{HasTooManyEdges}
+use Rattle.hpr_engine.specs.Limit.{HasTooManyEdges}
 use Rattle.hpr_app.specs.Integrate.{OnFile}
 use Rattle.hpr_app.specs.declared.answer.Kind.TheVariants.{Done}
 use Rattle.hpr_app.specs.declared.answer.Report.{Report}

@@ -7,6 +7,7 @@ use Rattle.hpr_syntax.specs.Grammar.{tagged}
 use Rattle.hpr_syntax.specs.Shape.{shape}
 use Rattle.hpr_syntax.specs.Tree.{Tree}
 use Rattle.hpr_syntax.specs.Values.{Values}
+use Rattle.hpr_graph.specs.Answer.{IsWithoutConflict}
 use Rattle.hpr_graph.specs.Graphs.{Graph}
 use Rattle.hpr_graph.specs.Points.{IsAffected}
 use Rattle.hpr_graph.specs.ProgramGraph.{graph_of}
@@ -15,12 +16,15 @@ use Rattle.hpr_report.specs.AffectedText.{IsAffectedText}
 use Rattle.hpr_report.specs.GraphTexts.{IsGraphText}
 use Rattle.hpr_text.proofs.Texts.{one_tree}
 use Rattle.hpr_words.specs.Request.{Request, Text, integrate, run, graph, slice, affected}
-use Rattle.hpr_app.specs.Complete.{DonePrinting, Completes, RequestCompletes, Runs}
+use Rattle.hpr_app.specs.Complete.{DonePrinting, Completes, PrintsOther, RequestCompletes, Runs}
 use Rattle.hpr_app.specs.Decision.{Decision, Prints}
 use Rattle.hpr_app.specs.AffectedFiles.{AffectedPoints, AffectedOutcome}
 use Rattle.hpr_app.specs.GraphFile.{IsShown, Graphed, GraphOutcome}
-use Rattle.hpr_app.specs.Graphs.{HasTooManyEdges, OnGraph}
-use Rattle.hpr_app.specs.Integrate.{OnFile, IsOneSideText, OneSideOutcome, IntegrateOutcome}
+use Rattle.hpr_engine.specs.Limit.{AreInLimit, HasTooManyEdges}
+use Rattle.hpr_engine.proofs.OneList.{one_conflicts}
+use Rattle.hpr_engine.proofs.OneSide.{a_is_base, b_is_base, free_when_kept}
+use Rattle.hpr_app.specs.Graphs.{OnGraph}
+use Rattle.hpr_app.specs.Integrate.{OnFile, OnConflicts, IsOneSideText, Integrated, OneSideOutcome, IntegrateOutcome}
 use Rattle.hpr_app.specs.Outcome.{RequestOutcome, OutcomeIfTold}
 use Rattle.hpr_app.specs.Points.{IsFirstStranger, IsNamed, IsPoint, OnPoints}
 use Rattle.hpr_app.specs.Refusals.{IsFileOf, IsCause}
@@ -32,6 +36,7 @@ use Rattle.hpr_app.specs.declared.refusals.Refusal.{Refusal}
 use Rattle.hpr_app.specs.declared.refusals.Refusal.TheVariants as refusal
 use Rattle.hpr_app.specs.declared.status.Status.{Status}
 use Rattle.hpr_app.specs.declared.status.Status.TheVariants as status
+use Rattle.hpr_app.proofs.EndsLemmas.{asked_ends}
 
 -- what spells a program is not refused
 pub not_refused : (bytes : List ℕ) (why : Refusal) (p : Tree) → IsCause bytes why → IsFileOf bytes p → ⊥
@@ -49,6 +54,16 @@ of_program fs file next r p (inr (q, h, n)) is = subst next (one_tree tagged (by
 done_printing : (P : List ℕ → Type 0) (old new : Option (List ℕ)) (s : Status) (d : Decision) → s ≡ status_of d → new ≡ taken_then old (text_of d) → Prints P d → DonePrinting P old new s
 done_printing P old new s d is took (bytes, text, same) = (is ∙ ap status_of same, bytes, text, took ∙ ap (λ x. taken_then old (text_of x)) same)
 
+-- a graph that hasn't too many edges is not refused
+pub of_program_graph : (file : Text) (p : Tree) (next : Type 0) (r : Decision) → (HasTooManyEdges p → ⊥) → OnGraph file p next r → next
+of_program_graph file p next r few (inl (many, _)) = absurd (few many)
+of_program_graph file p next r few (inr (_, n)) = n
+
+-- where there is no conflict, none is printed
+of_no_conflict : (p q r : Tree) (next : Type 0) (d : Decision) → IsWithoutConflict p q r → OnConflicts p q r next d → next
+of_no_conflict p q r next d none (inl (cs, are, _)) = absurd (are.some (one_conflicts (graph_of p) (graph_of q) (graph_of r) cs [] are.conflicts none))
+of_no_conflict p q r next d none (inr (_, n)) = n
+
 module _ (p q r : Tree) (old new : Option (List ℕ)) (s : Status) where
   -- the outcome of three programs completes the call
   completes_so : (d : Decision) → s ≡ status_of d → new ≡ taken_then old (text_of d) → OneSideOutcome p q r d → Completes p q r old new s
@@ -56,12 +71,42 @@ module _ (p q r : Tree) (old new : Option (List ℕ)) (s : Status) where
   completes_so d is took (inr (inl (n, e, prints))) = inr (inl (n, e, done_printing (IsOneSideText p q r r) old new s d is took prints))
   completes_so d is took (inr (inr (n, m, same))) = inr (inr (n, m, is ∙ ap status_of same))
 
-  of_three : (fs : Files) (base a b : List ℕ) (d : Decision) → s ≡ status_of d → new ≡ taken_then old (text_of d) → IntegrateOutcome fs base a b d
-      → IsFileOf (bytes_of fs base) p → IsFileOf (bytes_of fs a) q → IsFileOf (bytes_of fs b) r → Completes p q r old new s
-  of_three fs base a b d is took o hp hq hr =
-      let on_base = of_program fs base (λ p. OnFile fs a (λ q. OnFile fs b (λ r. OneSideOutcome p q r d) d) d) d p o hp in
-      let on_a = of_program fs a (λ q. OnFile fs b (λ r. OneSideOutcome p q r d) d) d q on_base hq in
-      completes_so d is took (of_program fs b (λ r. OneSideOutcome p q r d) d r on_a hr)
+  module _ (fs : Files) (base a b : List ℕ) (d : Decision) (o : IntegrateOutcome fs base a b d) (hp : IsFileOf (bytes_of fs base) p) (hq : IsFileOf (bytes_of fs a) q)
+      (hr : IsFileOf (bytes_of fs b) r) (few : AreInLimit p q r) where
+    abbrev BehindGraphs : Type 0
+    BehindGraphs = OnConflicts p q r (OneSideOutcome p q r d) d
+
+    behind_graphs : BehindGraphs
+    behind_graphs =
+        let on_base = of_program fs base (λ p. OnFile fs a (λ q. OnFile fs b (λ r. Integrated base p a q b r d) d) d) d p o hp in
+        let on_a = of_program fs a (λ q. OnFile fs b (λ r. Integrated base p a q b r d) d) d q on_base hq in
+        let on_b = of_program fs b (λ r. Integrated base p a q b r d) d r on_a hr in
+        of_program_graph b r BehindGraphs d few.2
+        (of_program_graph a q (OnGraph b r BehindGraphs d) d few.1 (of_program_graph base p (OnGraph a q (OnGraph b r BehindGraphs d) d) d few.0 on_b))
+
+    module _ (is : s ≡ status_of d) (took : new ≡ taken_then old (text_of d)) where
+      of_three : IsWithoutConflict p q r → Completes p q r old new s
+      of_three none = completes_so d is took (of_no_conflict p q r (OneSideOutcome p q r d) d none behind_graphs)
+
+      other_a : r ≡ p → Completes p q r old new s → DonePrinting (IsOneSideText p q r q) old new s
+      other_a e (inl (_, printed)) = printed
+      other_a e (inr (inl (n, _, _))) = absurd (n e)
+      other_a e (inr (inr (n, _, _))) = absurd (n e)
+
+      other_b : q ≡ p → Completes p q r old new s → DonePrinting (IsOneSideText p q r r) old new s
+      other_b e (inl (e_too, printed)) = subst (λ (t : Tree). DonePrinting (IsOneSideText p q r t) old new s) (e ∙ sym e_too) printed
+      other_b e (inr (inl (_, _, printed))) = printed
+      other_b e (inr (inr (_, n, _))) = absurd (n e)
+
+      -- a variant that is the base interferes with no other
+      free_of_b : r ≡ p → IsWithoutConflict p q r
+      free_of_b e = subst (λ (t : Tree). IsWithoutConflict p q t) (sym e) (free_when_kept p q p (b_is_base p q hp.program hq.program))
+
+      free_of_a : q ≡ p → IsWithoutConflict p q r
+      free_of_a e = subst (λ (t : Tree). IsWithoutConflict p t r) (sym e) (free_when_kept p p r (a_is_base p r hp.program hr.program))
+
+      other_printed : (q ≡ p → DonePrinting (IsOneSideText p q r r) old new s) × (r ≡ p → DonePrinting (IsOneSideText p q r q) old new s)
+      other_printed = (λ e. other_b e (of_three (free_of_a e)), λ e. other_a e (of_three (free_of_b e)))
 
 module _ (state : Values) (p : Tree) (old new : Option (List ℕ)) (s : Status) where
   of_run : (fs : Files) (file : List ℕ) (words : List Text) (steps : ℕ) (d : Decision) → s ≡ status_of d → new ≡ taken_then old (text_of d) → RunOutcome fs file words steps d
@@ -70,11 +115,6 @@ module _ (state : Values) (p : Tree) (old new : Option (List ℕ)) (s : Status) 
       let on_state : OnFile fs file (λ q. Ran q state steps d) d = subst (λ x. OnState x (λ t. OnFile fs file (λ q. Ran q t steps d) d) d) told o in
       let same = of_program fs file (λ q. Ran q state steps d) d p on_state hp in
       (is ∙ ap status_of same, took ∙ ap (λ x. taken_then old (text_of x)) same)
-
--- a graph that hasn't too many edges is not refused
-pub of_program_graph : (file : Text) (p : Tree) (next : Type 0) (r : Decision) → (HasTooManyEdges p → ⊥) → OnGraph file p next r → next
-of_program_graph file p next r few (inl (many, _)) = absurd (few many)
-of_program_graph file p next r few (inr (_, n)) = n
 
 -- where each word is that for a vertex, no point is refused
 pub not_stranger : (P : Text → Type 0) (words : List Text) (word : Text) → IsFirstStranger P words word → All P words → ⊥
@@ -112,35 +152,45 @@ module _ (old new : Option (List ℕ)) (s : Status) (fs : Files) (d : Decision) 
 
 request_completes : (request : Request) (fs : Files) (old new : Option (List ℕ)) (s : Status) (d : Decision) → s ≡ status_of d → new ≡ taken_then old (text_of d)
     → RequestOutcome request fs d → RequestCompletes request fs old new s
-request_completes (integrate base a b tries) fs old new s d is took o = λ p q r hp hq hr. of_three p q r old new s fs base a b d is took o hp hq hr
+request_completes (integrate base a b tries) fs old new s d is took o = λ p q r hp hq hr few none. of_three p q r old new s fs base a b d o hp hq hr few is took none
 request_completes (run file words steps) fs old new s d is took o = λ state p told hp. of_run state p old new s fs file words steps d is took o told hp
 request_completes (graph file json) fs old new s d is took o = λ p hp few. of_graph old new s fs d is took file json p o hp few
 request_completes (slice file points) fs old new s d is took o = λ p hp few named. of_slice old new s fs d is took file points p o hp few named
 request_completes (affected base a) fs old new s d is took o = λ p q hp hq few few_too. of_affected old new s fs d is took base a p q o hp hq few few_too
+
+-- where one variant is the base, the other one is printed
+request_prints_other : (request : Request) (fs : Files) (old new : Option (List ℕ)) (s : Status) (d : Decision) → s ≡ status_of d → new ≡ taken_then old (text_of d)
+    → RequestOutcome request fs d → PrintsOther request fs old new s
+request_prints_other (integrate base a b tries) fs old new s d is took o = λ p q r hp hq hr few. other_printed p q r old new s fs base a b d o hp hq hr few is took
+request_prints_other (run file words steps) fs old new s d is took o = tt
+request_prints_other (graph file json) fs old new s d is took o = tt
+request_prints_other (slice file points) fs old new s d is took o = tt
+request_prints_other (affected base a) fs old new s d is took o = tt
 
 module _ (request : Request) (fs : Files) (reads : List ℕ → Type 0) (before now : ℕ) (out err : Change)
     (read : Rose before now → ⊥) (written : Rose out.before out.now → ⊥) where
   abbrev Told : Decision → Type 0
   Told = OutcomeIfTold (Some request) (Some fs)
 
-  abbrev IsComplete : Status → Type 0
-  IsComplete s = (s ≡ status.Memory) ⊎ RequestCompletes request fs out.old out.new s
+  -- where nothing failed, the call was decided, unless memory ran out
+  pub settled : (Q : Status → Type 0) → ((s : Status) → Decided s Told before now out err → Q s) → (s : Status) → Ends s Told reads before now out err → (s ≡ status.Memory) ⊎ Q s
+  settled Q f status.ReadFault h = absurd (read h.count)
+  settled Q f status.WriteFault h = absurd (written h.count)
+  settled Q f status.Memory h = inl refl
+  settled Q f status.Done h = inr (f status.Done h)
+  settled Q f status.Interference h = inr (f status.Interference h)
+  settled Q f status.NoProgram h = inr (f status.NoProgram h)
+  settled Q f status.Spent h = inr (f status.Spent h)
+  settled Q f status.Refused h = inr (f status.Refused h)
+  settled Q f status.Words h = inr (f status.Words h)
+  settled Q f status.NotEnded h = inr (f status.NotEnded h)
+  settled Q f status.NotBuilt h = inr (f status.NotBuilt h)
 
-  decided : (s : Status) → Decided s Told before now out err → IsComplete s
-  decided s d = inr (request_completes request fs out.old out.new s d.r d.status_is d.took (d.outcome fs refl))
+  pub completes : (s : Status) → Ends s Told reads before now out err → (s ≡ status.Memory) ⊎ RequestCompletes request fs out.old out.new s
+  completes = settled (λ s. RequestCompletes request fs out.old out.new s) (λ s d. request_completes request fs out.old out.new s d.r d.status_is d.took (d.outcome fs refl))
 
-  pub completes : (s : Status) → Ends s Told reads before now out err → IsComplete s
-  completes status.ReadFault h = absurd (read h.count)
-  completes status.WriteFault h = absurd (written h.count)
-  completes status.Memory h = inl refl
-  completes status.Done h = decided status.Done h
-  completes status.Interference h = decided status.Interference h
-  completes status.NoProgram h = decided status.NoProgram h
-  completes status.Spent h = decided status.Spent h
-  completes status.Refused h = decided status.Refused h
-  completes status.Words h = decided status.Words h
-  completes status.NotEnded h = decided status.NotEnded h
-  completes status.NotBuilt h = decided status.NotBuilt h
+  pub prints_other : (s : Status) → Ends s Told reads before now out err → (s ≡ status.Memory) ⊎ PrintsOther request fs out.old out.new s
+  prints_other = settled (λ s. PrintsOther request fs out.old out.new s) (λ s d. request_prints_other request fs out.old out.new s d.r d.status_is d.took (d.outcome fs refl))
 
 -- the same, for a request and files that are known by other names
 pub asked_completes : (known request : Request) (taken : Option Request) (files : Option Files) (fs : Files) (reads : List ℕ → Type 0) (s : Status) (before now : ℕ) (out err : Change)
@@ -148,5 +198,10 @@ pub asked_completes : (known request : Request) (taken : Option Request) (files 
     → Ends s (OutcomeIfTold (Some known) files) reads before now out err → (s ≡ status.Memory) ⊎ RequestCompletes request fs out.old out.new s
 asked_completes known request taken files fs reads s before now out err is asked told read written h =
     completes request fs reads before now out err read written s
-    (subst (λ o. Ends s (OutcomeIfTold o (Some fs)) reads before now out err) (is ∙ asked)
-    (subst (λ f. Ends s (OutcomeIfTold (Some known) f) reads before now out err) told h))
+    (asked_ends known request taken files fs reads s before now out err is asked told h)
+
+pub asked_prints_other : (known request : Request) (taken : Option Request) (files : Option Files) (fs : Files) (reads : List ℕ → Type 0) (s : Status) (before now : ℕ) (out err : Change)
+    → Some known ≡ taken → taken ≡ Some request → files ≡ Some fs → (Rose before now → ⊥) → (Rose out.before out.now → ⊥)
+    → Ends s (OutcomeIfTold (Some known) files) reads before now out err → (s ≡ status.Memory) ⊎ PrintsOther request fs out.old out.new s
+asked_prints_other known request taken files fs reads s before now out err is asked told read written h =
+    prints_other request fs reads before now out err read written s (asked_ends known request taken files fs reads s before now out err is asked told h)

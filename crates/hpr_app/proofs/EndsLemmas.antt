@@ -29,6 +29,8 @@ module _ (P : Decision → Type 0) (reads : List ℕ → Type 0) (before now : �
   all_put : (k : Kind) (text : List ℕ) (s : Status) → P (prints k text) → now ≡ before → PutsAll (status_of_kind k) text s out err → Ends s P reads before now out err
   all_put kind.Done text s p same w =
       at_status s status.Done w.status_is (record { r = prints kind.Done text; outcome = p; status_is = refl; shelf = same; count = w.count; took = w.took; says = w.silent })
+  all_put kind.Interference text s p same w =
+      at_status s status.Interference w.status_is (record { r = prints kind.Interference text; outcome = p; status_is = refl; shelf = same; count = w.count; took = w.took; says = w.silent })
   all_put kind.NotEnded text s p same w =
       at_status s status.NotEnded w.status_is (record { r = prints kind.NotEnded text; outcome = p; status_is = refl; shelf = same; count = w.count; took = w.took; says = w.silent })
 
@@ -51,3 +53,11 @@ module _ (P : Decision → Type 0) (reads : List ℕ → Type 0) (before now : �
 pub Ends-for : (s : Status) (p q : Option Request) (files : Option Files) (before now : ℕ) (out err : Change)
     → p ≡ q → Ends s (OutcomeIfTold p files) (MayReadIfTaken p) before now out err → Ends s (OutcomeIfTold q files) (MayReadIfTaken q) before now out err
 Ends-for s p q files before now out err e h = subst (λ r. Ends s (OutcomeIfTold r files) (MayReadIfTaken r) before now out err) e h
+
+-- the same end, for a request and files that are known by other names
+pub asked_ends : (known request : Request) (taken : Option Request) (files : Option Files) (fs : Files) (reads : List ℕ → Type 0) (s : Status) (before now : ℕ) (out err : Change)
+    → Some known ≡ taken → taken ≡ Some request → files ≡ Some fs → Ends s (OutcomeIfTold (Some known) files) reads before now out err
+    → Ends s (OutcomeIfTold (Some request) (Some fs)) reads before now out err
+asked_ends known request taken files fs reads s before now out err is asked told h =
+    subst (λ o. Ends s (OutcomeIfTold o (Some fs)) reads before now out err) (is ∙ asked)
+    (subst (λ f. Ends s (OutcomeIfTold (Some known) f) reads before now out err) told h)

@@ -7,7 +7,7 @@ use Rattle.hpr_report.proofs.OneText.{one_graph_text, one_graph_json, graph_text
 use Rattle.hpr_words.specs.Request.{Text}
 use Rattle.hpr_app.specs.Decision.{prints}
 use Rattle.hpr_app.specs.GraphFile.{IsShown, Graphed}
-use Rattle.hpr_app.specs.Graphs.{HasTooManyEdges}
+use Rattle.hpr_engine.specs.Limit.{HasTooManyEdges}
 use Rattle.hpr_app.specs.declared.answer.Kind.TheVariants.{Done}
 
 pub one_shown : (json : Bool) (g : Graph) (x y : List ℕ) → IsShown json g x → IsShown json g y → x ≡ y

@@ -10,6 +10,7 @@ pub mod Completeness
 pub mod Ascending
 pub mod Once
 pub mod Theorem
+pub mod Interferes
 pub mod GraphLemmas
 pub mod PointLemmas
 pub mod SliceLemmas

@@ -23,19 +23,22 @@ use Rattle.hpr_app.specs.Decision.{Decision, Prints, prints, refuses}
 use Rattle.hpr_app.specs.Ends.{Change, Ends, Decided, SaysIfAny, has_text, message_of, status_of}
 use Rattle.hpr_app.specs.GraphFile.{IsShown}
 use Rattle.hpr_app.specs.Graphs.{OnGraph}
-use Rattle.hpr_app.specs.Integrate.{OnFile, IsOneSided, IsOneSideText, OneSideOutcome}
+use Rattle.hpr_engine.proofs.OneList.{one_conflicts}
+use Rattle.hpr_report.specs.ConflictsText.{conflicts_text}
+use Rattle.hpr_app.specs.Integrate.{OnFile, OnConflicts, IsOneSided, IsOneSideText, Integrated, OneSideOutcome}
 use Rattle.hpr_app.specs.Outcome.{RequestOutcome, Outcome, OutcomeIfTold}
 use Rattle.hpr_app.specs.Points.{IsFirstStranger, IsNamed, IsPoint, OnPoints, no_such_point}
 use Rattle.hpr_app.specs.Refusals.{IsCause, IsRefused, refusal_text}
 use Rattle.hpr_app.specs.RunFile.{OnState}
 use Rattle.hpr_app.specs.States.{RefusedWord, states_of}
 use Rattle.hpr_words.specs.Request.{Request, Text, integrate, run, graph, slice, affected}
-use Rattle.hpr_app.specs.declared.answer.Kind.TheVariants.{Done}
+use Rattle.hpr_app.specs.declared.answer.Kind.TheVariants.{Done, Interference}
 use Rattle.hpr_app.specs.declared.refusals.Refusal.{Refusal}
 use Rattle.hpr_app.specs.declared.refusals.Refusal.TheVariants as refusal
 use Rattle.hpr_app.specs.declared.status.Status.{Status}
 use Rattle.hpr_app.specs.declared.status.Status.TheVariants as status
 use Rattle.hpr_app.proofs.Ascending.{one_order}
+use Rattle.hpr_app.proofs.EndsLemmas.{asked_ends}
 use Rattle.hpr_app.proofs.Completeness.{not_refused, not_stranger}
 use Rattle.hpr_app.proofs.GraphLemmas.{one_shown}
 
@@ -87,6 +90,15 @@ one_side base a b r s (inr (inr (n, _, _))) (inl (e, _)) = absurd (n e)
 one_side base a b r s (inr (inr (_, n, _))) (inr (inl (_, e, _))) = absurd (n e)
 one_side base a b r s (inr (inr (_, _, is))) (inr (inr (_, _, so))) = is ∙ sym so
 
+one_on_conflicts : (r s : Decision) (p q o : Tree) (next also : Type 0) → (next → also → r ≡ s) → OnConflicts p q o next r → OnConflicts p q o also s → r ≡ s
+one_on_conflicts r s p q o next also rest (inl (cs, h, is)) (inl (ds, k, so)) =
+    is ∙ ap (λ xs. prints Interference (conflicts_text xs)) (one_conflicts (graph_of p) (graph_of q) (graph_of o) cs ds h.conflicts k.conflicts) ∙ sym so
+one_on_conflicts r s p q o next also rest (inl (cs, h, _)) (inr (none, _)) =
+    absurd (h.some (one_conflicts (graph_of p) (graph_of q) (graph_of o) cs [] h.conflicts none))
+one_on_conflicts r s p q o next also rest (inr (none, _)) (inl (ds, k, _)) =
+    absurd (k.some (one_conflicts (graph_of p) (graph_of q) (graph_of o) ds [] k.conflicts none))
+one_on_conflicts r s p q o next also rest (inr (_, h)) (inr (_, k)) = rest h k
+
 one_on_graph : (r s : Decision) (file : Text) (p : Tree) (next also : Type 0) → (next → also → r ≡ s) → OnGraph file p next r → OnGraph file p also s → r ≡ s
 one_on_graph r s file p next also rest (inl (_, is)) (inl (_, so)) = is ∙ sym so
 one_on_graph r s file p next also rest (inl (many, _)) (inr (few, _)) = absurd (few many)
@@ -99,6 +111,11 @@ one_stranger P (w ∷ ws) x y (inl (_, is)) (inl (_, so)) = is ∙ sym so
 one_stranger P (w ∷ ws) x y (inl (n, _)) (inr (p, _)) = absurd (n p)
 one_stranger P (w ∷ ws) x y (inr (p, _)) (inl (n, _)) = absurd (n p)
 one_stranger P (w ∷ ws) x y (inr (_, h)) (inr (_, k)) = one_stranger P ws x y h k
+
+one_integrated : (r s : Decision) (base : Text) (p : Tree) (a : Text) (q : Tree) (b : Text) (o : Tree) → Integrated base p a q b o r → Integrated base p a q b o s → r ≡ s
+one_integrated r s base p a q b o h k =
+    one_on_graph r s base p _ _
+    (λ h k. one_on_graph r s a q _ _ (λ h k. one_on_graph r s b o _ _ (λ h k. one_on_conflicts r s p q o _ _ (λ h k. one_side p q o r s h k) h k) h k) h k) h k
 
 one_on_points : (r s : Decision) (g : Graph) (words : List Text) (next also : Type 0) → (next → also → r ≡ s) → OnPoints g words next r → OnPoints g words also s → r ≡ s
 one_on_points r s g words next also rest (inl (x, h, is)) (inl (y, k, so)) = is ∙ ap (λ w. refuses (no_such_point w)) (one_stranger (IsNamed g) words x y h k) ∙ sym so
@@ -119,7 +136,7 @@ module _ (fs : Files) (r s : Decision) where
 
   one_outcome : (request : Request) → RequestOutcome request fs r → RequestOutcome request fs s → r ≡ s
   one_outcome (integrate base a b tries) h k =
-      one_on_file base _ _ (λ p h k. one_on_file a _ _ (λ q h k. one_on_file b _ _ (λ o h k. one_side p q o r s h k) h k) h k) h k
+      one_on_file base _ _ (λ p h k. one_on_file a _ _ (λ q h k. one_on_file b _ _ (λ o h k. one_integrated r s base p a q b o h k) h k) h k) h k
   one_outcome (run file words steps) h k = one_on_state (states_of words) _ _ (λ state h k. one_on_file file _ _ (λ p h k. h ∙ sym k) h k) h k
   one_outcome (graph file json) h k =
       one_on_file file _ _ (λ p h k. one_on_graph r s file p _ _ (λ h k. one_printed (IsShown json (graph_of p)) (one_shown json (graph_of p)) r s h k) h k) h k
@@ -171,5 +188,4 @@ pub asked_refused : (known request : Request) (taken : Option Request) (files : 
     → Ends s (OutcomeIfTold (Some known) files) reads before now out err → IsRefusedCall m s err
 asked_refused known request taken files fs reads m s before now out err is asked told refused read h =
     refused_ends request fs reads before now out err m refused read s
-    (subst (λ o. Ends s (OutcomeIfTold o (Some fs)) reads before now out err) (is ∙ asked)
-    (subst (λ f. Ends s (OutcomeIfTold (Some known) f) reads before now out err) told h))
+    (asked_ends known request taken files fs reads s before now out err is asked told h)

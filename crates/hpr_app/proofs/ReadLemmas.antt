@@ -14,6 +14,13 @@ use Rattle.hpr_app.specs.declared.answer.Stop.TheVariants as stop
 abbrev pub FileOf : Option Files → List ℕ → Tree → Type 0
 FileOf files file p = IfTold files (λ fs. IsFileOf (bytes_of fs file) p)
 
+pub merges_map : (P Q : Decision → Type 0) → ((r : Decision) → P r → Q r) → (result : Result Report Stop) → Merges P result → Merges Q result
+merges_map P Q f (Ok report) h = f _ h
+merges_map P Q f (Err stop.NotBuilt) h = f _ h
+merges_map P Q f (Err (stop.Refused message)) h = f _ h
+merges_map P Q f (Err (stop.ReadFault message)) h = h
+merges_map P Q f (Err stop.Memory) h = h
+
 module _ (files : Option Files) (reads : List ℕ → Type 0) (before now : ℕ) where
   -- what is decided of P is decided of what P gives
   decides_map : (P Q : Decision → Type 0) → ((r : Decision) → P r → Q r) → (result : Result Report Stop) → Decides P reads before now result

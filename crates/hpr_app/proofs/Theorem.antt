@@ -13,14 +13,17 @@ use Rattle.hpr_syntax.proofs.Raises.{one_side_spelled}
 use Rattle.hpr_text.proofs.Texts.{one_tree}
 use Rattle.hpr_words.specs.Request.{Request, integrate, run, graph, slice, affected}
 use Rattle.hpr_app.specs.Decision.{Decision, prints, refuses, not_built, usage}
-use Rattle.hpr_app.specs.Integrate.{IsOneSided, OneSideOutcome, IntegrateOutcome}
+use Rattle.hpr_app.specs.Graphs.{OnGraph}
+use Rattle.hpr_app.specs.Integrate.{OnConflicts, IsOneSided, Integrated, OneSideOutcome, IntegrateOutcome}
 use Rattle.hpr_app.specs.Refusals.{IsFileOf}
 use Rattle.hpr_app.specs.Outcome.{RequestOutcome, OutcomeIfTold}
 use Rattle.hpr_app.specs.Ends.{Change, Ends, Decided, status_of, text_of}
 use Rattle.hpr_app.specs.Theorem.{IsKeepingText, KeepsMeaning}
 use Rattle.hpr_app.specs.declared.answer.Kind.{Kind}
+use Rattle.hpr_app.specs.declared.answer.Kind.TheVariants as kind
 use Rattle.hpr_app.specs.declared.status.Status.{Status}
 use Rattle.hpr_app.specs.declared.status.Status.TheVariants as status
+use Rattle.hpr_app.proofs.EndsLemmas.{asked_ends}
 
 -- the text of the variant that is printed spells it, and it is a program
 abbrev IsSpelled : Tree → Type 0
@@ -56,28 +59,44 @@ module _ (base a b : List ℕ) (p q r : Tree) (hp : IsFileOf base p) (hq : IsFil
       (subst (λ x. Keeps p x r m) (sym e) (kept_by_b p r m side.body side.names)) (same_text k _ bytes shown same ∙ is)
   one_side k bytes (inr (inr (_, _, same))) = absurd cc
 
-outcome_keeps : (fs : Files) (base a b : List ℕ) (k : Kind) (bytes : List ℕ) → IntegrateOutcome fs base a b (prints k bytes)
-    → IsKeepingText (bytes_of fs base) (bytes_of fs a) (bytes_of fs b) bytes
-outcome_keeps fs base a b k bytes (inl (_, _, same)) = absurd cc
-outcome_keeps fs base a b k bytes (inr (p, hp, inl (_, _, same))) = absurd cc
-outcome_keeps fs base a b k bytes (inr (p, hp, inr (q, hq, inl (_, _, same)))) = absurd cc
-outcome_keeps fs base a b k bytes (inr (p, hp, inr (q, hq, inr (r, hr, o)))) =
-    one_side (bytes_of fs base) (bytes_of fs a) (bytes_of fs b) p q r hp hq hr k bytes o
+-- a program that is printed is that of one side
+past_graph : (file : List ℕ) (p : Tree) (next : Type 0) (bytes : List ℕ) → OnGraph file p next (prints kind.Done bytes) → next
+past_graph file p next bytes (inl (_, same)) = absurd cc
+past_graph file p next bytes (inr (_, h)) = h
 
-request_keeps : (request : Request) (fs : Files) (k : Kind) (bytes : List ℕ) → RequestOutcome request fs (prints k bytes) → KeepsMeaning request fs bytes
-request_keeps (integrate base a b tries) fs k bytes h = outcome_keeps fs base a b k bytes h
-request_keeps (run file words steps) fs k bytes h = tt
-request_keeps (graph file json) fs k bytes h = tt
-request_keeps (slice file points) fs k bytes h = tt
-request_keeps (affected base a) fs k bytes h = tt
+past_conflicts : (p q r : Tree) (next : Type 0) (bytes : List ℕ) → OnConflicts p q r next (prints kind.Done bytes) → next
+past_conflicts p q r next bytes (inl (_, _, same)) = absurd cc
+past_conflicts p q r next bytes (inr (_, h)) = h
+
+past_integrated : (base : List ℕ) (p : Tree) (a : List ℕ) (q : Tree) (b : List ℕ) (r : Tree) (bytes : List ℕ) → Integrated base p a q b r (prints kind.Done bytes)
+    → OneSideOutcome p q r (prints kind.Done bytes)
+past_integrated base p a q b r bytes h =
+    past_conflicts p q r _ bytes (past_graph b r _ bytes (past_graph a q _ bytes (past_graph base p _ bytes h)))
+
+outcome_keeps : (fs : Files) (base a b : List ℕ) (bytes : List ℕ) → IntegrateOutcome fs base a b (prints kind.Done bytes)
+    → IsKeepingText (bytes_of fs base) (bytes_of fs a) (bytes_of fs b) bytes
+outcome_keeps fs base a b bytes (inl (_, _, same)) = absurd cc
+outcome_keeps fs base a b bytes (inr (p, hp, inl (_, _, same))) = absurd cc
+outcome_keeps fs base a b bytes (inr (p, hp, inr (q, hq, inl (_, _, same)))) = absurd cc
+outcome_keeps fs base a b bytes (inr (p, hp, inr (q, hq, inr (r, hr, o)))) =
+    one_side (bytes_of fs base) (bytes_of fs a) (bytes_of fs b) p q r hp hq hr kind.Done bytes (past_integrated base p a q b r bytes o)
+
+request_keeps : (request : Request) (fs : Files) (bytes : List ℕ) → RequestOutcome request fs (prints kind.Done bytes) → KeepsMeaning request fs bytes
+request_keeps (integrate base a b tries) fs bytes h = outcome_keeps fs base a b bytes h
+request_keeps (run file words steps) fs bytes h = tt
+request_keeps (graph file json) fs bytes h = tt
+request_keeps (slice file points) fs bytes h = tt
+request_keeps (affected base a) fs bytes h = tt
 
 abbrev pub Kept : Request → Files → List ℕ → Option (List ℕ) → Type 0
 Kept request fs old new = (bytes : List ℕ) × (new ≡ Some (old ++ bytes)) × KeepsMeaning request fs bytes
 
 decision_keeps : (request : Request) (fs : Files) (old : List ℕ) (r : Decision) (taken new : Option (List ℕ)) → status.Done ≡ status_of r → RequestOutcome request fs r → taken ≡ Some old
     → new ≡ taken_then taken (text_of r) → Kept request fs old new
-decision_keeps request fs old (prints k bytes) taken new e o told took =
-    (bytes, took ∙ ap (λ t. taken_then t bytes) told, request_keeps request fs k bytes o)
+decision_keeps request fs old (prints kind.Done bytes) taken new e o told took =
+    (bytes, took ∙ ap (λ t. taken_then t bytes) told, request_keeps request fs bytes o)
+decision_keeps request fs old (prints kind.Interference bytes) taken new e o told took = absurd cc
+decision_keeps request fs old (prints kind.NotEnded bytes) taken new e o told took = absurd cc
 decision_keeps request fs old (refuses message) taken new e o told took = absurd cc
 decision_keeps request fs old not_built taken new e o told took = absurd cc
 decision_keeps request fs old usage taken new e o told took = absurd cc
@@ -95,5 +114,4 @@ pub asked_keeps : (known request : Request) (taken : Option Request) (files : Op
     → Ends s (OutcomeIfTold (Some known) files) reads before now out err → Kept request fs old out.new
 asked_keeps known request taken files fs reads old s before now out err is asked told took e h =
     done_keeps request fs reads old s before now out err e took
-    (subst (λ o. Ends s (OutcomeIfTold o (Some fs)) reads before now out err) (is ∙ asked)
-    (subst (λ f. Ends s (OutcomeIfTold (Some known) f) reads before now out err) told h))
+    (asked_ends known request taken files fs reads s before now out err is asked told h)

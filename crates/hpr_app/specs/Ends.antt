@@ -45,6 +45,7 @@ IsUntouched c = (c.now ≡ c.before) × (c.new ≡ c.old)
 
 abbrev pub status_of_kind : Kind → Status
 status_of_kind kind.Done = status.Done
+status_of_kind kind.Interference = status.Interference
 status_of_kind kind.NotEnded = status.NotEnded
 
 abbrev pub status_of : Decision → Status

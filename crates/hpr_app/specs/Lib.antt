@@ -18,4 +18,5 @@ pub mod Files
 pub mod Writes
 pub mod Number
 pub mod Complete
+pub mod Interference
 pub mod Theorem

@@ -17,6 +17,8 @@ pub const USAGE: &[u8] =
 pub enum Kind {
     /// The command did what it is for.
     Done,
+    /// The variants interfere.
+    Interference,
     /// A run did not end normally.
     NotEnded,
 }
@@ -68,6 +70,7 @@ impl Kind {
     {
         match self {
             Kind::Done => Status::Done,
+            Kind::Interference => Status::Interference,
             Kind::NotEnded => Status::NotEnded,
         }
     }

@@ -18,6 +18,7 @@ mod states;
 mod status;
 
 ghost use Rattle.std.specs.Prelude.{◌≡◌, ◌≢◌, ℕ, List, ◌++◌, ◌<◌, ◌⊎◌, ◌↔◌, All, None, IsTrue, map, string_bytes};
+ghost use Rattle.hpr_graph.specs.declared.conflict.Conflict.{Conflict};
 ghost use Rattle.hpr_io.specs.Files.{Files};
 ghost use Rattle.hpr_io.specs.Counts.{Rose};
 ghost use Rattle.hpr_words.specs.Asked.{request};
@@ -27,7 +28,8 @@ ghost use Rattle.hpr_words.specs.Taken.{taken};
 ghost use Rattle.hpr_app.specs.Reads.{MayRead, MayReadIfTaken, files_of, files_of_taken};
 ghost use Rattle.hpr_app.specs.Outcome.{RequestOutcome, OutcomeIfTold};
 ghost use Rattle.hpr_app.specs.Decision.{refuses};
-ghost use Rattle.hpr_app.specs.Complete.{RequestCompletes, IsRefusedCall};
+ghost use Rattle.hpr_app.specs.Complete.{RequestCompletes, PrintsOther, IsRefusedCall};
+ghost use Rattle.hpr_app.specs.Interference.{Interferes, IsInterference};
 ghost use Rattle.hpr_app.specs.Theorem.{KeepsMeaning};
 ghost use Rattle.hpr_app.specs.Ends.{Ends};
 
@@ -44,7 +46,7 @@ use std::alloc::Global;
 /// before the next one is fetched: one that has more than 4,194,304 bytes, spells no tree, or spells
 /// a tree that is no program is refused. So is a file whose program has a graph of more than
 /// 1,000,000 edges, where the command needs it; then the first word for a point that names no vertex
-/// is refused. All text of `out` is made before its first byte is put. Faults of `err` change no
+/// is refused. Variants that interfere are reported with all their conflicts. All text of `out` is made before its first byte is put. Faults of `err` change no
 /// status.
 pub fn hpr<S: Shelf, O: Sink, E: Sink>(
     alloc: Global,
@@ -74,6 +76,18 @@ pub fn hpr<S: Shelf, O: Sink, E: Sink>(
     ensures complete { (asked : Request) (fs : Files) → taken (map string_bytes words.now) ≡ Some asked → S.files shelf.old ≡ Some fs
         → ¬ Rose (S.faults shelf.old) (S.faults shelf.new) → ¬ Rose (O.faults out.old) (O.faults out.new)
         → (result ≡ Status.Memory) ⊎ RequestCompletes asked fs (O.taken out.old) (O.taken out.new) result }
+
+    // Where one variant is the base, the other one is printed.
+    ensures one_side { (asked : Request) (fs : Files) → taken (map string_bytes words.now) ≡ Some asked → S.files shelf.old ≡ Some fs
+        → ¬ Rose (S.faults shelf.old) (S.faults shelf.new) → ¬ Rose (O.faults out.old) (O.faults out.new)
+        → (result ≡ Status.Memory) ⊎ PrintsOther asked fs (O.taken out.old) (O.taken out.new) result }
+
+    // The status is Interference exactly where there are conflicts and no earlier cause holds; `out` then takes the text of all of them.
+    ensures interference { (asked : Request) (fs : Files) → taken (map string_bytes words.now) ≡ Some asked → S.files shelf.old ≡ Some fs
+        → result ≡ Status.Interference → (cs : List Conflict) × Interferes asked fs cs × IsInterference cs (O.taken out.old) (O.taken out.new) result }
+    ensures interferes { (asked : Request) (fs : Files) (cs : List Conflict) → taken (map string_bytes words.now) ≡ Some asked → S.files shelf.old ≡ Some fs
+        → Interferes asked fs cs → ¬ Rose (S.faults shelf.old) (S.faults shelf.new) → ¬ Rose (O.faults out.old) (O.faults out.new)
+        → (result ≡ Status.Memory) ⊎ IsInterference cs (O.taken out.old) (O.taken out.new) result }
 
     // Where no read failed, a call with a file that is refused gives its message, if memory was found.
     ensures refused { (asked : Request) (fs : Files) (message : List ℕ) → taken (map string_bytes words.now) ≡ Some asked → S.files shelf.old ≡ Some fs

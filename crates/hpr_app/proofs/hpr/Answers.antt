@@ -1,7 +1,8 @@
 use Rattle.std.proofs.Common.{All, IsTrue, ap, map, string_bytes, subst, sym, Err}
 use Rattle.hpr_app.specs.Reads.{files_of_taken}
-use Rattle.hpr_app.proofs.Completeness.{asked_completes}
+use Rattle.hpr_app.proofs.Completeness.{asked_completes, asked_prints_other}
 use Rattle.hpr_app.proofs.EndsLemmas.{Ends-for}
+use Rattle.hpr_app.proofs.Interferes.{asked_interference, asked_interferes}
 use Rattle.hpr_app.proofs.Once.{asked_refused}
 use Rattle.hpr_app.proofs.Theorem.{asked_keeps}
 use Rattle.hpr_app.proofs.WordLemmas.{plain_is_taken}
@@ -20,6 +21,18 @@ returns-in-Ok-clause-keeps g c asked fs old is told took done =
 pub returns-in-Ok-clause-complete : goal.returns-in-Ok-clause-complete
 returns-in-Ok-clause-complete g c asked fs is told read written =
     asked_completes _ asked _ (g.S.Shelf.files c.args.shelf.now) fs _ _ _ _ _ _ (sym c.in-Ok.ensures.taken) is told read written c.run_asked.ensures.ends
+
+pub returns-in-Ok-clause-one_side : goal.returns-in-Ok-clause-one_side
+returns-in-Ok-clause-one_side g c asked fs is told read written =
+    asked_prints_other _ asked _ (g.S.Shelf.files c.args.shelf.now) fs _ _ _ _ _ _ (sym c.in-Ok.ensures.taken) is told read written c.run_asked.ensures.ends
+
+pub returns-in-Ok-clause-interference : goal.returns-in-Ok-clause-interference
+returns-in-Ok-clause-interference g c asked fs is told interfered =
+    asked_interference _ asked _ (g.S.Shelf.files c.args.shelf.now) fs _ _ _ _ _ _ (sym c.in-Ok.ensures.taken) is told interfered c.run_asked.ensures.ends
+
+pub returns-in-Ok-clause-interferes : goal.returns-in-Ok-clause-interferes
+returns-in-Ok-clause-interferes g c asked fs cs is told interferes read written =
+    asked_interferes _ asked _ (g.S.Shelf.files c.args.shelf.now) fs _ cs _ _ _ _ _ (sym c.in-Ok.ensures.taken) is told interferes read written c.run_asked.ensures.ends
 
 pub returns-in-Ok-clause-refused : goal.returns-in-Ok-clause-refused
 returns-in-Ok-clause-refused g c asked fs message is told refused read =

@@ -45,8 +45,8 @@ returns g c =
     let told = g.S.Shelf.files c.args.shelf.now in
     decided told c.args.base.now c.args.a.now c.args.b.now
     (g.S.Shelf.faults c.args.shelf.now) (g.S.Shelf.faults c.read_program-3.new.shelf)
-    c.in_ok-base_program.base_program c.in_ok-a_program.a_program c.in_ok-b_program.b_program c.one_side.result base.reads.0
+    c.in_ok-base_program.base_program c.in_ok-a_program.a_program c.in_ok-b_program.b_program c.integrate_programs.result base.reads.0
     (told_same told (g.S.Shelf.files c.read_program.new.shelf) (λ fs. IsFileOf (bytes_of fs c.args.a.now) c.in_ok-a_program.a_program) base.same_files a.reads.0)
     (told_same told (g.S.Shelf.files c.read_program-2.new.shelf) (λ fs. IsFileOf (bytes_of fs c.args.b.now) c.in_ok-b_program.b_program) (a.same_files ∙ base.same_files) b.reads.0)
     (b.reads.1 ∙ a.reads.1 ∙ base.reads.1)
-    c.one_side.ensures
+    c.integrate_programs.ensures
