@@ -204,7 +204,7 @@ fn an_absent_file(rt: HostRuntime) -> Result<(), Fail> {
 
 // 200 conditionals that assign x, and 600 parts that use it: each two of these assignments have an
 // order edge for each use.
-fn many_orders(alloc: Global) -> Result<Vec<u8>, AllocError> {
+pub(crate) fn many_orders(alloc: Global) -> Result<Vec<u8>, AllocError> {
     let mut text = String::from_str(alloc, "program")?;
     for pair in 0..200_u32 {
         let test = 2 * pair + 1;

@@ -22,12 +22,6 @@ const B_PART_ADDED: Files = &[
     ),
 ];
 
-const BOTH_CHANGED: Files = &[
-    ("BASE", b"program 1.1: x := 1; end(x)"),
-    ("A", b"program 1.1: x := 2; end(x)"),
-    ("B", b"program 1.1: x := 3; end(x)"),
-];
-
 const EMPTY_PROGRAMS: Files = &[
     ("BASE", b"program end()"),
     ("A", b"program end()"),
@@ -59,11 +53,9 @@ const MERGED: &[u8] = b"program\nissued 1:1, 2:1\n1.1: x := 1;\n2.1: y := x + 1;
 const MERGED_B: &[u8] =
     b"program\nissued 1:3, 2:4\n1.1: x := 1;\n2.3: c := 7;\nend(A, a_1, c, x)\n";
 
-const NOT_BUILT: &[u8] = b"hpr: not built yet\n";
-
 const CANNOT_WRITE: &[u8] = b"hpr: cannot write output\n";
 
-static ROWS: [FilesRow; 14] = [
+static ROWS: [FilesRow; 13] = [
     FilesRow {
         shows: "one variant adds a part",
         words: WORDS,
@@ -95,14 +87,6 @@ static ROWS: [FilesRow; 14] = [
         status: Status::Done,
         out: b"program\nend()\n",
         err: b"",
-    },
-    FilesRow {
-        shows: "not built yet: both variants change an assignment",
-        words: WORDS,
-        files: BOTH_CHANGED,
-        status: Status::NotBuilt,
-        out: b"",
-        err: NOT_BUILT,
     },
     FilesRow {
         shows: "an absent file",

@@ -11,6 +11,8 @@ mod graph;
 #[cfg(test)]
 mod integrate;
 #[cfg(test)]
+mod interference;
+#[cfg(test)]
 mod programs;
 #[cfg(test)]
 mod refusals;
