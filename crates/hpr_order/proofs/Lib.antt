@@ -1,0 +1,27 @@
+mod Lists
+pub mod Ranks
+pub mod ListFacts
+pub mod BlockOf
+pub mod Lefts
+pub mod Shapes
+pub mod ReadBack
+pub mod Sound
+pub mod Complete
+pub mod Arranges
+pub mod Tabled
+pub mod Itemized
+pub mod Given
+pub mod Ranked
+pub mod Climbs
+pub mod Built
+pub mod Marked
+mod Rows
+mod Downs
+mod Leasts
+mod Onlys
+mod Places
+pub mod Steps
+pub mod Linking
+pub mod Tabling
+pub mod Coming
+pub mod Preorders

@@ -1,0 +1,197 @@
+-- What the rank of three programs has: each of their parts, once.
+use Rattle.std.proofs.Common.{◌≡◌, ℕ, zero, suc, ◌+◌, ◌-◌, ◌<◌, true, false, ◌↔◌, ◌⊎◌, inl, inr, Option, Some, None, IfSome, Bor, List, [], ◌∷◌, ◌++◌, map, length, take, drop, get_or, Contains, slice_get, refl, sym, ap, ap₂, ◌∙◌, subst, append_assoc, arith, rules}
+use Rattle.std.specs.List.{insert}
+use Rattle.std.proofs.lemmas.List.{append-nil, map-append}
+use Rattle.std.specs.Option.{option_copied}
+use Rattle.std.specs.Slice.{IsItemAt}
+use Rattle.std.proofs.lemmas.Bool.{ltb-true, ltb-false}
+use Rattle.std.proofs.lemmas.Option.{slice_get-get_or, slice_get_past}
+use Rattle.hpr_terms.specs.declared.tag.Tag.{Tag}
+use Rattle.hpr_syntax.specs.declared.rows.Row.{Row}
+use Rattle.hpr_syntax.specs.Body.{Body, done, assign, branch, loop}
+use Rattle.hpr_syntax.specs.Parts.{same_tag, tags_of}
+use Rattle.hpr_syntax.specs.Rows.{Parent, rows_of}
+use Rattle.hpr_syntax.specs.Shape.{IsProgram}
+use Rattle.hpr_syntax.specs.Tree.{Tree}
+use Rattle.hpr_syntax.proofs.NoRefusal.{no_refusal}
+use Rattle.hpr_syntax.proofs.Repeats.{places_once}
+use Rattle.hpr_syntax.proofs.ShapeLemmas.{tags_append}
+use Rattle.hpr_graph.specs.declared.vertex.Vertex.{Vertex}
+use Rattle.hpr_graph.specs.declared.vertex.Vertex.TheVariants.{Entry, Init, Part, Final}
+use Rattle.hpr_graph.specs.Graphs.{IsOnce}
+use Rattle.hpr_graph.proofs.Lists.{some_inj, in_none, in_cons, in_here, in_later}
+use Rattle.hpr_graph.specs.Rank.{parts_of, IsAddedAt, IsPutIn, IsJoined, IsRankOf, IsRank}
+use Rattle.hpr_order.proofs.Lists.{split_at, put_has, put_once}
+
+-- the tags of the rows are those of the parts
+row_tags : (p : Parent) (i : ℕ) (body : Body) → map (λ (row : Row). row.tag) (rows_of p i body) ≡ tags_of body []
+row_tags p i done = refl
+row_tags p i (assign t x e rest) = ap (λ (ts : List Tag). t ∷ ts) (row_tags p (i + 1) rest)
+row_tags p i (branch t e a b rest) =
+    let yes : List Row = rows_of (Some (t, true)) 0 a in
+    let no : List Row = rows_of (Some (t, false)) 0 b in
+    let more : List Row = rows_of p (i + 1) rest in
+    let tag : Row → Tag = λ row. row.tag in
+    let left : map tag (yes ++ no ++ more) ≡ tags_of a [] ++ (tags_of b [] ++ tags_of rest []) =
+    ap (map tag) (append_assoc yes no more) ∙ map-append tag yes (no ++ more) ∙ ap₂ (λ (us vs : List Tag). us ++ vs) (row_tags (Some (t, true)) 0 a)
+    (map-append tag no more ∙ ap₂ (λ (us vs : List Tag). us ++ vs) (row_tags (Some (t, false)) 0 b) (row_tags p (i + 1) rest)) in
+    ap (λ (ts : List Tag). t ∷ ts)
+    (left ∙ ap (λ (ts : List Tag). tags_of a [] ++ ts) (sym (tags_append b [] (tags_of rest []))) ∙ sym (tags_append a [] (tags_of b (tags_of rest []))))
+row_tags p i (loop t e b rest) =
+    let tag : Row → Tag = λ row. row.tag in
+    ap (λ (ts : List Tag). t ∷ ts)
+    (map-append tag (rows_of (Some (t, true)) 0 b) (rows_of p (i + 1) rest)
+    ∙ ap₂ (λ (us vs : List Tag). us ++ vs) (row_tags (Some (t, true)) 0 b) (row_tags p (i + 1) rest)
+    ∙ sym (tags_append b [] (tags_of rest [])))
+
+abbrev vertex_tag : Vertex → Option Tag
+vertex_tag Entry = None
+vertex_tag (Init x) = None
+vertex_tag (Part t c) = Some t
+vertex_tag (Final x) = None
+
+tag_there : (rows : List Row) (i : ℕ) (v : Vertex) → slice_get (map (λ (row : Row). Part row.tag row.content) rows) i ≡ Some v
+    → (t : Tag) × (slice_get (map (λ (row : Row). row.tag) rows) i ≡ Some t) × (vertex_tag v ≡ Some t)
+tag_there [] i v h = absurd cc
+tag_there (row ∷ rows) zero v h = (row.tag, refl, ap vertex_tag (sym (some_inj (Part row.tag row.content) v h)))
+tag_there (row ∷ rows) (suc i) v h = tag_there rows i v h
+
+tag_itself : (t : Tag) → same_tag t t ≡ true
+tag_itself t = search rules
+
+-- nothing stands twice among a program's parts
+pub parts_once : (t : Tree) → IsProgram t → IsOnce (parts_of t)
+parts_once t prog i j v a b =
+    let rows : List Row = rows_of None 0 t.body in
+    let (s, at_i, is_i) = tag_there rows i v a in
+    let (u, at_j, is_j) = tag_there rows j v b in
+    let same : s ≡ u = some_inj s u (sym is_i ∙ is_j) in
+    let tags : map (λ (row : Row). row.tag) rows ≡ tags_of t.body [] = row_tags None 0 t.body in
+    places_once same_tag tag_itself [] (tags_of t.body []) i j u (no_refusal t prog.shape).tags
+    (subst (λ (ts : List Tag). slice_get ts i ≡ Some u) tags (at_i ∙ ap (λ (w : Tag). Some w) same))
+    (subst (λ (ts : List Tag). slice_get ts j ≡ Some u) tags at_j)
+
+-- a vertex put in
+added_has : (v : Vertex) (next : Option Vertex) (xs ys : List Vertex) → IsAddedAt v next xs ys → (w : Vertex) → Contains ys w ↔ ((v ≡ w) ⊎ Contains xs w)
+added_has v None xs ys is w =
+    subst (λ (l : List Vertex). Contains ys w ↔ ((v ≡ w) ⊎ Contains l w)) (append-nil xs)
+    (subst (λ (l : List Vertex). Contains l w ↔ ((v ≡ w) ⊎ Contains (xs ++ []) w)) (sym is) (put_has xs [] v w))
+added_has v (Some next) xs ys (front, back, was, is) w =
+    subst (λ (l : List Vertex). Contains ys w ↔ ((v ≡ w) ⊎ Contains l w)) (sym was)
+    (subst (λ (l : List Vertex). Contains l w ↔ ((v ≡ w) ⊎ Contains (front ++ next ∷ back) w)) (sym is) (put_has front (next ∷ back) v w))
+
+added_once : (v : Vertex) (next : Option Vertex) (xs ys : List Vertex) → IsAddedAt v next xs ys → ¬ Contains xs v → IsOnce xs → IsOnce ys
+added_once v None xs ys is new once =
+    subst (λ (l : List Vertex). IsOnce l) (sym is)
+    (put_once xs [] v (subst (λ (l : List Vertex). IsOnce l) (sym (append-nil xs)) once) (λ h. new (subst (λ (l : List Vertex). Contains l v) (append-nil xs) h)))
+added_once v (Some next) xs ys (front, back, was, is) new once =
+    subst (λ (l : List Vertex). IsOnce l) (sym is)
+    (put_once front (next ∷ back) v (subst (λ (l : List Vertex). IsOnce l) was once) (λ h. new (subst (λ (l : List Vertex). Contains l v) (sym was) h)))
+
+put_in_has : (v : Vertex) (next : Option Vertex) (xs ys : List Vertex) → IsPutIn v next xs ys → (w : Vertex) → Contains ys w ↔ ((v ≡ w) ⊎ Contains xs w)
+put_in_has v next xs ys (inl (there, is)) w = (
+  λ h. inr (subst (λ (l : List Vertex). Contains l w) is h),
+  λ h. subst (λ (l : List Vertex). Contains l w) (sym is) (elim h [ inl e ↦ subst (λ (z : Vertex). Contains xs z) e there | inr old ↦ old ]),
+)
+put_in_has v next xs ys (inr (new, added)) w = added_has v next xs ys added w
+
+put_in_once : (v : Vertex) (next : Option Vertex) (xs ys : List Vertex) → IsPutIn v next xs ys → IsOnce xs → IsOnce ys
+put_in_once v next xs ys (inl (there, is)) once = subst (λ (l : List Vertex). IsOnce l) (sym is) once
+put_in_once v next xs ys (inr (new, added)) once = added_once v next xs ys added new once
+
+-- vertices joined
+pub joined_has : (vs xs ys : List Vertex) → IsJoined vs xs ys → (w : Vertex) → Contains ys w ↔ (Contains xs w ⊎ Contains vs w)
+joined_has [] xs ys is w = (λ h. inl (subst (λ (l : List Vertex). Contains l w) is h), λ h. elim h [ inl there ↦ subst (λ (l : List Vertex). Contains l w) (sym is) there | inr none ↦ absurd (in_none w none) ])
+joined_has (v ∷ vs) xs ys (zs, joined, put) w =
+    let one = put_in_has v (slice_get vs 0) zs ys put w in
+    let rest = joined_has vs xs zs joined w in (
+      λ h. elim (one.0 h) [
+        | inl e ↦ inr (subst (λ (z : Vertex). Contains (v ∷ vs) z) e (in_here v vs))
+        | inr old ↦ elim (rest.0 old) [ inl x ↦ inl x | inr later ↦ inr (in_later v w vs later) ]
+      ],
+      λ h. elim h [
+        | inl x ↦ one.1 (inr (rest.1 (inl x)))
+        | inr there ↦ elim (in_cons v w vs there) [ inl e ↦ one.1 (inl e) | inr later ↦ one.1 (inr (rest.1 (inr later))) ]
+      ],
+    )
+
+joined_once : (vs xs ys : List Vertex) → IsJoined vs xs ys → IsOnce xs → IsOnce ys
+joined_once [] xs ys is once = subst (λ (l : List Vertex). IsOnce l) (sym is) once
+joined_once (v ∷ vs) xs ys (zs, joined, put) once = put_in_once v (slice_get vs 0) zs ys put (joined_once vs xs zs joined once)
+
+rank_of_has : (a b base : Tree) (r : List Vertex) → IsRankOf a b base r → (w : Vertex)
+    → Contains r w ↔ (Contains (parts_of a) w ⊎ (Contains (parts_of b) w ⊎ Contains (parts_of base) w))
+rank_of_has a b base r (xs, first, second) w =
+    let one = joined_has (parts_of b) (parts_of a) xs first w in
+    let two = joined_has (parts_of base) xs r second w in (
+      λ h. elim (two.0 h) [
+        | inl x ↦ elim (one.0 x) [ inl y ↦ inl y | inr z ↦ inr (inl z) ]
+        | inr y ↦ inr (inr y)
+      ],
+      λ h. elim h [
+        | inl x ↦ two.1 (inl (one.1 (inl x)))
+        | inr rest ↦ elim rest [ inl y ↦ two.1 (inl (one.1 (inr y))) | inr z ↦ two.1 (inr z) ]
+      ],
+    )
+
+-- the rank has the parts of the three programs, and no others
+pub rank_has : (a b base : Tree) (r : List Vertex) → IsRank a b base r → (w : Vertex)
+    → Contains r w ↔ (Contains (parts_of a) w ⊎ (Contains (parts_of b) w ⊎ Contains (parts_of base) w))
+rank_has a b base r (inl (same, is)) w =
+    let swap = rank_of_has b a base r is w in (
+      λ h. elim (swap.0 h) [ inl x ↦ inr (inl x) | inr rest ↦ elim rest [ inl y ↦ inl y | inr z ↦ inr (inr z) ] ],
+      λ h. elim h [ inl x ↦ swap.1 (inr (inl x)) | inr rest ↦ elim rest [ inl y ↦ swap.1 (inl y) | inr z ↦ swap.1 (inr (inr z)) ] ],
+    )
+rank_has a b base r (inr (other, is)) w = rank_of_has a b base r is w
+
+rank_of_once : (a b base : Tree) (r : List Vertex) → IsRankOf a b base r → IsProgram a → IsOnce r
+rank_of_once a b base r (xs, first, second) prog =
+    joined_once (parts_of base) xs r second (joined_once (parts_of b) (parts_of a) xs first (parts_once a prog))
+
+-- and each of them once
+pub rank_once : (a b base : Tree) (r : List Vertex) → IsRank a b base r → IsProgram a → IsProgram b → IsOnce r
+rank_once a b base r (inl (same, is)) prog prog_b = rank_of_once b a base r is prog_b
+rank_once a b base r (inr (other, is)) prog prog_b = rank_of_once a b base r is prog
+
+-- the steps of the code
+pub put_new : (xs : List Vertex) (i : ℕ) (v next : Vertex) → slice_get xs i ≡ Some next → IsAddedAt v (Some next) xs (insert xs i v)
+put_new xs i v next at =
+    let (whole, rest) = split_at xs i next at in
+    (take i xs, drop (suc i) xs, whole, ap (λ (l : List Vertex). take i xs ++ v ∷ l) rest)
+
+-- the parts of the walk from a place on, with what follows the first of them
+module _ (parts : List Vertex) (at : ℕ) (v : Vertex) (l : at < length parts) (is : v ≡ get_or parts at v) where
+  this : slice_get parts at ≡ Some v
+  this = slice_get-get_or parts at v l ∙ ap Some (sym is)
+
+  from_here : drop at parts ≡ v ∷ drop (at + 1) parts
+  from_here = let e : suc at ≡ at + 1 = omega arith in (split_at parts at v this).1 ∙ ap (λ (n : ℕ). v ∷ drop n parts) e
+
+  follower : (xs : List Vertex) (n : ℕ) → slice_get (drop n xs) 0 ≡ slice_get xs n
+  follower xs zero = refl
+  follower [] (suc n) = refl
+  follower (x ∷ xs) (suc n) = follower xs n
+
+  -- one more part put in
+  pub join_more : (xs zs ys : List Vertex) (next : Option Vertex) → next ≡ slice_get parts (at + 1) → IsJoined (drop (at + 1) parts) xs zs → IsPutIn v next zs ys → IsJoined (drop at parts) xs ys
+  join_more xs zs ys next one joined put =
+      subst (λ (vs : List Vertex). IsJoined vs xs ys) (sym from_here)
+      (zs, joined, subst (λ (o : Option Vertex). IsPutIn v o zs ys) (one ∙ sym (follower parts (at + 1))) put)
+
+pub joined_here : (parts xs zs : List Vertex) (at : ℕ) → 0 < at → IsJoined (drop at parts) xs zs → IsJoined (drop (at - 1 + 1) parts) xs zs
+joined_here parts xs zs at some joined = let e : at ≡ at - 1 + 1 = omega (arith, some) in subst (λ (n : ℕ). IsJoined (drop n parts) xs zs) e joined
+
+-- what the code reads of the walk
+pub item_is : (xs : List Vertex) (i : ℕ) (r : Option (Bor Vertex)) → IsItemAt xs i r → option_copied r ≡ slice_get xs i
+item_is xs i None h = sym (slice_get_past xs i (ltb-false i (length xs) (sym h.0)))
+item_is xs i (Some x) h = sym (slice_get-get_or xs i x.now (ltb-true i (length xs) (sym h.0)) ∙ ap Some (sym h.1))
+
+pub item_then : (xs : List Vertex) (r : Option (Bor Vertex)) (P : Vertex → Type 0) → ((v : Vertex) → option_copied r ≡ Some v → P v) → IfSome r (λ x. P x.now)
+item_then xs None P f = tt
+item_then xs (Some x) P f = f x.now refl
+
+-- the follower is listed
+pub next_there : (parts xs zs : List Vertex) (n : ℕ) (next : Vertex) → slice_get parts n ≡ Some next → IsJoined (drop n parts) xs zs → Contains zs next
+next_there parts xs zs n next at joined =
+    (joined_has (drop n parts) xs zs joined next).1
+    (inr (subst (λ (l : List Vertex). Contains l next) (sym (split_at parts n next at).1) (in_here next (drop (suc n) parts))))

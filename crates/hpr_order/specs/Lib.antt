@@ -1,0 +1,10 @@
+pub mod Regions
+pub mod Least
+pub mod Controls
+pub mod Items
+pub mod Numbers
+pub mod Limits
+pub mod Lifting
+pub mod Tables
+pub mod Building
+pub mod Arranging

@@ -1,0 +1,96 @@
+//! The limits of programs, on items.
+ghost use Rattle.std.specs.Prelude.{◌≡◌, ℕ, ◌<◌, ◌≤◌, ◌↔◌, length, slice_get, Some, IfOk, IfSome, IfNone, IsTrue};
+ghost use Rattle.hpr_terms.specs.Term.{operators};
+ghost use Rattle.hpr_terms.specs.TermOf.{term_of};
+ghost use Rattle.hpr_syntax.specs.Rows.{expr_in};
+ghost use Rattle.hpr_syntax.specs.Shape.{is_large, left_after};
+ghost use Rattle.hpr_order.specs.Items.{AreSlots, slot_at};
+ghost use Rattle.hpr_order.specs.Limits.{IsWithinLimits, level_in};
+ghost use Rattle.hpr_order.specs.Lifting.{AreLevels};
+ghost use Rattle.hpr_order.specs.Building.{IsSlot};
+
+use crate::item::Item;
+use hpr_graph::{Content, NoMemory};
+use hpr_syntax::Expr;
+use std::alloc::Global;
+
+/// For each item how many items stand around it, where the items are within the limits of programs; else
+/// none.
+pub(crate) fn levels_of(alloc: Global, items: &[Item]) -> Result<Option<Vec<usize>>, NoMemory>
+    requires { AreSlots items.now }
+    ensures limits { IfOk result (λ o. IfSome o (λ _. IsWithinLimits items.now)) }
+    ensures levels { IfOk result (λ o. IfSome o (λ levels. AreLevels items.now levels.items)) }
+    ensures none { IfOk result (λ o. IfNone o (¬ IsWithinLimits items.now)) }
+{
+    if items.len() > 1000 {
+        return Ok(None);
+    }
+    let mut levels = Vec::new(alloc);
+    for item in items {
+        if is_large(expr_in(&item.content)) {
+            return Ok(None);
+        }
+        let Some(level) = level_in(items, 63, item.slot) else {
+            return Ok(None);
+        };
+        levels.push(level)?;
+    }
+    Ok(Some(levels))
+}
+
+/// How many items stand around the slot, if there are at most so many.
+fn level_in(items: &[Item], most: usize, slot: Option<(usize, bool)>) -> Option<usize>
+    requires slots { AreSlots items.now }
+    requires slot { IsSlot (length items.now) slot }
+    ensures level { result ≡ level_in (slot_at items.now) most slot }
+    ensures most { IfSome result (λ d. d ≤ most) }
+{
+    let Some((item, _)) = slot else {
+        return Some(0);
+    };
+    if most == 0 {
+        return None;
+    }
+    Some(level_in(items, most - 1, items[item].slot)? + 1)
+}
+
+/// The expression that a part assigns or tests.
+fn expr_in(content: &Content) -> &Expr
+    ensures { result.now ≡ expr_in content.now }
+{
+    match content {
+        Content::Assign(_, value) => value,
+        Content::If(test) => test,
+        Content::While(test) => test,
+    }
+}
+
+/// Whether an expression has more than 256 operators.
+fn is_large(expr: &Expr) -> bool
+    ensures { result ≡ is_large expr.now }
+{
+    left_after(expr, 256).is_none()
+}
+
+/// How many more operators may follow where so many may stand, if there are no more of them.
+fn left_after(expr: &Expr, most: u32) -> Option<u32>
+    ensures { result ≡ left_after most (operators (term_of expr.now)) }
+{
+    match expr {
+        Expr::Num(_) => Some(most),
+        Expr::Var(_) => Some(most),
+        Expr::Prefix(_, operand) => {
+            if most == 0 {
+                return None;
+            }
+            left_after(operand.expr(), most - 1)
+        }
+        Expr::Infix(_, left, right) => {
+            if most == 0 {
+                return None;
+            }
+            let rest = left_after(left.expr(), most - 1)?;
+            left_after(right.expr(), rest)
+        }
+    }
+}

@@ -1,0 +1,29 @@
+//! The order in which the programs with a graph's parts and control edges are tried, and how the control
+//! edges of a graph make a tree (after Horwitz, Prins and Reps 1989; the order is our profile's).
+#![tactic(auto)]
+
+mod arranged;
+mod arrangements;
+mod blocks;
+mod building;
+mod control;
+mod item;
+mod levels;
+mod lift;
+mod numbers;
+mod ranking;
+mod reached;
+mod reading;
+mod tags;
+mod tree;
+
+pub use arranged::arrange;
+pub use arrangements::Arrangements;
+pub use hpr_graph::{Graph, NoMemory, Tag, Vertex};
+pub use ranking::rank;
+pub use tree::{OrderError, RegionTree, regions};
+
+#[cfg(test)]
+mod arrangement_tests;
+#[cfg(test)]
+mod tests;

@@ -1,0 +1,198 @@
+//! The parts of a graph by their numbers, and as items.
+ghost use Rattle.std.specs.Prelude.{◌≡◌, ℕ, ◌<◌, ◌↔◌, ◌⊎◌, List, true, false, Some, None, All, length, slice_get, Contains, replicate, IfOk, IfSome, IfNone, OnOk, IsTrue, vec_len};
+ghost use Rattle.hpr_terms.specs.declared.tag.Tag.{Tag};
+ghost use Rattle.hpr_syntax.specs.declared.rows.Content.{Content};
+ghost use Rattle.hpr_graph.specs.Graphs.{IsOnce};
+ghost use Rattle.hpr_graph.specs.Answer.{IsPart};
+ghost use Rattle.hpr_graph.specs.Moves.{number_at};
+ghost use Rattle.hpr_graph.specs.declared.vertex.Vertex.TheVariants.{Final};
+ghost use Rattle.hpr_graph.specs.Numbered.{HasVertex, graph_in};
+ghost use Rattle.hpr_graph.specs.InOrder.{Ascends};
+ghost use Rattle.hpr_graph.specs.Order.{name_cmp};
+ghost use Rattle.hpr_order.specs.Regions.{AreRegionsOf};
+ghost use Rattle.hpr_order.specs.Arranging.{IsRanking};
+ghost use Rattle.hpr_order.specs.Items.{AreItems, AreSlots};
+ghost use Rattle.hpr_order.specs.Numbers.{ArePartsOf, AreRanked, AreItemsAt, AreAsked, ArePlaces, IsPartAt, IsItemAt, IsAskedBy, DirectsBy, slot_by};
+
+use crate::RegionTree;
+use crate::item::Item;
+use hpr_graph::{Graph, Link, LinkKind, Name, NoMemory, Vertex};
+use hpr_terms::names::in_order;
+use std::alloc::{AllocError, Global};
+
+/// The numbers of the graph's parts in the order of their rank.
+pub(crate) fn ranked_parts(
+    alloc: Global,
+    graph: &Graph,
+    rank: &[Vertex],
+) -> Result<Vec<usize>, NoMemory>
+    requires { IsRanking (graph_in graph.now) rank.now }
+    ensures parts { IfOk result (λ ns. ArePartsOf graph.now ns.items) }
+    ensures ranked { IfOk result (λ ns. AreRanked graph.now rank.now ns.items) }
+{
+    // no vertex stands twice
+    let _vertices = graph.vertices();
+    let mut numbers = Vec::new(alloc);
+    for vertex in rank {
+        let Some(number) = part_number(graph, vertex) else {
+            continue;
+        };
+        numbers.push(number)?;
+    }
+    Ok(numbers)
+}
+
+/// The number of a part of the graph; none of another vertex.
+fn part_number(graph: &Graph, vertex: &Vertex) -> Option<usize>
+    ensures found { IfSome result (λ n. slice_get graph.now.vertices n ≡ Some vertex.now) }
+    ensures part { IfSome result (λ n. IsPart vertex.now) }
+    ensures none { IfNone result (IsPart vertex.now → ¬ HasVertex graph.now vertex.now) }
+{
+    match vertex {
+        Vertex::Part(_, _) => graph.number_of(vertex),
+        _ => None,
+    }
+}
+
+/// For each number of a vertex, its place among these numbers.
+fn places_of(alloc: Global, count: usize, numbers: &[usize]) -> Result<Vec<Option<usize>>, NoMemory>
+    requires within { All (λ n. n < count) numbers.now }
+    requires once { IsOnce numbers.now }
+    ensures { IfOk result (λ ps. ArePlaces numbers.now ps.items) }
+{
+    let mut places = no_places(alloc, count)?;
+    for (place, number) in numbers.iter().enumerate() {
+        places[*number] = Some(place);
+    }
+    Ok(places)
+}
+
+fn no_places(alloc: Global, count: usize) -> Result<Vec<Option<usize>>, AllocError>
+    ensures { IfOk result (λ ps. ps.items ≡ replicate count None) }
+{
+    vec![in alloc; None; count]
+}
+
+/// The parts with these numbers as items.
+pub(crate) fn items_at(
+    alloc: Global,
+    graph: &Graph,
+    regions: &RegionTree,
+    numbers: &[usize],
+) -> Result<Vec<Item>, NoMemory>
+    requires regions { AreRegionsOf graph.now regions.now }
+    requires numbers { ArePartsOf graph.now numbers.now }
+    ensures items { IfOk result (λ items. AreItems (graph_in graph.now) items.items) }
+    ensures at { IfOk result (λ items. AreItemsAt graph.now numbers.now items.items) }
+    ensures slots { IfOk result (λ items. AreSlots items.items) }
+{
+    let places = places_of(alloc, graph.vertices().len(), numbers)?;
+    let mut items = Vec::new(alloc);
+    for number in numbers {
+        items.push(item_at(alloc, graph, regions, &places, *number)?)?;
+    }
+    Ok(items)
+}
+
+/// The part with this number as an item.
+fn item_at(
+    alloc: Global,
+    graph: &Graph,
+    regions: &RegionTree,
+    places: &[Option<usize>],
+    number: usize,
+) -> Result<Item, NoMemory>
+    requires part { (t : Tag) × (c : Content) × IsPartAt graph.now number t c }
+    requires count { length regions.now ≡ length graph.now.vertices }
+    ensures { IfOk result (λ i. IsItemAt graph.now regions.now places.now number i) }
+{
+    match graph.vertex(number) {
+        Vertex::Part(tag, content) => Ok(Item {
+            tag: *tag,
+            content: content.copy(alloc)?,
+            slot: slot_by(places, regions.parent(number)),
+        }),
+        _ => unreachable!(),
+    }
+}
+
+/// Where a vertex stands whose control edge comes from there.
+fn slot_by(places: &[Option<usize>], parent: Option<(usize, bool)>) -> Option<(usize, bool)>
+    ensures { result ≡ slot_by places.now parent }
+{
+    let (from, label) = parent?;
+    let place = number_at(places, from)?;
+    Some((place, label))
+}
+
+fn number_at(places: &[Option<usize>], number: usize) -> Option<usize>
+    ensures { result ≡ number_at places.now number }
+{
+    *places.get(number)?
+}
+
+/// The names of the graph's Final vertices in ascending order.
+pub(crate) fn final_names(alloc: Global, graph: &Graph) -> Result<Vec<Name>, NoMemory>
+    ensures names { IfOk result (λ xs. (x : List ℕ) → Contains xs.items x ↔ (graph_in graph.now).vertex (Final x)) }
+    ensures ascending { IfOk result (λ xs. Ascends name_cmp xs.items) }
+{
+    let mut names = Vec::new(alloc);
+    for vertex in graph.vertices() {
+        let Vertex::Final(name) = vertex else {
+            continue;
+        };
+        names.push(name.copy(alloc)?)?;
+    }
+    in_order(names)
+}
+
+/// Whether an edge between two parts has its source to the left of its target.
+fn directs(kind: LinkKind) -> bool
+    ensures { IsTrue result ↔ DirectsBy kind }
+{
+    match kind {
+        LinkKind::Independent => true,
+        LinkKind::Order(_) => true,
+        _ => false,
+    }
+}
+
+/// The pairs of items of which the first must stand to the left of the second.
+pub(crate) fn asked_pairs(
+    alloc: Global,
+    graph: &Graph,
+    numbers: &[usize],
+    items: &[Item],
+) -> Result<Vec<(usize, usize)>, NoMemory>
+    requires numbers { ArePartsOf graph.now numbers.now }
+    requires items { AreItemsAt graph.now numbers.now items.now }
+    ensures { IfOk result (λ pairs. AreAsked (graph_in graph.now) items.now pairs.items) }
+{
+    let places = places_of(alloc, graph.vertices().len(), numbers)?;
+    let mut pairs = Vec::new(alloc);
+    for (place, number) in numbers.iter().enumerate() {
+        add_pairs(&places, graph.edges_into(*number), place, &mut pairs)?;
+    }
+    Ok(pairs)
+}
+
+/// Adds the pairs of the edges into one item.
+fn add_pairs(
+    places: &[Option<usize>],
+    links: &[Link],
+    item: usize,
+    pairs: &mut Vec<(usize, usize)>,
+) -> Result<(), NoMemory>
+    ensures { OnOk result ((s t : ℕ) → Contains pairs.new.items (s, t) ↔ (Contains pairs.old.items (s, t) ⊎ ((t ≡ item) × IsAskedBy places.now links.now s))) }
+{
+    for link in links {
+        if !directs(link.kind) {
+            continue;
+        }
+        let Some(source) = number_at(places, link.from) else {
+            continue;
+        };
+        pairs.push((source, item))?;
+    }
+    Ok(())
+}

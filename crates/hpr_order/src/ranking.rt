@@ -1,0 +1,112 @@
+//! The rank of the parts of three programs.
+ghost use Rattle.std.specs.Prelude.{◌≡◌, ◌↔◌, ◌<◌, Some, IfSome, IfOk, OnOk, IsNone, IsTrue, Contains, slice_get};
+ghost use Rattle.std.specs.Option.{option_copied};
+ghost use Rattle.hpr_graph.specs.Rank.{parts_of, IsAddedAt, IsPutIn, IsJoined, IsRankOf, IsRank};
+
+use hpr_graph::{NoMemory, Vertex, same_vertex};
+use hpr_syntax::Program;
+use std::alloc::Global;
+
+/// The parts of three programs in the order of their rank: A's parts in preorder, then those of B that
+/// aren't listed, from B's end on each right before the one that follows it in B's preorder, or at the
+/// end; then so those of the base. Where A is the base, A and B change places. Each part comes once: a
+/// part whose content changed under a kept tag is another one.
+///
+/// Looks at each listed part once for each part of B and the base (our profile).
+pub fn rank(
+    alloc: Global,
+    a: &Program,
+    b: &Program,
+    base: &Program,
+) -> Result<Vec<Vertex>, NoMemory>
+    ensures { IfOk result (λ v. IsRank a.now b.now base.now v.items) }
+{
+    if a.is_same(base) {
+        rank_of(alloc, b, a, base)
+    } else {
+        rank_of(alloc, a, b, base)
+    }
+}
+
+/// The first program's parts in preorder, with those of the two others put in.
+fn rank_of(
+    alloc: Global,
+    first: &Program,
+    second: &Program,
+    base: &Program,
+) -> Result<Vec<Vertex>, NoMemory>
+    ensures { IfOk result (λ v. IsRankOf first.now second.now base.now v.items) }
+{
+    let mut list = parts(alloc, first)?;
+    join(alloc, &mut list, &parts(alloc, second)?)?;
+    join(alloc, &mut list, &parts(alloc, base)?)?;
+    Ok(list)
+}
+
+/// The parts of a program in preorder.
+fn parts(alloc: Global, program: &Program) -> Result<Vec<Vertex>, NoMemory>
+    ensures { IfOk result (λ v. v.items ≡ parts_of program.now) }
+{
+    let mut parts = Vec::new(alloc);
+    for row in &program.preorder(alloc)? {
+        parts.push(Vertex::Part(row.tag, row.content.copy(alloc)?))?;
+    }
+    Ok(parts)
+}
+
+/// Puts in what the list lacks of these parts, from their end on.
+fn join(alloc: Global, list: &mut Vec<Vertex>, parts: &[Vertex]) -> Result<(), NoMemory>
+    ensures { OnOk result (IsJoined parts.now list.old.items list.new.items) }
+{
+    let mut at = parts.len();
+    while at > 0 {
+        at -= 1;
+        put_in(alloc, list, &parts[at], parts.get(at + 1))?;
+    }
+    Ok(())
+}
+
+/// Puts the vertex right before the next one, or at the end where there is none; one that is listed
+/// stays where it is.
+fn put_in(
+    alloc: Global,
+    list: &mut Vec<Vertex>,
+    vertex: &Vertex,
+    next: Option<&Vertex>,
+) -> Result<(), NoMemory>
+    requires { IfSome next (λ n. Contains list.old.items n.now) }
+    ensures { OnOk result (IsPutIn vertex.now (option_copied next.entry) list.old.items list.new.items) }
+{
+    if place_of(list, vertex).is_some() {
+        return Ok(());
+    }
+    let copy = vertex.copy(alloc)?;
+    match next {
+        Some(next) => put_before(list, copy, next),
+        None => Ok(list.push(copy)?),
+    }
+}
+
+/// Puts the vertex right before the next one, which is listed.
+fn put_before(list: &mut Vec<Vertex>, vertex: Vertex, next: &Vertex) -> Result<(), NoMemory>
+    requires { Contains list.old.items next.now }
+    ensures { OnOk result (IsAddedAt vertex (Some next.now) list.old.items list.new.items) }
+{
+    if let Some(at) = place_of(list, next) {
+        list.insert(at, vertex)?;
+    }
+    Ok(())
+}
+
+/// Where the vertex stands in the list, if it does. Tags are compared first.
+fn place_of(list: &[Vertex], vertex: &Vertex) -> Option<usize>
+    ensures found { IfSome result (λ n. slice_get list.now n ≡ Some vertex.now) }
+    ensures stranger { IsNone result ↔ (¬ Contains list.now vertex.now) }
+{
+    for (at, one) in list.iter().enumerate() {
+        if same_vertex(one, vertex) {
+            return Some(at);
+        }
+    }
+    None
+}
