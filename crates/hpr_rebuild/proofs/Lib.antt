@@ -1,0 +1,12 @@
+mod Names
+pub mod Parts
+pub mod Alike
+pub mod Member
+pub mod Counted
+pub mod First
+mod Tried
+mod Fitting
+pub mod Regular
+pub mod Sames
+mod Amongst
+pub mod Unchanged

@@ -1,0 +1,187 @@
+-- The parts of a program as vertices: they are what its parts say, each once.
+use Rattle.std.proofs.Common.{◌≡◌, ◌≤◌, ℕ, ◌+◌, ◌==◌, ◌||◌, true, false, nat_lt, inl, inr, Option, Some, None, List, [], ◌∷◌, ◌++◌, map, length, rules, Contains, slice_get, refl, sym, ap, ap₂, ◌∙◌, subst, arith, append_assoc}
+use Rattle.std.proofs.lemmas.List.{map-append, length-map}
+use Rattle.std.proofs.lemmas.List.Elements.{Contains-append_left, Contains-append_right, Contains-append_cases}
+use Rattle.hpr_terms.specs.declared.tag.Tag.{Tag}
+use Rattle.hpr_syntax.specs.declared.rows.Row.{Row}
+use Rattle.hpr_syntax.specs.declared.rows.Content.{Content}
+use Rattle.hpr_syntax.specs.declared.rows.Content.TheVariants.{Assign, If, While}
+use Rattle.hpr_syntax.specs.Body.{Body, done, assign, branch, loop, part_count}
+use Rattle.hpr_syntax.specs.Issued.{Issued, issued_to}
+use Rattle.hpr_syntax.specs.Nests.{Says}
+use Rattle.hpr_syntax.specs.Parts.{tags_of, same_tag}
+use Rattle.hpr_syntax.specs.Rows.{Parent, rows_of}
+use Rattle.hpr_syntax.specs.Shape.{IsProgram, first_repeated, is_unissued, first_unissued}
+use Rattle.hpr_syntax.specs.Tree.{Tree}
+use Rattle.hpr_syntax.proofs.NoRefusal.{no_refusal}
+use Rattle.hpr_syntax.proofs.Repeats.{places_once}
+use Rattle.hpr_syntax.proofs.ShapeLemmas.{count_tags, tags_append}
+use Rattle.hpr_graph.specs.declared.vertex.Vertex.{Vertex}
+use Rattle.hpr_graph.specs.declared.vertex.Vertex.TheVariants.{Entry, Init, Part, Final}
+use Rattle.hpr_graph.specs.Rank.{parts_of}
+use Rattle.hpr_graph.proofs.Lists.{place_of, in_none, in_cons, in_here, in_later}
+use Rattle.hpr_build.proofs.Once.{item_of_map, map_of_item}
+use Rattle.hpr_rebuild.proofs.Names.{unless}
+
+abbrev vertex_of : Row → Vertex
+vertex_of row = Part row.tag row.content
+
+-- the parts of a block as vertices
+abbrev parts_in : Body → List Vertex
+parts_in done = []
+parts_in (assign t x e rest) = Part t (Assign x e) ∷ parts_in rest
+parts_in (branch t e a b rest) = Part t (If e) ∷ (parts_in a ++ (parts_in b ++ parts_in rest))
+parts_in (loop t e b rest) = Part t (While e) ∷ (parts_in b ++ parts_in rest)
+
+rows_parts : (p : Parent) (i : ℕ) (b : Body) → map vertex_of (rows_of p i b) ≡ parts_in b
+rows_parts p i done = refl
+rows_parts p i (assign t x e rest) = ap (λ (r : List Vertex). Part t (Assign x e) ∷ r) (rows_parts p (i + 1) rest)
+rows_parts p i (branch t e a b rest) =
+    let ra : List Row = rows_of (Some (t, true)) 0 a in
+    let rb : List Row = rows_of (Some (t, false)) 0 b in
+    let rc : List Row = rows_of p (i + 1) rest in
+    ap (λ (r : List Vertex). Part t (If e) ∷ r)
+    (map-append vertex_of (ra ++ rb) rc
+    ∙ ap₂ (λ (r s : List Vertex). r ++ s)
+    (map-append vertex_of ra rb ∙ ap₂ (λ (r s : List Vertex). r ++ s) (rows_parts (Some (t, true)) 0 a) (rows_parts (Some (t, false)) 0 b))
+    (rows_parts p (i + 1) rest)
+    ∙ append_assoc (parts_in a) (parts_in b) (parts_in rest))
+rows_parts p i (loop t e b rest) =
+    let rb : List Row = rows_of (Some (t, true)) 0 b in
+    let rc : List Row = rows_of p (i + 1) rest in
+    ap (λ (r : List Vertex). Part t (While e) ∷ r)
+    (map-append vertex_of rb rc ∙ ap₂ (λ (r s : List Vertex). r ++ s) (rows_parts (Some (t, true)) 0 b) (rows_parts p (i + 1) rest))
+
+-- a part is what a part of the program says
+abbrev SaysIn : Body → Vertex → Type 0
+SaysIn b v = (t : Tag) × (c : Content) × (v ≡ Part t c) × Says b t c
+
+says_of : (b : Body) (v : Vertex) → Contains (parts_in b) v → SaysIn b v
+says_of done v h = absurd (in_none v h)
+says_of (assign t x e rest) v h = elim (in_cons (Part t (Assign x e)) v (parts_in rest) h) [
+  | inl same ↦ (t, Assign x e, sym same, inl (refl, refl))
+  | inr later ↦ (let (u, c, is, says) = says_of rest v later in (u, c, is, inr says))
+]
+says_of (branch t e a b rest) v h = elim (in_cons (Part t (If e)) v (parts_in a ++ (parts_in b ++ parts_in rest)) h) [
+  | inl same ↦ (t, If e, sym same, inl (refl, refl))
+  | inr later ↦ (elim (Contains-append_cases (parts_in a) (parts_in b ++ parts_in rest) v later) [
+    | inl in_a ↦ (let (u, c, is, says) = says_of a v in_a in (u, c, is, inr (inl says)))
+    | inr more ↦ (elim (Contains-append_cases (parts_in b) (parts_in rest) v more) [
+      | inl in_b ↦ (let (u, c, is, says) = says_of b v in_b in (u, c, is, inr (inr (inl says))))
+      | inr last ↦ (let (u, c, is, says) = says_of rest v last in (u, c, is, inr (inr (inr says))))
+    ])
+  ])
+]
+says_of (loop t e b rest) v h = elim (in_cons (Part t (While e)) v (parts_in b ++ parts_in rest) h) [
+  | inl same ↦ (t, While e, sym same, inl (refl, refl))
+  | inr later ↦ (elim (Contains-append_cases (parts_in b) (parts_in rest) v later) [
+    | inl in_b ↦ (let (u, c, is, says) = says_of b v in_b in (u, c, is, inr (inl says)))
+    | inr last ↦ (let (u, c, is, says) = says_of rest v last in (u, c, is, inr (inr says)))
+  ])
+]
+
+here : (v : Tag) (t : Tag) (c d : Content) (rest : List Vertex) → v ≡ t → c ≡ d → Contains (Part t d ∷ rest) (Part v c)
+here v t c d rest e f = subst (λ (w : Vertex). Contains (Part t d ∷ rest) w) (sym (ap₂ (λ (u : Tag) (k : Content). Part u k) e f)) (in_here (Part t d) rest)
+
+of_says : (b : Body) (v : Tag) (c : Content) → Says b v c → Contains (parts_in b) (Part v c)
+of_says done v c h = absurd h
+of_says (assign t x e rest) v c (inl (same, is)) = here v t c (Assign x e) (parts_in rest) same is
+of_says (assign t x e rest) v c (inr h) = in_later (Part t (Assign x e)) (Part v c) (parts_in rest) (of_says rest v c h)
+of_says (branch t e a b rest) v c (inl (same, is)) = here v t c (If e) (parts_in a ++ (parts_in b ++ parts_in rest)) same is
+of_says (branch t e a b rest) v c (inr h) =
+    in_later (Part t (If e)) (Part v c) (parts_in a ++ (parts_in b ++ parts_in rest)) (elim h [
+      | inl x ↦ Contains-append_left (parts_in a) (parts_in b ++ parts_in rest) (Part v c) (of_says a v c x)
+      | inr k ↦ Contains-append_right (parts_in a) (parts_in b ++ parts_in rest) (Part v c) (elim k [
+        | inl x ↦ Contains-append_left (parts_in b) (parts_in rest) (Part v c) (of_says b v c x)
+        | inr x ↦ Contains-append_right (parts_in b) (parts_in rest) (Part v c) (of_says rest v c x)
+      ])
+    ])
+of_says (loop t e b rest) v c (inl (same, is)) = here v t c (While e) (parts_in b ++ parts_in rest) same is
+of_says (loop t e b rest) v c (inr h) =
+    in_later (Part t (While e)) (Part v c) (parts_in b ++ parts_in rest) (elim h [
+      | inl x ↦ Contains-append_left (parts_in b) (parts_in rest) (Part v c) (of_says b v c x)
+      | inr x ↦ Contains-append_right (parts_in b) (parts_in rest) (Part v c) (of_says rest v c x)
+    ])
+
+pub part_says : (p : Tree) (v : Vertex) → Contains (parts_of p) v → SaysIn p.body v
+part_says p v h = says_of p.body v (subst (λ (vs : List Vertex). Contains vs v) (rows_parts None 0 p.body) h)
+
+pub says_part : (p : Tree) (t : Tag) (c : Content) → Says p.body t c → Contains (parts_of p) (Part t c)
+says_part p t c h = subst (λ (vs : List Vertex). Contains vs (Part t c)) (sym (rows_parts None 0 p.body)) (of_says p.body t c h)
+
+-- the tags of the parts
+abbrev tag_in : Vertex → Option Tag
+tag_in Entry = None
+tag_in (Init x) = None
+tag_in (Part t c) = Some t
+tag_in (Final x) = None
+
+abbrev some_tags : List Tag → List (Option Tag)
+some_tags ts = map (λ (t : Tag). Some t) ts
+
+tags_in : (b : Body) → map tag_in (parts_in b) ≡ some_tags (tags_of b [])
+tags_in done = refl
+tags_in (assign t x e rest) = ap (λ (r : List (Option Tag)). Some t ∷ r) (tags_in rest)
+tags_in (branch t e a b rest) =
+    let tb : List Tag = tags_of b [] in
+    let tc : List Tag = tags_of rest [] in
+    let right : map tag_in (parts_in b ++ parts_in rest) ≡ some_tags (tags_of b tc) =
+    map-append tag_in (parts_in b) (parts_in rest) ∙ ap₂ (λ (r s : List (Option Tag)). r ++ s) (tags_in b) (tags_in rest)
+    ∙ sym (map-append (λ (t : Tag). Some t) tb tc) ∙ sym (ap some_tags (tags_append b [] tc)) in
+    ap (λ (r : List (Option Tag)). Some t ∷ r)
+    (map-append tag_in (parts_in a) (parts_in b ++ parts_in rest) ∙ ap₂ (λ (r s : List (Option Tag)). r ++ s) (tags_in a) right
+    ∙ sym (map-append (λ (t : Tag). Some t) (tags_of a []) (tags_of b tc)) ∙ sym (ap some_tags (tags_append a [] (tags_of b tc))))
+tags_in (loop t e b rest) =
+    let tc : List Tag = tags_of rest [] in
+    ap (λ (r : List (Option Tag)). Some t ∷ r)
+    (map-append tag_in (parts_in b) (parts_in rest) ∙ ap₂ (λ (r s : List (Option Tag)). r ++ s) (tags_in b) (tags_in rest)
+    ∙ sym (map-append (λ (t : Tag). Some t) (tags_of b []) tc) ∙ sym (ap some_tags (tags_append b [] tc)))
+
+tag_place : (b : Body) (i : ℕ) (t : Tag) (c : Content) → slice_get (parts_in b) i ≡ Some (Part t c) → slice_get (tags_of b []) i ≡ Some t
+tag_place b i t c h =
+    let at : slice_get (some_tags (tags_of b [])) i ≡ Some (Some t) =
+    subst (λ (ts : List (Option Tag)). slice_get ts i ≡ Some (Some t)) (tags_in b) (map_of_item tag_in (parts_in b) i (Part t c) h) in
+    let (u, there, is) = item_of_map (λ (t : Tag). Some t) (tags_of b []) i (Some t) at in
+    there ∙ is
+
+tag_same : (t : Tag) → same_tag t t ≡ true
+tag_same t = search rules
+
+-- a part says one thing
+pub says_once : (p : Tree) → IsProgram p → (t : Tag) (c d : Content) → Says p.body t c → Says p.body t d → c ≡ d
+says_once p prog t c d h k =
+    let (i, at_i) = place_of (parts_in p.body) (Part t c) (of_says p.body t c h) in
+    let (j, at_j) = place_of (parts_in p.body) (Part t d) (of_says p.body t d k) in
+    let none : first_repeated same_tag [] (tags_of p.body []) ≡ None = (no_refusal p prog.shape).tags in
+    let same : i ≡ j = places_once same_tag tag_same [] (tags_of p.body []) i j t none (tag_place p.body i t c at_i) (tag_place p.body j t d at_j) in
+    let vertex : Some (Part t c) ≡ Some (Part t d) = sym at_i ∙ ap (λ (n : ℕ). slice_get (parts_in p.body) n) same ∙ at_j in
+    cc
+
+-- as many parts as the program has
+pub parts_count : (p : Tree) → length (parts_of p) ≡ part_count p.body
+parts_count p =
+    ap (λ (vs : List Vertex). length vs) (rows_parts None 0 p.body) ∙ sym (length-map (parts_in p.body) tag_in)
+    ∙ ap (λ (ts : List (Option Tag)). length ts) (tags_in p.body) ∙ length-map (tags_of p.body []) (λ (t : Tag). Some t) ∙ count_tags p.body
+
+-- where each part's tag was issued, none is found that wasn't
+pub issued_all : (issued : Issued) (b : Body) (after : List Tag) → ((t : Tag) (c : Content) → Says b t c → is_unissued issued t ≡ false)
+    → first_unissued issued after ≡ None → first_unissued issued (tags_of b after) ≡ None
+issued_all issued done after all none = none
+issued_all issued (assign t x e rest) after all none =
+    unless (is_unissued issued t) t (first_unissued issued (tags_of rest after)) (all t (Assign x e) (inl (refl, refl)))
+    (issued_all issued rest after (λ u c h. all u c (inr h)) none)
+issued_all issued (branch t e a b rest) after all none =
+    unless (is_unissued issued t) t (first_unissued issued (tags_of a (tags_of b (tags_of rest after)))) (all t (If e) (inl (refl, refl)))
+    (issued_all issued a (tags_of b (tags_of rest after)) (λ u c h. all u c (inr (inl h)))
+    (issued_all issued b (tags_of rest after) (λ u c h. all u c (inr (inr (inl h))))
+    (issued_all issued rest after (λ u c h. all u c (inr (inr (inr h)))) none)))
+issued_all issued (loop t e b rest) after all none =
+    unless (is_unissued issued t) t (first_unissued issued (tags_of b (tags_of rest after))) (all t (While e) (inl (refl, refl)))
+    (issued_all issued b (tags_of rest after) (λ u c h. all u c (inr (inl h)))
+    (issued_all issued rest after (λ u c h. all u c (inr (inr h))) none))
+
+pub was_issued : (issued : Issued) (t : Tag) → 1 ≤ t.serial → t.serial ≤ issued_to t.author issued → is_unissued issued t ≡ false
+was_issued issued t low high = at t.serial (issued_to t.author issued) low high
+  where
+    at : (s n : ℕ) → 1 ≤ s → s ≤ n → ((s == 0) || nat_lt n s) ≡ false
+    at s n l h = grind arith

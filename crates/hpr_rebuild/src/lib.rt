@@ -1,0 +1,18 @@
+//! The program that has a graph, if there is one: the arrangements of the graph are tried in their
+//! order (Horwitz, Prins and Reps 1989 for the graphs; the order and the budget of tries are our
+//! profile's).
+#![tactic(auto)]
+
+mod count;
+mod error;
+pub mod laws;
+mod search;
+
+pub use count::part_count;
+pub use error::RebuildError;
+pub use hpr_graph::{Graph, Vertex};
+pub use hpr_syntax::{Issued, Program};
+pub use search::rebuild;
+
+#[cfg(test)]
+mod tests;
