@@ -58,6 +58,7 @@ fn integrate_programs(
             Err(refuse_graph(alloc, file))
         }
         Err(hpr_engine::Stop::Interference(conflicts)) => interference(alloc, &conflicts),
+        Err(hpr_engine::Stop::NoProgram(_) | hpr_engine::Stop::Spent) => unreachable!(),
         Err(hpr_engine::Stop::Memory) => Err(Stop::Memory),
     }
 }

@@ -1,5 +1,5 @@
 -- The graphs that were made are those of the programs.
-use Rattle.std.proofs.Common.{◌≡◌, ◌⊎◌, inl, inr, List, [], subst}
+use Rattle.std.proofs.Common.{◌≡◌, inl, inr, List, [], subst}
 use Rattle.hpr_syntax.specs.Shape.{IsProgram}
 use Rattle.hpr_syntax.specs.Tree.{Tree}
 use Rattle.hpr_graph.specs.declared.conflict.Conflict.{Conflict}
@@ -10,9 +10,9 @@ use Rattle.hpr_graph.specs.Graphs.{Graph, Same}
 use Rattle.hpr_graph.specs.Numbered.{Numbered, IsNumbered, graph_in}
 use Rattle.hpr_graph.specs.Points.{IsAffected, merged}
 use Rattle.hpr_graph.specs.ProgramGraph.{graph_of}
-use Rattle.hpr_graph.specs.Slices.{LeadsTo, slice_at}
-use Rattle.hpr_graph.specs.Answer.{IsWithoutConflict, merged_of}
-use Rattle.hpr_graph.specs.Conflicts.{graph_on, IsAdded, IsLeast, IsConflict, AreConflicts}
+use Rattle.hpr_graph.specs.Slices.{slice_at}
+use Rattle.hpr_graph.specs.Answer.{merged_of}
+use Rattle.hpr_graph.specs.Conflicts.{graph_on, IsAdded, IsLeast, AreConflicts}
 use Rattle.hpr_graph.proofs.EdgeList.{edges_counted}
 use Rattle.hpr_graph.proofs.Lists.{in_none}
 use Rattle.hpr_graph.proofs.Laws.{affected_same, leads_within, merged_same, same_turned, same_then, within_from_same}

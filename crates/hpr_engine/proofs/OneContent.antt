@@ -1,13 +1,12 @@
 -- In a program each tag says one content.
-use Rattle.std.proofs.Common.{◌≡◌, ℕ, Some, refl, sym, ap, ◌∙◌, subst}
+use Rattle.std.proofs.Common.{◌≡◌, ℕ, Some, refl, sym, ◌∙◌, subst}
 use Rattle.std.proofs.lemmas.Option.{same_Some}
 use Rattle.hpr_terms.specs.declared.tag.Tag.{Tag}
 use Rattle.hpr_syntax.specs.declared.rows.Content.{Content}
-use Rattle.hpr_syntax.specs.Nests.{Says}
 use Rattle.hpr_syntax.specs.Shape.{IsProgram}
 use Rattle.hpr_syntax.specs.Skeleton.{at}
 use Rattle.hpr_syntax.specs.Tree.{Tree}
-use Rattle.hpr_paths.specs.Spots.{Role, part, role_at}
+use Rattle.hpr_paths.specs.Spots.{part, role_at}
 use Rattle.hpr_paths.specs.Successors.{spots}
 use Rattle.hpr_paths.proofs.Nested.{number_of_says}
 use Rattle.hpr_paths.proofs.Tags.{number_once}

@@ -1,8 +1,7 @@
 -- A variant that is the base interferes with no other.
-use Rattle.std.proofs.Common.{◌≡◌, ℕ, ◌⊎◌, inl, inr, List, [], ◌∷◌, refl, sym, subst}
+use Rattle.std.proofs.Common.{◌≡◌, ℕ, inl, inr, List, ◌∷◌, refl, sym, subst}
 use Rattle.hpr_syntax.specs.Shape.{IsProgram}
 use Rattle.hpr_syntax.specs.Tree.{Tree}
-use Rattle.hpr_graph.specs.declared.conflict.Side.{Side}
 use Rattle.hpr_graph.specs.declared.conflict.Side.TheVariants.{A, B}
 use Rattle.hpr_graph.specs.declared.vertex.Vertex.{Vertex}
 use Rattle.hpr_graph.specs.declared.edge.Kind.{Kind}
@@ -22,18 +21,18 @@ use Rattle.hpr_engine.specs.Merging.{KeepsSlices}
 use Rattle.hpr_engine.proofs.OneContent.{says_once}
 
 -- both ends of an order edge lead to its shared use
-abbrev HasUses : Graph → Type 0
+abbrev pub HasUses : Graph → Type 0
 HasUses g = (e : Edge) (u : Vertex) → g.edge e → e.kind ≡ kind.Order u
     → ((f : Edge) × g.edge f × Leads f.kind × (f.from ≡ e.from) × (f.to ≡ u)) × ((f : Edge) × g.edge f × Leads f.kind × (f.from ≡ e.to) × (f.to ≡ u))
 
-abbrev LeadsRight : Graph → Vertex → Vertex → Type 0
+abbrev pub LeadsRight : Graph → Vertex → Vertex → Type 0
 LeadsRight g from to = (f : Edge) × g.edge f × Leads f.kind × (f.from ≡ from) × (f.to ≡ to)
 
 flow_leads : (t : Tree) (x : List ℕ) (from to : Vertex) → HasFlow t x from to → LeadsRight (graph_of t) from to
 flow_leads t x from to (inl independent) = (record { to = to; from = from; kind = kind.Independent x }, independent, tt, refl, refl)
 flow_leads t x from to (inr (w, carried)) = (record { to = to; from = from; kind = kind.Carried x w }, carried, tt, refl, refl)
 
-program_uses : (t : Tree) → HasUses (graph_of t)
+pub program_uses : (t : Tree) → HasUses (graph_of t)
 program_uses t e u has is =
     let (x, a, b, defines, defines_too, flow, flow_too, left, together) = subst (λ (k : Kind). IsEdgeBy t k e.from e.to) is has in
     (flow_leads t x e.from u flow, flow_leads t x e.to u flow_too)
@@ -105,19 +104,19 @@ module _ (base other : Tree) (is : IsProgram base) (is_too : IsProgram other) wh
   abbrev H : Graph
   H = graph_of other
 
-  loops_of : HasLoops G
+  pub loops_of : HasLoops G
   loops_of = program_loops base (says_once base is)
 
-  other_loops : HasLoops H
+  pub other_loops : HasLoops H
   other_loops = program_loops other (says_once other is_too)
 
-  b_within : IsWithin (merged G H G) H
+  pub b_within : IsWithin (merged G H G) H
   b_within =
       union_within (union_of (slice_of H (IsAffected H G)) (slice_of G (IsAffected G G))) (slice_of G (IsPreserved G H G)) H
       (union_within (slice_of H (IsAffected H G)) (slice_of G (IsAffected G G)) H (slice_within H (IsAffected H G)) (none_within G H))
       (shared_within G H loops_of (program_uses base) (IsPreserved G H G) (λ v p. p.2))
 
-  a_within : IsWithin (merged G G H) H
+  pub a_within : IsWithin (merged G G H) H
   a_within =
       union_within (union_of (slice_of G (IsAffected G G)) (slice_of H (IsAffected H G))) (slice_of G (IsPreserved G G H)) H
       (union_within (slice_of G (IsAffected G G)) (slice_of H (IsAffected H G)) H (none_within G H) (slice_within H (IsAffected H G)))

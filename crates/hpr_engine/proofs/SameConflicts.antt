@@ -1,5 +1,5 @@
 -- Graphs that are the same have the same conflicts.
-use Rattle.std.proofs.Common.{◌≡◌, ℕ, ◌↔◌, List, Contains}
+use Rattle.std.proofs.Common.{List}
 use Rattle.hpr_graph.specs.declared.conflict.Conflict.{Conflict}
 use Rattle.hpr_graph.specs.declared.conflict.Side.{Side}
 use Rattle.hpr_graph.specs.declared.conflict.Side.TheVariants.{A, B}

@@ -1,3 +1,4 @@
 pub mod Limit
 pub mod Merging
 pub mod Answers
+pub mod Counting

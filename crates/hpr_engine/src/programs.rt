@@ -1,5 +1,5 @@
 //! Three programs merged.
-ghost use Rattle.std.specs.Prelude.{◌≡◌, ◌≢◌, [], IfOk};
+ghost use Rattle.std.specs.Prelude.{◌≡◌, ◌≢◌, [], IfOk, IfErr};
 ghost use Rattle.hpr_syntax.specs.Shape.{IsProgram};
 ghost use Rattle.hpr_graph.specs.Answer.{IsWithoutConflict, merged_of};
 ghost use Rattle.hpr_graph.specs.Conflicts.{AreConflicts};
@@ -8,7 +8,7 @@ ghost use Rattle.hpr_graph.specs.Numbered.{graph_in};
 ghost use Rattle.hpr_graph.specs.ProgramGraph.{graph_of};
 ghost use Rattle.hpr_engine.specs.Limit.{AreInLimit, HasTooManyEdges};
 ghost use Rattle.hpr_engine.specs.Merging.{KeepsSlices};
-ghost use Rattle.hpr_engine.specs.Answers.{IfInterference, IfTooManyEdges, IsFirstTooLarge};
+ghost use Rattle.hpr_engine.specs.Answers.{IfInterference, IfJudged, IfTooManyEdges, IsFirstTooLarge, IsUnsearched};
 
 use crate::stop::{Stop, Which};
 use hpr_build::{BuildError, graph_of};
@@ -36,11 +36,11 @@ pub fn merge_programs(
     ensures graph { IfOk result (λ g. Same (graph_in g) (merged_of base.now a.now b.now)) }
     ensures no_conflict { IfOk result (λ _. IsWithoutConflict base.now a.now b.now) }
     ensures kept { IfOk result (λ _. KeepsSlices base.now a.now b.now) }
-    ensures within { IfOk result (λ _. AreInLimit base.now a.now b.now) }
+    ensures within { IfJudged result (AreInLimit base.now a.now b.now) }
     ensures too_many { IfTooManyEdges result (λ which. IsFirstTooLarge base.now a.now b.now which) }
     ensures conflicts { IfInterference result (λ cs. AreConflicts (graph_of base.now) (graph_of a.now) (graph_of b.now) cs) }
     ensures interferes { IfInterference result (λ cs. cs ≢ []) }
-    ensures interferes_within { IfInterference result (λ _. AreInLimit base.now a.now b.now) }
+    ensures unsearched { IfErr result IsUnsearched }
 {
     let base_graph = limited_graph(alloc, base, Which::Base)?;
     let a_graph = limited_graph(alloc, a, Which::A)?;
@@ -61,6 +61,7 @@ fn limited_graph(alloc: Global, program: &Program, which: Which) -> Result<Graph
     ensures within { IfOk result (λ _. ¬ HasTooManyEdges program.now) }
     ensures too_many { IfTooManyEdges result (λ named. (named ≡ which) × HasTooManyEdges program.now) }
     ensures no_interference { IfInterference result (λ _. ⊥) }
+    ensures unsearched { IfErr result IsUnsearched }
 {
     let _body = program.body();
     match graph_of(alloc, program, MOST_EDGES) {

@@ -17,6 +17,10 @@ pub enum Stop {
     TooManyEdges(Which),
     /// The variants interfere: these are all conflicts.
     Interference(Vec<Conflict>),
+    /// No program has the merged graph, which has so many parts.
+    NoProgram(usize),
+    /// There are more arrangements than tries, and none of those tried has the merged graph.
+    Spent,
     /// Memory ran out.
     Memory,
 }

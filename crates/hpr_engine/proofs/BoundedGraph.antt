@@ -1,0 +1,201 @@
+-- The graph of a program lies within bounds.
+use Rattle.std.proofs.Common.{◌≡◌, ℕ, Bool, true, false, inl, inr, ◌⊎◌, Some, None, List, [], ◌∷◌, ◌++◌, Contains, refl, sym, ap, subst}
+use Rattle.hpr_terms.specs.declared.tag.Tag.{Tag}
+use Rattle.hpr_terms.specs.TermOf.{term_of}
+use Rattle.hpr_terms.specs.Uses.{Uses}
+use Rattle.hpr_syntax.specs.declared.rows.Content.{Content}
+use Rattle.hpr_syntax.specs.Initial.{UsedBy}
+use Rattle.hpr_syntax.specs.Body.{Body, done, assign, branch, loop}
+use Rattle.hpr_syntax.specs.Nests.{Standing, StandsAs, Says}
+use Rattle.hpr_syntax.specs.Rows.{Parent, expr_in}
+use Rattle.hpr_syntax.specs.Skeleton.{Point, enter, at, exit}
+use Rattle.hpr_syntax.specs.Tree.{Tree}
+use Rattle.hpr_graph.specs.declared.vertex.Vertex.{Vertex}
+use Rattle.hpr_graph.specs.declared.vertex.Vertex.TheVariants.{Entry, Init, Part, Final}
+use Rattle.hpr_graph.specs.declared.edge.Kind.{Kind}
+use Rattle.hpr_graph.specs.declared.edge.Kind.TheVariants.{Control, Independent, Carried, Order}
+use Rattle.hpr_graph.specs.declared.edge.Edge.{Edge}
+use Rattle.hpr_graph.specs.ProgramGraph.{Defines, Reads, IsTop, HasFlow, IsVertexOf, IsEdgeBy, IsEdgeOf}
+use Rattle.hpr_graph.specs.Rank.{parts_of}
+use Rattle.hpr_rebuild.proofs.Parts.{says_part}
+use Rattle.hpr_engine.proofs.Bounded.{Bounded, of_none, of_one, of_within, of_either, of_list, of_each, of_term}
+
+-- what stands so says so
+stands_says : (b : Body) (nest : List Tag) (up : Parent) (v : Tag) (s : Standing) → StandsAs nest up b v s → Says b v s.content
+stands_says done nest up v s h = absurd h
+stands_says (assign t x e rest) nest up v s (inl (tag, is)) = inl (tag, ap (λ (r : Standing). r.content) is)
+stands_says (assign t x e rest) nest up v s (inr later) = inr (stands_says rest nest up v s later)
+stands_says (branch t e a b rest) nest up v s (inl (tag, is)) = inl (tag, ap (λ (r : Standing). r.content) is)
+stands_says (branch t e a b rest) nest up v s (inr (inl in_a)) = inr (inl (stands_says a nest (Some (t, true)) v s in_a))
+stands_says (branch t e a b rest) nest up v s (inr (inr (inl in_b))) = inr (inr (inl (stands_says b nest (Some (t, false)) v s in_b)))
+stands_says (branch t e a b rest) nest up v s (inr (inr (inr later))) = inr (inr (inr (stands_says rest nest up v s later)))
+stands_says (loop t e b rest) nest up v s (inl (tag, is)) = inl (tag, ap (λ (r : Standing). r.content) is)
+stands_says (loop t e b rest) nest up v s (inr (inl in_b)) = inr (inl (stands_says b (nest ++ (t ∷ [])) (Some (t, true)) v s in_b))
+stands_says (loop t e b rest) nest up v s (inr (inr later)) = inr (inr (stands_says rest nest up v s later))
+
+-- a part uses the names of its expression
+abbrev UsesAt : Vertex → List ℕ → Type 0
+UsesAt Entry x = ⊥
+UsesAt (Init y) x = ⊥
+UsesAt (Part t c) x = Uses (expr_in c) x
+UsesAt (Final y) x = ⊥
+
+uses_bounded : (v : Vertex) → Bounded (UsesAt v)
+uses_bounded Entry = of_none
+uses_bounded (Init y) = of_none
+uses_bounded (Part t c) = of_term (term_of (expr_in c))
+uses_bounded (Final y) = of_none
+
+module _ (t : Tree) where
+  abbrev UsedAtPart : List ℕ → Type 0
+  UsedAtPart x = (v : Vertex) × Contains (parts_of t) v × UsesAt v x
+
+  abbrev Used : List ℕ → Type 0
+  Used x = UsedAtPart x ⊎ Contains t.finals x
+
+  used_bounded : Bounded Used
+  used_bounded =
+      of_either UsedAtPart (λ x. Contains t.finals x) (of_each (λ v. Contains (parts_of t) v) UsesAt (of_list (parts_of t)) (λ v _. uses_bounded v)) (of_list t.finals)
+
+  used_by : (x : List ℕ) (a : Point) → UsedBy t x a → Used x
+  used_by x enter h = absurd h
+  used_by x (at v) (c, says, uses) = inl (Part v c, says_part t v c says, uses)
+  used_by x exit h = inr h
+
+  used_read : (x : List ℕ) (v : Vertex) (z : Point) → Reads t x v z → Used x
+  used_read x Entry z h = absurd h
+  used_read x (Init y) z h = absurd h
+  used_read x (Part v c) z (uses, says, is) = inl (Part v c, says_part t v c says, uses)
+  used_read x (Final y) z (same, named, is) = inr named
+
+  -- vertices
+  abbrev IsFinalOf : Vertex → Type 0
+  IsFinalOf v = (x : List ℕ) × Contains t.finals x × (v ≡ Final x)
+
+  abbrev IsInitOf : Vertex → Type 0
+  IsInitOf v = (x : List ℕ) × Used x × (v ≡ Init x)
+
+  abbrev MayBe : Vertex → Type 0
+  MayBe v = (v ≡ Entry) ⊎ (Contains (parts_of t) v ⊎ (IsFinalOf v ⊎ IsInitOf v))
+
+  may_bounded : Bounded MayBe
+  may_bounded =
+      of_either (λ v. v ≡ Entry) (λ v. Contains (parts_of t) v ⊎ (IsFinalOf v ⊎ IsInitOf v)) (of_one Entry)
+      (of_either (λ v. Contains (parts_of t) v) (λ v. IsFinalOf v ⊎ IsInitOf v) (of_list (parts_of t))
+      (of_either IsFinalOf IsInitOf (of_each (λ x. Contains t.finals x) (λ x v. v ≡ Final x) (of_list t.finals) (λ x _. of_one (Final x)))
+      (of_each Used (λ x v. v ≡ Init x) used_bounded (λ x _. of_one (Init x)))))
+
+  may_be : (v : Vertex) → IsVertexOf t v → MayBe v
+  may_be Entry h = inl refl
+  may_be (Init x) (a, marks, path, used) = inr (inr (inr (x, used_by x a used, refl)))
+  may_be (Part v c) h = inr (inl (says_part t v c h))
+  may_be (Final x) h = inr (inr (inl (x, h, refl)))
+
+  pub vertices_bounded : Bounded (IsVertexOf t)
+  vertices_bounded = of_within (IsVertexOf t) MayBe may_be may_bounded
+
+  defined : (x : List ℕ) (v : Vertex) (a : Point) → Defines t x v a → Used x → MayBe v
+  defined x Entry a h used = absurd h
+  defined x (Init y) a (same, is) used = inr (inr (inr (x, used, subst (λ (z : List ℕ). Init y ≡ Init z) same refl)))
+  defined x (Part v c) a (sets, says, is) used = inr (inl (says_part t v c says))
+  defined x (Final y) a h used = absurd h
+
+  pub read_is : (x : List ℕ) (v : Vertex) (z : Point) → Reads t x v z → IsVertexOf t v
+  read_is x Entry z h = tt
+  read_is x (Init y) z h = absurd h
+  read_is x (Part v c) z (uses, says, is) = says
+  read_is x (Final y) z (same, named, is) = subst (λ (w : List ℕ). Contains t.finals w) (sym same) named
+
+  abbrev pub FlowsAt : List ℕ → Vertex → Vertex → Type 0
+  FlowsAt x from to = (a z : Point) × Defines t x from a × Reads t x to z
+
+  pub flow_at : (x : List ℕ) (from to : Vertex) → HasFlow t x from to → FlowsAt x from to
+  flow_at x from to (inl (a, z, marks, (defines, reads, path), avoids)) = (a, z, defines, reads)
+  flow_at x from to (inr (w, (a, z, marks, l, c, (defines, reads, path), loop_is, says, around, carries))) = (a, z, defines, reads)
+
+  top_is : (v : Vertex) → IsTop t v → IsVertexOf t v
+  top_is Entry h = absurd h
+  top_is (Init x) h = h
+  top_is (Part v c) (s, stands, content, up) = subst (λ (k : Content). Says t.body v k) content (stands_says t.body [] None v s stands)
+  top_is (Final x) h = h
+
+  pub control_to : (label : Bool) (from to : Vertex) → IsEdgeBy t (Control label) from to → IsVertexOf t to
+  control_to label from to (inl (is, truth, top)) = top_is to top
+  control_to label from to (inr (p, c, is, says, (v, s, stands, under, up))) = subst (IsVertexOf t) (sym under) (stands_says t.body [] None v s stands)
+
+  -- kinds
+  abbrev IsIndependentOf : Kind → Type 0
+  IsIndependentOf k = (x : List ℕ) × Used x × (k ≡ Independent x)
+
+  abbrev IsCarriedBy : List ℕ → Kind → Type 0
+  IsCarriedBy x k = (w : Vertex) × MayBe w × (k ≡ Carried x w)
+
+  abbrev IsCarriedOf : Kind → Type 0
+  IsCarriedOf k = (x : List ℕ) × Used x × IsCarriedBy x k
+
+  abbrev IsOrderOf : Kind → Type 0
+  IsOrderOf k = (u : Vertex) × MayBe u × (k ≡ Order u)
+
+  abbrev IsKindOf : Kind → Type 0
+  IsKindOf k = (k ≡ Control true) ⊎ ((k ≡ Control false) ⊎ (IsIndependentOf k ⊎ (IsCarriedOf k ⊎ IsOrderOf k)))
+
+  kinds_bounded : Bounded IsKindOf
+  kinds_bounded =
+      of_either (λ k. k ≡ Control true) (λ k. (k ≡ Control false) ⊎ (IsIndependentOf k ⊎ (IsCarriedOf k ⊎ IsOrderOf k))) (of_one (Control true))
+      (of_either (λ k. k ≡ Control false) (λ k. IsIndependentOf k ⊎ (IsCarriedOf k ⊎ IsOrderOf k)) (of_one (Control false))
+      (of_either IsIndependentOf (λ k. IsCarriedOf k ⊎ IsOrderOf k) (of_each Used (λ x k. k ≡ Independent x) used_bounded (λ x _. of_one (Independent x)))
+      (of_either IsCarriedOf IsOrderOf
+      (of_each Used IsCarriedBy used_bounded (λ x _. of_each MayBe (λ w k. k ≡ Carried x w) may_bounded (λ w _. of_one (Carried x w))))
+      (of_each MayBe (λ u k. k ≡ Order u) may_bounded (λ u _. of_one (Order u))))))
+
+  control_kind : (label : Bool) → IsKindOf (Control label)
+  control_kind true = inl refl
+  control_kind false = inr (inl refl)
+
+  -- edges
+  abbrev edge : Vertex → Vertex → Kind → Edge
+  edge to from k = record { to = to; from = from; kind = k }
+
+  abbrev HasKind : Vertex → Vertex → Edge → Type 0
+  HasKind to from e = (k : Kind) × IsKindOf k × (e ≡ edge to from k)
+
+  abbrev HasSource : Vertex → Edge → Type 0
+  HasSource to e = (from : Vertex) × MayBe from × HasKind to from e
+
+  abbrev MayJoin : Edge → Type 0
+  MayJoin e = (to : Vertex) × MayBe to × HasSource to e
+
+  edges_may : Bounded MayJoin
+  edges_may =
+      of_each MayBe HasSource may_bounded
+      (λ to _. of_each MayBe (HasKind to) may_bounded (λ from _. of_each IsKindOf (λ k e. e ≡ edge to from k) kinds_bounded (λ k _. of_one (edge to from k))))
+
+  abbrev Ends : Kind → Vertex → Vertex → Type 0
+  Ends k from to = MayBe from × MayBe to × IsKindOf k
+
+  ends : (k : Kind) (from to : Vertex) → IsEdgeBy t k from to → Ends k from to
+  ends (Control label) from to (inl (is, truth, top)) = (inl is, may_be to (top_is to top), control_kind label)
+  ends (Control label) from to (inr (p, c, is, says, (v, s, stands, under, up))) =
+      let says_v : Says t.body v s.content = stands_says t.body [] None v s stands in (
+        inr (inl (subst (λ (x : Vertex). Contains (parts_of t) x) (sym is) (says_part t p c says))),
+        inr (inl (subst (λ (x : Vertex). Contains (parts_of t) x) (sym under) (says_part t v s.content says_v))),
+        control_kind label,
+      )
+  ends (Independent x) from to h =
+      let (a, z, defines, reads) = flow_at x from to (inl h) in
+      let used = used_read x to z reads in
+      (defined x from a defines used, may_be to (read_is x to z reads), inr (inr (inl (x, used, refl))))
+  ends (Carried x w) from to (a, z, marks, l, c, (defines, reads, path), loop_is, says, around, carries) =
+      let used = used_read x to z reads in
+      let loop : MayBe w = inr (inl (subst (λ (v : Vertex). Contains (parts_of t) v) (sym loop_is) (says_part t l c says))) in
+      (defined x from a defines used, may_be to (read_is x to z reads), inr (inr (inr (inl (x, used, (w, loop, refl))))))
+  ends (Order u) from to (x, a, b, defines, defines_too, flow, flow_too, left, together) =
+      let (c, z, sets, reads) = flow_at x from u flow in
+      let used = used_read x u z reads in
+      (defined x from a defines used, defined x to b defines_too used, inr (inr (inr (inr (u, may_be u (read_is x u z reads), refl)))))
+
+  may_join : (e : Edge) → IsEdgeOf t e → MayJoin e
+  may_join e h = let (from, to, kind) = ends e.kind e.from e.to h in (e.to, to, (e.from, from, (e.kind, kind, refl)))
+
+  pub edges_bounded : Bounded (IsEdgeOf t)
+  edges_bounded = of_within (IsEdgeOf t) MayJoin may_join edges_may

@@ -1,0 +1,112 @@
+-- The program whose parts stand in the order of the rank is the first of the arrangements.
+use Rattle.std.proofs.Common.{◌≡◌, ℕ, zero, suc, ◌<◌, inl, inr, ◌⊎◌, Option, Some, None, List, [], ◌∷◌, ◌++◌, length, Contains, slice_get, refl, sym, ap, ◌∙◌, subst, arith}
+use Rattle.hpr_syntax.specs.Issued.{Issued}
+use Rattle.hpr_syntax.specs.Tree.{Tree}
+use Rattle.hpr_graph.specs.declared.vertex.Vertex.{Vertex}
+use Rattle.hpr_graph.specs.Graphs.{Graph, IsOnce}
+use Rattle.hpr_graph.specs.Rank.{parts_of, StandsBefore, IsAddedAt, IsPutIn, IsJoined, IsRankOf, IsRank}
+use Rattle.hpr_graph.specs.Arrangements.{IsArrangement, IsEarlier, AreArrangements}
+use Rattle.hpr_graph.proofs.Lists.{contains_at, place_of, in_none, get_longer}
+use Rattle.hpr_order.proofs.Ranks.{parts_once}
+use Rattle.hpr_rebuild.proofs.Parts.{part_says, says_part}
+
+-- what stands so in one list stands so in the other
+abbrev pub KeepsOrder : List Vertex → List Vertex → Type 0
+KeepsOrder xs ys = (v w : Vertex) → StandsBefore xs v w → StandsBefore ys v w
+
+module _ {X : Type 0} where
+  in_front : (front back back' : List X) (i : ℕ) (x : X) → i < length front → slice_get (front ++ back) i ≡ Some x → slice_get (front ++ back') i ≡ Some x
+  in_front [] back back' i x l h = absurd (omega (arith, l))
+  in_front (y ∷ front) back back' zero x l h = h
+  in_front (y ∷ front) back back' (suc i) x l h = in_front front back back' i x (omega (arith, l)) h
+
+  at_middle : (front : List X) (x : X) (back : List X) → slice_get (front ++ x ∷ back) (length front) ≡ Some x
+  at_middle [] x back = refl
+  at_middle (y ∷ front) x back = at_middle front x back
+
+  -- where an item goes when another is put in
+  moved : (front back : List X) (y : X) (i : ℕ) (x : X) → slice_get (front ++ back) i ≡ Some x
+      → ((i < length front) × (slice_get (front ++ y ∷ back) i ≡ Some x)) ⊎ ((length front < suc i) × (slice_get (front ++ y ∷ back) (suc i) ≡ Some x))
+  moved [] back y i x h = inr (omega arith, h)
+  moved (z ∷ front) back y zero x h = inl (omega arith, h)
+  moved (z ∷ front) back y (suc i) x h = elim (moved front back y i x h) [ inl l ↦ inl (omega (arith, l.0), l.1) | inr r ↦ inr (omega (arith, r.0), r.1) ]
+
+compared : (i n : ℕ) → (i < n) ⊎ ((i ≡ n) ⊎ (n < i))
+compared zero zero = inr (inl refl)
+compared zero (suc n) = inl (omega arith)
+compared (suc i) zero = inr (inr (omega arith))
+compared (suc i) (suc n) = elim (compared i n) [ inl l ↦ inl (omega (arith, l)) | inr r ↦ elim r [ inl e ↦ inr (inl (ap suc e)) | inr g ↦ inr (inr (omega (arith, g))) ] ]
+
+put_keeps : (front back : List Vertex) (y : Vertex) → KeepsOrder (front ++ back) (front ++ y ∷ back)
+put_keeps front back y v w (i, j, less, at_i, at_j) =
+    elim (moved front back y i v at_i) [
+      | inl l ↦ elim (moved front back y j w at_j) [ inl k ↦ (i, j, less, l.1, k.1) | inr k ↦ (i, suc j, omega (arith, less), l.1, k.1) ]
+      | inr l ↦ elim (moved front back y j w at_j) [ inl k ↦ absurd (omega (arith, less, l.0, k.0)) | inr k ↦ (suc i, suc j, omega (arith, less), l.1, k.1) ]
+    ]
+
+added_keeps : (v : Vertex) (next : Option Vertex) (xs ys : List Vertex) → IsAddedAt v next xs ys → KeepsOrder xs ys
+added_keeps v None xs ys is a b (i, j, less, at_i, at_j) =
+    subst (λ (l : List Vertex). StandsBefore l a b) (sym is) (i, j, less, get_longer xs (v ∷ []) i a at_i, get_longer xs (v ∷ []) j b at_j)
+added_keeps v (Some next) xs ys (front, back, was, is) a b before =
+    subst (λ (l : List Vertex). StandsBefore l a b) (sym is)
+    (put_keeps front (next ∷ back) v a b (subst (λ (l : List Vertex). StandsBefore l a b) was before))
+
+put_in_keeps : (v : Vertex) (next : Option Vertex) (xs ys : List Vertex) → IsPutIn v next xs ys → KeepsOrder xs ys
+put_in_keeps v next xs ys (inl (there, is)) a b before = subst (λ (l : List Vertex). StandsBefore l a b) (sym is) before
+put_in_keeps v next xs ys (inr (new, added)) a b before = added_keeps v next xs ys added a b before
+
+joined_keeps : (vs xs ys : List Vertex) → IsJoined vs xs ys → KeepsOrder xs ys
+joined_keeps [] xs ys is a b before = subst (λ (l : List Vertex). StandsBefore l a b) (sym is) before
+joined_keeps (v ∷ vs) xs ys (zs, joined, put) a b before = put_in_keeps v (slice_get vs 0) zs ys put a b (joined_keeps vs xs zs joined a b before)
+
+rank_of_keeps : (a b base : Tree) (r : List Vertex) → IsRankOf a b base r → KeepsOrder (parts_of a) r
+rank_of_keeps a b base r (xs, first, second) v w before = joined_keeps (parts_of base) xs r second v w (joined_keeps (parts_of b) (parts_of a) xs first v w before)
+
+-- A's parts stand in the rank as in A, and B's as in B where A is the base
+pub rank_keeps_a : (a base : Tree) (r : List Vertex) → IsRank a base base r → KeepsOrder (parts_of a) r
+rank_keeps_a a base r (inl (same, is)) = subst (λ (p : Tree). KeepsOrder (parts_of p) r) (sym same) (rank_of_keeps base a base r is)
+rank_keeps_a a base r (inr (other, is)) = rank_of_keeps a base base r is
+
+pub rank_keeps_b : (b base : Tree) (r : List Vertex) → IsRank base b base r → KeepsOrder (parts_of b) r
+rank_keeps_b b base r (inl (same, is)) = rank_of_keeps b base base r is
+rank_keeps_b b base r (inr (other, is)) = absurd (other refl)
+
+-- two arrangements have the same parts
+same_parts : (g : Graph) (issued : Issued) (p q : Tree) → IsArrangement g issued p → IsArrangement g issued q → (v : Vertex) → Contains (parts_of p) v → Contains (parts_of q) v
+same_parts g issued p q is_p is_q v h =
+    let (t, c, e, says) = part_says p v h in
+    subst (λ (w : Vertex). Contains (parts_of q) w) (sym e) (says_part q t c ((is_q.parts t c).1 ((is_p.parts t c).0 says)))
+
+-- nothing stands before itself, nor two things before each other
+never_both : (rank : List Vertex) (v w : Vertex) → IsOnce rank → StandsBefore rank v w → ¬ StandsBefore rank w v
+never_both rank v w once (i, j, less, at_i, at_j) (k, l, less', at_k, at_l) = omega (arith, less, less', once i l v at_i at_l, once j k w at_j at_k)
+
+never_itself : (rank : List Vertex) (v : Vertex) → IsOnce rank → ¬ StandsBefore rank v v
+never_itself rank v once before = never_both rank v v once before before
+
+-- no arrangement is earlier than the one whose parts stand in the order of the rank
+module _ (g : Graph) (rank : List Vertex) (issued : Issued) (q : Tree) (once : IsOnce rank) (is : IsArrangement g issued q) (order : KeepsOrder (parts_of q) rank) where
+  never_earlier : (r : Tree) → IsArrangement g issued r → ¬ IsEarlier rank r q
+  never_earlier r is_r (front, ps, qs, v, w, parts_r, parts_q, before) =
+      let once_r : IsOnce (front ++ v ∷ ps) = subst (λ (l : List Vertex). IsOnce l) parts_r (parts_once r is_r.program) in
+      let in_r : Contains (parts_of r) v = contains_at (parts_of r) (length front) v (ap (λ (l : List Vertex). slice_get l (length front)) parts_r ∙ at_middle front v ps) in
+      let (j, at_j) = place_of (parts_of q) v (same_parts g issued r q is_r is v in_r) in
+      let there : slice_get (front ++ w ∷ qs) j ≡ Some v = subst (λ (l : List Vertex). slice_get l j ≡ Some v) parts_q at_j in
+      elim (compared j (length front)) [
+        | inl low ↦ (let e : j ≡ length front = once_r j (length front) v (in_front front (w ∷ qs) (v ∷ ps) j v low there) (at_middle front v ps) in omega (arith, low, e))
+        | inr rest ↦ elim rest [
+          | inl e ↦ (let same : Some w ≡ Some v = sym (at_middle front w qs) ∙ subst (λ (n : ℕ). slice_get (front ++ w ∷ qs) n ≡ Some v) e there in
+              let is_w : w ≡ v = cc in never_itself rank v once (subst (λ (x : Vertex). StandsBefore rank v x) is_w before))
+          | inr high ↦ never_both rank v w once before
+              (order w v (length front, j, high, ap (λ (l : List Vertex). slice_get l (length front)) parts_q ∙ at_middle front w qs, at_j))
+        ]
+      ]
+
+  pub first_in_rank : (ps : List Tree) → AreArrangements g rank issued ps → (qs : List Tree) × (ps ≡ q ∷ qs)
+  first_in_rank [] are = absurd (in_none q ((are.0 q).1 is))
+  first_in_rank (r ∷ rs) are = let (k, there) = place_of (r ∷ rs) q ((are.0 q).1 is) in at k there
+    where
+      at : (k : ℕ) → slice_get (r ∷ rs) k ≡ Some q → (qs : List Tree) × (r ∷ rs ≡ q ∷ qs)
+      at zero there = (rs, let e : r ≡ q = cc in ap (λ (t : Tree). t ∷ rs) e)
+      at (suc k) there =
+          absurd (never_earlier r ((are.0 r).0 (contains_at (r ∷ rs) 0 r refl)) (are.1 0 (suc k) r q (omega arith) refl there))

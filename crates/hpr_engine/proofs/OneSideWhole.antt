@@ -1,0 +1,150 @@
+-- Where one variant is the base, it can't be refuted that the other's graph is the merged graph.
+use Rattle.std.proofs.Common.{◌≡◌, ℕ, inl, inr, Option, List, [], ◌∷◌, refl, sym, subst}
+use Rattle.hpr_terms.specs.declared.tag.Tag.{Tag}
+use Rattle.hpr_syntax.specs.Initial.{UsedBy}
+use Rattle.hpr_syntax.specs.Paths.{IsUndisturbed}
+use Rattle.hpr_syntax.specs.Places.{EnclosesBoth}
+use Rattle.hpr_syntax.specs.Shape.{IsProgram}
+use Rattle.hpr_syntax.specs.Skeleton.{Skeleton, nil, act, fork, round, Point, enter, at, exit, StandsIn, skeleton}
+use Rattle.hpr_syntax.specs.Tree.{Tree}
+use Rattle.hpr_graph.specs.declared.vertex.Vertex.{Vertex}
+use Rattle.hpr_graph.specs.declared.vertex.Vertex.TheVariants.{Entry, Init, Part, Final}
+use Rattle.hpr_graph.specs.declared.edge.Kind.{Kind}
+use Rattle.hpr_graph.specs.declared.edge.Kind.TheVariants as kind
+use Rattle.hpr_graph.specs.declared.edge.Edge.{Edge}
+use Rattle.hpr_graph.specs.Graphs.{Graph, IsWithin, Same, OnThird}
+use Rattle.hpr_graph.specs.Points.{IsInit, IsShared, IsAffected, IsPreserved, merged}
+use Rattle.hpr_graph.specs.ProgramGraph.{Reads, IsEdgeBy, IsIndependent, graph_of}
+use Rattle.hpr_graph.specs.Slices.{Leads, ReachesOne, slice_of, slice_at}
+use Rattle.hpr_graph.proofs.Laws.{same_itself, same_turned, same_from_within, within_from_same, within_then, reaches_within, vertices_map}
+use Rattle.hpr_merge.specs.Loops.{HasLoops}
+use Rattle.hpr_merge.proofs.EdgeStands.{edge_inside}
+use Rattle.hpr_engine.proofs.BoundedGraph.{vertices_bounded, edges_bounded, read_is, flow_at, control_to}
+use Rattle.hpr_engine.proofs.OneSide.{program_uses, other_loops, a_within, b_within}
+
+-- nothing encloses Enter
+no_enter : (sk : Skeleton) → ¬ StandsIn sk enter
+no_enter nil h = h
+no_enter (act t k) (inl e) = absurd cc
+no_enter (act t k) (inr h) = no_enter k h
+no_enter (fork t b c k) (inl e) = absurd cc
+no_enter (fork t b c k) (inr (inl h)) = no_enter b h
+no_enter (fork t b c k) (inr (inr (inl h))) = no_enter c h
+no_enter (fork t b c k) (inr (inr (inr h))) = no_enter k h
+no_enter (round t b k) (inl e) = absurd cc
+no_enter (round t b k) (inr (inl h)) = no_enter b h
+no_enter (round t b k) (inr (inr h)) = no_enter k h
+
+none_encloses_enter : (sk : Skeleton) (z : Point) (w : Tag) → ¬ EnclosesBoth sk enter z w
+none_encloses_enter nil z w h = h
+none_encloses_enter (act t k) z w h = none_encloses_enter k z w h
+none_encloses_enter (fork t b c k) z w (inl h) = none_encloses_enter b z w h
+none_encloses_enter (fork t b c k) z w (inr (inl h)) = none_encloses_enter c z w h
+none_encloses_enter (fork t b c k) z w (inr (inr h)) = none_encloses_enter k z w h
+none_encloses_enter (round t b k) z w (inl (is, inl e, last)) = absurd cc
+none_encloses_enter (round t b k) z w (inl (is, inr h, last)) = no_enter b h
+none_encloses_enter (round t b k) z w (inr (inl h)) = none_encloses_enter b z w h
+none_encloses_enter (round t b k) z w (inr (inr h)) = none_encloses_enter k z w h
+
+-- each vertex leads to one that is no Init vertex
+abbrev IsReader : Tree → Vertex → Vertex → Type 0
+IsReader t v s = (graph_of t).vertex s × (¬ IsInit s) × ReachesOne (graph_of t) (λ z. z ≡ s) v
+
+itself : (t : Tree) (v : Vertex) → (graph_of t).vertex v → ¬ IsInit v → (s : Vertex) × IsReader t v s
+itself t v there other = (v, (there, other, (v, [], refl, refl)))
+
+reads_not_init : (t : Tree) (x : List ℕ) (v : Vertex) (z : Point) → Reads t x v z → ¬ IsInit v
+reads_not_init t x v z reads (y, is) = subst (λ (w : Vertex). Reads t x w z) is reads
+
+reader_at : (t : Tree) (x : List ℕ) (v : Vertex) (z : Point) (marks : List (Option Tag)) → IsUndisturbed t.body x enter z marks → Reads t x v z → (s : Vertex) × IsReader t (Init x) s
+reader_at t x v z marks path reads =
+    let flow : IsIndependent t x (Init x) v = (enter, z, marks, ((refl, refl), reads, path), λ w around. absurd (none_encloses_enter (skeleton t.body) z w around)) in
+    let e : Edge = record { to = v; from = Init x; kind = kind.Independent x } in
+    (v, (read_is t x v z reads, reads_not_init t x v z reads, (v, e ∷ [], refl, (flow, tt, refl, refl))))
+
+init_reader : (t : Tree) (x : List ℕ) (a : Point) (marks : List (Option Tag)) → IsUndisturbed t.body x enter a marks → UsedBy t x a → (s : Vertex) × IsReader t (Init x) s
+init_reader t x enter marks path h = absurd h
+init_reader t x (at w) marks path (c, says, uses) = reader_at t x (Part w c) (at w) marks path (uses, says, refl)
+init_reader t x exit marks path named = reader_at t x (Final x) exit marks path (refl, named, refl)
+
+reader : (t : Tree) (v : Vertex) → (graph_of t).vertex v → (s : Vertex) × IsReader t v s
+reader t Entry h = itself t Entry h (λ (x, is). absurd cc)
+reader t (Init x) (a, marks, path, used) = init_reader t x a marks path used
+reader t (Part l c) h = itself t (Part l c) h (λ (x, is). absurd cc)
+reader t (Final x) h = itself t (Final x) h (λ (y, is). absurd cc)
+
+-- slices of one vertex in slices of several
+one_of : (g : Graph) (S : Vertex → Type 0) (v : Vertex) → S v → IsWithin (slice_at g v) (slice_of g S)
+one_of g S v one =
+    let up : (w : Vertex) → ReachesOne g (λ s. s ≡ v) w → ReachesOne g S w =
+    reaches_within g g (λ s. s ≡ v) S (within_from_same g g (same_itself g)) (λ s e. subst S (sym e) one) in (
+      λ w (has, r). (has, up w r),
+      λ e (has, inside). (has, vertices_map (ReachesOne g (λ s. s ≡ v)) (ReachesOne g S) up e inside),
+    )
+
+-- a graph that has what the other variant changed, and what it shares with the base
+abbrev Both : Graph → Graph → Vertex → Type 0
+Both g h v = (¬ IsInit v) × g.vertex v × IsShared g h v
+
+module _ (t : Tree) (loops : HasLoops (graph_of t)) (g m : Graph) (mine : IsWithin (slice_of (graph_of t) (IsAffected (graph_of t) g)) m) (shared : (v : Vertex) → Both g (graph_of t) v → IsWithin (slice_at g v) m) where
+  abbrev H : Graph
+  H = graph_of t
+
+  point_has : (s : Vertex) → H.vertex s → ¬ IsInit s → ¬ (¬ IsWithin (slice_at H s) m)
+  point_has s there other n =
+      let alone : ¬ IsShared H g s =
+      λ (has, same).
+      n (within_then (slice_at H s) (slice_at g s) m (within_from_same (slice_at H s) (slice_at g s) same)
+      (shared s (other, has, (there, same_turned (slice_at H s) (slice_at g s) same)))) in
+      n (within_then (slice_at H s) (slice_of H (IsAffected H g)) m (one_of H (IsAffected H g) s (there, alone)) mine)
+
+  vertex_there : (v : Vertex) → H.vertex v → ¬ (¬ m.vertex v)
+  vertex_there v h n = let (s, (there, other, reach)) = reader t v h in point_has s there other (λ w. n (w.0 v (h, reach)))
+
+  leading : (e : Edge) → H.edge e → Leads e.kind → H.vertex e.to → ¬ (¬ m.edge e)
+  leading e h l to n =
+      let (s, (there, other, reach)) = reader t e.to to in
+      point_has s there other (λ w. n (w.1 e (h, edge_inside H loops (λ z. z ≡ s) e h l reach)))
+
+  -- both ends of an order edge lead to its shared use
+  ordered : (e : Edge) (u : Vertex) → H.edge e → e.kind ≡ kind.Order u → H.vertex u → ¬ IsInit u → ¬ (¬ m.edge e)
+  ordered e u h is there other n =
+      let ((f, f_has, f_leads, f_from, f_to), (k, k_has, k_leads, k_from, k_to)) = program_uses t e u h is in
+      let from : ReachesOne H (λ z. z ≡ u) e.from = (u, f ∷ [], refl, (f_has, f_leads, f_from, f_to)) in
+      let to : ReachesOne H (λ z. z ≡ u) e.to = (u, k ∷ [], refl, (k_has, k_leads, k_from, k_to)) in
+      let shared_use : ReachesOne H (λ z. z ≡ u) u = (u, [], refl, refl) in
+      point_has u there other (λ w. n (w.1 e (h, (to, from, subst (OnThird (ReachesOne H (λ z. z ≡ u))) (sym is) shared_use))))
+
+  target : (e : Edge) (k : Kind) → e.kind ≡ k → IsEdgeBy t k e.from e.to → ¬ (¬ m.edge e)
+  target e (kind.Control label) is h n = leading e (subst (λ (k : Kind). IsEdgeBy t k e.from e.to) (sym is) h) (subst Leads (sym is) tt) (control_to t label e.from e.to h) n
+  target e (kind.Independent x) is h n =
+      let (a, z, defines, reads) = flow_at t x e.from e.to (inl h) in
+      leading e (subst (λ (k : Kind). IsEdgeBy t k e.from e.to) (sym is) h) (subst Leads (sym is) tt) (read_is t x e.to z reads) n
+  target e (kind.Carried x w) is h n =
+      let (a, z, defines, reads) = flow_at t x e.from e.to (inr (w, h)) in
+      leading e (subst (λ (k : Kind). IsEdgeBy t k e.from e.to) (sym is) h) (subst Leads (sym is) tt) (read_is t x e.to z reads) n
+  target e (kind.Order u) is (x, a, b, defines, defines_too, flow, flow_too, left, together) n =
+      let (c, z, sets, reads) = flow_at t x e.from u flow in
+      ordered e u (subst (λ (k : Kind). IsEdgeBy t k e.from e.to) (sym is) (x, a, b, defines, defines_too, flow, flow_too, left, together)) is (read_is t x u z reads) (reads_not_init t x u z reads) n
+
+  pub whole : ¬ (¬ IsWithin H m)
+  whole n =
+      vertices_bounded t m.vertex vertex_there (λ vertices. edges_bounded t m.edge (λ e h. target e e.kind refl h) (λ edges. n (vertices, edges)))
+
+module _ (base other : Tree) (is : IsProgram base) (is_too : IsProgram other) where
+  abbrev G : Graph
+  G = graph_of base
+
+  pub whole_b : ¬ (¬ Same (graph_of other) (merged G (graph_of other) G))
+  whole_b n =
+      whole other (other_loops base other is is_too) G (merged G (graph_of other) G) (λ v h. inl (inl h), λ e h. inl (inl h))
+      (λ v (init, there, same). within_then (slice_at G v) (slice_of G (IsPreserved G (graph_of other) G)) (merged G (graph_of other) G)
+      (one_of G (IsPreserved G (graph_of other) G) v (init, there, same, (there, same_itself (slice_at G v)))) (λ w h. inr h, λ e h. inr h))
+      (λ within. n (same_from_within (graph_of other) (merged G (graph_of other) G) within (b_within base other is is_too)))
+
+  pub whole_a : ¬ (¬ Same (graph_of other) (merged G G (graph_of other)))
+  whole_a n =
+      whole other (other_loops base other is is_too) G (merged G G (graph_of other)) (λ v h. inl (inr h), λ e h. inl (inr h))
+      (λ v (init, there, same). within_then (slice_at G v) (slice_of G (IsPreserved G G (graph_of other))) (merged G G (graph_of other))
+      (one_of G (IsPreserved G G (graph_of other)) v (init, there, (there, same_itself (slice_at G v)), same)) (λ w h. inr h, λ e h. inr h))
+      (λ within. n (same_from_within (graph_of other) (merged G G (graph_of other)) within (a_within base other is is_too)))

@@ -1,0 +1,77 @@
+//! Two variants and their base become one program.
+ghost use Rattle.std.specs.Prelude.{◌≡◌, ◌≤◌, IfOk, IsErrOf};
+ghost use Rattle.hpr_graph.specs.Answer.{interference, printed, no_program, spent, HasParts, IsAnswer};
+ghost use Rattle.hpr_graph.specs.Numbered.{graph_in};
+ghost use Rattle.hpr_engine.specs.Answers.{IfInterference, IfJudged, IfNoProgram, IfTooManyEdges, IsFirstTooLarge};
+ghost use Rattle.hpr_engine.specs.Counting.{is_part};
+ghost use Rattle.hpr_engine.specs.Limit.{AreInLimit};
+
+use crate::issued::issued_numbers;
+use crate::programs::merge_programs;
+use crate::stop::Stop;
+use hpr_graph::{Graph, Vertex};
+use hpr_order::rank;
+use hpr_rebuild::{RebuildError, rebuild};
+use hpr_syntax::Program;
+use std::alloc::Global;
+
+/// The integration of two variants of a program with their base: the first arrangement, by the rank of
+/// the parts, whose graph is the merged graph (Horwitz, Prins and Reps 1989). Its finals are ascending,
+/// and each author has the greatest of its three issued numbers. At least one try is allowed; each
+/// arrangement whose graph is compared is one (the order, the limit on edges and the budget of tries
+/// are our profile's).
+///
+/// Refuses with `TooManyEdges` where a graph of the three programs has more than 1,000,000 edges, and
+/// names the first of base, A and B; else with `Interference` exactly where there is a conflict, and
+/// lists all of them; else with `NoProgram`, only where no program has the merged graph, and counts
+/// the graph's parts; else with `Spent`, only where there are more arrangements than tries and none of
+/// the first that many has the merged graph. `Memory` is want of memory.
+pub fn integrate(
+    alloc: Global,
+    base: &Program,
+    a: &Program,
+    b: &Program,
+    tries: u64,
+) -> Result<Program, Stop>
+    requires tries { 1 ≤ tries }
+
+    // The answer is one by the definition.
+    ensures printed { IfOk result (λ m. IsAnswer base.now a.now b.now tries (printed m)) }
+    ensures interference { IfInterference result (λ cs. IsAnswer base.now a.now b.now tries (interference cs)) }
+    ensures no_program { IfNoProgram result (λ n. IsAnswer base.now a.now b.now tries (no_program n)) }
+    ensures spent { IsErrOf result Stop.Spent → IsAnswer base.now a.now b.now tries spent }
+
+    // The limit on edges comes first.
+    ensures within { IfJudged result (AreInLimit base.now a.now b.now) }
+    ensures too_many { IfTooManyEdges result (λ which. IsFirstTooLarge base.now a.now b.now which) }
+{
+    let graph = merge_programs(alloc, base, a, b)?;
+    let rank = rank(alloc, a, b, base)?;
+    let issued = issued_numbers(alloc, base, a, b)?;
+    match rebuild(alloc, &graph, &rank, &issued, tries) {
+        Ok(program) => Ok(program),
+        Err(RebuildError::NoProgram) => Err(Stop::NoProgram(part_count(&graph))),
+        Err(RebuildError::Spent) => Err(Stop::Spent),
+        Err(RebuildError::Memory) => Err(Stop::Memory),
+    }
+}
+
+/// How many parts the graph has.
+fn part_count(graph: &Graph) -> usize
+    ensures { HasParts (graph_in graph.now) result }
+{
+    let mut count = 0;
+    for vertex in graph.vertices() {
+        if is_one(vertex) {
+            count += 1;
+        }
+    }
+    count
+}
+
+/// Whether the vertex is a part.
+fn is_one(vertex: &Vertex) -> bool
+    ensures { result ≡ is_part vertex.now }
+{
+    matches!(vertex, Vertex::Part(_, _))
+}
