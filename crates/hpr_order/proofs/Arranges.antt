@@ -1,10 +1,7 @@
 -- From the orders of the allowed trees of items to the arrangements, and back.
-use Rattle.std.proofs.Common.{◌≡◌, ℕ, zero, suc, ◌+◌, ◌<◌, ◌≤◌, ◌⊎◌, ◌↔◌, inl, inr, Option, Some, None, List, [], ◌∷◌, ◌++◌, All, length, map, Contains, slice_get, refl, sym, ap, ap₂, ◌∙◌, subst, arith, length-append}
+use Rattle.std.proofs.Common.{◌≡◌, ℕ, zero, suc, ◌<◌, inl, inr, Some, None, List, [], ◌∷◌, ◌++◌, length, map, Contains, slice_get, refl, sym, ap, ◌∙◌, subst, arith}
 use Rattle.std.proofs.lemmas.List.Elements.{Contains-get_or}
-use Rattle.hpr_terms.specs.declared.tag.Tag.{Tag}
 use Rattle.hpr_syntax.specs.declared.rows.Row.{Row}
-use Rattle.hpr_syntax.specs.declared.rows.Content.{Content}
-use Rattle.hpr_syntax.specs.Body.{Body}
 use Rattle.hpr_syntax.specs.Issued.{Issued}
 use Rattle.hpr_syntax.specs.Rows.{rows_of}
 use Rattle.hpr_syntax.specs.Tree.{Tree}
@@ -13,17 +10,15 @@ use Rattle.hpr_graph.specs.declared.vertex.Vertex.TheVariants.{Part}
 use Rattle.hpr_graph.specs.Arrangements.{IsArrangement, AreArrangements, IsEarlier}
 use Rattle.hpr_graph.specs.Graphs.{Graph}
 use Rattle.hpr_graph.specs.Rank.{parts_of, StandsBefore}
-use Rattle.hpr_walk.specs.Lists.{LexLess, IsAscending, IsListOf}
-use Rattle.hpr_walk.proofs.Unique.{in_none, in_cons, in_first, in_later}
+use Rattle.hpr_walk.specs.Lists.{LexLess, IsAscending}
+use Rattle.hpr_walk.proofs.Unique.{in_first, in_later}
 use Rattle.hpr_forest.specs.ArrangedTrees.{Earlier}
-use Rattle.hpr_forest.specs.Forest.{IsDistinct}
 use Rattle.hpr_forest.specs.Trees.{Tree as ItemTree, preorder}
 use Rattle.hpr_order.specs.declared.item.Item.{Item}
 use Rattle.hpr_order.specs.Arranging.{programs_of, IsProgramOrder, ArePrograms}
-use Rattle.hpr_order.specs.Items.{AreItems, IsItem, block_at, program_of}
+use Rattle.hpr_order.specs.Items.{program_of}
 use Rattle.hpr_order.specs.Limits.{IsAllowedTree, AreOrdersOf}
-use Rattle.hpr_order.proofs.BlockOf.{IsBlockOf}
-use Rattle.hpr_order.proofs.ListFacts.{get_there, there_get, in_map, map_in, map_append, some_same}
+use Rattle.hpr_order.proofs.ListFacts.{there_get, in_map, map_in, map_append, some_same}
 use Rattle.hpr_order.proofs.Shapes.{vertex_of, parts_in}
 use Rattle.hpr_order.proofs.Sound.{IsGiven, known_of, tree_arranged, block_read}
 use Rattle.hpr_order.proofs.Complete.{arranged_tree}

@@ -1,5 +1,5 @@
 -- The blocks of items that are put one by one, from the last to the first.
-use Rattle.std.proofs.Common.{◌≡◌, ℕ, zero, suc, ◌+◌, ◌<◌, ◌≤◌, ◌⊎◌, inl, inr, Bool, true, false, if◌then◌else◌, Option, Some, None, List, [], ◌∷◌, ◌++◌, length, vec_len, reverse, drop, get_or, Contains, slice_get, refl, sym, ap, ◌∙◌, subst, arith}
+use Rattle.std.proofs.Common.{◌≡◌, ℕ, zero, suc, ◌+◌, ◌<◌, ◌≤◌, inl, inr, Bool, true, false, if◌then◌else◌, Some, None, List, [], ◌∷◌, ◌++◌, length, reverse, drop, Contains, slice_get, refl, sym, ap, ◌∙◌, subst, arith}
 use Rattle.std.proofs.Math.Seq.{drop-cons}
 use Rattle.std.proofs.lemmas.Bool.{cases_Bool}
 use Rattle.std.proofs.lemmas.List.{reverse-append}
@@ -11,14 +11,14 @@ use Rattle.hpr_syntax.specs.declared.tree.Stmt.{Stmt}
 use Rattle.hpr_syntax.specs.declared.tree.Stmt.TheVariants as stmt
 use Rattle.hpr_syntax.specs.Body.{Body, done}
 use Rattle.hpr_syntax.specs.BodyOf.{body_of, before}
-use Rattle.hpr_walk.proofs.Unique.{in_none, in_cons, in_first, in_later}
+use Rattle.hpr_walk.proofs.Unique.{in_first, in_later}
 use Rattle.hpr_forest.specs.Forest.{IsDistinct}
 use Rattle.hpr_forest.specs.Trees.{Slot}
 use Rattle.hpr_order.specs.declared.item.Item.{Item}
 use Rattle.hpr_order.specs.declared.building.Pending.{Pending}
-use Rattle.hpr_order.specs.Building.{AreBlocks, IsFree, IsSlot, row_at, body_at}
+use Rattle.hpr_order.specs.Building.{AreBlocks, IsFree, row_at, body_at}
 use Rattle.hpr_order.specs.Items.{block_at, said, same_slot, with_part}
-use Rattle.hpr_order.proofs.ReadBack.{first_second, same_slot_true, same_itself, differ_false}
+use Rattle.hpr_order.proofs.ReadBack.{first_second, same_slot_true, same_itself}
 
 pub none_begun : (items : List Item) (p : Pending) (order : List ℕ) → ((v : Slot) → row_at p v ≡ []) → order ≡ [] → AreBlocks items order p
 none_begun items p order none is v slot free = ap (λ z. body_of (reverse z)) (none v) ∙ ap (λ z. block_at items z v) (sym is)

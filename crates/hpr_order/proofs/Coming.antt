@@ -1,5 +1,5 @@
 -- What is still to come, and what the search begins with.
-use Rattle.std.proofs.Common.{◌≡◌, ℕ, suc, ◌+◌, ◌<◌, ◌≤◌, get_or, ◌⊎◌, ◌↔◌, inl, inr, Option, Some, None, IfSome, IfNone, List, [], ◌∷◌, All, length, Contains, Vec, slice_get, refl, sym, ap, ◌∙◌, subst, arith}
+use Rattle.std.proofs.Common.{◌≡◌, ℕ, suc, ◌+◌, ◌<◌, get_or, Option, Some, None, IfSome, IfNone, List, [], ◌∷◌, All, length, Vec, slice_get, refl, sym, ap, ◌∙◌, subst, arith}
 use Rattle.std.specs.Global.{Global}
 use Rattle.std.proofs.lemmas.Option.{get_or_from_slice_get}
 use Rattle.hpr_graph.specs.declared.vertex.Vertex.{Vertex}
@@ -9,13 +9,11 @@ use Rattle.hpr_graph.specs.Arrangements.{edge_into}
 use Rattle.hpr_graph.specs.Numbered.{Numbered, graph_in}
 use Rattle.hpr_graph.specs.Rank.{StandsBefore}
 use Rattle.hpr_graph.proofs.Laws.{closed_by_numbers}
-use Rattle.hpr_walk.proofs.Unique.{in_none, in_cons, in_first, in_later}
 use Rattle.hpr_forest.specs.Forest.{IsDistinct}
 use Rattle.hpr_order.specs.declared.item.Item.{Item}
 use Rattle.hpr_order.specs.Arranging.{AreFirstNumbers, coming, orders_in}
-use Rattle.hpr_order.specs.Items.{IsItem}
 use Rattle.hpr_order.specs.Numbers.{AreItemsAt, AreRanked, IsPartAt}
-use Rattle.hpr_order.proofs.ListFacts.{get_below, get_within, there_get, get_there, some_same}
+use Rattle.hpr_order.proofs.ListFacts.{get_below, get_within, get_there, some_same}
 use Rattle.hpr_order.proofs.Shapes.{tag_of, vertex_of, vertex_is}
 use Rattle.hpr_order.proofs.Sound.{item_at}
 

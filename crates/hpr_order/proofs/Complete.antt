@@ -1,44 +1,42 @@
 -- Each arrangement is that of an allowed tree of items.
-use Rattle.std.proofs.Common.{◌≡◌, ℕ, zero, suc, ◌+◌, ◌<◌, ◌≤◌, ◌⊎◌, ◌↔◌, inl, inr, Bool, true, false, ◌==◌, ◌&&◌, Option, Some, None, List, [], ◌∷◌, ◌++◌, All, length, map, Contains, slice_get, refl, sym, ap, ap₂, ◌∙◌, subst, arith}
+use Rattle.std.proofs.Common.{◌≡◌, ℕ, zero, suc, ◌<◌, ◌⊎◌, inl, inr, Bool, true, ◌==◌, ◌&&◌, Some, None, List, [], ◌∷◌, length, map, Contains, slice_get, refl, sym, ap, ap₂, ◌∙◌, subst, arith}
 use Rattle.std.specs.declared.cmp.Ordering.TheVariants.{Less}
-use Rattle.std.specs.Cmp.{IsTotalOrder, tied_itself}
-use Rattle.std.specs.Cmp.Lexicographic.{slice_cmp, nat_list_cmp_total}
+use Rattle.std.specs.Cmp.{tied_itself}
+use Rattle.std.specs.Cmp.Lexicographic.{nat_list_cmp_total}
 use Rattle.std.proofs.lemmas.Bool.Decides.{nat_tests}
 use Rattle.std.proofs.lemmas.List.{append-nil}
 use Rattle.hpr_terms.specs.declared.tag.Tag.{Tag}
 use Rattle.hpr_syntax.specs.declared.rows.Content.{Content}
 use Rattle.hpr_syntax.specs.declared.rows.Content.TheVariants.{Assign, If, While}
-use Rattle.hpr_syntax.specs.Body.{Body, done, assign, branch, loop, part_count}
+use Rattle.hpr_syntax.specs.Body.{Body, done, assign, branch, loop}
 use Rattle.hpr_syntax.specs.Issued.{Issued}
 use Rattle.hpr_syntax.specs.Nests.{Says}
 use Rattle.hpr_syntax.specs.Rows.{Parent}
 use Rattle.hpr_syntax.specs.Parts.{same_tag, tags_of}
-use Rattle.hpr_syntax.specs.Shape.{IsProgram}
 use Rattle.hpr_syntax.specs.Tree.{Tree}
-use Rattle.hpr_syntax.proofs.NoRefusal.{HasNoRefusal, no_refusal}
+use Rattle.hpr_syntax.proofs.NoRefusal.{no_refusal}
 use Rattle.hpr_syntax.proofs.PartBound.{few_parts}
 use Rattle.hpr_syntax.proofs.Repeats.{places_once}
 use Rattle.hpr_graph.specs.declared.vertex.Vertex.{Vertex}
-use Rattle.hpr_graph.specs.declared.vertex.Vertex.TheVariants.{Entry, Part, Final}
+use Rattle.hpr_graph.specs.declared.vertex.Vertex.TheVariants.{Entry, Part}
 use Rattle.hpr_graph.specs.Arrangements.{IsArrangement}
 use Rattle.hpr_graph.specs.Graphs.{Graph}
 use Rattle.hpr_graph.specs.InOrder.{Ascends}
 use Rattle.hpr_graph.specs.Order.{name_cmp}
 use Rattle.hpr_walk.specs.Lists.{IsAscending}
-use Rattle.hpr_walk.proofs.Unique.{in_none, in_cons, in_first, in_later, one_list}
-use Rattle.hpr_forest.specs.ArrangedTrees.{IsArrangedTree}
+use Rattle.hpr_walk.proofs.Unique.{in_none, in_cons, one_list}
 use Rattle.hpr_forest.specs.Forest.{IsDistinct}
 use Rattle.hpr_forest.specs.Lifted.{IsLeft}
 use Rattle.hpr_forest.specs.Trees.{Tree as ItemTree, empty, node, Slot, StandsIn, preorder}
 use Rattle.hpr_forest.proofs.Members.{no_longer, below, below_has, length-below}
 use Rattle.hpr_order.specs.declared.item.Item.{Item}
-use Rattle.hpr_order.specs.Items.{AreItems, IsItem, IsSource, Asks, slot_at, block_at, program_of}
-use Rattle.hpr_order.specs.Limits.{IsAllowedTree, IsWithinLimits}
-use Rattle.hpr_order.proofs.BlockOf.{IsBlockOf, Places, HasTag, IsParent, same_part, says_in, in_says, so_stands, stands_by_place, place_in, in_one, in_two, in_three, in_which}
-use Rattle.hpr_order.proofs.Lefts.{LeftIn, left_is, one_left, left_stands}
-use Rattle.hpr_order.proofs.ListFacts.{get_there, there_get, in_map, some_same}
+use Rattle.hpr_order.specs.Items.{IsItem, IsSource, Asks, slot_at, block_at, program_of}
+use Rattle.hpr_order.specs.Limits.{IsAllowedTree}
+use Rattle.hpr_order.proofs.BlockOf.{IsBlockOf, Places, IsParent, says_in, so_stands, stands_by_place, place_in, in_which}
+use Rattle.hpr_order.proofs.Lefts.{left_is, one_left, left_stands}
+use Rattle.hpr_order.proofs.ListFacts.{get_there, in_map}
 use Rattle.hpr_order.proofs.ReadBack.{read_whole}
-use Rattle.hpr_order.proofs.Shapes.{tag_of, tag_is, tags_in, count_in, in_small, in_shallow}
+use Rattle.hpr_order.proofs.Shapes.{tag_of, tags_in, count_in, in_small, in_shallow}
 use Rattle.hpr_order.proofs.Sound.{IsKnown, source_control, item_at, below_of}
 
 below_less : (n k : ℕ) → Contains (below n) k → k < n

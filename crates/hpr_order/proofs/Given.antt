@@ -1,8 +1,8 @@
 -- The arrangement that has a given preorder.
-use Rattle.std.proofs.Common.{◌≡◌, ℕ, zero, suc, ◌+◌, ◌<◌, ◌≤◌, ◌⊎◌, ◌↔◌, inl, inr, Bool, true, false, Option, Some, None, List, [], ◌∷◌, ◌++◌, length, map, Contains, slice_get, refl, sym, ap, ap₂, ◌∙◌, subst, arith, append_assoc}
+use Rattle.std.proofs.Common.{◌≡◌, ℕ, suc, ◌+◌, ◌<◌, inl, inr, true, false, Some, None, List, [], ◌∷◌, ◌++◌, length, map, Contains, slice_get, refl, sym, ap, ap₂, ◌∙◌, subst, arith, append_assoc}
 use Rattle.std.specs.Option.{option_map}
 use Rattle.std.proofs.lemmas.List.{append-nil}
-use Rattle.std.proofs.lemmas.List.Elements.{Contains-append_left, Contains-append_right, Contains-append_cases}
+use Rattle.std.proofs.lemmas.List.Elements.{Contains-append_left, Contains-append_right}
 use Rattle.std.proofs.lemmas.Option.{slice_get-map}
 use Rattle.hpr_terms.specs.declared.tag.Tag.{Tag}
 use Rattle.hpr_syntax.specs.declared.rows.Row.{Row}
@@ -21,15 +21,15 @@ use Rattle.hpr_graph.specs.declared.vertex.Vertex.TheVariants.{Part}
 use Rattle.hpr_graph.specs.Arrangements.{IsArrangement}
 use Rattle.hpr_graph.specs.Numbered.{Numbered, IsNumbered, graph_in}
 use Rattle.hpr_graph.specs.Rank.{parts_of}
-use Rattle.hpr_walk.proofs.Unique.{in_none, in_cons, in_first, in_later}
+use Rattle.hpr_walk.proofs.Unique.{in_first, in_later}
 use Rattle.hpr_forest.specs.Trees.{Tree as ItemTree, preorder}
 use Rattle.hpr_order.specs.declared.item.Item.{Item}
 use Rattle.hpr_order.specs.Arranging.{AreFirstNumbers, IsPreorderOf}
-use Rattle.hpr_order.specs.Items.{IsItem, program_of}
-use Rattle.hpr_order.specs.Numbers.{ArePartsOf, AreItemsAt, IsPartAt}
+use Rattle.hpr_order.specs.Items.{program_of}
+use Rattle.hpr_order.specs.Numbers.{ArePartsOf, AreItemsAt}
 use Rattle.hpr_order.proofs.Arranges.{get_map}
 use Rattle.hpr_order.proofs.Complete.{arranged_tree, same_tag_itself}
-use Rattle.hpr_order.proofs.ListFacts.{get_below, get_there, there_get, in_map, map_append, one_get, some_same}
+use Rattle.hpr_order.proofs.ListFacts.{get_there, there_get, map_append, one_get, some_same}
 use Rattle.hpr_order.proofs.Shapes.{tag_of, vertex_of, vertex_is, parts_in}
 use Rattle.hpr_order.proofs.Sound.{IsKnown, item_at, part_same}
 

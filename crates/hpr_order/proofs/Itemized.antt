@@ -1,13 +1,12 @@
 -- The parts of a graph, by their numbers, are its items.
-use Rattle.std.proofs.Common.{◌≡◌, ◌≢◌, ℕ, zero, suc, ◌+◌, ◌<◌, ◌≤◌, ◌⊎◌, ◌↔◌, inl, inr, Bool, true, false, Option, Some, None, List, [], ◌∷◌, length, Contains, slice_get, refl, sym, ap, ◌∙◌, subst, arith}
-use Rattle.std.proofs.lemmas.Bool.{cases_eq, cases_lt}
-use Rattle.std.proofs.lemmas.Option.{slice_get_within, slice_get_past}
+use Rattle.std.proofs.Common.{◌≡◌, ℕ, ◌<◌, ◌↔◌, inl, inr, Bool, true, Option, Some, None, List, length, Contains, slice_get, refl, sym, ap, ◌∙◌, subst, arith}
+use Rattle.std.proofs.lemmas.Bool.{cases_eq}
+use Rattle.std.proofs.lemmas.Option.{slice_get_within}
 use Rattle.hpr_terms.specs.declared.tag.Tag.{Tag}
 use Rattle.hpr_syntax.specs.declared.rows.Content.{Content}
 use Rattle.hpr_graph.specs.declared.vertex.Vertex.{Vertex}
 use Rattle.hpr_graph.specs.declared.vertex.Vertex.TheVariants.{Entry, Init, Part, Final}
 use Rattle.hpr_graph.specs.declared.edge.Kind.TheVariants as kind
-use Rattle.hpr_graph.specs.declared.link.Link.{Link}
 use Rattle.hpr_graph.specs.Arrangements.{edge_into}
 use Rattle.hpr_graph.specs.Numbered.{Numbered, HasEdge, IsNumbered, graph_in}
 use Rattle.hpr_graph.specs.Moves.{number_at}
@@ -15,8 +14,8 @@ use Rattle.hpr_forest.specs.Trees.{Slot}
 use Rattle.hpr_order.specs.declared.item.Item.{Item}
 use Rattle.hpr_order.specs.Items.{AreItems, AreSlots, IsItem, IsSource, slot_at, slot_in}
 use Rattle.hpr_order.specs.Numbers.{ArePartsOf, ArePlaces, AreItemsAt, IsItemAt, IsPartAt, slot_by, slot_from}
-use Rattle.hpr_order.specs.Regions.{Allows, AllowsIn, AreRegionsOf, Controls, IsRegionAt, control_link}
-use Rattle.hpr_order.proofs.ListFacts.{get_below, get_there, there_get, one_get, some_same}
+use Rattle.hpr_order.specs.Regions.{Allows, AllowsIn, AreRegionsOf, Controls, control_link}
+use Rattle.hpr_order.proofs.ListFacts.{get_below, get_there, there_get, one_get}
 use Rattle.hpr_order.proofs.Sound.{part_same}
 
 abbrev item_in : Slot → ℕ

@@ -1,7 +1,7 @@
 -- Numbers and their places, levels, and the order that the edges of a graph ask of items.
-use Rattle.std.proofs.Common.{◌≡◌, ℕ, zero, suc, ◌+◌, ◌<◌, ◌≤◌, ◌⊎◌, ◌↔◌, inl, inr, Bool, true, false, Option, Some, None, IsSome, List, [], ◌∷◌, ◌++◌, length, set, get_or, take, Contains, slice_get, refl, sym, ap, ◌∙◌, subst, arith}
-use Rattle.std.proofs.lemmas.Bool.{cases_eq, cases_lt}
-use Rattle.std.proofs.lemmas.List.{get_or-set_same, get_or-set_other, take_more, take_all}
+use Rattle.std.proofs.Common.{◌≡◌, ℕ, ◌+◌, ◌<◌, ◌≤◌, ◌⊎◌, ◌↔◌, inl, inr, Option, Some, None, List, [], ◌∷◌, ◌++◌, length, set, take, Contains, slice_get, refl, sym, ap, ◌∙◌, subst, arith}
+use Rattle.std.proofs.lemmas.Bool.{cases_eq}
+use Rattle.std.proofs.lemmas.List.{get_or-set_same, get_or-set_other, take_more}
 use Rattle.std.proofs.lemmas.List.Elements.{Contains-append_left, Contains-append_right, Contains-append_cases}
 use Rattle.std.proofs.lemmas.Option.{slice_get_within, get_or_from_slice_get}
 use Rattle.hpr_terms.specs.declared.tag.Tag.{Tag}
@@ -9,23 +9,22 @@ use Rattle.hpr_syntax.specs.declared.rows.Content.{Content}
 use Rattle.hpr_graph.specs.declared.vertex.Vertex.{Vertex}
 use Rattle.hpr_graph.specs.declared.vertex.Vertex.TheVariants.{Part}
 use Rattle.hpr_graph.specs.declared.edge.Kind.{Kind}
-use Rattle.hpr_graph.specs.declared.edge.Kind.TheVariants as kind
 use Rattle.hpr_graph.specs.declared.link.LinkKind.{LinkKind}
 use Rattle.hpr_graph.specs.declared.link.LinkKind.TheVariants.{Control, Independent, Carried, Order}
 use Rattle.hpr_graph.specs.declared.link.Link.{Link}
-use Rattle.hpr_graph.specs.Arrangements.{Directs, edge_into}
+use Rattle.hpr_graph.specs.Arrangements.{Directs}
 use Rattle.hpr_graph.specs.Graphs.{IsOnce}
 use Rattle.hpr_graph.specs.Moves.{number_at}
-use Rattle.hpr_graph.specs.Numbered.{Numbered, HasEdge, HasLink, IsKindAt, IsNumbered, graph_in, row_of}
-use Rattle.hpr_walk.proofs.Unique.{in_none, in_cons, in_first, in_later}
+use Rattle.hpr_graph.specs.Numbered.{Numbered, IsKindAt, IsNumbered, graph_in, row_of}
+use Rattle.hpr_walk.proofs.Unique.{in_none, in_cons, in_first}
 use Rattle.hpr_forest.specs.Trees.{Slot, above}
 use Rattle.hpr_order.specs.declared.item.Item.{Item}
-use Rattle.hpr_order.specs.Items.{Asks, IsItem, slot_at}
+use Rattle.hpr_order.specs.Items.{IsItem, slot_at}
 use Rattle.hpr_order.specs.Lifting.{AreLevels, LevelUnder, level_of, parent_in}
 use Rattle.hpr_order.specs.Limits.{level_in, one_more}
 use Rattle.hpr_order.specs.Numbers.{ArePartsOf, ArePlaces, AreItemsAt, AreAsked, IsAskedBy, IsPartAt, DirectsBy}
 use Rattle.hpr_order.proofs.Sound.{below_of}
-use Rattle.hpr_order.proofs.ListFacts.{get_below, get_there, there_get, one_get, some_same, push_old, push_new, push_cases}
+use Rattle.hpr_order.proofs.ListFacts.{get_below, one_get, some_same}
 use Rattle.hpr_order.proofs.Shapes.{far_level, level_far}
 
 -- a place more

@@ -1,16 +1,13 @@
 -- The parts of a graph in the order of a rank.
-use Rattle.std.proofs.Common.{◌≡◌, ℕ, zero, suc, ◌+◌, ◌<◌, ◌≤◌, ◌⊎◌, inl, inr, Option, Some, None, List, [], ◌∷◌, ◌++◌, length, Contains, slice_get, refl, sym, ap, ◌∙◌, subst, arith}
+use Rattle.std.proofs.Common.{◌≡◌, ℕ, ◌+◌, ◌<◌, ◌≤◌, inl, inr, Some, List, [], ◌∷◌, ◌++◌, length, slice_get, refl, sym, ap, ◌∙◌, subst, arith}
 use Rattle.std.proofs.lemmas.Bool.{cases_eq, cases_lt}
-use Rattle.hpr_terms.specs.declared.tag.Tag.{Tag}
-use Rattle.hpr_syntax.specs.declared.rows.Content.{Content}
 use Rattle.hpr_graph.specs.declared.vertex.Vertex.{Vertex}
 use Rattle.hpr_graph.specs.declared.vertex.Vertex.TheVariants.{Part}
 use Rattle.hpr_graph.specs.Answer.{IsPart}
 use Rattle.hpr_graph.specs.Numbered.{Numbered, HasVertex, graph_in}
-use Rattle.hpr_graph.specs.Rank.{StandsBefore}
 use Rattle.hpr_order.specs.Arranging.{IsRanking}
-use Rattle.hpr_order.specs.Numbers.{ArePartsOf, AreRanked, IsPartAt}
-use Rattle.hpr_order.proofs.ListFacts.{get_there, there_get, one_get, some_same, get_within, push_old, push_new, push_cases}
+use Rattle.hpr_order.specs.Numbers.{ArePartsOf, AreRanked}
+use Rattle.hpr_order.proofs.ListFacts.{get_there, there_get, one_get, get_within, push_old, push_new, push_cases}
 
 -- the numbers are those of the parts among the first of the rank, in its order
 pub record IsRankedTo (g : Numbered) (rank : List Vertex) (index : ℕ) (numbers : List ℕ) : Type 0 where

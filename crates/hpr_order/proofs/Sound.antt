@@ -1,9 +1,8 @@
 -- An allowed tree of items is an arrangement.
-use Rattle.std.proofs.Common.{◌≡◌, ℕ, zero, suc, ◌+◌, ◌<◌, ◌≤◌, ◌⊎◌, ◌↔◌, inl, inr, Bool, true, false, ◌==◌, if◌then◌else◌, nat_lt, Option, Some, None, List, [], ◌∷◌, ◌++◌, All, length, map, Contains, slice_get, refl, sym, ap, ap₂, ◌∙◌, subst, arith}
-use Rattle.std.specs.declared.cmp.Ordering.{Ordering}
+use Rattle.std.proofs.Common.{◌≡◌, ℕ, suc, ◌<◌, ◌≤◌, ◌↔◌, inl, inr, Bool, true, false, Some, None, List, [], ◌∷◌, All, length, map, Contains, refl, sym, ap, ◌∙◌, subst, arith}
 use Rattle.std.specs.declared.cmp.Ordering.TheVariants.{Less}
-use Rattle.std.specs.Cmp.Lexicographic.{slice_cmp, texts_ties}
-use Rattle.std.specs.Ordering.{is_eq, nat_cmp}
+use Rattle.std.specs.Cmp.Lexicographic.{texts_ties}
+use Rattle.std.specs.Ordering.{is_eq}
 use Rattle.std.specs.Str.{bytes_eq}
 use Rattle.std.proofs.lemmas.Bool.{cases_Bool}
 use Rattle.std.proofs.lemmas.Bool.Decides.{nat_tests}
@@ -12,7 +11,6 @@ use Rattle.std.proofs.lemmas.List.{append-nil}
 use Rattle.std.proofs.lemmas.Option.{slice_get_within}
 use Rattle.hpr_terms.specs.Names.{IsName}
 use Rattle.hpr_terms.specs.declared.tag.Tag.{Tag}
-use Rattle.hpr_syntax.specs.declared.shape.ShapeError.{ShapeError}
 use Rattle.hpr_syntax.specs.declared.rows.Content.{Content}
 use Rattle.hpr_syntax.specs.Body.{Body, part_count}
 use Rattle.hpr_syntax.specs.Issued.{Issued, IsIssued}
@@ -20,11 +18,11 @@ use Rattle.hpr_syntax.specs.Nests.{Standing, StandsAsIn, Says}
 use Rattle.hpr_syntax.specs.Rows.{Parent}
 use Rattle.hpr_syntax.specs.Parts.{same_tag, tags_of}
 use Rattle.hpr_syntax.specs.Places.{StandsLeft}
-use Rattle.hpr_syntax.specs.Proper.{IsProper, IsProperPair}
-use Rattle.hpr_syntax.specs.Shape.{IsProgram, shape, first_repeated, first_unissued, too_many, max_levels}
+use Rattle.hpr_syntax.specs.Proper.{IsProperPair}
+use Rattle.hpr_syntax.specs.Shape.{IsProgram, shape, first_repeated, too_many}
 use Rattle.hpr_syntax.specs.Skeleton.{skeleton, at}
 use Rattle.hpr_syntax.specs.Tree.{Tree}
-use Rattle.hpr_syntax.proofs.NoRefusal.{HasNoRefusal, shaped}
+use Rattle.hpr_syntax.proofs.NoRefusal.{shaped}
 use Rattle.hpr_graph.specs.declared.vertex.Vertex.{Vertex}
 use Rattle.hpr_graph.specs.declared.vertex.Vertex.TheVariants.{Entry, Part, Final}
 use Rattle.hpr_graph.specs.declared.edge.Kind.{Kind}
@@ -34,19 +32,18 @@ use Rattle.hpr_graph.specs.Graphs.{Graph}
 use Rattle.hpr_graph.specs.InOrder.{Ascends}
 use Rattle.hpr_graph.specs.Order.{name_cmp}
 use Rattle.hpr_graph.specs.ProgramGraph.{IsControl}
-use Rattle.hpr_walk.proofs.Unique.{in_none, in_cons, in_first, in_later}
-use Rattle.hpr_forest.specs.ArrangedTrees.{IsArrangedTree}
+use Rattle.hpr_walk.proofs.Unique.{in_none, in_first, in_later}
 use Rattle.hpr_forest.specs.Forest.{IsDistinct}
-use Rattle.hpr_forest.specs.Trees.{Tree as ItemTree, Slot, StandsIn, preorder}
+use Rattle.hpr_forest.specs.Trees.{Tree as ItemTree, Slot, preorder}
 use Rattle.hpr_order.specs.declared.item.Item.{Item}
 use Rattle.hpr_order.specs.Arranging.{AreIssued, IsProperItem}
-use Rattle.hpr_order.specs.Items.{AreItems, IsItem, IsSource, Asks, slot_at, block_at, program_of}
-use Rattle.hpr_order.specs.Limits.{IsAllowedTree, IsWithinLimits, level_in}
-use Rattle.hpr_order.proofs.BlockOf.{IsBlockOf, Places, HasTag, IsParent, same_part, says_in, in_says, stands_so, so_stands, slot_of_place, in_place}
+use Rattle.hpr_order.specs.Items.{AreItems, IsItem, IsSource, slot_at, block_at, program_of}
+use Rattle.hpr_order.specs.Limits.{IsAllowedTree}
+use Rattle.hpr_order.proofs.BlockOf.{IsBlockOf, IsParent, same_part, says_in, in_says, stands_so, so_stands, slot_of_place, in_place}
 use Rattle.hpr_order.proofs.Lefts.{LeftIn, is_left, left_once, stands_left}
-use Rattle.hpr_order.proofs.ListFacts.{get_below, get_there, there_get, in_map, map_in}
+use Rattle.hpr_order.proofs.ListFacts.{get_below, get_there, map_in}
 use Rattle.hpr_order.proofs.ReadBack.{read_whole, block_there}
-use Rattle.hpr_order.proofs.Shapes.{no_tag, tag_in, tag_of, tag_is, tags_in, count_in, proper_in, small_in, shallow_in, IsApart, none_repeated, all_issued, same_tag_true}
+use Rattle.hpr_order.proofs.Shapes.{no_tag, tag_in, tag_of, tags_in, count_in, proper_in, small_in, shallow_in, IsApart, none_repeated, all_issued, same_tag_true}
 
 few_parts : (n : ℕ) → n ≤ 1000 → too_many n ≡ None
 few_parts n le = grind (arith, nat_tests)

@@ -1,7 +1,6 @@
 -- Steps of the loops over items: levels, children, what must come before, marks.
-use Rattle.std.proofs.Common.{◌≡◌, ℕ, zero, suc, ◌+◌, ◌-◌, ◌<◌, ◌≤◌, ◌⊎◌, ◌↔◌, inl, inr, Bool, true, false, Option, Some, None, IsSome, List, [], ◌∷◌, ◌++◌, length, get_or, take, replicate, Contains, slice_get, Vec, refl, sym, ap, ◌∙◌, subst, arith}
-use Rattle.std.specs.Global.{Global}
-use Rattle.std.proofs.lemmas.Bool.{cases_eq, cases_lt}
+use Rattle.std.proofs.Common.{◌≡◌, ℕ, zero, suc, ◌+◌, ◌-◌, ◌<◌, ◌≤◌, ◌⊎◌, ◌↔◌, inl, inr, Bool, true, false, Option, Some, None, IsSome, List, [], ◌∷◌, ◌++◌, length, get_or, take, Contains, slice_get, refl, sym, ap, ◌∙◌, subst, arith}
+use Rattle.std.proofs.lemmas.Bool.{cases_eq}
 use Rattle.std.proofs.lemmas.List.{take_more}
 use Rattle.std.specs.declared.cmp.Ordering.TheVariants.{Less}
 use Rattle.std.specs.Cmp.Lexicographic.{slice_cmp}
@@ -15,14 +14,14 @@ use Rattle.hpr_terms.specs.declared.tag.Tag.{Tag}
 use Rattle.hpr_syntax.specs.declared.rows.Content.{Content}
 use Rattle.hpr_syntax.specs.Rows.{expr_in}
 use Rattle.hpr_syntax.specs.Shape.{is_large}
-use Rattle.hpr_walk.proofs.Unique.{in_none, in_cons, in_first, in_later}
+use Rattle.hpr_walk.proofs.Unique.{in_none, in_cons, in_first}
 use Rattle.hpr_forest.specs.Trees.{Slot}
 use Rattle.hpr_order.specs.declared.item.Item.{Item}
 use Rattle.hpr_order.specs.Building.{IsSlot}
 use Rattle.hpr_order.specs.Items.{AreSlots, IsItem, slot_at, slot_in}
 use Rattle.hpr_order.specs.Lifting.{level_of}
 use Rattle.hpr_order.specs.Limits.{IsWithinLimits, level_in, one_more}
-use Rattle.hpr_order.proofs.ListFacts.{get_below, get_there, there_get, one_get, some_same, push_old, push_new, push_cases}
+use Rattle.hpr_order.proofs.ListFacts.{get_below, there_get, one_get, some_same, push_old, push_new}
 
 pub read_of : {X : Type 0} (xs : List X) (i : ℕ) (x : X) → i < length xs → x ≡ get_or xs i x → slice_get xs i ≡ Some x
 read_of xs i x lt is = slice_get_read xs (length xs) i x refl lt is

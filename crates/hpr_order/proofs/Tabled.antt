@@ -1,27 +1,27 @@
 -- From the tables of the items to the orders of the allowed trees.
-use Rattle.std.proofs.Common.{◌≡◌, ℕ, zero, suc, ◌+◌, ◌<◌, ◌≤◌, ◌⊎◌, ◌↔◌, inl, inr, Bool, true, false, Option, Some, None, List, [], ◌∷◌, ◌++◌, length, vec_len, map, Contains, slice_get, Vec, refl, sym, ap, ◌∙◌, subst, arith, rules}
+use Rattle.std.proofs.Common.{◌≡◌, ℕ, ◌<◌, ◌⊎◌, inl, inr, Bool, true, false, Some, None, List, [], ◌∷◌, ◌++◌, length, vec_len, Contains, Vec, refl, sym, ap, ◌∙◌, subst, arith, rules}
 use Rattle.std.specs.Global.{Global}
 use Rattle.std.proofs.lemmas.Bool.{cases_lt}
 use Rattle.std.proofs.lemmas.List.Elements.{Contains-append_left, Contains-append_right}
 use Rattle.std.proofs.lemmas.Option.{slice_get_past}
 use Rattle.hpr_walk.specs.Choices.{IsWhole}
 use Rattle.hpr_walk.specs.Lists.{LexLess, IsListOf}
-use Rattle.hpr_walk.proofs.Unique.{in_none, in_cons, in_first, in_later}
+use Rattle.hpr_walk.proofs.Unique.{in_none}
 use Rattle.hpr_forest.specs.declared.blocks.Blocks.{Blocks}
-use Rattle.hpr_forest.specs.ArrangedTrees.{IsArrangedTree, AndBlocks, Earlier}
+use Rattle.hpr_forest.specs.ArrangedTrees.{IsArrangedTree, AndBlocks}
 use Rattle.hpr_forest.specs.Forest.{Forest, IsForest, IsDistinct, can, bare}
-use Rattle.hpr_forest.specs.Lifted.{IsLifted, IsLeft, Leads}
+use Rattle.hpr_forest.specs.Lifted.{IsLifted, Leads}
 use Rattle.hpr_forest.specs.Remaining.{forest_of, can_of}
 use Rattle.hpr_forest.specs.Trees.{Tree as ItemTree, empty, node, preorder, Slot, above, StandsIn, HasSlots}
 use Rattle.hpr_forest.proofs.Arranged.{arranged}
 use Rattle.hpr_graph.specs.Graphs.{Graph}
 use Rattle.hpr_order.specs.declared.item.Item.{Item}
 use Rattle.hpr_order.specs.Items.{Asks, slot_at, slot_in}
-use Rattle.hpr_order.specs.Lifting.{LeadsTo, IsUnder, IsBelow, IsPairOver, parent_in}
+use Rattle.hpr_order.specs.Lifting.{LeadsTo, IsBelow, parent_in}
 use Rattle.hpr_order.specs.Limits.{IsAllowedTree, IsWithinLimits, AreOrdersOf}
 use Rattle.hpr_order.specs.Numbers.{AreAsked}
-use Rattle.hpr_order.specs.Tables.{AreLifted, AreTablesOf, IsFirstOf, IsMarkedAt, MustPrecede}
-use Rattle.hpr_order.proofs.BlockOf.{in_one, in_two, in_three, in_which}
+use Rattle.hpr_order.specs.Tables.{AreLifted, AreTablesOf}
+use Rattle.hpr_order.proofs.BlockOf.{in_which}
 use Rattle.hpr_order.proofs.ReadBack.{first_second}
 use Rattle.hpr_order.proofs.Lefts.{LeftIn, left_in, is_left, left_once, left_first, left_second}
 

@@ -1,21 +1,19 @@
 -- Steps of the loops that make the tables, and what the tables are at the end.
-use Rattle.std.proofs.Common.{◌≡◌, ℕ, zero, suc, ◌+◌, ◌<◌, ◌≤◌, ◌⊎◌, ◌↔◌, inl, inr, Bool, true, false, Option, Some, None, List, [], ◌∷◌, ◌++◌, length, vec_len, get_or, take, replicate, Contains, slice_get, Vec, IfNone, IfSome, refl, sym, ap, ◌∙◌, subst, arith, rules}
+use Rattle.std.proofs.Common.{◌≡◌, ℕ, ◌+◌, ◌<◌, ◌≤◌, ◌⊎◌, ◌↔◌, inl, inr, Bool, Option, Some, None, List, [], ◌∷◌, ◌++◌, length, get_or, take, Contains, slice_get, Vec, IfNone, IfSome, refl, sym, ap, ◌∙◌, subst, arith, rules}
 use Rattle.std.specs.Global.{Global}
 use Rattle.std.proofs.lemmas.Bool.{cases_eq, cases_lt}
 use Rattle.std.proofs.lemmas.Option.{slice_get_within, slice_get_past, slice_get-get_or}
-use Rattle.hpr_walk.proofs.Unique.{in_none, in_cons, in_first, in_later}
+use Rattle.hpr_walk.proofs.Unique.{in_none}
 use Rattle.hpr_forest.specs.declared.blocks.Blocks.{Blocks}
 use Rattle.hpr_forest.specs.Blocks.{forest_in, parent_at, row_at}
 use Rattle.hpr_forest.specs.Forest.{IsForest}
-use Rattle.hpr_forest.specs.Remaining.{forest_of}
 use Rattle.hpr_forest.specs.Trees.{Slot, above}
 use Rattle.hpr_forest.proofs.Members.{in_is_in}
 use Rattle.hpr_order.specs.declared.item.Item.{Item}
-use Rattle.hpr_order.specs.declared.lift.Lift.TheVariants.{Always, Never, Siblings}
 use Rattle.hpr_order.specs.Items.{AreSlots, slot_at, slot_in}
-use Rattle.hpr_order.specs.Lifting.{IsBelow, IsLift, IsPairOver, parent_in}
-use Rattle.hpr_order.specs.Tables.{AreLifted, AreMarkedSiblings, AreTablesOf, HasRows, IsFirstOf, IsMarkedAt, MustPrecede, marks_in}
-use Rattle.hpr_order.proofs.ListFacts.{get_below, one_get, some_same, push_old, push_new}
+use Rattle.hpr_order.specs.Lifting.{IsBelow, IsPairOver, parent_in}
+use Rattle.hpr_order.specs.Tables.{AreLifted, AreMarkedSiblings, AreTablesOf, HasRows, IsMarkedAt, MustPrecede, marks_in}
+use Rattle.hpr_order.proofs.ListFacts.{get_below, some_same, push_old, push_new}
 use Rattle.hpr_order.proofs.Steps.{take_step}
 use Rattle.hpr_order.proofs.Tabled.{slot_below}
 

@@ -7,7 +7,7 @@
 -- IsFree order v          == the slot is at the top, or one of an item that isn't in this order
 -- IsSlot n v              == the slot is at the top, or one of an item below n
 -- AreBlocks items order p == each slot that is free has the block of the items in this order
-use Rattle.std.specs.Prelude.{◌≡◌, ℕ, ◌<◌, Bool, true, false, Option, Some, None, List, [], ◌∷◌, ◌++◌, Contains, length, slice_get, reverse}
+use Rattle.std.specs.Prelude.{◌≡◌, ℕ, ◌<◌, Bool, true, false, Option, Some, None, List, [], Contains, length, slice_get, reverse}
 use Rattle.hpr_syntax.specs.Body.{Body}
 use Rattle.hpr_syntax.specs.BodyOf.{body_of}
 use Rattle.hpr_syntax.specs.declared.tree.Stmt.{Stmt}

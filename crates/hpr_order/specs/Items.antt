@@ -12,7 +12,7 @@
 -- with_part item c blocks v == the block in the slot v, where this item, which has the number c, stands before these blocks
 -- block_at items order v    == the block in the slot v, where the items stand in this order
 -- program_of items issued finals order == the program of the items in this order
-use Rattle.std.specs.Prelude.{◌≡◌, ℕ, ◌<◌, ◌↔◌, Bool, true, false, ◌==◌, eqb, if◌then◌else◌, Option, Some, None, List, [], ◌∷◌, Contains, length, slice_get}
+use Rattle.std.specs.Prelude.{◌≡◌, ℕ, ◌<◌, ◌↔◌, Bool, true, false, eqb, if◌then◌else◌, Option, Some, None, List, [], ◌∷◌, length, slice_get}
 use Rattle.hpr_terms.specs.declared.tag.Tag.{Tag}
 use Rattle.hpr_syntax.specs.declared.rows.Content.{Content}
 use Rattle.hpr_syntax.specs.declared.rows.Content.TheVariants.{Assign, If, While}

@@ -9,7 +9,7 @@
 -- level_of levels k         == how many items stand around the item k
 -- LevelUnder levels n parent == n is none at the top, else one more than around the parent
 -- AreLevels items levels    == how many items stand around each item
-use Rattle.std.specs.Prelude.{◌≡◌, ℕ, ◌+◌, ◌<◌, ◌⊎◌, Option, Some, None, List, [], ◌∷◌, length, slice_get, get_or}
+use Rattle.std.specs.Prelude.{◌≡◌, ℕ, ◌+◌, ◌<◌, ◌⊎◌, Option, Some, None, List, [], ◌∷◌, length, get_or}
 use Rattle.hpr_forest.specs.Trees.{above}
 use Rattle.hpr_order.specs.declared.item.Item.{Item}
 use Rattle.hpr_order.specs.declared.lift.Lift.{Lift}

@@ -5,11 +5,11 @@
 -- IsWithinLimits items     == at most 1,000 parts, none with more than 256 operators, none below more than 64 levels
 -- IsAllowedTree g items t  == t has each item once, in its slot, in an order that is asked; and the items are within the limits
 -- AreOrdersOf g items orders == the orders are the preorders of exactly these trees, in lexicographic order
-use Rattle.std.specs.Prelude.{◌≡◌, ℕ, zero, suc, ◌+◌, ◌<◌, ◌≤◌, Bool, false, Option, Some, None, List, map, length, IsSome, Contains}
+use Rattle.std.specs.Prelude.{◌≡◌, ℕ, zero, suc, ◌+◌, ◌<◌, ◌≤◌, false, Option, Some, None, List, map, length, IsSome}
 use Rattle.hpr_terms.specs.declared.tag.Tag.{Tag}
 use Rattle.hpr_syntax.specs.declared.rows.Content.{Content}
 use Rattle.hpr_syntax.specs.Rows.{expr_in}
-use Rattle.hpr_syntax.specs.Shape.{is_large, max_levels, max_parts}
+use Rattle.hpr_syntax.specs.Shape.{is_large}
 use Rattle.hpr_graph.specs.Graphs.{Graph}
 use Rattle.hpr_walk.specs.Lists.{IsListOf}
 use Rattle.hpr_forest.specs.Trees.{Tree, Slot, preorder}

@@ -1,4 +1,4 @@
-use Rattle.std.proofs.Common.{◌≡◌, ℕ, ◌<◌, length, sym, ◌∙◌, arith}
+use Rattle.std.proofs.Common.{◌≡◌, length, arith}
 use Rattle.hpr_order.specs.Tables.{IsBefore}
 use Rattle.hpr_order.proofs.Linking.{true_is, false_is}
 use Rattle.hpr_order.proofs.Steps.{row_kept, row_pushed, row_whole}

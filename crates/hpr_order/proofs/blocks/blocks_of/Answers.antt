@@ -1,8 +1,7 @@
-use Rattle.std.proofs.Common.{◌≡◌, ◌↔◌, ◌+◌, ℕ, Bool, ◌<◌, ◌≤◌, length, vec_len, Some, List, Option, Vec, Contains, get_or, slice_get, sym, ap, subst, ◌∙◌, arith, rules}
-use Rattle.std.specs.Global.{Global}
+use Rattle.std.proofs.Common.{◌≡◌, ◌↔◌, ℕ, ◌<◌, ◌≤◌, length, Some, Contains, slice_get, sym, ap, subst, ◌∙◌, arith, rules}
 use Rattle.hpr_forest.specs.Blocks.{row_at}
 use Rattle.hpr_order.specs.Lifting.{parent_in}
-use Rattle.hpr_order.specs.Tables.{AreTablesOf, MustPrecede, marks_in}
+use Rattle.hpr_order.specs.Tables.{MustPrecede, marks_in}
 use Rattle.hpr_order.proofs.Steps.{read_of}
 use Rattle.hpr_order.proofs.Tabling.{column_more, HasTables, forest_there, tables_there}
 use Rattle.hpr_order.proofs.blocks.blocks_of.Goals as goal

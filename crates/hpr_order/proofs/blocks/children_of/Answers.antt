@@ -1,4 +1,4 @@
-use Rattle.std.proofs.Common.{◌≡◌, ℕ, ◌<◌, length, Some, sym, ◌∙◌, arith}
+use Rattle.std.proofs.Common.{◌≡◌, length, Some, sym, ◌∙◌, arith}
 use Rattle.hpr_order.specs.Lifting.{parent_in}
 use Rattle.hpr_order.proofs.Linking.{differ_true, differ_false}
 use Rattle.hpr_order.proofs.Steps.{row_kept, row_pushed, row_whole}

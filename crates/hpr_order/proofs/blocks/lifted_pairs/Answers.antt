@@ -1,7 +1,6 @@
-use Rattle.std.proofs.Common.{◌≡◌, ℕ, ◌<◌, length, Some, List, Contains, get_or, slice_get, take, sym, ap, subst, ◌∙◌, arith, rules}
+use Rattle.std.proofs.Common.{ℕ, get_or}
 use Rattle.std.proofs.lemmas.List.{take_all}
 use Rattle.std.proofs.lemmas.Option.{slice_get-get_or}
-use Rattle.hpr_order.specs.Tables.{AreLifted}
 use Rattle.hpr_order.proofs.ListFacts.{there_get}
 use Rattle.hpr_order.proofs.Tabling.{blank_rows, lifted_always, lifted_marked, lifted_whole}
 use Rattle.hpr_order.proofs.blocks.lifted_pairs.Goals as goal

@@ -1,13 +1,11 @@
-use Rattle.std.proofs.Common.{◌≡◌, ◌↔◌, ℕ, Bool, ◌<◌, length, Some, None, List, Vec, Contains, sym, ap, subst, ◌∙◌, arith, rules}
+use Rattle.std.proofs.Common.{Bool, Vec, Contains, subst}
 use Rattle.std.specs.Global.{Global}
 use Rattle.hpr_graph.specs.Numbered.{graph_in}
-use Rattle.hpr_order.specs.Items.{Asks}
-use Rattle.hpr_order.specs.Lifting.{AreLevels, IsBelow}
 use Rattle.hpr_order.specs.Limits.{IsWithinLimits}
 use Rattle.hpr_order.specs.Tables.{AreLifted, AreTablesOf}
 use Rattle.hpr_order.proofs.Sound.{below_of}
-use Rattle.hpr_order.proofs.Tabled.{none_below, none_within, orders_allowed}
-use Rattle.hpr_order.proofs.Tabling.{marked_siblings, if_none, if_some}
+use Rattle.hpr_order.proofs.Tabled.{none_below, orders_allowed}
+use Rattle.hpr_order.proofs.Tabling.{if_none, if_some}
 use Rattle.hpr_order.proofs.blocks.orders_of.Goals as goal
 
 pub lifted_pairs-requires-clause-within : goal.lifted_pairs-requires-clause-within

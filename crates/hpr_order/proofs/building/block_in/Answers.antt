@@ -1,4 +1,4 @@
-use Rattle.std.proofs.Common.{◌≡◌, ◌-◌, ◌+◌, ◌<◌, ℕ, ◌∙◌, sym, ap, subst, get_or, slice_get, Some, length, List, Contains, drop, ◌∷◌, arith}
+use Rattle.std.proofs.Common.{◌≡◌, ◌-◌, ◌+◌, ◌<◌, ◌∙◌, sym, subst, get_or, length, drop, ◌∷◌, arith}
 use Rattle.std.proofs.lemmas.Option.{slice_get-get_or}
 use Rattle.hpr_order.specs.Building.{AreBlocks}
 use Rattle.hpr_order.proofs.Built.{drop_more, fresh_there}

@@ -1,13 +1,13 @@
-use Rattle.std.proofs.Common.{◌≡◌, ◌∙◌, sym, ap, subst, get_or, slice_get, Some, Ok, Err, length, List, ℕ, Contains}
+use Rattle.std.proofs.Common.{◌≡◌, ◌∙◌, sym, ap, subst, get_or, slice_get, Some, Ok, Err}
 use Rattle.std.specs.Result.{OnOk}
 use Rattle.std.specs.declared.result.Result.{Result}
 use Rattle.std.proofs.lemmas.Option.{slice_get-get_or, get_or_from_slice_get}
 use Rattle.hpr_syntax.specs.Body.{done}
 use Rattle.hpr_syntax.specs.BodyOf.{before}
 use Rattle.hpr_order.specs.declared.item.Item.{Item}
-use Rattle.hpr_order.specs.Building.{AreBlocks, IsSlot}
+use Rattle.hpr_order.specs.Building.{IsSlot}
 use Rattle.hpr_order.specs.Items.{said}
-use Rattle.hpr_order.proofs.Built.{IsPut, is_put, put_blocks}
+use Rattle.hpr_order.proofs.Built.{is_put, put_blocks}
 use Rattle.hpr_order.proofs.Steps.{slot_fits}
 use Rattle.hpr_order.proofs.building.put_item.Goals as goal
 

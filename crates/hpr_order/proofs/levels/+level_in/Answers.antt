@@ -1,7 +1,7 @@
-use Rattle.std.proofs.Common.{◌≡◌, ℕ, ◌-◌, ◌<◌, length, Option, Some, None, get_or, List, Bool, subst, ◌∙◌, sym, ap, arith, rules}
+use Rattle.std.proofs.Common.{◌≡◌, ℕ, ◌-◌, ◌<◌, length, Option, Some, None, get_or, List, Bool, subst, ◌∙◌, sym, rules}
 use Rattle.hpr_order.specs.declared.item.Item.{Item}
 use Rattle.hpr_order.specs.Building.{IsSlot}
-use Rattle.hpr_order.specs.Items.{AreSlots, slot_at}
+use Rattle.hpr_order.specs.Items.{slot_at}
 use Rattle.hpr_order.specs.Limits.{level_in}
 use Rattle.std.proofs.lemmas.Option.{slice_get-get_or}
 use Rattle.hpr_order.proofs.Steps.{slot_fits, level_more}

@@ -1,11 +1,9 @@
-use Rattle.std.proofs.Common.{◌≡◌, ℕ, ◌+◌, ◌<◌, ◌≤◌, length, vec_len, Some, None, slice_get, true, false, ◌∙◌, sym, ap, arith, rules}
+use Rattle.std.proofs.Common.{◌≡◌, length, Some, slice_get, true, false, ◌∙◌, sym, ap, arith, rules}
 use Rattle.hpr_syntax.specs.Rows.{expr_in}
 use Rattle.hpr_syntax.specs.Shape.{is_large}
-use Rattle.hpr_order.specs.Items.{slot_at}
-use Rattle.hpr_order.specs.Limits.{level_in}
 use Rattle.hpr_order.proofs.Climbs.{up_within}
 use Rattle.hpr_order.proofs.Marked.{levels_are}
-use Rattle.hpr_order.proofs.Steps.{read_of, slot_fits, IsLevelled, level_pushed, within_all, not_small, not_shallow}
+use Rattle.hpr_order.proofs.Steps.{read_of, slot_fits, level_pushed, within_all, not_small, not_shallow}
 use Rattle.hpr_order.proofs.levels.levels_of.Goals as goal
 
 pub loop-item-init : goal.loop-item-init

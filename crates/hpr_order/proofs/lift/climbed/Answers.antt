@@ -1,4 +1,4 @@
-use Rattle.std.proofs.Common.{◌≡◌, ℕ, ◌+◌, Some, ◌∙◌, sym, arith}
+use Rattle.std.proofs.Common.{◌≡◌, ◌+◌, Some, ◌∙◌, sym, arith}
 use Rattle.hpr_order.specs.Lifting.{level_of, parent_in}
 use Rattle.hpr_order.proofs.Climbs.{up_within, up_level, up_under}
 use Rattle.hpr_order.proofs.lift.climbed.Goals as goal

@@ -1,5 +1,5 @@
-use Rattle.std.proofs.Common.{◌≡◌, ℕ, inl, inr, sym, subst}
-use Rattle.hpr_order.specs.Lifting.{IsBelow, IsUnder}
+use Rattle.std.proofs.Common.{inl, inr, sym, subst}
+use Rattle.hpr_order.specs.Lifting.{IsUnder}
 use Rattle.hpr_order.proofs.Climbs.{under_cases, pair_first, pair_second}
 use Rattle.hpr_order.proofs.lift.lifted.Goals as goal
 

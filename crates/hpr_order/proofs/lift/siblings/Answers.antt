@@ -1,4 +1,4 @@
-use Rattle.std.proofs.Common.{◌≡◌, ℕ, ◌+◌, Some, ◌∙◌, sym, ap, arith, rules}
+use Rattle.std.proofs.Common.{◌≡◌, ◌+◌, Some, ◌∙◌, sym, ap, arith}
 use Rattle.hpr_order.specs.Lifting.{level_of, parent_in}
 use Rattle.hpr_order.proofs.Climbs.{up_within, up_level, up_under}
 use Rattle.hpr_order.proofs.Linking.{differ_true}

@@ -1,4 +1,4 @@
-use Rattle.std.proofs.Common.{ℕ, List, Contains}
+use Rattle.std.proofs.Common.{Contains}
 use Rattle.hpr_order.proofs.Linking.{links_undirected, links_unplaced, links_placed, links_whole}
 use Rattle.hpr_order.proofs.numbers.add_pairs.Goals as goal
 

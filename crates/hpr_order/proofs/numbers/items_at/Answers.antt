@@ -1,6 +1,5 @@
-use Rattle.std.proofs.Common.{◌≡◌, ℕ, ◌+◌, ◌<◌, List, Bool, Option, Some, length, get_or, slice_get, sym, ap, ◌∙◌, subst, arith, rules}
+use Rattle.std.proofs.Common.{◌≡◌, ℕ, Some, length, get_or, slice_get, sym, ◌∙◌, subst, arith, rules}
 use Rattle.std.proofs.lemmas.Option.{slice_get-get_or, slice_get_within}
-use Rattle.hpr_order.specs.declared.item.Item.{Item}
 use Rattle.hpr_order.specs.Numbers.{IsItemAt}
 use Rattle.hpr_order.proofs.Itemized.{items_at, are_slots, are_items}
 use Rattle.hpr_order.proofs.ListFacts.{some_same}

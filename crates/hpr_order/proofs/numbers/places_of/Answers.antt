@@ -1,4 +1,4 @@
-use Rattle.std.proofs.Common.{◌≡◌, ◌<◌, ℕ, ◌∙◌, sym, get_or, slice_get, Some, length, arith, rules}
+use Rattle.std.proofs.Common.{◌≡◌, ◌<◌, get_or, slice_get, Some, length, arith, rules}
 use Rattle.std.proofs.lemmas.Option.{slice_get-get_or}
 use Rattle.hpr_order.proofs.Marked.{place_more, places_all}
 use Rattle.hpr_order.proofs.numbers.places_of.Goals as goal

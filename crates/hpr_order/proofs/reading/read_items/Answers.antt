@@ -1,7 +1,6 @@
-use Rattle.std.proofs.Common.{◌≡◌, ◌<◌, ℕ, Some, slice_get, get_or, subst, inl, inr, arith}
+use Rattle.std.proofs.Common.{◌≡◌, Some, slice_get, get_or, subst, inl, inr, arith}
 use Rattle.std.proofs.lemmas.Bool.{cases_eq}
 use Rattle.std.proofs.lemmas.Option.{slice_get-get_or}
-use Rattle.hpr_order.specs.declared.item.Item.{Item}
 use Rattle.hpr_order.specs.Arranging.{IsProperItem}
 use Rattle.hpr_order.proofs.ListFacts.{one_get}
 use Rattle.hpr_order.proofs.Steps.{read_of}

@@ -1,7 +1,6 @@
-use Rattle.std.proofs.Common.{◌≡◌, ℕ, Some, List, ◌∷◌, Contains, Vec, sym, ap, subst, ◌∙◌, rules}
-use Rattle.std.specs.Global.{Global}
+use Rattle.std.proofs.Common.{◌≡◌, Contains, sym, subst}
 use Rattle.hpr_walk.proofs.Unique.{in_later}
-use Rattle.hpr_order.specs.Arranging.{coming, orders_in, IsSearching}
+use Rattle.hpr_order.specs.Arranging.{coming, orders_in}
 use Rattle.hpr_order.specs.Items.{AreSlots}
 use Rattle.hpr_order.proofs.Coming.{coming_same, coming_next}
 use Rattle.hpr_order.proofs.arrangements.Arrangements.next_one.Goals as goal

@@ -1,12 +1,11 @@
-use Rattle.std.proofs.Common.{◌≡◌, ◌<◌, ℕ, Some, List, ◌∷◌, All, length, Contains, Vec, sym, ap, subst, ◌∙◌, rules}
-use Rattle.std.specs.Global.{Global}
+use Rattle.std.proofs.Common.{◌≡◌, ◌<◌, ℕ, List, All, length, Contains, sym, subst}
 use Rattle.hpr_terms.specs.Names.{IsName}
 use Rattle.hpr_syntax.specs.Issued.{Issued}
 use Rattle.hpr_graph.specs.Arrangements.{AreArrangements}
 use Rattle.hpr_graph.specs.Numbered.{graph_in}
 use Rattle.hpr_graph.specs.Rank.{StandsBefore}
 use Rattle.hpr_order.specs.declared.item.Item.{Item}
-use Rattle.hpr_order.specs.Arranging.{AreIssued, IsProperItem, IsSearching, coming, orders_in, programs_of}
+use Rattle.hpr_order.specs.Arranging.{AreIssued, IsProperItem, coming, orders_in, programs_of}
 use Rattle.hpr_order.specs.Limits.{AreOrdersOf}
 use Rattle.hpr_order.specs.Numbers.{AreItemsAt}
 use Rattle.hpr_order.proofs.Arranges.{orders_arranged, orders_programs}
