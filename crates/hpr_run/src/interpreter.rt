@@ -93,7 +93,8 @@ pub fn run(alloc: Global, program: &Program, state: &State, most: u64) -> Result
     }
 }
 
-fn final_values(alloc: Global, names: &[Name], state: &State) -> Result<FinalValues, NoMemory>
+/// The names with their numbers in the state, in their order.
+pub fn final_values(alloc: Global, names: &[Name], state: &State) -> Result<FinalValues, NoMemory>
     ensures { IfOk result (λ finals. finals ≡ final_values names.now state.now) }
 {
     let mut list = Vec::new(alloc);

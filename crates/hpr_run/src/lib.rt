@@ -6,7 +6,7 @@ pub mod laws;
 mod state;
 mod values;
 
-pub use interpreter::{FinalValues, Outcome, run};
+pub use interpreter::{FinalValues, Outcome, final_values, run};
 pub use state::State;
 pub use values::{Fault, eval};
 

@@ -75,9 +75,9 @@ impl State {
         self.set(name.copy(alloc)?, value)
     }
 
-    // A copy.
+    /// A copy.
     #[tactic(auto, using(crate::proofs::States::onto_empty, crate::proofs::States::onto_last))]
-    pub(crate) fn copy(&self, alloc: Global) -> Result<State, NoMemory>
+    pub fn copy(&self, alloc: Global) -> Result<State, NoMemory>
         ensures { IfOk result (λ s. s ≡ self.now) }
     {
         let mut copy = State::new(alloc);

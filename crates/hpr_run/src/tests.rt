@@ -1,5 +1,5 @@
 //! Values and runs that were worked out by hand from the rules of the language.
-use crate::{Fault, Outcome, State, eval, run};
+use crate::{Fault, Outcome, State, eval, final_values, run};
 use hpr_syntax::{Binary, Block, Expr, Issued, Literal, Name, Operand, Program, Stmt, Tag, Unary};
 use std::alloc::Global;
 use std::fmt::Write;
@@ -270,5 +270,21 @@ fn lists_what_is_set(rt: HostRuntime) -> Result<(), Fail> {
     state.set(Name::new(alloc, "y")?, 0)?;
     assert!(rt; state.lists(&Name::new(alloc, "y")?));
     assert!(rt; !state.lists(&Name::new(alloc, "x")?));
+    Ok(())
+}
+
+#[test]
+fn a_copy_is_a_state_of_its_own(rt: HostRuntime) -> Result<(), Fail> {
+    let alloc = rt.alloc();
+    let y = Name::new(alloc, "y")?;
+    let mut state = State::new(alloc);
+    state.set(y.copy(alloc)?, 5)?;
+    let mut copy = state.copy(alloc)?;
+    copy.set(Name::new(alloc, "z")?, 6)?;
+    let names = vec![in alloc; Name::new(alloc, "z")?, y]?;
+    let values = final_values(alloc, &names, &state)?;
+    assert!(rt; values.list().iter().map(|pair| pair.1).eq([0, 5]));
+    let values = final_values(alloc, &names, &copy)?;
+    assert!(rt; values.list().iter().map(|pair| pair.1).eq([6, 5]));
     Ok(())
 }
