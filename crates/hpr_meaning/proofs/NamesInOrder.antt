@@ -1,0 +1,182 @@
+-- The names of an expression in order, each once.
+use Rattle.std.proofs.Common.{◌≡◌, ℕ, List, [], ◌∷◌, ◌⊎◌, inl, inr, ◌↔◌, Contains, refl, sym, ap, subst, ◌∙◌, if◌then◌else◌, Result, Ok, Err, IfOk}
+use Rattle.std.specs.declared.cmp.Ordering.{Ordering}
+use Rattle.std.specs.declared.cmp.Ordering.TheVariants.{Less, Equal, Greater}
+use Rattle.std.specs.Ordering.{is_lt, is_eq, ordering_reverse}
+use Rattle.std.specs.List.{AllByRecursion}
+use Rattle.std.specs.List.Sorted.{IsStrictlySortedBy}
+use Rattle.std.proofs.lemmas.Cmp.{nat_list_cmp_total}
+use Rattle.std.proofs.lemmas.List.Elements.{All-contains, All-from_recursion}
+use Rattle.std.proofs.lemmas.Map.Lookups.{exact_bytes}
+use Rattle.hpr_terms.specs.declared.expr.Expr.{Expr}
+use Rattle.hpr_terms.specs.Term.{Term, num, var, prefix, infix'}
+use Rattle.hpr_terms.specs.TermOf.{term_of}
+use Rattle.hpr_paths.specs.Spots.{names_in}
+use Rattle.hpr_paths.proofs.Readers.{terms_used}
+use Rattle.hpr_terms.specs.Uses.{TermUses, Uses}
+use Rattle.hpr_graph.specs.Order.{name_cmp}
+use Rattle.hpr_graph.proofs.Lists.{in_none, in_cons, in_here, in_later}
+use Rattle.hpr_meaning.specs.Instances.{put_name, put_names, names_of}
+
+abbrev Names : Type 0
+Names = List (List ℕ)
+
+-- the name is before all of these
+abbrev IsAbove : List ℕ → Names → Type 0
+IsAbove x names = AllByRecursion (λ y. name_cmp x y ≡ Less) names
+
+above_all : (x y : List ℕ) (names : Names) → name_cmp x y ≡ Less → IsAbove y names → IsAbove x names
+above_all x y [] l h = tt
+above_all x y (z ∷ names) l h = (nat_list_cmp_total.trans x y z l h.0, above_all x y names l h.1)
+
+above_each : (x y : List ℕ) (names : Names) → IsAbove x names → Contains names y → name_cmp x y ≡ Less
+above_each x y names h c = All-contains (λ z. name_cmp x z ≡ Less) names y (All-from_recursion (λ z. name_cmp x z ≡ Less) names h) c
+
+-- the list that put_name makes where it meets y
+abbrev met : Ordering → List ℕ → List ℕ → Names → Names
+met o x y names = if is_lt o then x ∷ y ∷ names else (if is_eq o then y ∷ names else y ∷ put_name x names)
+
+after : (x y : List ℕ) → name_cmp x y ≡ Greater → name_cmp y x ≡ Less
+after x y e = nat_list_cmp_total.antisymm y x ∙ ap ordering_reverse e
+
+put_above : (z x : List ℕ) (names : Names) → name_cmp z x ≡ Less → IsAbove z names → IsAbove z (put_name x names)
+put_above z x [] l h = (l, tt)
+put_above z x (y ∷ names) l h = at (name_cmp x y) (put_above z x names l h.1)
+  where
+    at : (o : Ordering) → IsAbove z (put_name x names) → IsAbove z (met o x y names)
+    at Less k = (l, h)
+    at Equal k = h
+    at Greater k = (h.0, k)
+
+put_up : (x : List ℕ) (names : Names) → IsStrictlySortedBy name_cmp names → IsStrictlySortedBy name_cmp (put_name x names)
+unfolding IsStrictlySortedBy
+put_up x [] h = (tt, tt)
+put_up x (y ∷ names) h = at (name_cmp x y) refl (put_up x names h.1)
+  where
+    at : (o : Ordering) → name_cmp x y ≡ o → IsStrictlySortedBy name_cmp (put_name x names) → IsStrictlySortedBy name_cmp (met o x y names)
+    at Less e k = ((e, above_all x y names e h.0), h)
+    at Equal e k = h
+    at Greater e k = (put_above y x names (after x y e) h.0, k)
+
+put_old : (x y : List ℕ) (names : Names) → Contains names y → Contains (put_name x names) y
+put_old x y [] h = absurd (in_none y h)
+put_old x y (z ∷ names) h = at (name_cmp x z) (put_old x y names)
+  where
+    at : (o : Ordering) → (Contains names y → Contains (put_name x names) y) → Contains (met o x z names) y
+    at Less k = in_later x y (z ∷ names) h
+    at Equal k = h
+    at Greater k = elim (in_cons z y names h) [
+      | inl e ↦ subst (λ w. Contains (z ∷ put_name x names) w) e (in_here z (put_name x names))
+      | inr c ↦ in_later z y (put_name x names) (k c)
+    ]
+
+put_new : (x : List ℕ) (names : Names) → Contains (put_name x names) x
+put_new x [] = in_here x []
+put_new x (z ∷ names) = at (name_cmp x z) refl (put_new x names)
+  where
+    at : (o : Ordering) → name_cmp x z ≡ o → Contains (put_name x names) x → Contains (met o x z names) x
+    at Less e k = in_here x (z ∷ names)
+    at Equal e k = subst (λ w. Contains (w ∷ names) x) (exact_bytes x z e) (in_here x names)
+    at Greater e k = in_later z x (put_name x names) k
+
+put_only : (x y : List ℕ) (names : Names) → Contains (put_name x names) y → (y ≡ x) ⊎ Contains names y
+put_only x y [] h = elim (in_cons x y [] h) [ inl e ↦ inl (sym e) | inr c ↦ inr c ]
+put_only x y (z ∷ names) h = at (name_cmp x z) h (put_only x y names)
+  where
+    at : (o : Ordering) → Contains (met o x z names) y → (Contains (put_name x names) y → (y ≡ x) ⊎ Contains names y) → (y ≡ x) ⊎ Contains (z ∷ names) y
+    at Less c k = elim (in_cons x y (z ∷ names) c) [ inl e ↦ inl (sym e) | inr d ↦ inr d ]
+    at Equal c k = inr c
+    at Greater c k = elim (in_cons z y (put_name x names) c) [
+      | inl e ↦ inr (subst (λ w. Contains (z ∷ names) w) e (in_here z names))
+      | inr d ↦ elim (k d) [ inl e ↦ inl e | inr d ↦ inr (in_later z y names d) ]
+    ]
+
+in_up : (t : Term) (names : Names) → IsStrictlySortedBy name_cmp names → IsStrictlySortedBy name_cmp (put_names t names)
+in_up (num n) names h = h
+in_up (var x) names h = put_up x names h
+in_up (prefix op a) names h = in_up a names h
+in_up (infix' op a b) names h = in_up a (put_names b names) (in_up b names h)
+
+in_only : (t : Term) (y : List ℕ) (names : Names) → Contains (put_names t names) y → TermUses t y ⊎ Contains names y
+in_only (num n) y names h = inr h
+in_only (var x) y names h = put_only x y names h
+in_only (prefix op a) y names h = in_only a y names h
+in_only (infix' op a b) y names h = elim (in_only a y (put_names b names) h) [
+  | inl u ↦ inl (inl u)
+  | inr c ↦ elim (in_only b y names c) [ inl u ↦ inl (inr u) | inr d ↦ inr d ]
+]
+
+in_old : (t : Term) (y : List ℕ) (names : Names) → Contains names y → Contains (put_names t names) y
+in_old (num n) y names h = h
+in_old (var x) y names h = put_old x y names h
+in_old (prefix op a) y names h = in_old a y names h
+in_old (infix' op a b) y names h = in_old a y (put_names b names) (in_old b y names h)
+
+in_new : (t : Term) (y : List ℕ) (names : Names) → TermUses t y → Contains (put_names t names) y
+in_new (num n) y names u = absurd u
+in_new (var x) y names u = subst (λ w. Contains (put_name x names) w) (sym u) (put_new x names)
+in_new (prefix op a) y names u = in_new a y names u
+in_new (infix' op a b) y names (inl u) = in_new a y (put_names b names) u
+in_new (infix' op a b) y names (inr u) = in_old a y (put_names b names) (in_new b y names u)
+
+pub names_up : (e : Expr) → IsStrictlySortedBy name_cmp (names_of e)
+unfolding IsStrictlySortedBy
+names_up e = in_up (term_of e) [] tt
+
+-- the names of an expression are those that it uses
+pub names_used : (e : Expr) (x : List ℕ) → Contains (names_of e) x ↔ Uses e x
+names_used e x = (
+  (λ c. elim (in_only (term_of e) x [] c) [ inl u ↦ u | inr d ↦ absurd (in_none x d) ]),
+  (λ u. in_new (term_of e) x [] u),
+)
+
+-- lists in order with the same names are the same
+not_both : (x y : List ℕ) → name_cmp x y ≡ Less → name_cmp y x ≡ Less → ⊥
+not_both x y h k = let e : name_cmp x y ≡ Greater = nat_list_cmp_total.antisymm x y ∙ ap ordering_reverse k in absurd cc
+
+not_itself : (x : List ℕ) → name_cmp x x ≡ Less → ⊥
+not_itself x h = not_both x x h h
+
+same_head : (x y : List ℕ) (xs ys : Names) → IsAbove x xs → IsAbove y ys → Contains (y ∷ ys) x → Contains (x ∷ xs) y → x ≡ y
+same_head x y xs ys h k c d = elim (in_cons y x ys c) [
+  | inl e ↦ sym e
+  | inr c' ↦ elim (in_cons x y xs d) [
+    | inl e ↦ e
+    | inr d' ↦ absurd (not_both x y (above_each x y xs h d') (above_each y x ys k c'))
+  ]
+]
+
+-- what stands behind a head that is the same stands behind the other
+behind : (x y : List ℕ) (xs ys : Names) → x ≡ y → IsAbove x xs → (z : List ℕ) → Contains xs z → Contains (y ∷ ys) z → Contains ys z
+behind x y xs ys e h z c d = elim (in_cons y z ys d) [
+  | inl f ↦ absurd (not_itself x (subst (λ w. name_cmp x w ≡ Less) (sym f ∙ sym e) (above_each x z xs h c)))
+  | inr d' ↦ d'
+]
+
+pub one_order : (xs ys : Names) → IsStrictlySortedBy name_cmp xs → IsStrictlySortedBy name_cmp ys
+    → ((x : List ℕ) → Contains xs x → Contains ys x) → ((x : List ℕ) → Contains ys x → Contains xs x) → xs ≡ ys
+unfolding IsStrictlySortedBy
+one_order [] [] h k f g = refl
+one_order [] (y ∷ ys) h k f g = absurd (in_none y (g y (in_here y ys)))
+one_order (x ∷ xs) [] h k f g = absurd (in_none x (f x (in_here x xs)))
+one_order (x ∷ xs) (y ∷ ys) h k f g =
+    let e : x ≡ y = same_head x y xs ys h.0 k.0 (f x (in_here x xs)) (g y (in_here y ys)) in
+    let rest : xs ≡ ys = one_order xs ys h.1 k.1
+    (λ z c. behind x y xs ys e h.0 z c (f z (in_later x z xs c)))
+    (λ z c. behind y x ys xs (sym e) k.0 z c (g z (in_later y z ys c))) in
+    ap (λ w. w ∷ xs) e ∙ ap (λ l. y ∷ l) rest
+
+-- a list of the names from left to right, put in order
+one_list : (e : Expr) (from names : Names) → from ≡ names_in (term_of e) → IsStrictlySortedBy name_cmp names
+    → ((x : List ℕ) → Contains names x ↔ Contains from x) → names ≡ names_of e
+one_list e from names is up same =
+    one_order names (names_of e) up (names_up e)
+    (λ x c. (names_used e x).1 ((terms_used (term_of e) x).0 (subst (λ l. Contains l x) is ((same x).0 c))))
+    (λ x c. (same x).1 (subst (λ l. Contains l x) (sym is) ((terms_used (term_of e) x).1 ((names_used e x).0 c))))
+
+-- what the code answers
+pub in_order_of : {V E : Type 0} (items : V → Names) (e : Expr) (from : Names) (r : Result V E) → from ≡ names_in (term_of e)
+    → IfOk r (λ v. IsStrictlySortedBy name_cmp (items v)) → IfOk r (λ v. (x : List ℕ) → Contains (items v) x ↔ Contains from x)
+    → IfOk r (λ v. items v ≡ names_of e)
+in_order_of items e from (Ok v) is up same = one_list e from (items v) is up same
+in_order_of items e from (Err f) is up same = tt

@@ -1,0 +1,26 @@
+-- The map of the definers against the ordered map that keeps it.
+use Rattle.std.proofs.Common.{◌≡◌, ℕ, List, [], ◌∷◌, refl, ap, ◌∙◌, cond, Some}
+use Rattle.std.specs.Map.{lookup}
+use Rattle.std.specs.BTreeMap.{is_at}
+use Rattle.std.specs.Ordering.{nat_cmp, eq_by_cmp}
+use Rattle.std.specs.Cmp.{eq_by_cmp_equiv}
+use Rattle.std.specs.Cmp.Lexicographic.{slice_cmp, nat_list_cmp_total}
+use Rattle.std.specs.FinMap.{find, get, insert, get-insert, get-from_entries, from_entries, same_map, nat_cmp-IsAntisymmetric, slice_cmp-IsAntisymmetric}
+
+find-lookup : (q : List ℕ) (es : List (List ℕ × ℕ)) → find (slice_cmp nat_cmp) q es ≡ lookup (is_at (slice_cmp nat_cmp q)) es
+find-lookup q [] = refl
+find-lookup q (e ∷ es) = ap (λ o. cond (eq_by_cmp (slice_cmp nat_cmp) q e.0) (Some e.1) o) (find-lookup q es)
+
+pub get-entries_of : (q : List ℕ) (es : List (List ℕ × ℕ)) → get (from_entries {R = slice_cmp nat_cmp} es) q ≡ lookup (is_at (slice_cmp nat_cmp q)) es
+get-entries_of q es = get-from_entries nat_list_cmp_total es q ∙ find-lookup q es
+
+pub insert-entries_of : (es fs : List (List ℕ × ℕ)) (k : List ℕ) (v : ℕ) →
+    ((q : List ℕ) → lookup (is_at (slice_cmp nat_cmp q)) fs ≡ cond (is_at (slice_cmp nat_cmp k) q) (Some v) (lookup (is_at (slice_cmp nat_cmp q)) es)) →
+    from_entries {R = slice_cmp nat_cmp} fs ≡ insert (from_entries es) k v
+insert-entries_of es fs k v h =
+    same_map nat_list_cmp_total (slice_cmp-IsAntisymmetric nat_cmp-IsAntisymmetric) _ _ (λ q.
+    let a = get-entries_of q fs in
+    let b = get-entries_of q es in
+    let c = get-insert nat_list_cmp_total (from_entries {R = slice_cmp nat_cmp} es) k v q in
+    let d : eq_by_cmp (slice_cmp nat_cmp) k q ≡ eq_by_cmp (slice_cmp nat_cmp) q k = (eq_by_cmp_equiv nat_list_cmp_total).symm k q in
+    a ∙ h q ∙ rw (c, b, d) refl)

@@ -1,0 +1,326 @@
+-- The law of shared slices: what one program does in a slice, the other does too.
+use Rattle.std.proofs.Common.{◌≡◌, ◌↔◌, ℕ, ◌<◌, ◌≤◌, ℤ, true, false, List, [], ◌∷◌, ◌⊎◌, Option, Some, None, length, Contains, refl, ap, sym, subst, ◌∙◌, inl, inr, arith, Ok, Err, map}
+use Rattle.hpr_terms.specs.declared.tag.Tag.{Tag}
+use Rattle.hpr_syntax.specs.declared.rows.Content.{Content}
+use Rattle.hpr_syntax.specs.Tree.{Tree}
+use Rattle.hpr_syntax.specs.Shape.{IsProgram}
+use Rattle.hpr_syntax.specs.Value.{Fault, Answer, value}
+use Rattle.hpr_syntax.specs.Run.{Outcome, ends, faults, more, run, outcome, final_values}
+use Rattle.hpr_syntax.specs.Values.{Values, value_at}
+use Rattle.hpr_terms.specs.Uses.{Uses}
+use Rattle.hpr_syntax.specs.Skeleton.{Distinct, skeleton, at, exit}
+use Rattle.hpr_syntax.specs.Pairs.{first_of, FollowsIn}
+use Rattle.hpr_syntax.specs.Nests.{Says}
+use Rattle.hpr_skeleton.specs.Times.{Place, IsBefore}
+use Rattle.hpr_meaning.specs.Instances.{Instance, reads_of, state_after, definer, stops, trace, log_of, instances, read_of, names_of, after_of}
+use Rattle.hpr_syntax.specs.Rows.{expr_in}
+use Rattle.hpr_graph.specs.declared.vertex.Vertex.{Vertex}
+use Rattle.hpr_graph.specs.declared.vertex.Vertex.TheVariants.{Part, Final}
+use Rattle.hpr_graph.specs.Graphs.{Same}
+use Rattle.hpr_graph.specs.Slices.{ReachesOne, slice_of}
+use Rattle.hpr_meaning.proofs.NamesInOrder.{names_used}
+use Rattle.hpr_meaning.proofs.Items.{Assigns, Spot, spot_of, log_before, log_before_end, origin_none, origin_last, item_of_among, among_of_item, path_to_end}
+use Rattle.hpr_syntax.specs.Paths.{DefinesAt}
+use Rattle.hpr_graph.specs.ProgramGraph.{HasFlow, graph_of}
+use Rattle.hpr_meaning.specs.OrderLaw.{vertex_of}
+use Rattle.hpr_meaning.specs.SliceLaw.{SharesSlice}
+use Rattle.hpr_skeleton.proofs.Among.{Among, here, there, among_cons, among_none, among_contains, contains_among, no_both}
+use Rattle.hpr_skeleton.proofs.Says.{says_one}
+use Rattle.hpr_meaning.proofs.FlowWays.{assigns_at}
+use Rattle.hpr_meaning.proofs.Executed.{Does, StopsFor}
+use Rattle.hpr_meaning.proofs.Timely.{run_of_course, ends_over}
+use Rattle.hpr_skeleton.proofs.Different.{distinct_program}
+use Rattle.hpr_meaning.proofs.RunFacts.{Ending, instances_are}
+use Rattle.hpr_skeleton.proofs.Programs.{at_end}
+use Rattle.hpr_meaning.proofs.FlowPaths.{flow_of}
+use Rattle.hpr_meaning.proofs.RunRecords.{language, vertex_at, stop_item, nth_step, step_given, step_says, at_stop, run_record, known}
+use Rattle.hpr_meaning.proofs.SameSlices.{InBoth, both_of_first, both_of_second, shares, flow_to, use_before_to}
+use Rattle.hpr_graph.proofs.Laws.{same_turned}
+use Rattle.hpr_meaning.proofs.TwoRuns.{Shares, NoneDefines, SameOrigin, shared, same_final_value}
+use Rattle.hpr_terms.specs.declared.expr.Expr.{Expr}
+
+-- reads by what is used
+reads_by : (s : Values) (g h : List Instance) (names : List (List ℕ)) → ((x : List ℕ) → Among x names → read_of s g x ≡ read_of s h x) → map (read_of s g) names ≡ map (read_of s h) names
+reads_by s g h [] same = refl
+reads_by s g h (x ∷ names) same = let first = same x here in let rest = reads_by s g h names (λ y m. same y (there m)) in (λ i. first i ∷ rest i)
+
+same_reads : (e : Expr) (s : Values) (g h : List Instance) → ((x : List ℕ) → Uses e x → (value_at (state_after s g) x ≡ value_at (state_after s h) x) × (definer x g ≡ definer x h))
+    → reads_of e s g ≡ reads_of e s h
+same_reads e s g h same = reads_by s g h (names_of e) (λ x m. let a = same x ((names_used e x).0 (contains_among x (names_of e) m)) in (λ i. record { name = x; value = a.0 i; origin = a.1 i }))
+
+module _ (p q : Tree) (s : Values) (n m : ℕ) (dp : Distinct (skeleton p.body)) (dq : Distinct (skeleton q.body)) (S : Vertex → Type 0)
+    (same : Same (slice_of (graph_of p) S) (slice_of (graph_of q) S)) (is_over : (known p s n dp).over ≡ true) where
+  runs_share : Shares (language s) (run_record p s n dp) (run_record q s m dq) (InBoth p q S)
+  runs_share = shares p q s n m dp dq S same (λ e. no_both is_over e)
+
+  -- one origin: the same value and the same step
+  same_definer : (x : List ℕ) (i k : ℕ) → i ≤ length (known p s n dp).is → k ≤ length (known q s m dq).is → SameOrigin (run_record p s n dp) (run_record q s m dq) x i k
+      → definer x (log_before (known q s m dq).is [] k) ≡ definer x (log_before (known p s n dp).is [] i)
+  same_definer x i k li lk (inl h) =
+      origin_none s (stop_item q s m dq) x k (known q s m dq).is [] h.1 ∙ sym (origin_none s (stop_item p s n dp) x i (known p s n dp).is [] h.0)
+  same_definer x i k li lk (inr (a, b, la, lb, da, db, na, nb, e, v)) =
+      origin_last s (stop_item q s m dq) x b k (known q s m dq).is [] lk lb db nb
+      ∙ (ap (λ z. Some z) (sym e) ∙ sym (origin_last s (stop_item p s n dp) x a i (known p s n dp).is [] li la da na))
+
+  same_value : (x : List ℕ) (i k : ℕ) → i ≤ length (known p s n dp).is → k ≤ length (known q s m dq).is → SameOrigin (run_record p s n dp) (run_record q s m dq) x i k
+      → value_at (state_after s (log_before (known q s m dq).is [] k)) x ≡ value_at (state_after s (log_before (known p s n dp).is [] i)) x
+  same_value x i k li lk (inl h) = (run_record q s m dq).none_defined k x h.1 ∙ sym ((run_record p s n dp).none_defined i x h.0)
+  same_value x i k li lk (inr (a, b, la, lb, da, db, na, nb, e, v)) =
+      (run_record q s m dq).last_defined k b x lk lb db nb ∙ (sym v ∙ sym ((run_record p s n dp).last_defined i a x li la da na))
+
+  -- a step of q in the slice is an instance of p
+  pub item_shared : (k : ℕ) → k < length (known q s m dq).is → InBoth p q S (spot_of (nth_step q s m dq k)) → (i : ℕ) × (i < length (known p s n dp).is) × (nth_step p s n dp i ≡ nth_step q s m dq k)
+  item_shared k a b = (h.0, h.1, whole)
+    where
+      h : (i : ℕ) × (i < length (known p s n dp).is) × (spot_of (nth_step p s n dp i) ≡ spot_of (nth_step q s m dq k))
+          × ((x : List ℕ) → Uses (expr_in (nth_step q s m dq k).1.content) x → SameOrigin (run_record p s n dp) (run_record q s m dq) x i k)
+          × (value (expr_in (nth_step q s m dq k).1.content) (state_after s (log_before (known q s m dq).is [] k)) ≡ Ok (nth_step p s n dp i).1.gave)
+      h = shared (run_record p s n dp) (run_record q s m dq) (InBoth p q S) runs_share k (inl a) b
+
+      gp : Does p.body s (nth_step p s n dp h.0).0.0 (log_before (known p s n dp).is [] h.0) (nth_step p s n dp h.0).1
+      gp = step_given p s n dp h.0 h.1
+
+      gq : Does q.body s (nth_step q s m dq k).0.0 (log_before (known q s m dq).is [] k) (nth_step q s m dq k).1
+      gq = step_given q s m dq k a
+
+      gave : (nth_step p s n dp h.0).1.gave ≡ (nth_step q s m dq k).1.gave
+      gave = (language s).ok_inj _ _ (sym h.4 ∙ gq.2)
+
+      content : (nth_step p s n dp h.0).1.content ≡ (nth_step q s m dq k).1.content
+      content = ap (λ (z : Spot). z.1) h.2
+
+      reads : (nth_step p s n dp h.0).1.reads ≡ (nth_step q s m dq k).1.reads
+      reads = gp.1 ∙ (ap (λ c. reads_of (expr_in c) s (log_before (known p s n dp).is [] h.0)) content
+          ∙ (same_reads (expr_in (nth_step q s m dq k).1.content) s (log_before (known p s n dp).is [] h.0) (log_before (known q s m dq).is [] k)
+          (λ x u. (sym (same_value x h.0 k (omega (arith, h.1)) (omega (arith, a)) (h.3 x u)), sym (same_definer x h.0 k (omega (arith, h.1)) (omega (arith, a)) (h.3 x u))))
+          ∙ sym gq.1))
+
+      whole : nth_step p s n dp h.0 ≡ nth_step q s m dq k
+      whole = λ j. ((h.2 j).0, record { content = content j; reads = reads j; gave = gave j })
+
+  pub found_in_first : (i : Instance) → Contains (instances q s m) i → (slice_of (graph_of p) S).vertex (vertex_of i) → Contains (instances p s n) i
+  found_in_first i c v =
+      let is_q = instances_are q.body s m _ (known q s m dq) in
+      let is_p = instances_are p.body s n _ (known p s n dp) in
+      let k = item_of_among (stop_item q s m dq) i (known q s m dq).is (among_contains i (known q s m dq).is (subst (λ l. Contains l i) is_q c)) in
+      let b = subst (λ (y : Instance). InBoth p q S (spot_of y)) (sym k.2) (both_of_first p q s n m dp dq S same (spot_of i) v.0 v.1) in
+      let g = item_shared k.0 k.1 b in
+      subst (λ l. Contains l i) (sym is_p) (contains_among i (known p s n dp).is (subst (λ y. Among y (known p s n dp).is) (g.2 ∙ k.2) (among_of_item (stop_item p s n dp) g.0 (known p s n dp).is g.1)))
+
+  -- where q stops in the slice, it is no fault
+  pub stop_shared : (known q s m dq).over ≡ false → InBoth p q S (spot_of (nth_step q s m dq (length (known q s m dq).is)))
+      → (v : ℤ) × (i : ℕ) × (i < length (known p s n dp).is) × (spot_of (nth_step p s n dp i) ≡ spot_of (nth_step q s m dq (length (known q s m dq).is)))
+      × (value (expr_in (nth_step q s m dq (length (known q s m dq).is)).1.content) (state_after s (log_before (known q s m dq).is [] (length (known q s m dq).is))) ≡ Ok v)
+  stop_shared e b =
+      let h = shared (run_record p s n dp) (run_record q s m dq) (InBoth p q S) runs_share (length (known q s m dq).is) (inr (refl, e)) b in
+      ((nth_step p s n dp h.0).1.gave, h.0, h.1, h.2, h.4)
+
+ok_or_err : (a : Answer) (v : ℤ) (x : Fault) → a ≡ Ok v → a ≡ Err x → ⊥
+ok_or_err a v x o e = absurd cc
+
+-- outcomes
+abbrev IsFaultOf : Outcome → Tag → Fault → Type 0
+IsFaultOf (ends g k) t x = ⊥
+IsFaultOf (faults u y k) t x = (u ≡ t) × (y ≡ x)
+IsFaultOf (more k) t x = ⊥
+
+abbrev EndsWith : Outcome → List (List ℕ × ℤ) → Type 0
+EndsWith (ends g k) h = g ≡ h
+EndsWith (faults u y k) h = ⊥
+EndsWith (more k) h = ⊥
+
+module _ (q : Tree) (s : Values) (m : ℕ) (dq : Distinct (skeleton q.body)) where
+  abbrev pub FaultsAt : Tag → Fault → Type 0
+  FaultsAt t x = ((known q s m dq).over ≡ false) × ((known q s m dq).stop.0 ≡ t) × ((c : Content) × Says q.body t c
+      × (value (expr_in c) (state_after s (log_before (known q s m dq).is [] (length (known q s m dq).is))) ≡ Err x))
+
+  whole_log : (log : List Instance) → log_of (trace s q.body [] [] m) ≡ log → log ≡ log_before (known q s m dq).is [] (length (known q s m dq).is)
+  whole_log log e = sym e ∙ ((known q s m dq).log ∙ sym (log_before_end (known q s m dq).is []))
+
+  faults_by : (t : Tag) (x : Fault) (why : Option Fault) (log : List Instance) (left : ℕ) → (known q s m dq).over ≡ false → trace s q.body [] [] m ≡ stops (known q s m dq).stop why log left
+      → StopsFor q.body s (known q s m dq).stop why log left → IsFaultOf (outcome q.finals m (after_of s (stops (known q s m dq).stop why log left))) t x → FaultsAt t x
+  faults_by t x None log left a e w o = absurd o
+  faults_by t x (Some y) log left a e w o =
+      let l = whole_log log (ap log_of e) in (
+        a,
+        o.0,
+        (
+          w.0,
+          subst (λ v. Says q.body v w.0) o.0 w.1,
+          subst (λ g. value (expr_in w.0) (state_after s g) ≡ Err x) l (subst (λ z. value (expr_in w.0) (state_after s log) ≡ Err z) o.1 w.2),
+        ),
+      )
+
+  pub faults_at : (t : Tag) (x : Fault) (steps : ℕ) → run q s m ≡ faults t x steps → FaultsAt t x
+  faults_at t x steps e = go (known q s m dq).how
+    where
+      is : IsFaultOf (outcome q.finals m (after_of s (trace s q.body [] [] m))) t x
+      is = subst (λ o. IsFaultOf o t x) (sym e ∙ sym (run_of_course q s m)) (refl, refl)
+
+      go : Ending q.body s m (trace s q.body [] [] m) (known q s m dq).over (known q s m dq).stop → FaultsAt t x
+      go (inl (a, (log, left, b, c))) = absurd (subst (λ tr. IsFaultOf (outcome q.finals m (after_of s tr)) t x) b is)
+      go (inr (a, (why, log, left, b, w, c))) = faults_by t x why log left a b w (subst (λ tr. IsFaultOf (outcome q.finals m (after_of s tr)) t x) b is)
+
+  finals_by : (finals : List (List ℕ × ℤ)) → EndsWith (outcome q.finals m (after_of s (trace s q.body [] [] m))) finals
+      → Ending q.body s m (trace s q.body [] [] m) (known q s m dq).over (known q s m dq).stop
+      → finals ≡ final_values q.finals (state_after s (log_before (known q s m dq).is [] (length (known q s m dq).is)))
+  finals_by finals h (inl (a, (log, left, b, c))) =
+      sym (subst (λ tr. EndsWith (outcome q.finals m (after_of s tr)) finals) b h) ∙ ap (λ g. final_values q.finals (state_after s g)) (whole_log log (ap log_of b))
+  finals_by finals h (inr (a, (None, log, left, b, w, c))) = absurd (subst (λ tr. EndsWith (outcome q.finals m (after_of s tr)) finals) b h)
+  finals_by finals h (inr (a, (Some y, log, left, b, w, c))) = absurd (subst (λ tr. EndsWith (outcome q.finals m (after_of s tr)) finals) b h)
+
+  pub finals_are : (finals : List (List ℕ × ℤ)) (steps : ℕ) → run q s m ≡ ends finals steps → finals ≡ final_values q.finals (state_after s (log_before (known q s m dq).is [] (length (known q s m dq).is)))
+  finals_are finals steps e = finals_by finals (subst (λ o. EndsWith o finals) (sym e ∙ sym (run_of_course q s m)) refl) (known q s m dq).how
+
+  -- the last definition of a final name flows to it
+  pub flows_to_final : (x : List ℕ) → Contains q.finals x → (known q s m dq).over ≡ true → (i : ℕ) → i < length (known q s m dq).is → Assigns (nth_step q s m dq i).1.content x
+      → ((j : ℕ) → i < j → j < length (known q s m dq).is → ¬ Assigns (nth_step q s m dq j).1.content x) → HasFlow q x (vertex_at (spot_of (nth_step q s m dq i))) (Final x)
+  flows_to_final x c e i a d n =
+      let g = path_to_end (FollowsIn (skeleton q.body) at_end) (DefinesAt q.body x) (stop_item q s m dq) (known q s m dq).over exit e i (known q s m dq).is (first_of (skeleton q.body) at_end).0 (known q s m dq).walks a
+      (λ j b k y. n j b k (defines_here j k y)) in
+      flow_of q x (at (nth_step q s m dq i).0.0) exit (vertex_at (spot_of (nth_step q s m dq i))) (Final x) g.0
+      (d, step_says q s m dq i (inl a), refl) (refl, c, refl) g.1
+    where
+      defines_here : (j : ℕ) → j < length (known q s m dq).is → DefinesAt q.body x (at (nth_step q s m dq j).0.0) → Assigns (nth_step q s m dq j).1.content x
+      defines_here j k y = assigns_at q.body dq x (nth_step q s m dq j).0.0 (nth_step q s m dq j).1.content (step_says q s m dq j (inl k)) y
+
+-- final values
+value_in_finals : (names : List (List ℕ)) (st : Values) (x : List ℕ) (v : ℤ) → Among (x, v) (final_values names st) → v ≡ value_at st x
+value_in_finals [] st x v h = absurd (among_none (x, v) h)
+value_in_finals (y ∷ ys) st x v h = go (among_cons h) (λ g. value_in_finals ys st x v g)
+  where
+    go : (◌≡◌ {A = List ℕ × ℤ} (y, value_at st y) (x, v)) ⊎ Among (x, v) (final_values ys st) → (Among (x, v) (final_values ys st) → v ≡ value_at st x) → v ≡ value_at st x
+    go (inl e) r = sym (ap (λ (z : List ℕ × ℤ). z.1) e) ∙ ap (λ (z : List ℕ × ℤ). value_at st z.0) e
+    go (inr g) r = r g
+
+in_finals : (x : List ℕ) (st : Values) (names : List (List ℕ)) → Among x names → Among (x, value_at st x) (final_values names st)
+in_finals x st _ (here {ms = ms}) = here
+in_finals x st _ (there {n = n} {ms = ms} h) = there (in_finals x st ms h)
+
+name_in_finals : (st : Values) (x : List ℕ) (v : ℤ) (names : List (List ℕ)) → Among (x, v) (final_values names st) → Among x names
+name_in_finals st x v [] h = absurd (among_none (x, v) h)
+name_in_finals st x v (y ∷ ys) h = go (among_cons h) (λ g. name_in_finals st x v ys g)
+  where
+    go : (◌≡◌ {A = List ℕ × ℤ} (y, value_at st y) (x, v)) ⊎ Among (x, v) (final_values ys st) → (Among (x, v) (final_values ys st) → Among x ys) → Among x (y ∷ ys)
+    go (inl e) r = subst (λ (z : List ℕ). Among z (y ∷ ys)) (ap (λ (z : List ℕ × ℤ). z.0) e) here
+    go (inr g) r = there (r g)
+
+pub final_name : (p : Tree) (s : Values) (n : ℕ) (dp : Distinct (skeleton p.body)) (finals : List (List ℕ × ℤ)) (steps : ℕ) → run p s n ≡ ends finals steps
+    → (x : List ℕ) (v : ℤ) → Contains finals (x, v) → Contains p.finals x
+final_name p s n dp finals steps e x v c =
+    let l = finals_are p s n dp finals steps e in
+    contains_among x p.finals (name_in_finals _ x v p.finals (among_contains (x, v) _ (subst (λ y. Contains y (x, v)) l c)))
+
+module _ (p q : Tree) (s : Values) (n m : ℕ) (dp : Distinct (skeleton p.body)) (dq : Distinct (skeleton q.body)) (S : Vertex → Type 0)
+    (same : Same (slice_of (graph_of p) S) (slice_of (graph_of q) S)) where
+  pub faults_outside : (known p s n dp).over ≡ true → (t : Tag) (c : Content) (x : Fault) (steps : ℕ) → run q s m ≡ faults t x steps → Says q.body t c → ¬ (slice_of (graph_of p) S).vertex (Part t c)
+  faults_outside is_over t c x steps e sc v = differ w.4
+    where
+      b : FaultsAt q s m dq t x
+      b = faults_at q s m dq t x steps e
+
+      k : ℕ
+      k = length (known q s m dq).is
+
+      place_is : (nth_step q s m dq k).0 ≡ (known q s m dq).stop
+      place_is = at_stop q s m dq k refl
+
+      says : Says q.body t (nth_step q s m dq k).1.content
+      says = subst (λ z. Says q.body z (nth_step q s m dq k).1.content) (ap (λ (y : Place). y.0) place_is ∙ b.1) (step_says q s m dq k (inr (refl, b.0)))
+
+      ec : c ≡ (nth_step q s m dq k).1.content
+      ec = says_one q.body dq t c (nth_step q s m dq k).1.content sc says
+
+      ev : Part t c ≡ vertex_at (spot_of (nth_step q s m dq k))
+      ev = λ i. Part (sym (ap (λ (y : Place). y.0) place_is ∙ b.1) i) (ec i)
+
+      vq : (graph_of p).vertex (vertex_at (spot_of (nth_step q s m dq k))) × ReachesOne (graph_of p) S (vertex_at (spot_of (nth_step q s m dq k)))
+      vq = subst (λ z. (slice_of (graph_of p) S).vertex z) ev v
+
+      w : (v : ℤ) × (i : ℕ) × (i < length (known p s n dp).is) × (spot_of (nth_step p s n dp i) ≡ spot_of (nth_step q s m dq k))
+          × (value (expr_in (nth_step q s m dq k).1.content) (state_after s (log_before (known q s m dq).is [] k)) ≡ Ok v)
+      w = stop_shared p q s n m dp dq S same is_over b.0 (both_of_first p q s n m dp dq S same (spot_of (nth_step q s m dq k)) vq.0 vq.1)
+
+      err : value (expr_in (nth_step q s m dq k).1.content) (state_after s (log_before (known q s m dq).is [] k)) ≡ Err x
+      err = subst (λ z. value (expr_in z) (state_after s (log_before (known q s m dq).is [] k)) ≡ Err x) (says_one q.body dq t b.2.0 (nth_step q s m dq k).1.content b.2.1 says) b.2.2
+
+      differ : value (expr_in (nth_step q s m dq k).1.content) (state_after s (log_before (known q s m dq).is [] k)) ≡ Ok w.0 → ⊥
+      differ o = ok_or_err _ w.0 x o err
+
+  pub same_final_value_of : (known p s n dp).over ≡ true → (known q s m dq).over ≡ true → (x : List ℕ) → (slice_of (graph_of p) S).vertex (Final x)
+      → value_at (state_after s (log_before (known p s n dp).is [] (length (known p s n dp).is))) x ≡ value_at (state_after s (log_before (known q s m dq).is [] (length (known q s m dq).is))) x
+  same_final_value_of ep eq x v =
+      same_final_value (run_record p s n dp) (run_record q s m dq) (InBoth p q S) (InBoth q p S)
+      (shares p q s n m dp dq S same (λ e. no_both ep e)) (shares q p s m n dq dp S (same_turned (slice_of (graph_of p) S) (slice_of (graph_of q) S) same) (λ e. no_both eq e))
+      (λ a i. (i.1, i.0)) x fp fq m2
+    where
+      turned_back : Same (slice_of (graph_of q) S) (slice_of (graph_of p) S)
+      turned_back = same_turned (slice_of (graph_of p) S) (slice_of (graph_of q) S) same
+
+      vq : (slice_of (graph_of q) S).vertex (Final x)
+      vq = (same.0 (Final x)).0 v
+
+      fp : (i : ℕ) → i < length (known p s n dp).is → Assigns (nth_step p s n dp i).1.content x → NoneDefines (run_record p s n dp) x i (length (known p s n dp).is) → InBoth p q S (spot_of (nth_step p s n dp i))
+      fp i a d n' = both_of_first p q s n m dp dq S same (spot_of (nth_step p s n dp i)) (step_says p s n dp i (inl a))
+          (flow_to q p dq dp S same x (vertex_at (spot_of (nth_step p s n dp i))) (Final x) (flows_to_final p s n dp x v.0 ep i a d n') v.1).1
+
+      fq : (i : ℕ) → i < length (known q s m dq).is → Assigns (nth_step q s m dq i).1.content x → NoneDefines (run_record q s m dq) x i (length (known q s m dq).is) → InBoth p q S (spot_of (nth_step q s m dq i))
+      fq i a d n' = both_of_second p q s n m dp dq S same (spot_of (nth_step q s m dq i)) (step_says q s m dq i (inl a))
+          (flow_to p q dp dq S turned_back x (vertex_at (spot_of (nth_step q s m dq i))) (Final x) (flows_to_final q s m dq x vq.0 eq i a d n') vq.1).1
+
+      m2 : (i j k : ℕ) → i < length (known p s n dp).is → j < length (known p s n dp).is → k < length (known q s m dq).is → spot_of (nth_step p s n dp i) ≡ spot_of (nth_step q s m dq k)
+          → Assigns (nth_step q s m dq k).1.content x → NoneDefines (run_record q s m dq) x k (length (known q s m dq).is) → Assigns (nth_step p s n dp j).1.content x → NoneDefines (run_record p s n dp) x j (length (known p s n dp).is)
+          → IsBefore p.body (nth_step p s n dp i).0 (nth_step p s n dp j).0 → IsBefore q.body (nth_step p s n dp i).0 (nth_step p s n dp j).0
+      m2 i j k a b c e dk nk dj nj h =
+          let fk = (flow_to p q dp dq S turned_back x (vertex_at (spot_of (nth_step q s m dq k))) (Final x) (flows_to_final q s m dq x vq.0 eq k c dk nk) vq.1).0 in
+          let fi = subst (λ (z : Spot). HasFlow p x (vertex_at z) (Final x)) (sym e) fk in
+          use_before_to q p dq dp S same x (Final x) (spot_of (nth_step p s n dp i)) (spot_of (nth_step p s n dp j)) v.1 fi (flows_to_final p s n dp x v.0 ep j b dj nj) h
+
+  pub same_finals : (finals finals' : List (List ℕ × ℤ)) (steps steps' : ℕ) → run p s n ≡ ends finals steps → run q s m ≡ ends finals' steps'
+      → (x : List ℕ) (v : ℤ) → (slice_of (graph_of p) S).vertex (Final x) → Contains finals (x, v) ↔ Contains finals' (x, v)
+  same_finals finals finals' steps steps' ep eq x v sv = (forth, turned_back)
+    where
+      sp : Values
+      sp = state_after s (log_before (known p s n dp).is [] (length (known p s n dp).is))
+
+      sq : Values
+      sq = state_after s (log_before (known q s m dq).is [] (length (known q s m dq).is))
+
+      value_same : value_at sp x ≡ value_at sq x
+      value_same = same_final_value_of (ends_over p s n steps finals (known p s n dp) ep) (ends_over q s m steps' finals' (known q s m dq) eq) x sv
+
+      lp : finals ≡ final_values p.finals sp
+      lp = finals_are p s n dp finals steps ep
+
+      lq : finals' ≡ final_values q.finals sq
+      lq = finals_are q s m dq finals' steps' eq
+
+      forth : Contains finals (x, v) → Contains finals' (x, v)
+      forth c =
+          let e = value_in_finals p.finals sp x v (among_contains (x, v) (final_values p.finals sp) (subst (λ l. Contains l (x, v)) lp c)) in
+          let g = contains_among (x, value_at sq x) (final_values q.finals sq) (in_finals x sq q.finals (among_contains x q.finals ((same.0 (Final x)).0 sv).0)) in
+          subst (λ l. Contains l (x, v)) (sym lq) (subst (λ z. Contains (final_values q.finals sq) (x, z)) (sym (e ∙ value_same)) g)
+
+      turned_back : Contains finals' (x, v) → Contains finals (x, v)
+      turned_back c =
+          let e = value_in_finals q.finals sq x v (among_contains (x, v) (final_values q.finals sq) (subst (λ l. Contains l (x, v)) lq c)) in
+          let g = contains_among (x, value_at sp x) (final_values p.finals sp) (in_finals x sp p.finals (among_contains x p.finals sv.0)) in
+          subst (λ l. Contains l (x, v)) (sym lp) (subst (λ z. Contains (final_values p.finals sp) (x, z)) (sym (e ∙ sym value_same)) g)
+
+pub slice_shared : (p q : Tree) (S : Vertex → Type 0) (s : Values) (n m steps : ℕ) (finals : List (List ℕ × ℤ)) → IsProgram p → IsProgram q
+    → Same (slice_of (graph_of p) S) (slice_of (graph_of q) S) → run p s n ≡ ends finals steps → SharesSlice p q S s n m
+slice_shared p q S s n m steps finals ip iq same e = record {
+  done_alike = found_in_first p q s n m dp dq S same is_over;
+  no_fault = λ t c x k r sc. faults_outside p q s n m dp dq S same is_over t c x k r sc;
+  done_by_both = λ finals' k r i c v. found_in_first q p s m n dq dp S (same_turned (slice_of (graph_of p) S) (slice_of (graph_of q) S) same) (ends_over q s m k finals' (known q s m dq) r) i c ((same.0 (vertex_of i)).0 v);
+  same_finals = λ g g' k k' a b x v w. same_finals p q s n m dp dq S same g g' k k' a b x v w;
+}
+  where
+    dp : Distinct (skeleton p.body)
+    dp = distinct_program p ip
+
+    dq : Distinct (skeleton q.body)
+    dq = distinct_program q iq
+
+    is_over : (known p s n dp).over ≡ true
+    is_over = ends_over p s n steps finals (known p s n dp) e

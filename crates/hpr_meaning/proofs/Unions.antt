@@ -1,0 +1,217 @@
+-- The law of the union: a preserved point keeps its slice in the merged graph; and where each affected point of a side keeps its slice,
+-- so do all of them together.
+use Rattle.std.proofs.Common.{◌≡◌, ℕ, inl, inr, Option, List, [], ◌∷◌, refl, sym, subst}
+use Rattle.hpr_terms.specs.declared.tag.Tag.{Tag}
+use Rattle.hpr_syntax.specs.Tree.{Tree}
+use Rattle.hpr_syntax.specs.Skeleton.{Point}
+use Rattle.hpr_syntax.specs.Shape.{IsProgram}
+use Rattle.hpr_syntax.specs.Paths.{IsUndisturbed}
+use Rattle.hpr_syntax.specs.Initial.{IsInitial, UsedBy}
+use Rattle.hpr_graph.specs.declared.conflict.Side.{Side}
+use Rattle.hpr_graph.specs.declared.conflict.Side.TheVariants.{A, B}
+use Rattle.hpr_graph.specs.declared.vertex.Vertex.{Vertex}
+use Rattle.hpr_graph.specs.declared.vertex.Vertex.TheVariants.{Entry, Init, Part, Final}
+use Rattle.hpr_graph.specs.declared.edge.Kind.{Kind}
+use Rattle.hpr_graph.specs.declared.edge.Kind.TheVariants.{Control, Independent, Carried, Order}
+use Rattle.hpr_graph.specs.declared.edge.Edge.{Edge}
+use Rattle.hpr_graph.specs.Graphs.{Graph, IsWithin, Same, OnThird, HasVertices, union_of}
+use Rattle.hpr_graph.specs.Points.{IsAffected, IsPreserved, merged}
+use Rattle.hpr_graph.specs.Conflicts.{graph_on}
+use Rattle.hpr_graph.specs.Answer.{merged_of}
+use Rattle.hpr_graph.specs.ProgramGraph.{Defines, Reads, IsVertexOf, IsEdgeBy, HasFlow, graph_of}
+use Rattle.hpr_graph.specs.Slices.{Leads, LeadsTo, ReachesOne, slice_of, slice_at}
+use Rattle.hpr_graph.proofs.Laws.{same_turned, same_from_within, vertices_map}
+use Rattle.hpr_merge.specs.Loops.{HasLoops}
+use Rattle.hpr_merge.proofs.EdgeStands.{edge_inside, merged_loops, point_within}
+use Rattle.hpr_merge.proofs.ProgramLoops.{program_loops}
+use Rattle.hpr_skeleton.proofs.Different.{distinct_program}
+use Rattle.hpr_skeleton.proofs.Says.{says_one}
+use Rattle.hpr_meaning.specs.UnionLaw.{affected_on, IsUnionKept}
+
+-- the sources of control and flow edges are vertices
+abbrev pub HasSources : Graph → Type 0
+HasSources g = (e : Edge) → g.edge e → Leads e.kind → g.vertex e.from
+
+-- a preserved point: base has it, and both variants have its slice
+module _ (base a b : Graph) (loops : HasLoops base) (loops_a : HasLoops a) (loops_b : HasLoops b) (sources : HasSources base) (v : Vertex) (there : base.vertex v) (same_a : Same (slice_at base v) (slice_at a v)) (same_b : Same (slice_at base v) (slice_at b v)) (is : IsPreserved base a b v) where
+  abbrev m : Graph
+  m = merged base a b
+
+  abbrev Own : Vertex → Type 0
+  Own w = ReachesOne base (λ s. s ≡ v) w
+
+  -- an edge of a variant that leads into the slice is base's
+  side_edge : (g : Graph) → HasLoops g → Same (slice_at base v) (slice_at g v) → (e : Edge) → g.edge e → Leads e.kind → base.vertex e.to → Own e.to → base.edge e
+  side_edge g of_g same e h l x r =
+      let reach = ((same.0 e.to).0 (x, r)).1 in ((same.1 e).1 (h, edge_inside g of_g (λ s. s ≡ v) e h l reach)).0
+
+  edge_down : (e : Edge) → m.edge e → Leads e.kind → base.vertex e.to → Own e.to → base.edge e
+  edge_down e (inl (inl h)) l x r = side_edge a loops_a same_a e h.0 l x r
+  edge_down e (inl (inr h)) l x r = side_edge b loops_b same_b e h.0 l x r
+  edge_down e (inr h) l x r = h.0
+
+  leads_down : (w : Vertex) (es : List Edge) → LeadsTo m w es v → LeadsTo base w es v × base.vertex w
+  leads_down w [] at_v = (at_v, subst base.vertex (sym at_v) there)
+  leads_down w (e ∷ es) (h, l, from, rest) =
+      let d = leads_down e.to es rest in
+      let own = edge_down e h l d.1 (v, es, refl, d.0) in
+      ((own, l, from, d.0), subst base.vertex from (sources e own l))
+
+  abbrev Down : Vertex → Type 0
+  Down w = Own w × base.vertex w
+
+  reach_down : (w : Vertex) → ReachesOne m (λ s. s ≡ v) w → Down w
+  reach_down w (s, es, at_v, leads) = let d = leads_down w es (subst (λ z. LeadsTo m w es z) at_v leads) in ((v, es, refl, d.0), d.1)
+
+  -- an edge of a variant between vertices of the slice is base's
+  inner_edge : (g : Graph) → Same (slice_at base v) (slice_at g v) → (e : Edge) → g.edge e → HasVertices Down e → base.edge e
+  inner_edge g same e h inside = ((same.1 e).1 (h, vertices_map Down (ReachesOne g (λ s. s ≡ v)) (λ w d. ((same.0 w).0 (d.1, d.0)).1) e inside)).0
+
+  inner_down : (e : Edge) → m.edge e → HasVertices Down e → base.edge e
+  inner_down e (inl (inl h)) inside = inner_edge a same_a e h.0 inside
+  inner_down e (inl (inr h)) inside = inner_edge b same_b e h.0 inside
+  inner_down e (inr h) inside = h.0
+
+  slice_down : IsWithin (slice_at m v) (slice_at base v)
+  slice_down = (
+    (λ w (h, r). let d = reach_down w r in (d.1, d.0)),
+    (λ e (h, inside). let down = vertices_map (ReachesOne m (λ s. s ≡ v)) Down reach_down e inside in
+        (inner_down e h down, vertices_map Down Own (λ w d. d.0) e down)),
+  )
+
+  pub preserved_kept : Same (slice_at (merged base a b) v) (slice_at base v)
+  preserved_kept = same_from_within (slice_at m v) (slice_at base v) slice_down (point_within base loops (IsPreserved base a b) m ((λ w h. inr h), (λ e h. inr h)) v is)
+
+-- both ends of an order edge lead to its shared use
+abbrev pub LeadsRight : Graph → Vertex → Vertex → Type 0
+LeadsRight g from to = (f : Edge) × g.edge f × Leads f.kind × (f.from ≡ from) × (f.to ≡ to)
+
+abbrev pub HasUses : Graph → Type 0
+HasUses g = (e : Edge) (u : Vertex) → g.edge e → e.kind ≡ Order u → LeadsRight g e.from u × LeadsRight g e.to u
+
+-- so an edge of the slice of some vertices is one of the slice of one of them
+module _ (g : Graph) (loops : HasLoops g) (uses : HasUses g) (S : Vertex → Type 0) where
+  abbrev InPoint : Edge → Type 0
+  InPoint e = (s : Vertex) × S s × HasVertices (ReachesOne g (λ z. z ≡ s)) e
+
+  before_use : (s u w : Vertex) (es : List Edge) → LeadsTo g u es s → LeadsRight g w u → ReachesOne g (λ z. z ≡ s) w
+  before_use s u w es leads (f, has, l, from, to) = (s, f ∷ es, refl, (has, l, from, subst (λ z. LeadsTo g z es s) (sym to) leads))
+
+  leading_point : (e : Edge) → g.edge e → Leads e.kind → ReachesOne g S e.to → InPoint e
+  leading_point e h l (s, es, one, leads) = (s, one, edge_inside g loops (λ z. z ≡ s) e h l (s, es, refl, leads))
+
+  point_by : (e : Edge) (k : Kind) → e.kind ≡ k → g.edge e → ReachesOne g S e.to → OnThird (ReachesOne g S) k → InPoint e
+  point_by e (Control label) is h to third = leading_point e h (subst Leads (sym is) tt) to
+  point_by e (Independent x) is h to third = leading_point e h (subst Leads (sym is) tt) to
+  point_by e (Carried x w) is h to third = leading_point e h (subst Leads (sym is) tt) to
+  point_by e (Order u) is h to (s, es, one, leads) =
+      let both = uses e u h is in
+      let at_u : ReachesOne g (λ z. z ≡ s) u = (s, es, refl, leads) in
+      (s, one, (before_use s u e.to es leads both.1, before_use s u e.from es leads both.0, subst (OnThird (ReachesOne g (λ z. z ≡ s))) (sym is) at_u))
+
+  pub slice_point : (e : Edge) → (slice_of g S).edge e → InPoint e
+  slice_point e (h, inside) = point_by e e.kind refl h inside.0 inside.2
+
+  use_inside : (e : Edge) (u : Vertex) (w : Vertex) → ReachesOne g S u → LeadsRight g w u → LeadsRight (slice_of g S) w u
+  use_inside e u w r (f, has, l, from, to) = (f, (has, edge_inside g loops S f has l (subst (ReachesOne g S) (sym to) r)), l, from, to)
+
+  pub slice_uses : HasUses (slice_of g S)
+  slice_uses e u (h, inside) is =
+      let both = uses e u h is in
+      let r : ReachesOne g S u = subst (OnThird (ReachesOne g S)) is inside.2 in
+      (use_inside e u e.from r both.0, use_inside e u e.to r both.1)
+
+-- where each of some points has one slice in two graphs, so have they all together
+widened : (g : Graph) (S : Vertex → Type 0) (s : Vertex) → S s → (w : Vertex) → ReachesOne g (λ z. z ≡ s) w → ReachesOne g S w
+widened g S s one w (z, es, is, leads) = (z, es, subst S (sym is) one, leads)
+
+points_within : (g h : Graph) → HasLoops g → HasUses g → (S : Vertex → Type 0) → ((v : Vertex) → S v → Same (slice_at g v) (slice_at h v)) → IsWithin (slice_of g S) (slice_of h S)
+points_within g h loops uses S same = (
+  (λ w (has, (s, es, one, leads)). let q = ((same s one).0 w).0 (has, (s, es, refl, leads)) in (q.0, widened h S s one w q.1)),
+  (λ e inside. let (s, one, at_s) = slice_point g loops uses S e inside in
+      let q = ((same s one).1 e).0 (inside.0, at_s) in
+      (q.0, vertices_map (ReachesOne h (λ z. z ≡ s)) (ReachesOne h S) (widened h S s one) e q.1)),
+)
+
+pub points_same : (g h : Graph) → HasLoops g → HasLoops h → HasUses g → HasUses h → (S : Vertex → Type 0) → ((v : Vertex) → S v → Same (slice_at g v) (slice_at h v)) → Same (slice_of g S) (slice_of h S)
+points_same g h lg lh ug uh S same =
+    same_from_within (slice_of g S) (slice_of h S) (points_within g h lg ug S same)
+    (points_within h g lh uh S (λ v one. same_turned (slice_at g v) (slice_at h v) (same v one)))
+
+right_within : (g h : Graph) → ((e : Edge) → g.edge e → h.edge e) → (v w : Vertex) → LeadsRight g v w → LeadsRight h v w
+right_within g h f v w (e, has, l, from, to) = (e, f e has, l, from, to)
+
+union_uses : (g h : Graph) → HasUses g → HasUses h → HasUses (union_of g h)
+union_uses g h ug uh e u (inl has) is =
+    let both = ug e u has is in (right_within g (union_of g h) (λ d x. inl x) e.from u both.0, right_within g (union_of g h) (λ d x. inl x) e.to u both.1)
+union_uses g h ug uh e u (inr has) is =
+    let both = uh e u has is in (right_within h (union_of g h) (λ d x. inr x) e.from u both.0, right_within h (union_of g h) (λ d x. inr x) e.to u both.1)
+
+pub merged_uses : (base a b : Graph) → HasLoops base → HasLoops a → HasLoops b → HasUses base → HasUses a → HasUses b → HasUses (merged base a b)
+merged_uses base a b l0 la lb u0 ua ub =
+    let slice_a = slice_of a (IsAffected a base) in
+    let slice_b = slice_of b (IsAffected b base) in
+    let shared = slice_of base (IsPreserved base a b) in
+    union_uses (union_of slice_a slice_b) shared
+    (union_uses slice_a slice_b (slice_uses a la ua (IsAffected a base)) (slice_uses b lb ub (IsAffected b base))) (slice_uses base l0 u0 (IsPreserved base a b))
+
+-- the graphs of programs: order edges
+flow_right : (t : Tree) (x : List ℕ) (from to : Vertex) → HasFlow t x from to → LeadsRight (graph_of t) from to
+flow_right t x from to (inl h) = (record { to = to; from = from; kind = Independent x }, h, tt, refl, refl)
+flow_right t x from to (inr (w, h)) = (record { to = to; from = from; kind = Carried x w }, h, tt, refl, refl)
+
+pub program_uses : (t : Tree) → HasUses (graph_of t)
+program_uses t e u has is =
+    let (x, a, b, d, d', f, f', left, whole) = subst (λ k. IsEdgeBy t k e.from e.to) is has in (flow_right t x e.from u f, flow_right t x e.to u f')
+
+-- and the sources of control and flow edges are vertices
+used_at : (t : Tree) (x : List ℕ) (v : Vertex) (z : Point) → Reads t x v z → UsedBy t x z
+used_at t x Entry z h = absurd h
+used_at t x (Init y) z h = absurd h
+used_at t x (Part v c) z (uses, says, is) = subst (UsedBy t x) (sym is) (c, says, uses)
+used_at t x (Final y) z (same, named, is) = subst (UsedBy t x) (sym is) named
+
+source_is : (t : Tree) (x : List ℕ) (v to : Vertex) (a z : Point) (ms : List (Option Tag)) → Defines t x v a → Reads t x to z → IsUndisturbed t.body x a z ms → IsVertexOf t v
+source_is t x Entry to a z ms d r q = absurd d
+source_is t x (Init y) to a z ms (same, is) r q =
+    subst (λ n. IsInitial t n) (sym same) (z, ms, subst (λ p. IsUndisturbed t.body x p z ms) is q, used_at t x to z r)
+source_is t x (Part v c) to a z ms (is, says, here) r q = says
+source_is t x (Final y) to a z ms d r q = absurd d
+
+source_by : (t : Tree) (k : Kind) (from to : Vertex) → IsEdgeBy t k from to → Leads k → IsVertexOf t from
+source_by t (Control label) from to (inl (is, label_is, top)) l = subst (IsVertexOf t) (sym is) tt
+source_by t (Control label) from to (inr (p, c, is, says, under)) l = subst (IsVertexOf t) (sym is) says
+source_by t (Independent x) from to (a, z, ms, (d, r, q), n) l = source_is t x from to a z ms d r q
+source_by t (Carried x w) from to (a, z, ms, v, c, (d, r, q), same, says, both, there) l = source_is t x from to a z ms d r q
+source_by t (Order u) from to h l = absurd l
+
+pub program_sources : (t : Tree) → HasSources (graph_of t)
+program_sources t e h l = source_by t e.kind e.from e.to h l
+
+pub loops_of : (t : Tree) → IsProgram t → HasLoops (graph_of t)
+loops_of t prog = program_loops t (says_one t.body (distinct_program t prog))
+
+-- a preserved point of three programs keeps its slice
+pub keeps_preserved : (base a b : Tree) → IsProgram base → IsProgram a → IsProgram b → (v : Vertex) → IsPreserved (graph_of base) (graph_of a) (graph_of b) v
+    → Same (slice_at (merged_of base a b) v) (slice_at (graph_of base) v)
+keeps_preserved base a b is is_a is_b v (other, there, (in_a, same_a), (in_b, same_b)) =
+    preserved_kept (graph_of base) (graph_of a) (graph_of b) (loops_of base is) (loops_of a is_a) (loops_of b is_b) (program_sources base) v there same_a same_b
+    (other, there, (in_a, same_a), (in_b, same_b))
+
+on_side : (P : Graph → Type 0) (a b : Graph) (side : Side) → P a → P b → P (graph_on side a b)
+on_side P a b A h k = h
+on_side P a b B h k = k
+
+pub union_is_kept : (base a b : Tree) → IsProgram base → IsProgram a → IsProgram b → IsUnionKept base a b
+union_is_kept base a b is is_a is_b = record {
+  preserved = keeps_preserved base a b is is_a is_b;
+  affected = λ keeps side. points_same (merged_of base a b) (graph_on side (graph_of a) (graph_of b)) loops (on_side HasLoops (graph_of a) (graph_of b) side (loops_of a is_a) (loops_of b is_b))
+      uses (on_side HasUses (graph_of a) (graph_of b) side (program_uses a) (program_uses b)) (affected_on side base a b) (keeps side);
+  covered = λ v h. h;
+}
+  where
+    loops : HasLoops (merged_of base a b)
+    loops = merged_loops (graph_of base) (graph_of a) (graph_of b) (loops_of base is) (loops_of a is_a) (loops_of b is_b)
+
+    uses : HasUses (merged_of base a b)
+    uses = merged_uses (graph_of base) (graph_of a) (graph_of b) (loops_of base is) (loops_of a is_a) (loops_of b is_b) (program_uses base) (program_uses a) (program_uses b)

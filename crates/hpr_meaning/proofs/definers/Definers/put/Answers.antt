@@ -1,0 +1,6 @@
+use Rattle.hpr_meaning.proofs.NumberMaps.{insert-entries_of}
+use Rattle.hpr_meaning.proofs.definers.Definers.put.Goals as goal
+
+pub returns : goal.returns
+returns c =
+    rw (← c.self.view_is) (insert-entries_of c.self.inside.numbers.entries c.insert.new.self.entries c.args.name c.args.number c.in_ok-insert.ensures.updates.0)

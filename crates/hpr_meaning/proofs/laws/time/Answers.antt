@@ -1,0 +1,5 @@
+use Rattle.hpr_meaning.proofs.Timely.{timely}
+use Rattle.hpr_meaning.proofs.laws.time.Goals as goal
+
+pub returns : goal.returns
+returns c = λ p s n prog. timely p s n prog

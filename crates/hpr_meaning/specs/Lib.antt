@@ -1,0 +1,11 @@
+pub mod Instances
+pub mod Due
+pub mod TimeLaw
+pub mod OrderLaw
+pub mod Items
+pub mod Numbers
+pub mod Notes
+pub mod Walk
+pub mod Tracing
+pub mod SliceLaw
+pub mod UnionLaw

@@ -1,0 +1,35 @@
+-- The law of time: the steps of a run stand in time order, and they are those that are due.
+--
+-- IsAscending R is    == each instance's place is R to the place of each later one
+-- IsNext body is a    == the place a is next behind these steps: it is due and not listed, each of them is before it, and each due place that
+--                        is before it is listed
+-- IsTimely p s n      == the law, for the run of the program p from the state s with n steps to spend
+use Rattle.std.specs.Prelude.{◌≡◌, ◌≢◌, ℕ, List, [], ◌∷◌, Contains}
+use Rattle.std.specs.List.{AllByRecursion}
+use Rattle.hpr_syntax.specs.Body.{Body}
+use Rattle.hpr_syntax.specs.Tree.{Tree}
+use Rattle.hpr_syntax.specs.Values.{Values}
+use Rattle.hpr_syntax.specs.Run.{FinalValues, ends, run}
+use Rattle.hpr_skeleton.specs.Times.{Place, IsBefore}
+use Rattle.hpr_meaning.specs.Instances.{Instance, instances, IsStopOf}
+use Rattle.hpr_meaning.specs.Due.{IsDue, IsListed}
+
+abbrev pub IsAscending : (Place → Place → Type 0) → List Instance → Type 0
+IsAscending R [] = Unit {0}
+IsAscending R (i ∷ is) = AllByRecursion (λ j. R i.0 j.0) is × IsAscending R is
+
+pub record IsNext (p : Body) (is : List Instance) (a : Place) : Type 0 where
+  pub due : IsDue p is a
+  pub not_listed : ¬ IsListed is a
+  pub behind : (i : Instance) → Contains is i → IsBefore p i.0 a
+  pub due_before : (b : Place) → IsDue p is b → IsBefore p b a → IsListed is b
+
+-- Strictly ascending: so no vertex occurs twice with one list of turns.
+pub record IsTimely (p : Tree) (s : Values) (n : ℕ) : Type 0 where
+  pub ascending : IsAscending (λ a b. IsBefore p.body a b × (a ≢ b)) (instances p s n)
+  pub listed_due : (i : Instance) → Contains (instances p s n) i → IsDue p.body (instances p s n) i.0
+  pub due_before_listed : (a : Place) (i : Instance) → IsDue p.body (instances p s n) a → Contains (instances p s n) i → IsBefore p.body a i.0
+      → IsListed (instances p s n) a
+  pub due_at_end : (finals : FinalValues) (steps : ℕ) → run p s n ≡ ends finals steps → (a : Place) → IsDue p.body (instances p s n) a
+      → IsListed (instances p s n) a
+  pub stop_next : (a : Place) → IsStopOf p s n a → IsNext p.body (instances p s n) a

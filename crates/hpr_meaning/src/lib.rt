@@ -1,0 +1,15 @@
+//! What a program does step by step: the instances of a run, and what the theory says of them.
+#![tactic(auto)]
+
+mod definers;
+pub mod laws;
+mod memo;
+mod names;
+mod traced;
+mod tracing;
+
+pub use traced::{Instance, Origin, Read, Traced};
+pub use tracing::trace;
+
+#[cfg(test)]
+mod tests;

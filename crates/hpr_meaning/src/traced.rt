@@ -1,0 +1,42 @@
+//! Traces: the instances of a run, and how it went.
+use hpr_run::Outcome;
+use hpr_syntax::{Name, Tag};
+
+/// Where the value of a name comes from.
+#[derive(Clone, Copy, Debug, PartialEq, Eq, PartialOrd, Ord)]
+pub enum Origin {
+    /// No step before defined the name: the value is that of the first state.
+    Initial,
+    /// The item with this number, from 0, is the last one before that defined the name.
+    Instance(usize),
+}
+
+/// A name that a step reads.
+#[derive(Debug, Drop)]
+pub struct Read {
+    pub name: Name,
+    pub value: i64,
+    pub origin: Origin,
+}
+
+/// A finished step of a run: an assignment, or an evaluation of a predicate (Reps and Yang 1988).
+#[derive(Debug, Drop)]
+pub struct Instance {
+    /// The part.
+    pub tag: Tag,
+    /// The turn of each loop that encloses the part, from 0, the outermost loop first. A loop
+    /// encloses its own predicate, which so counts its own evaluations.
+    pub turns: Vec<u64>,
+    /// The names of the part's expression, ascending, each once.
+    pub reads: Vec<Read>,
+    /// The number that the expression gave.
+    pub value: i64,
+}
+
+/// A run, step by step.
+#[derive(Debug, Drop)]
+pub struct Traced {
+    /// The finished steps in their order. A faulting step is none.
+    pub items: Vec<Instance>,
+    pub outcome: Outcome,
+}
