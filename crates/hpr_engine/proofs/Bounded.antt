@@ -1,40 +1,109 @@
--- What lies within bounds: what can't be refuted at each can't be refuted of all.
+-- What lies within bounds: what can't be refuted at each can't be refuted of all, and that a list has exactly these can't be refuted.
 --
--- Bounded P == where at each x with P it isn't refuted that Q, it isn't refuted that Q at all of them
-use Rattle.std.proofs.Common.{◌≡◌, ℕ, inl, inr, ◌⊎◌, List, [], ◌∷◌, Contains, refl, sym, subst}
+-- Bounded P == it can't be refuted that a list has each x with P
+use Rattle.std.proofs.Common.{◌≡◌, ℕ, ◌↔◌, inl, inr, ◌⊎◌, List, [], ◌∷◌, ◌++◌, Contains, sym, subst}
+use Rattle.std.proofs.lemmas.List.Elements.{Contains-append_left, Contains-append_right}
 use Rattle.hpr_terms.specs.Term.{Term, num, var, prefix, infix'}
 use Rattle.hpr_terms.specs.Uses.{TermUses}
-use Rattle.hpr_graph.proofs.Lists.{in_none, in_cons}
+use Rattle.hpr_graph.proofs.Lists.{in_none, in_cons, in_here, in_later}
 
-abbrev pub Bounded : {X : Type 0} → (X → Type 0) → Type 1
-Bounded {X} P = (Q : X → Type 0) → ((x : X) → P x → ¬ (¬ Q x)) → ¬ (¬ ((x : X) → P x → Q x))
+abbrev pub Bounded : {X : Type 0} → (X → Type 0) → Type 0
+Bounded {X} P = ¬ (¬ ((xs : List X) × ((x : X) → P x → Contains xs x)))
+
+-- what is so either way can't be refuted
+module _ (A : Type 0) where
+  pub by_both : (C : Type 0) → (A → ¬ (¬ C)) → ((¬ A) → ¬ (¬ C)) → ¬ (¬ C)
+  by_both C holds fails n = fails (λ a. holds a n) n
 
 module _ {X : Type 0} where
   pub of_none : Bounded {X = X} (λ x. ⊥)
-  of_none Q h k = k (λ x p. absurd p)
+  of_none n = n ([], λ x p. absurd p)
 
   pub of_one : (y : X) → Bounded {X = X} (λ x. x ≡ y)
-  of_one y Q h k = h y refl (λ q. k (λ x e. subst Q (sym e) q))
+  of_one y n = n (y ∷ [], λ x e. subst (λ (z : X). Contains (y ∷ []) z) (sym e) (in_here y []))
 
   pub of_within : (P R : X → Type 0) → ((x : X) → P x → R x) → Bounded R → Bounded P
-  of_within P R i r Q h k =
-      r (λ x. P x → Q x) (λ x there n. n (λ p. absurd (h x p (λ q. n (λ again. q))))) (λ all. k (λ x p. all x (i x p) p))
+  of_within P R i r n = r (λ (xs, all). n (xs, λ x p. all x (i x p)))
 
   pub of_either : (P R : X → Type 0) → Bounded P → Bounded R → Bounded (λ x. P x ⊎ R x)
-  of_either P R p r Q h k =
-      p Q (λ x y. h x (inl y)) (λ left. r Q (λ x y. h x (inr y)) (λ right. k (λ x e. elim e [ inl y ↦ left x y | inr y ↦ right x y ])))
+  of_either P R p r n =
+      p (λ (xs, all). r (λ (ys, more). n (xs ++ ys, λ x e. elim e [ inl h ↦ Contains-append_left xs ys x (all x h) | inr h ↦ Contains-append_right xs ys x (more x h) ])))
 
   pub of_list : (xs : List X) → Bounded (λ (x : X). Contains xs x)
-  of_list [] = of_within (λ x. Contains [] x) (λ x. ⊥) (λ x h. in_none x h) of_none
-  of_list (y ∷ xs) =
-      of_within (λ x. Contains (y ∷ xs) x) (λ x. (x ≡ y) ⊎ Contains xs x)
-      (λ x h. elim (in_cons y x xs h) [ inl e ↦ inl (sym e) | inr later ↦ inr later ])
-      (of_either (λ x. x ≡ y) (λ x. Contains xs x) (of_one y) (of_list xs))
+  of_list xs n = n (xs, λ x h. h)
+
+  -- what can't be refuted at each of a list can't be refuted of all
+  all_listed : (xs : List X) (P Q : X → Type 0) → ((x : X) → P x → ¬ (¬ Q x)) → ¬ (¬ ((x : X) → Contains xs x → P x → Q x))
+  all_listed [] P Q h n = n (λ x there p. absurd (in_none x there))
+  all_listed (y ∷ xs) P Q h n =
+      all_listed xs P Q h (λ rest.
+      by_both (P y) ((x : X) → Contains (y ∷ xs) x → P x → Q x)
+      (λ p k. h y p (λ q. k (λ x there px. elim (in_cons y x xs there) [ inl e ↦ subst Q e q | inr later ↦ rest x later px ])))
+      (λ none k. k (λ x there px. elim (in_cons y x xs there) [ inl e ↦ absurd (none (subst P (sym e) px)) | inr later ↦ rest x later px ])) n)
+
+  pub all_of : (P : X → Type 0) → Bounded P → (Q : X → Type 0) → ((x : X) → P x → ¬ (¬ Q x)) → ¬ (¬ ((x : X) → P x → Q x))
+  all_of P r Q h n = r (λ (xs, all). all_listed xs P Q h (λ f. n (λ x p. f x (all x p) p)))
+
+  -- those of a list with P
+  abbrev AreThose : List X → (X → Type 0) → List X → Type 0
+  AreThose xs P ys = (x : X) → Contains ys x ↔ (Contains xs x × P x)
+
+  those_none : (P : X → Type 0) → AreThose [] P []
+  those_none P x = (λ there. absurd (in_none x there), λ (there, p). absurd (in_none x there))
+
+  those_with : (y : X) (xs ys : List X) (P : X → Type 0) → P y → AreThose xs P ys → AreThose (y ∷ xs) P (y ∷ ys)
+  those_with y xs ys P p those x = (
+    λ there. elim (in_cons y x ys there) [
+      | inl e ↦ (subst (λ (z : X). Contains (y ∷ xs) z) e (in_here y xs), subst P e p)
+      | inr later ↦ (let (was, px) = (those x).0 later in (in_later y x xs was, px))
+    ],
+    λ (there, px). elim (in_cons y x xs there) [
+      | inl e ↦ subst (λ (z : X). Contains (y ∷ ys) z) e (in_here y ys)
+      | inr later ↦ in_later y x ys ((those x).1 (later, px))
+    ],
+  )
+
+  those_without : (y : X) (xs ys : List X) (P : X → Type 0) → ¬ P y → AreThose xs P ys → AreThose (y ∷ xs) P ys
+  those_without y xs ys P none those x = (
+    λ there. (let (was, px) = (those x).0 there in (in_later y x xs was, px)),
+    λ (there, px). elim (in_cons y x xs there) [
+      | inl e ↦ absurd (none (subst P (sym e) px))
+      | inr later ↦ (those x).1 (later, px)
+    ],
+  )
+
+  some_those : (xs : List X) (P : X → Type 0) → ¬ (¬ ((ys : List X) × AreThose xs P ys))
+  some_those [] P n = n ([], those_none P)
+  some_those (y ∷ xs) P n =
+      some_those xs P (λ (ys, those).
+      by_both (P y) ((zs : List X) × AreThose (y ∷ xs) P zs)
+      (λ p k. k (y ∷ ys, those_with y xs ys P p those)) (λ none k. k (ys, those_without y xs ys P none those)) n)
+
+  -- a list of exactly what lies within bounds
+  pub listed_of : (P : X → Type 0) → Bounded P → ¬ (¬ ((ys : List X) × ((x : X) → Contains ys x ↔ P x)))
+  listed_of P r n = r (λ (xs, all). some_those xs P (λ (ys, those). n (ys, λ x. (λ there. ((those x).0 there).1, λ p. (those x).1 (all x p, p)))))
 
 module _ {X Y : Type 0} where
+  gathered : (ys : List Y) (A : Y → Type 0) (B : Y → X → Type 0) → ((y : Y) → A y → Bounded (B y))
+      → ¬ (¬ ((zs : List X) × ((y : Y) → Contains ys y → A y → (x : X) → B y x → Contains zs x)))
+  gathered [] A B b n = n ([], λ y there a x at. absurd (in_none y there))
+  gathered (y ∷ ys) A B b n =
+      gathered ys A B b (λ (zs, all).
+      by_both (A y) ((zs : List X) × ((z : Y) → Contains (y ∷ ys) z → A z → (x : X) → B z x → Contains zs x))
+      (λ a k.
+      b y a (λ (ws, some).
+      k (
+        ws ++ zs,
+        λ z there az x at. elim (in_cons y z ys there) [
+          | inl e ↦ Contains-append_left ws zs x (some x (subst (λ (v : Y). B v x) (sym e) at))
+          | inr later ↦ Contains-append_right ws zs x (all z later az x at)
+        ],
+      )))
+      (λ none k. k (zs, λ z there az x at. elim (in_cons y z ys there) [ inl e ↦ absurd (none (subst A (sym e) az)) | inr later ↦ all z later az x at ]))
+      n)
+
   pub of_each : (A : Y → Type 0) (B : Y → X → Type 0) → Bounded A → ((y : Y) → A y → Bounded (B y)) → Bounded (λ (x : X). (y : Y) × A y × B y x)
-  of_each A B a b Q h k =
-      a (λ y. (x : X) → B y x → Q x) (λ y there. b y there Q (λ x at. h x (y, there, at))) (λ all. k (λ x (y, there, at). all y there x at))
+  of_each A B a b n = a (λ (ys, listed). gathered ys A B b (λ (zs, all). n (zs, λ x (y, there, at). all y (listed y there) there x at)))
 
 pub of_term : (t : Term) → Bounded (λ (x : List ℕ). TermUses t x)
 of_term (num n) = of_none

@@ -15,23 +15,23 @@ abbrev pub KeepsOrder : List Vertex → List Vertex → Type 0
 KeepsOrder xs ys = (v w : Vertex) → StandsBefore xs v w → StandsBefore ys v w
 
 module _ {X : Type 0} where
-  in_front : (front back back' : List X) (i : ℕ) (x : X) → i < length front → slice_get (front ++ back) i ≡ Some x → slice_get (front ++ back') i ≡ Some x
+  pub in_front : (front back back' : List X) (i : ℕ) (x : X) → i < length front → slice_get (front ++ back) i ≡ Some x → slice_get (front ++ back') i ≡ Some x
   in_front [] back back' i x l h = absurd (omega (arith, l))
   in_front (y ∷ front) back back' zero x l h = h
   in_front (y ∷ front) back back' (suc i) x l h = in_front front back back' i x (omega (arith, l)) h
 
-  at_middle : (front : List X) (x : X) (back : List X) → slice_get (front ++ x ∷ back) (length front) ≡ Some x
+  pub at_middle : (front : List X) (x : X) (back : List X) → slice_get (front ++ x ∷ back) (length front) ≡ Some x
   at_middle [] x back = refl
   at_middle (y ∷ front) x back = at_middle front x back
 
   -- where an item goes when another is put in
-  moved : (front back : List X) (y : X) (i : ℕ) (x : X) → slice_get (front ++ back) i ≡ Some x
+  pub moved : (front back : List X) (y : X) (i : ℕ) (x : X) → slice_get (front ++ back) i ≡ Some x
       → ((i < length front) × (slice_get (front ++ y ∷ back) i ≡ Some x)) ⊎ ((length front < suc i) × (slice_get (front ++ y ∷ back) (suc i) ≡ Some x))
   moved [] back y i x h = inr (omega arith, h)
   moved (z ∷ front) back y zero x h = inl (omega arith, h)
   moved (z ∷ front) back y (suc i) x h = elim (moved front back y i x h) [ inl l ↦ inl (omega (arith, l.0), l.1) | inr r ↦ inr (omega (arith, r.0), r.1) ]
 
-compared : (i n : ℕ) → (i < n) ⊎ ((i ≡ n) ⊎ (n < i))
+pub compared : (i n : ℕ) → (i < n) ⊎ ((i ≡ n) ⊎ (n < i))
 compared zero zero = inr (inl refl)
 compared zero (suc n) = inl (omega arith)
 compared (suc i) zero = inr (inr (omega arith))
@@ -78,10 +78,10 @@ same_parts g issued p q is_p is_q v h =
     subst (λ (w : Vertex). Contains (parts_of q) w) (sym e) (says_part q t c ((is_q.parts t c).1 ((is_p.parts t c).0 says)))
 
 -- nothing stands before itself, nor two things before each other
-never_both : (rank : List Vertex) (v w : Vertex) → IsOnce rank → StandsBefore rank v w → ¬ StandsBefore rank w v
+pub never_both : (rank : List Vertex) (v w : Vertex) → IsOnce rank → StandsBefore rank v w → ¬ StandsBefore rank w v
 never_both rank v w once (i, j, less, at_i, at_j) (k, l, less', at_k, at_l) = omega (arith, less, less', once i l v at_i at_l, once j k w at_j at_k)
 
-never_itself : (rank : List Vertex) (v : Vertex) → IsOnce rank → ¬ StandsBefore rank v v
+pub never_itself : (rank : List Vertex) (v : Vertex) → IsOnce rank → ¬ StandsBefore rank v v
 never_itself rank v once before = never_both rank v v once before before
 
 -- no arrangement is earlier than the one whose parts stand in the order of the rank

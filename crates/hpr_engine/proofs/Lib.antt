@@ -4,11 +4,14 @@ pub mod OneList
 mod SameConflicts
 mod Merge
 mod Premises
-mod PartsCounted
 mod Bounded
 mod BoundedGraph
 mod OneSideWhole
 mod FirstInRank
 pub mod OneSideAnswer
+mod OneRank
+pub mod OneAnswer
 mod IssuedRows
 mod Unsearched
+mod ProgramRegular
+pub mod PrintedKeeps

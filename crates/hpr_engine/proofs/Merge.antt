@@ -19,7 +19,7 @@ use Rattle.hpr_graph.proofs.Laws.{affected_same, leads_within, merged_same, same
 use Rattle.hpr_merge.specs.Loops.{HasLoops, IsListed, IsRegular}
 use Rattle.hpr_merge.proofs.EdgeStands.{kept_or_added, regular_by_numbers}
 use Rattle.hpr_merge.proofs.ProgramLoops.{program_loops}
-use Rattle.hpr_engine.specs.Merging.{KeepsSlices}
+use Rattle.hpr_meaning.specs.UnionLaw.{KeepsSides}
 use Rattle.hpr_engine.proofs.OneContent.{says_once}
 use Rattle.hpr_engine.proofs.SameConflicts.{conflicts_same, side_same, slices_same}
 
@@ -71,7 +71,7 @@ module _ (p q r : Tree) (base a b m : Numbered) (base_is : Same (graph_in base) 
           | inr (e, least) ↦ absurd (unlisted side v e affected least)
         ]
 
-    pub kept : KeepsSlices p q r
+    pub kept : KeepsSides p q r
     kept side v affected =
         let sm = merged_same (graph_in base) (graph_of p) (graph_in a) (graph_of q) (graph_in b) (graph_of r) base_is a_is b_is in
         let sg = side_same (graph_in a) (graph_of q) (graph_in b) (graph_of r) a_is b_is side in

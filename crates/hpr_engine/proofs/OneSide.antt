@@ -1,5 +1,5 @@
 -- A variant that is the base interferes with no other.
-use Rattle.std.proofs.Common.{◌≡◌, ℕ, inl, inr, List, ◌∷◌, refl, sym, subst}
+use Rattle.std.proofs.Common.{◌≡◌, inl, inr, List, ◌∷◌, refl, sym, subst}
 use Rattle.hpr_syntax.specs.Shape.{IsProgram}
 use Rattle.hpr_syntax.specs.Tree.{Tree}
 use Rattle.hpr_graph.specs.declared.conflict.Side.TheVariants.{A, B}
@@ -9,7 +9,7 @@ use Rattle.hpr_graph.specs.declared.edge.Kind.TheVariants as kind
 use Rattle.hpr_graph.specs.declared.edge.Edge.{Edge}
 use Rattle.hpr_graph.specs.Graphs.{Graph, IsWithin, Same, OnThird, HasVertices, union_of}
 use Rattle.hpr_graph.specs.Points.{IsShared, IsAffected, IsPreserved, merged}
-use Rattle.hpr_graph.specs.ProgramGraph.{IsEdgeBy, HasFlow, graph_of}
+use Rattle.hpr_graph.specs.ProgramGraph.{graph_of}
 use Rattle.hpr_graph.specs.Slices.{Leads, LeadsTo, ReachesOne, slice_of, slice_at}
 use Rattle.hpr_graph.specs.Answer.{IsWithoutConflict}
 use Rattle.hpr_graph.proofs.Laws.{same_itself, same_from_within, reaches_within, slice_within, vertices_map}
@@ -17,25 +17,9 @@ use Rattle.hpr_graph.proofs.Lists.{in_none}
 use Rattle.hpr_merge.specs.Loops.{HasLoops}
 use Rattle.hpr_merge.proofs.EdgeStands.{edge_inside, point_within}
 use Rattle.hpr_merge.proofs.ProgramLoops.{program_loops}
-use Rattle.hpr_engine.specs.Merging.{KeepsSlices}
+use Rattle.hpr_meaning.specs.UnionLaw.{KeepsSides}
+use Rattle.hpr_meaning.proofs.Unions.{LeadsRight, HasUses, program_uses}
 use Rattle.hpr_engine.proofs.OneContent.{says_once}
-
--- both ends of an order edge lead to its shared use
-abbrev pub HasUses : Graph → Type 0
-HasUses g = (e : Edge) (u : Vertex) → g.edge e → e.kind ≡ kind.Order u
-    → ((f : Edge) × g.edge f × Leads f.kind × (f.from ≡ e.from) × (f.to ≡ u)) × ((f : Edge) × g.edge f × Leads f.kind × (f.from ≡ e.to) × (f.to ≡ u))
-
-abbrev pub LeadsRight : Graph → Vertex → Vertex → Type 0
-LeadsRight g from to = (f : Edge) × g.edge f × Leads f.kind × (f.from ≡ from) × (f.to ≡ to)
-
-flow_leads : (t : Tree) (x : List ℕ) (from to : Vertex) → HasFlow t x from to → LeadsRight (graph_of t) from to
-flow_leads t x from to (inl independent) = (record { to = to; from = from; kind = kind.Independent x }, independent, tt, refl, refl)
-flow_leads t x from to (inr (w, carried)) = (record { to = to; from = from; kind = kind.Carried x w }, carried, tt, refl, refl)
-
-pub program_uses : (t : Tree) → HasUses (graph_of t)
-program_uses t e u has is =
-    let (x, a, b, defines, defines_too, flow, flow_too, left, together) = subst (λ (k : Kind). IsEdgeBy t k e.from e.to) is has in
-    (flow_leads t x e.from u flow, flow_leads t x e.to u flow_too)
 
 -- where both graphs have the vertices of P with the same slices, the other has the slice of P
 module _ (base g : Graph) (loops : HasLoops base) (uses : HasUses base) (P : Vertex → Type 0) (shared : (v : Vertex) → P v → IsShared base g v) where
@@ -122,16 +106,16 @@ module _ (base other : Tree) (is : IsProgram base) (is_too : IsProgram other) wh
       (union_within (slice_of G (IsAffected G G)) (slice_of H (IsAffected H G)) H (none_within G H) (slice_within H (IsAffected H G)))
       (shared_within G H loops_of (program_uses base) (IsPreserved G G H) (λ v p. p.3))
 
-  pub b_is_base : KeepsSlices base other base
+  pub b_is_base : KeepsSides base other base
   b_is_base A v affected = within_keeps G H (merged G H G) other_loops b_within (λ w h. inl (inl h), λ e h. inl (inl h)) v affected
   b_is_base B v affected = absurd (unaffected G v affected)
 
-  pub a_is_base : KeepsSlices base base other
+  pub a_is_base : KeepsSides base base other
   a_is_base A v affected = absurd (unaffected G v affected)
   a_is_base B v affected = within_keeps G H (merged G G H) other_loops a_within (λ w h. inl (inr h), λ e h. inl (inr h)) v affected
 
 -- where each affected point keeps its slice, there is no conflict
-pub free_when_kept : (base a b : Tree) → KeepsSlices base a b → IsWithoutConflict base a b
+pub free_when_kept : (base a b : Tree) → KeepsSides base a b → IsWithoutConflict base a b
 free_when_kept base a b kept = (
   λ c. (λ h. absurd (in_none c h), λ ((affected, differs), least). absurd (differs (kept c.side c.point affected))),
   λ i j c d less at at_too. absurd cc,

@@ -19,8 +19,10 @@ use Rattle.hpr_graph.specs.Slices.{Leads, ReachesOne, slice_of, slice_at}
 use Rattle.hpr_graph.proofs.Laws.{same_itself, same_turned, same_from_within, within_from_same, within_then, reaches_within, vertices_map}
 use Rattle.hpr_merge.specs.Loops.{HasLoops}
 use Rattle.hpr_merge.proofs.EdgeStands.{edge_inside}
+use Rattle.hpr_engine.proofs.Bounded.{all_of}
 use Rattle.hpr_engine.proofs.BoundedGraph.{vertices_bounded, edges_bounded, read_is, flow_at, control_to}
-use Rattle.hpr_engine.proofs.OneSide.{program_uses, other_loops, a_within, b_within}
+use Rattle.hpr_meaning.proofs.Unions.{program_uses}
+use Rattle.hpr_engine.proofs.OneSide.{other_loops, a_within, b_within}
 
 -- nothing encloses Enter
 no_enter : (sk : Skeleton) → ¬ StandsIn sk enter
@@ -129,7 +131,8 @@ module _ (t : Tree) (loops : HasLoops (graph_of t)) (g m : Graph) (mine : IsWith
 
   pub whole : ¬ (¬ IsWithin H m)
   whole n =
-      vertices_bounded t m.vertex vertex_there (λ vertices. edges_bounded t m.edge (λ e h. target e e.kind refl h) (λ edges. n (vertices, edges)))
+      all_of H.vertex (vertices_bounded t) m.vertex vertex_there (λ vertices.
+      all_of H.edge (edges_bounded t) m.edge (λ e h. target e e.kind refl h) (λ edges. n (vertices, edges)))
 
 module _ (base other : Tree) (is : IsProgram base) (is_too : IsProgram other) where
   abbrev G : Graph

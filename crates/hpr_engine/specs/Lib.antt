@@ -1,4 +1,3 @@
 pub mod Limit
-pub mod Merging
 pub mod Answers
-pub mod Counting
+pub mod Budget

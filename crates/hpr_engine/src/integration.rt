@@ -1,17 +1,15 @@
 //! Two variants and their base become one program.
 ghost use Rattle.std.specs.Prelude.{◌≡◌, ◌≤◌, IfOk, IsErrOf};
-ghost use Rattle.hpr_graph.specs.Answer.{interference, printed, no_program, spent, HasParts, IsAnswer};
-ghost use Rattle.hpr_graph.specs.Numbered.{graph_in};
+ghost use Rattle.hpr_syntax.specs.Meaning.{Keeps};
+ghost use Rattle.hpr_graph.specs.Answer.{interference, printed, no_program, spent, IsAnswer};
 ghost use Rattle.hpr_engine.specs.Answers.{IfInterference, IfJudged, IfNoProgram, IfTooManyEdges, IsFirstTooLarge};
-ghost use Rattle.hpr_engine.specs.Counting.{is_part};
 ghost use Rattle.hpr_engine.specs.Limit.{AreInLimit};
 
 use crate::issued::issued_numbers;
 use crate::programs::merge_programs;
 use crate::stop::Stop;
-use hpr_graph::{Graph, Vertex};
 use hpr_order::rank;
-use hpr_rebuild::{RebuildError, rebuild};
+use hpr_rebuild::{RebuildError, part_count, rebuild};
 use hpr_syntax::Program;
 use std::alloc::Global;
 
@@ -19,7 +17,8 @@ use std::alloc::Global;
 /// the parts, whose graph is the merged graph (Horwitz, Prins and Reps 1989). Its finals are ascending,
 /// and each author has the greatest of its three issued numbers. At least one try is allowed; each
 /// arrangement whose graph is compared is one (the order, the limit on edges and the budget of tries
-/// are our profile's).
+/// are our profile's). It keeps the meaning of both variants: from each state on which base and both
+/// variants end, it ends with what each variant changed and what all three agree on (Reps and Yang 1988).
 ///
 /// Refuses with `TooManyEdges` where a graph of the three programs has more than 1,000,000 edges, and
 /// names the first of base, A and B; else with `Interference` exactly where there is a conflict, and
@@ -41,6 +40,9 @@ pub fn integrate(
     ensures no_program { IfNoProgram result (λ n. IsAnswer base.now a.now b.now tries (no_program n)) }
     ensures spent { IsErrOf result Stop.Spent → IsAnswer base.now a.now b.now tries spent }
 
+    // A program that is answered keeps the meaning of both variants: the integration theorem, over programs.
+    ensures keeps { IfOk result (λ m. Keeps base.now a.now b.now m) }
+
     // The limit on edges comes first.
     ensures within { IfJudged result (AreInLimit base.now a.now b.now) }
     ensures too_many { IfTooManyEdges result (λ which. IsFirstTooLarge base.now a.now b.now which) }
@@ -54,24 +56,4 @@ pub fn integrate(
         Err(RebuildError::Spent) => Err(Stop::Spent),
         Err(RebuildError::Memory) => Err(Stop::Memory),
     }
-}
-
-/// How many parts the graph has.
-fn part_count(graph: &Graph) -> usize
-    ensures { HasParts (graph_in graph.now) result }
-{
-    let mut count = 0;
-    for vertex in graph.vertices() {
-        if is_one(vertex) {
-            count += 1;
-        }
-    }
-    count
-}
-
-/// Whether the vertex is a part.
-fn is_one(vertex: &Vertex) -> bool
-    ensures { result ≡ is_part vertex.now }
-{
-    matches!(vertex, Vertex::Part(_, _))
 }

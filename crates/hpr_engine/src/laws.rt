@@ -1,14 +1,16 @@
 //! Laws of integrations: each function's contract is the law, for all values.
-ghost use Rattle.std.specs.Prelude.{◌≡◌, ◌≤◌, ℕ, List};
+ghost use Rattle.std.specs.Prelude.{◌≡◌, ◌≢◌, ◌≤◌, ℕ, List, length, take};
 ghost use Rattle.hpr_syntax.specs.Tree.{Tree};
+ghost use Rattle.hpr_syntax.specs.Meaning.{Keeps};
 ghost use Rattle.hpr_syntax.specs.Shape.{IsProgram};
 ghost use Rattle.hpr_graph.specs.declared.conflict.Conflict.{Conflict};
-ghost use Rattle.hpr_graph.specs.Answer.{Answer, printed, issued_of, IsAnswer};
+ghost use Rattle.hpr_graph.specs.Answer.{Answer, printed, spent, issued_of, merged_of, IsAnswer, Fits, IsFirstFit, IsWithoutConflict};
 ghost use Rattle.hpr_graph.specs.Conflicts.{AreConflicts};
 ghost use Rattle.hpr_graph.specs.ProgramGraph.{graph_of};
 ghost use Rattle.hpr_merge.specs.Loops.{SaysOnce};
 ghost use Rattle.hpr_rebuild.specs.Settled.{IsSettled};
-ghost use Rattle.hpr_engine.specs.Merging.{KeepsSlices};
+ghost use Rattle.hpr_engine.specs.Budget.{Agree, AreTried};
+ghost use Rattle.hpr_meaning.specs.UnionLaw.{KeepsSides};
 
 /// In a program each tag says one content.
 pub fn tags_say_once()
@@ -24,8 +26,8 @@ pub fn conflicts_are_one()
 /// A variant that is the base interferes with no other: each affected point of the other keeps its
 /// slice.
 pub fn one_side_is_free()
-    ensures a { (base b : Tree) → IsProgram base → IsProgram b → KeepsSlices base base b }
-    ensures b { (base a : Tree) → IsProgram base → IsProgram a → KeepsSlices base a base }
+    ensures a { (base b : Tree) → IsProgram base → IsProgram b → KeepsSides base base b }
+    ensures b { (base a : Tree) → IsProgram base → IsProgram a → KeepsSides base a base }
 {}
 
 /// Where one variant is the base, the answer is the other variant, whatever the budget is: its finals
@@ -35,4 +37,28 @@ pub fn one_side_unchanged()
         → (m : Tree) × (r ≡ printed m) × IsSettled (issued_of base a base) a m }
     ensures a { (base b : Tree) (tries : ℕ) (r : Answer) → IsProgram base → IsProgram b → 1 ≤ tries → IsAnswer base base b tries r
         → (m : Tree) × (r ≡ printed m) × IsSettled (issued_of base base b) b m }
+{}
+
+/// Three programs have one answer, but that a search may go on past its budget or not. Where one of the
+/// first arrangements that the budget allows fits, the first such one is the answer; and where there are
+/// no more arrangements than tries, the budget is not spent.
+pub fn one_answer()
+    ensures agree { (base a b : Tree) (tries : ℕ) (r s : Answer) → IsProgram a → IsProgram b → IsAnswer base a b tries r → IsAnswer base a b tries s → Agree r s }
+    ensures first { (base a b : Tree) (tries : ℕ) (ps : List Tree) (m : Tree) (r : Answer) → IsProgram a → IsProgram b → IsWithoutConflict base a b → AreTried base a b ps
+        → IsFirstFit (merged_of base a b) (take tries ps) m → IsAnswer base a b tries r → r ≡ printed m }
+    ensures enough { (base a b : Tree) (tries : ℕ) (ps : List Tree) (r : Answer) → IsProgram a → IsProgram b → IsWithoutConflict base a b → AreTried base a b ps
+        → length ps ≤ tries → IsAnswer base a b tries r → r ≢ spent }
+{}
+
+/// What is printed is a program, and its graph is the merged graph.
+pub fn printed_is_merged()
+    ensures { (base a b : Tree) (tries : ℕ) (m : Tree) → IsAnswer base a b tries (printed m) → IsProgram m × Fits (merged_of base a b) m }
+{}
+
+/// The integration theorem, over programs (Horwitz, Prins and Reps 1989; Reps and Yang 1988): what is
+/// printed keeps the meaning of both variants. From each state on which base and both variants end, it
+/// ends within as many steps as the three took together, with the variant's value for each final variable
+/// that a variant changed, and the common value where all three agree.
+pub fn printed_keeps()
+    ensures { (base a b : Tree) (tries : ℕ) (m : Tree) → IsProgram base → IsProgram a → IsProgram b → IsAnswer base a b tries (printed m) → Keeps base a b m }
 {}

@@ -8,10 +8,10 @@ pub mod laws;
 mod programs;
 mod stop;
 
-pub use hpr_graph::{Conflict, Graph};
+pub use hpr_graph::Conflict;
 pub use hpr_syntax::Program;
 pub use integration::integrate;
-pub use programs::{MOST_EDGES, merge_programs};
+pub use programs::MOST_EDGES;
 pub use stop::{Stop, Which};
 
 #[cfg(test)]

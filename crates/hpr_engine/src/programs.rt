@@ -7,7 +7,7 @@ ghost use Rattle.hpr_graph.specs.Graphs.{Same};
 ghost use Rattle.hpr_graph.specs.Numbered.{graph_in};
 ghost use Rattle.hpr_graph.specs.ProgramGraph.{graph_of};
 ghost use Rattle.hpr_engine.specs.Limit.{AreInLimit, HasTooManyEdges};
-ghost use Rattle.hpr_engine.specs.Merging.{KeepsSlices};
+ghost use Rattle.hpr_meaning.specs.UnionLaw.{KeepsSides};
 ghost use Rattle.hpr_engine.specs.Answers.{IfInterference, IfJudged, IfTooManyEdges, IsFirstTooLarge, IsUnsearched};
 
 use crate::stop::{Stop, Which};
@@ -35,7 +35,7 @@ pub fn merge_programs(
 ) -> Result<Graph, Stop>
     ensures graph { IfOk result (λ g. Same (graph_in g) (merged_of base.now a.now b.now)) }
     ensures no_conflict { IfOk result (λ _. IsWithoutConflict base.now a.now b.now) }
-    ensures kept { IfOk result (λ _. KeepsSlices base.now a.now b.now) }
+    ensures kept { IfOk result (λ _. KeepsSides base.now a.now b.now) }
     ensures within { IfJudged result (AreInLimit base.now a.now b.now) }
     ensures too_many { IfTooManyEdges result (λ which. IsFirstTooLarge base.now a.now b.now which) }
     ensures conflicts { IfInterference result (λ cs. AreConflicts (graph_of base.now) (graph_of a.now) (graph_of b.now) cs) }

@@ -1,6 +1,5 @@
 //! Programs integrated by hand, from the definitions.
-use crate::{Conflict, Program, Stop, integrate, merge_programs};
-use hpr_build::graph_of;
+use crate::{Conflict, Program, Stop, integrate};
 use hpr_graph::{Content, Edge, Kind, Side, Vertex};
 use hpr_syntax::{Binary, Block, Expr, Issued, Literal, Name, Operand, Stmt, Tag};
 use std::alloc::Global;
@@ -102,19 +101,6 @@ fn one_change_on_both_sides_is_one(rt: HostRuntime) -> Result<(), Fail> {
     match integrate(alloc, &base, &a, &b, 1) {
         Ok(merged) => assert!(rt; merged.is_same(&sets(alloc, 2, 2)?)),
         _ => Err("no program")?,
-    }
-    Ok(())
-}
-
-#[test]
-fn one_change_on_both_sides_is_the_merged_graph(rt: HostRuntime) -> Result<(), Fail> {
-    let alloc = rt.alloc();
-    let base = sets(alloc, 1, 1)?;
-    let a = sets(alloc, 2, 2)?;
-    let b = sets(alloc, 1, 2)?;
-    match merge_programs(alloc, &base, &a, &b) {
-        Ok(graph) => assert!(rt; graph.same(&graph_of(alloc, &a, 3)?)),
-        _ => Err("no graph")?,
     }
     Ok(())
 }

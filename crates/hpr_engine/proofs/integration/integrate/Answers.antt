@@ -1,15 +1,18 @@
-use Rattle.std.proofs.Common.{Err, ap, sym, subst}
+use Rattle.std.proofs.Common.{◌≡◌, ℕ, List, Err, ap, sym, subst}
 use Rattle.std.proofs.lemmas.Result.{err_from_is_err_and}
 use Rattle.hpr_syntax.specs.Issued.{Issued}
 use Rattle.hpr_syntax.specs.Tree.{Tree}
 use Rattle.hpr_syntax.specs.declared.program.Program.{Program}
-use Rattle.hpr_graph.specs.Answer.{no_program, printed, spent, merged_of, IsFound}
+use Rattle.hpr_graph.specs.declared.vertex.Vertex.{Vertex}
+use Rattle.hpr_graph.specs.Answer.{no_program, printed, spent, issued_of, merged_of, IsAnswer, IsFound, IsWithoutConflict}
+use Rattle.hpr_graph.specs.Graphs.{Graph, Same}
 use Rattle.hpr_graph.specs.Numbered.{graph_in}
 use Rattle.hpr_graph.specs.Rank.{IsRank}
 use Rattle.hpr_order.specs.Arranging.{AreIssued}
 use Rattle.hpr_rebuild.specs.declared.error.RebuildError.{RebuildError}
 use Rattle.hpr_rebuild.proofs.Sames.{found_same}
 use Rattle.hpr_engine.specs.Limit.{AreInLimit}
+use Rattle.hpr_engine.proofs.PrintedKeeps.{printed_keeps}
 use Rattle.hpr_engine.proofs.Premises.{issued_same, parts_issued, ranking, ranking_same}
 use Rattle.hpr_engine.proofs.Unsearched.{judged, never_no_program, never_spent}
 use Rattle.hpr_engine.proofs.integration.integrate.Goals as goal
@@ -46,14 +49,32 @@ rebuild-requires-clause-issued c =
     subst (λ (i : Issued). AreIssued (graph_in c.in_ok-graph.graph) i) (sym were.numbers)
     (issued_same (graph_in c.in_ok-graph.graph) (merged_of base a b) c.in_ok-graph.ensures.graph _ (parts_issued base a b were.base were.a were.b))
 
+-- a program that is found is the answer
+answered : (base a b : Tree) (g : Graph) (rank : List Vertex) (issued : Issued) (tries : ℕ) (m : Tree) → Same g (merged_of base a b) → IsWithoutConflict base a b → IsRank a b base rank
+    → issued ≡ issued_of base a b → IsFound g rank issued tries (printed m) → IsAnswer base a b tries (printed m)
+answered base a b g rank issued tries m same free is numbers found = (
+  free,
+  (
+    rank,
+    is,
+    subst (λ (i : Issued). IsFound (merged_of base a b) rank i tries (printed m)) numbers
+        (found_same g (merged_of base a b) same rank issued tries (printed m) found),
+  ),
+)
+
 pub returns-in-Ok-clause-printed : goal.returns-in-Ok-clause-printed
 returns-in-Ok-clause-printed c =
-    let rank = c.deref.result.now in
-    let is = subst (IsRank c.args.a.now c.args.b.now c.args.base.now) (sym c.deref.ensures.value) c.in_ok-rank.ensures in
-    let found =
-    found_same (graph_in c.in_ok-graph.graph) (merged_of c.args.base.now c.args.a.now c.args.b.now) c.in_ok-graph.ensures.graph rank c.in_ok-issued.issued c.args.tries
-    (printed c.in-Ok.program) c.in-Ok.ensures.found in
-    (c.in_ok-graph.ensures.no_conflict, (rank, is, subst (λ (i : Issued). IsFound (merged_of c.args.base.now c.args.a.now c.args.b.now) rank i c.args.tries (printed c.in-Ok.program)) c.in_ok-issued.ensures.numbers found))
+    answered c.args.base.now c.args.a.now c.args.b.now (graph_in c.in_ok-graph.graph) c.deref.result.now c.in_ok-issued.issued c.args.tries c.in-Ok.program
+    c.in_ok-graph.ensures.graph c.in_ok-graph.ensures.no_conflict
+    (subst (IsRank c.args.a.now c.args.b.now c.args.base.now) (sym c.deref.ensures.value) c.in_ok-rank.ensures) c.in_ok-issued.ensures.numbers c.in-Ok.ensures.found
+
+pub returns-in-Ok-clause-keeps : goal.returns-in-Ok-clause-keeps
+returns-in-Ok-clause-keeps c =
+    let were = c.in_ok-issued.ensures in
+    printed_keeps c.args.base.now c.args.a.now c.args.b.now c.args.tries c.in-Ok.program were.base were.a were.b
+    (answered c.args.base.now c.args.a.now c.args.b.now (graph_in c.in_ok-graph.graph) c.deref.result.now c.in_ok-issued.issued c.args.tries c.in-Ok.program
+    c.in_ok-graph.ensures.graph c.in_ok-graph.ensures.no_conflict
+    (subst (IsRank c.args.a.now c.args.b.now c.args.base.now) (sym c.deref.ensures.value) c.in_ok-rank.ensures) were.numbers c.in-Ok.ensures.found)
 
 pub returns-in-Err-NoProgram-clause-no_program : goal.returns-in-Err-NoProgram-clause-no_program
 returns-in-Err-NoProgram-clause-no_program c =

@@ -1,0 +1,11 @@
+use Rattle.hpr_engine.proofs.OneAnswer.{one_answer, fit_is_printed, enough}
+use Rattle.hpr_engine.proofs.laws.one_answer.Goals as goal
+
+pub returns-clause-agree : goal.returns-clause-agree
+returns-clause-agree c = λ base a b tries r s is_a is_b h k. one_answer base a b is_a is_b tries r s h k
+
+pub returns-clause-first : goal.returns-clause-first
+returns-clause-first c = λ base a b tries ps m r is_a is_b free tried first h. fit_is_printed base a b is_a is_b tries ps free tried m r first h
+
+pub returns-clause-enough : goal.returns-clause-enough
+returns-clause-enough c = λ base a b tries ps r is_a is_b free tried few h. enough base a b is_a is_b tries ps free tried r few h
