@@ -2,4 +2,7 @@ mod Rows
 mod Places
 mod Whole
 mod Marked
+mod NameOrder
+mod TableRows
 pub mod OneText
+pub mod OneTable

@@ -3,3 +3,4 @@ pub mod GraphTexts
 pub mod GraphJson
 pub mod AffectedText
 pub mod ConflictsText
+pub mod TableText

@@ -6,16 +6,20 @@ mod graphs;
 mod objects;
 mod outcome;
 mod points;
+mod table;
 
 pub use conflicts::conflicts_text;
 pub use graphs::{edge_text, graph_text, vertex_text};
 pub use objects::graph_json;
 pub use outcome::outcome_text;
 pub use points::affected_text;
+pub use table::table_text;
 
 #[cfg(test)]
 mod conflict_tests;
 #[cfg(test)]
 mod graph_tests;
+#[cfg(test)]
+mod table_tests;
 #[cfg(test)]
 mod tests;

@@ -1,0 +1,64 @@
+-- The table of the final values of a base, two variants and the merged program.
+--
+-- names_in values              == the names that stand in the list
+-- IsSingleValued values        == no name has two values in the list
+-- Row                          == a name, and its value in each of the four lists
+-- IsValueIn values x cell      == the cell is the value of the name x in the list, and empty where the list lacks the name
+-- IsRow base a b merged row    == each cell of the row is the value of the row's name in the cell's list
+-- AreRows base a b merged rows == there is a row for each name that stands in a list, and the names ascend
+-- cell_text cell               == a value, or `-` where there is none
+-- table_line row               == the name and the four cells
+-- IsTableText base a b merged text == the text is that of these rows, a line for each
+-- IsKeptIn row                 == the last cell has the value of each variant that changed it, and the one that all three agree on
+use Rattle.std.specs.Prelude.{◌≡◌, ℕ, ℤ, ◌↔◌, List, ◌++◌, Option, Some, None, All, Contains, map, codes}
+use Rattle.std.specs.Fmt.{signed_decimal}
+use Rattle.hpr_syntax.specs.Run.{FinalValues}
+use Rattle.hpr_graph.specs.Order.{name_cmp}
+use Rattle.hpr_graph.specs.InOrder.{Ascends}
+use Rattle.hpr_report.specs.GraphTexts.{on_lines}
+
+abbrev pub names_in : FinalValues → List (List ℕ)
+names_in values = map (λ e. e.0) values
+
+abbrev pub IsSingleValued : FinalValues → Type 0
+IsSingleValued values = (x : List ℕ) (v w : ℤ) → Contains values (x, v) → Contains values (x, w) → v ≡ w
+
+pub record Row : Type 0 where
+  pub name : List ℕ
+  pub base : Option ℤ
+  pub a : Option ℤ
+  pub b : Option ℤ
+  pub merged : Option ℤ
+
+abbrev pub IsValueIn : FinalValues → List ℕ → Option ℤ → Type 0
+IsValueIn values x cell = (v : ℤ) → (cell ≡ Some v) ↔ Contains values (x, v)
+
+pub record IsRow (base a b merged : FinalValues) (row : Row) : Type 0 where
+  pub of_base : IsValueIn base row.name row.base
+  pub of_a : IsValueIn a row.name row.a
+  pub of_b : IsValueIn b row.name row.b
+  pub of_merged : IsValueIn merged row.name row.merged
+
+abbrev pub names_of : List Row → List (List ℕ)
+names_of rows = map (λ row. row.name) rows
+
+pub record AreRows (base a b merged : FinalValues) (rows : List Row) : Type 0 where
+  pub names : (x : List ℕ) → Contains (names_of rows) x ↔ Contains (names_in base ++ names_in a ++ names_in b ++ names_in merged) x
+  pub ascending : Ascends name_cmp (names_of rows)
+  pub cells : All (IsRow base a b merged) rows
+
+abbrev pub cell_text : Option ℤ → List ℕ
+cell_text None = codes "-"
+cell_text (Some v) = signed_decimal v
+
+abbrev pub table_line : Row → List ℕ
+table_line row =
+    row.name ++ codes ": " ++ cell_text row.base ++ codes " " ++ cell_text row.a ++ codes " " ++ cell_text row.b ++ codes " " ++ cell_text row.merged
+
+abbrev pub IsTableText : FinalValues → FinalValues → FinalValues → FinalValues → List ℕ → Type 0
+IsTableText base a b merged text = (rows : List Row) × AreRows base a b merged rows × (text ≡ on_lines (map table_line rows))
+
+pub record IsKeptIn (row : Row) : Type 0 where
+  pub changed_by_a : (v : ℤ) → row.a ≡ Some v → ¬ (row.base ≡ Some v) → row.merged ≡ Some v
+  pub changed_by_b : (v : ℤ) → row.b ≡ Some v → ¬ (row.base ≡ Some v) → row.merged ≡ Some v
+  pub agreed : (v : ℤ) → row.base ≡ Some v → row.a ≡ Some v → row.b ≡ Some v → row.merged ≡ Some v

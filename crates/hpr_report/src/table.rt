@@ -1,0 +1,112 @@
+//! The table of final values.
+ghost use Rattle.std.specs.Prelude.{◌≡◌, ◌++◌, ◌↔◌, ℕ, ℤ, List, Contains, IfOk, OnOk, string_bytes};
+ghost use Rattle.hpr_graph.specs.Order.{name_cmp};
+ghost use Rattle.hpr_graph.specs.InOrder.{Ascends};
+ghost use Rattle.hpr_report.specs.TableText.{names_in, IsSingleValued, IsValueIn, IsRow, Row, cell_text, table_line, IsTableText};
+
+use crate::graphs::put_line;
+use hpr_syntax::{Name, NoMemory};
+use hpr_terms::names::in_order;
+use std::alloc::{AllocError, Global};
+
+/// The table of the final values of a base, its variants A and B, and the merged program: a line
+/// `NAME: BASE A B MERGED` for each name that stands in one of the lists, in the order of their bytes.
+/// Each of the four is the list's value of the name, or `-` where the list lacks the name. Each line ends
+/// with a newline. No name has two values in one list. It fails only for want of memory. The text is our
+/// profile.
+pub fn table_text(
+    alloc: Global,
+    base: &[(Name, i64)],
+    a: &[(Name, i64)],
+    b: &[(Name, i64)],
+    merged: &[(Name, i64)],
+) -> Result<Vec<u8>, NoMemory>
+    requires base { IsSingleValued base.now }
+    requires a { IsSingleValued a.now }
+    requires b { IsSingleValued b.now }
+    requires merged { IsSingleValued merged.now }
+    ensures { IfOk result (λ text. IsTableText base.now a.now b.now merged.now text.items) }
+{
+    let names = names_in_order(alloc, base, a, b, merged)?;
+    let mut out = Vec::new(alloc);
+    for name in &names {
+        let line = table_line(alloc, name, base, a, b, merged)?;
+        put_line(&mut out, line.as_str())?;
+    }
+    Ok(out)
+}
+
+/// The names that stand in one of the lists, each once.
+fn names_in_order(
+    alloc: Global,
+    base: &[(Name, i64)],
+    a: &[(Name, i64)],
+    b: &[(Name, i64)],
+    merged: &[(Name, i64)],
+) -> Result<Vec<Name>, NoMemory>
+    ensures names { IfOk result (λ names. (x : List ℕ)
+        → Contains names.items x ↔ Contains (names_in base.now ++ names_in a.now ++ names_in b.now ++ names_in merged.now) x) }
+    ensures ascending { IfOk result (λ names. Ascends name_cmp names.items) }
+{
+    let mut names = Vec::new(alloc);
+    push_names(alloc, &mut names, base)?;
+    push_names(alloc, &mut names, a)?;
+    push_names(alloc, &mut names, b)?;
+    push_names(alloc, &mut names, merged)?;
+    in_order(names)
+}
+
+/// Pushes a copy of each name of a list.
+fn push_names(alloc: Global, names: &mut Vec<Name>, values: &[(Name, i64)]) -> Result<(), NoMemory>
+    ensures { OnOk result (names.new.items ≡ names.old.items ++ names_in values.now) }
+{
+    for (name, _) in values {
+        names.push(name.copy(alloc)?)?;
+    }
+    Ok(())
+}
+
+/// The line of a name.
+fn table_line(
+    alloc: Global,
+    name: &Name,
+    base: &[(Name, i64)],
+    a: &[(Name, i64)],
+    b: &[(Name, i64)],
+    merged: &[(Name, i64)],
+) -> Result<String, NoMemory>
+    requires base { IsSingleValued base.now }
+    requires a { IsSingleValued a.now }
+    requires b { IsSingleValued b.now }
+    requires merged { IsSingleValued merged.now }
+    ensures { IfOk result (λ text. (row : Row) × (row.name ≡ name.now) × IsRow base.now a.now b.now merged.now row × (string_bytes text ≡ table_line row)) }
+{
+    let base = cell_text(alloc, value_in(base, name))?;
+    let a = cell_text(alloc, value_in(a, name))?;
+    let b = cell_text(alloc, value_in(b, name))?;
+    let merged = cell_text(alloc, value_in(merged, name))?;
+    let name = name.text();
+    Ok(format!(in alloc; "{name}: {base} {a} {b} {merged}")?)
+}
+
+/// The value of a name in a list, if the list has the name.
+fn value_in(values: &[(Name, i64)], name: &Name) -> Option<i64>
+    requires { IsSingleValued values.now }
+    ensures { IsValueIn values.now name.now result }
+{
+    for (other, value) in values {
+        if other.is_same(name) {
+            return Some(*value);
+        }
+    }
+    None
+}
+
+fn cell_text(alloc: Global, cell: Option<i64>) -> Result<String, AllocError>
+    ensures { IfOk result (λ text. string_bytes text ≡ cell_text cell) }
+{
+    match cell {
+        Some(value) => format!(in alloc; "{value}"),
+        None => String::from_str(alloc, "-"),
+    }
+}
