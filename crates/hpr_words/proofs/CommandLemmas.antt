@@ -76,6 +76,11 @@ module _ {app : App} {options flags : List Text} (is : IsCommand app options fla
   pub taken_is : (request_in : List Row → Option Request) → taken_by app request_in (command ∷ words) ≡ request_in (matches_of app (command ∷ words))
   taken_is request_in = ap (λ k. cond (is_empty k) (request_in (matches_of app (command ∷ words))) None) (is.faults command words ∙ read.quiet)
 
+-- what is asked for under a condition is asked for
+pub if_so : {X : Type 0} (b : Bool) (o : Option X) (x : X) → cond b o None ≡ Some x → o ≡ Some x
+if_so true o x e = e
+if_so false o x e = absurd (none_some x e)
+
 -- a request of plain words is one of their pieces
 pub by_pieces : (options flags words : List Text) (asked : List Piece → Option Request) (answer : Option Request) (r : Request)
     → ((ps : List Piece) → IsCut options flags words ps → asked ps ≡ Some r → answer ≡ Some r) → option_and_then asked (pieces options flags words) ≡ Some r → answer ≡ Some r

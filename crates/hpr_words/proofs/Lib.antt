@@ -12,8 +12,11 @@ pub mod CommandLemmas
 pub mod GraphLemmas
 pub mod SliceLemmas
 pub mod AffectedLemmas
+pub mod TrialLemmas
 pub mod OtherLemmas
 pub mod PlainLemmas
 pub mod RangeLemmas
 pub mod AskedLemmas
 pub mod PlaceLemmas
+pub mod RunPlaceLemmas
+pub mod TrialPlaceLemmas

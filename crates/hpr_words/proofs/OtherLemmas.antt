@@ -1,8 +1,7 @@
 -- Words whose first names no command are not taken.
-use Rattle.std.proofs.Common.{◌≡◌, ◌∙◌, Bool, true, false, cond, List, [], ◌∷◌, Some, None, slice_get, refl, sym, ap, codes, unwrap_or, bytes_eq}
-use Rattle.hpr_words.specs.Commands.{affected_app, graph_app, integrate_app, run_app, slice_app}
-use Rattle.hpr_words.specs.Request.{Text}
-use Rattle.hpr_words.specs.Taken.{affected_in, graph_in, integrate_in, run_in, slice_in, taken, taken_by}
+use Rattle.std.proofs.Common.{◌≡◌, ◌∙◌, Bool, true, false, cond, List, [], ◌∷◌, Option, Some, None, slice_get, refl, sym, ap, codes, unwrap_or, bytes_eq}
+use Rattle.hpr_words.specs.Request.{Request, Text}
+use Rattle.hpr_words.specs.Taken.{taken}
 use Rattle.hpr_words.proofs.PieceLemmas.{none_some}
 use Rattle.hpr_words.proofs.RowLemmas.{is_same}
 
@@ -13,13 +12,14 @@ differs command other unlike = go (bytes_eq command other) refl
     go true e = absurd (unlike (is_same command other e))
     go false e = refl
 
+-- the words go past a command that they don't name
+passes : (command first other : Text) (asked rest : Option Request) → command ≡ first → (command ≡ other → ⊥) → rest ≡ None → cond (bytes_eq first other) asked rest ≡ None
+passes command first other asked rest is unlike none = ap (λ b. cond b asked rest) (differs first other (λ e. unlike (is ∙ e))) ∙ none
+
 pub other_taken : (words : List Text) (command : Text) → slice_get words 0 ≡ Some command → (command ≡ codes "integrate" → ⊥) → (command ≡ codes "run" → ⊥) → (command ≡ codes "graph" → ⊥)
-    → (command ≡ codes "slice" → ⊥) → (command ≡ codes "affected" → ⊥) → taken words ≡ None
-other_taken [] command e p q r s t = absurd (none_some command e)
-other_taken (first ∷ words) command e p q r s t =
+    → (command ≡ codes "slice" → ⊥) → (command ≡ codes "affected" → ⊥) → (command ≡ codes "trial" → ⊥) → taken words ≡ None
+other_taken [] command e p q r s t u = absurd (none_some command e)
+other_taken (first ∷ words) command e p q r s t u =
     let is : command ≡ first = sym (ap (λ o. unwrap_or o first) e) in
-    λ i. cond (differs first (codes "integrate") (λ f. p (is ∙ f)) i) (taken_by integrate_app integrate_in (first ∷ words))
-    (cond (differs first (codes "run") (λ f. q (is ∙ f)) i) (taken_by run_app run_in (first ∷ words))
-    (cond (differs first (codes "graph") (λ f. r (is ∙ f)) i) (taken_by graph_app graph_in (first ∷ words))
-    (cond (differs first (codes "slice") (λ f. s (is ∙ f)) i) (taken_by slice_app slice_in (first ∷ words))
-    (cond (differs first (codes "affected") (λ f. t (is ∙ f)) i) (taken_by affected_app affected_in (first ∷ words)) None))))
+    passes command first (codes "integrate") _ _ is p (passes command first (codes "run") _ _ is q (passes command first (codes "graph") _ _ is r
+    (passes command first (codes "slice") _ _ is s (passes command first (codes "affected") _ _ is t (passes command first (codes "trial") _ _ is u refl)))))

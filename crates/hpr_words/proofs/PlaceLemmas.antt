@@ -1,10 +1,12 @@
--- An option may stand in each of its places.
-use Rattle.std.proofs.Common.{◌≡◌, ◌∙◌, ℕ, true, cond, List, [], ◌∷◌, ◌++◌, map, Some, None, option_and_then, append-nil, refl, sym, ap, ap₂, codes}
-use Rattle.std.specs.Prelude.{◌&&◌}
+-- Options and flags may stand in each of their places.
+use Rattle.std.proofs.Common.{◌≡◌, ◌∙◌, ℕ, Bool, true, false, List, [], ◌∷◌, ◌++◌, map, Some, option_and_then, append-nil, refl, sym, ap, ap₂, codes}
+use Rattle.std.specs.Prelude.{◌&&◌, not}
 use Rattle.std.specs.List.{list_all}
+use Rattle.clap.proofs.SimpleLemmas.{is_false}
 use Rattle.clap.proofs.WalkLemmas.{both}
-use Rattle.hpr_words.specs.Plain.{Piece, begun, behind, given, goes_on, is_name, is_unbroken, name, names, number, number_or, pieces, plain, plain_run, plain_slice, run_from, slice_from, values}
-use Rattle.hpr_words.specs.Request.{Text, integrate, run, slice}
+use Rattle.hpr_words.specs.Plain.{Piece, begun, flag, given, goes_on, is_among, is_name, is_unbroken, name, names, number, pieces, plain, plain_slice, slice_from, uses, values}
+use Rattle.hpr_words.specs.Request.{Text, integrate, slice}
+use Rattle.hpr_words.proofs.PieceLemmas.{spelling}
 
 module _ (base a b : Text) (p : is_name base ≡ true) (q : is_name a ≡ true) (r : is_name b ≡ true) where
   pub integrate-alone : plain (codes "integrate" ∷ base ∷ a ∷ b ∷ []) ≡ Some (integrate base a b 10000)
@@ -23,95 +25,91 @@ module _ (base a b : Text) (p : is_name base ≡ true) (q : is_name a ≡ true) 
     pub integrate-last : plain (codes "integrate" ∷ base ∷ a ∷ b ∷ codes "--tries" ∷ n ∷ []) ≡ Some (integrate base a b tries)
     integrate-last = rw (p, q, r, spelled) refl
 
--- ---- words that are all names
+-- ---- the words that pieces spell are cut into them
 
-pieces-name : (options flags : List Text) (w : Text) (ws : List Text) → is_name w ≡ true → pieces options flags (w ∷ ws) ≡ begun (name w) (pieces options flags ws)
-pieces-name options flags w [] e = rw (e) refl
-pieces-name options flags w (next ∷ ws) e = rw (e) refl
+-- the piece is one that its words are cut into
+abbrev pub is_cut : (options flags : List Text) → Piece → Bool
+is_cut options flags (name w) = is_name w
+is_cut options flags (given x v) = not (is_name x) && (not (is_among x flags) && is_among x options)
+is_cut options flags (flag x) = not (is_name x) && is_among x flags
 
-pieces-names : (options flags ws rest : List Text) (ps : List Piece) → list_all is_name ws ≡ true → pieces options flags rest ≡ Some ps → pieces options flags (ws ++ rest) ≡ Some (map name ws ++ ps)
-pieces-names options flags [] rest ps e cut = cut
-pieces-names options flags (w ∷ ws) rest ps e cut =
-    let parts = both (is_name w) _ e in
-    pieces-name options flags w (ws ++ rest) parts.0 ∙ ap (begun (name w)) (pieces-names options flags ws rest ps parts.1 cut)
+module _ (options flags : List Text) where
+  pieces-name : (w : Text) (ws : List Text) → is_name w ≡ true → pieces options flags (w ∷ ws) ≡ begun (name w) (pieces options flags ws)
+  pieces-name w [] e = rw (e) refl
+  pieces-name w (next ∷ ws) e = rw (e) refl
 
-names-map : (ws : List Text) (ps : List Piece) → names (map name ws ++ ps) ≡ ws ++ names ps
-names-map [] ps = refl
-names-map (w ∷ ws) ps = ap (λ vs. w ∷ vs) (names-map ws ps)
+  pieces-flag : (x : Text) (ws : List Text) → is_name x ≡ false → is_among x flags ≡ true → pieces options flags (x ∷ ws) ≡ begun (flag x) (pieces options flags ws)
+  pieces-flag x [] e f = rw (e, f) refl
+  pieces-flag x (next ∷ ws) e f = rw (e, f) refl
 
-values-map : (option : Text) (ws : List Text) (ps : List Piece) → values option (map name ws ++ ps) ≡ values option ps
-values-map option [] ps = refl
-values-map option (w ∷ ws) ps = values-map option ws ps
+  pub pieces-spelling : (ps : List Piece) → list_all (is_cut options flags) ps ≡ true → pieces options flags (spelling ps) ≡ Some ps
+  pieces-spelling [] all = refl
+  pieces-spelling (name w ∷ ps) all =
+      let is = both (is_name w) _ all in
+      pieces-name w (spelling ps) is.0 ∙ ap (begun (name w)) (pieces-spelling ps is.1)
+  pieces-spelling (given x v ∷ ps) all =
+      let parts = both (is_cut options flags (given x v)) _ all in
+      let is = both (not (is_name x)) _ parts.0 in
+      let rest = both (not (is_among x flags)) _ is.1 in
+      let no_name : is_name x ≡ false = is_false _ is.0 in
+      let no_flag : is_among x flags ≡ false = is_false _ rest.0 in
+      rw (no_name, no_flag, rest.1) (ap (begun (given x v)) (pieces-spelling ps parts.1))
+  pieces-spelling (flag x ∷ ps) all =
+      let parts = both (is_cut options flags (flag x)) _ all in
+      let is = both (not (is_name x)) _ parts.0 in
+      pieces-flag x (spelling ps) (is_false _ is.0) is.1 ∙ ap (begun (flag x)) (pieces-spelling ps parts.1)
 
-goes_on-map : (ws : List Text) (ps : List Piece) → goes_on ps ≡ true → goes_on (map name ws ++ ps) ≡ true
-goes_on-map [] ps e = e
-goes_on-map (w ∷ ws) ps e = goes_on-map ws ps e
+  pub is_cut-names : (ws : List Text) (ps : List Piece) → list_all is_name ws ≡ true → list_all (is_cut options flags) ps ≡ true → list_all (is_cut options flags) (map name ws ++ ps) ≡ true
+  is_cut-names [] ps e cut = cut
+  is_cut-names (w ∷ ws) ps e cut =
+      let parts = both (is_name w) _ e in
+      ap₂ (λ b c. b && c) parts.0 (is_cut-names ws ps parts.1 cut)
 
-is_unbroken-map : (ws : List Text) (ps : List Piece) → is_unbroken ps ≡ true → goes_on ps ≡ true → is_unbroken (map name ws ++ ps) ≡ true
-is_unbroken-map [] ps e f = e
-is_unbroken-map (w ∷ ws) ps e f = goes_on-map ws ps f
+-- ---- names before other pieces
 
-module _ (ws : List Text) where
-  all_cut : (options flags : List Text) → list_all is_name ws ≡ true → pieces options flags ws ≡ Some (map name ws)
-  all_cut options flags e = ap (pieces options flags) (sym (append-nil ws)) ∙ (pieces-names options flags ws [] [] e refl ∙ ap Some (append-nil (map name ws)))
+pub spelling-names : (ws : List Text) (ps : List Piece) → spelling (map name ws ++ ps) ≡ ws ++ spelling ps
+spelling-names [] ps = refl
+spelling-names (w ∷ ws) ps = ap (λ vs. w ∷ vs) (spelling-names ws ps)
 
-  all_unbroken : is_unbroken (map name ws) ≡ true
-  all_unbroken = ap is_unbroken (sym (append-nil (map name ws))) ∙ is_unbroken-map ws [] refl refl
+pub spelling-names_alone : (ws : List Text) → spelling (map name ws ++ []) ≡ ws
+spelling-names_alone ws = spelling-names ws [] ∙ append-nil ws
 
-  all_named : names (map name ws) ≡ ws
-  all_named = ap names (sym (append-nil (map name ws))) ∙ (names-map ws [] ∙ append-nil ws)
+pub names-names : (ws : List Text) (ps : List Piece) → names (map name ws ++ ps) ≡ ws ++ names ps
+names-names [] ps = refl
+names-names (w ∷ ws) ps = ap (λ vs. w ∷ vs) (names-names ws ps)
 
-  none_valued : (option : Text) → values option (map name ws) ≡ []
-  none_valued option = ap (values option) (sym (append-nil (map name ws))) ∙ values-map option ws []
+pub values-names : (option : Text) (ws : List Text) (ps : List Piece) → values option (map name ws ++ ps) ≡ values option ps
+values-names option [] ps = refl
+values-names option (w ∷ ws) ps = values-names option ws ps
 
--- ---- `run`
+pub uses-names : (f : Text) (ws : List Text) (ps : List Piece) → uses f (map name ws ++ ps) ≡ uses f ps
+uses-names f [] ps = refl
+uses-names f (w ∷ ws) ps = uses-names f ws ps
 
-abbrev steps : List Text
-steps = codes "--steps" ∷ []
+goes_on-names : (ws : List Text) (ps : List Piece) → goes_on ps ≡ true → goes_on (map name ws ++ ps) ≡ true
+goes_on-names [] ps e = e
+goes_on-names (w ∷ ws) ps e = goes_on-names ws ps e
 
-run-pieces : (file : Text) (states words : List Text) (n : ℕ) (ps : List Piece) → pieces steps [] words ≡ Some ps → is_unbroken (behind 1 ps) ≡ true
-    → names ps ≡ file ∷ states → number_or 1000000 1000000000 (values (codes "--steps") ps) ≡ Some n → plain (codes "run" ∷ words) ≡ Some (run file states n)
-run-pieces file states words n ps cut unbroken named number =
-    ap (option_and_then plain_run) cut
-    ∙ (λ i. cond (unbroken i) (run_from (named i) (number i)) None)
+pub is_unbroken-names : (ws : List Text) (ps : List Piece) → is_unbroken ps ≡ true → goes_on ps ≡ true → is_unbroken (map name ws ++ ps) ≡ true
+is_unbroken-names [] ps e f = e
+is_unbroken-names (w ∷ ws) ps e f = goes_on-names ws ps f
 
-module _ (file : Text) (states : List Text) (p : is_name file ≡ true) (q : list_all is_name states ≡ true) where
-  file_cut : pieces steps [] (file ∷ states) ≡ Some (name file ∷ map name states)
-  file_cut = pieces-name steps [] file states p ∙ ap (begun (name file)) (all_cut states steps [] q)
+-- pieces that may follow a list
+pub record IsBehind (ps : List Piece) : Type 0 where
+  pub unbroken : is_unbroken ps ≡ true
+  pub stops : goes_on ps ≡ true
+  pub no_names : names ps ≡ []
 
-  file_named : names (name file ∷ map name states) ≡ file ∷ states
-  file_named = ap (λ ws. file ∷ ws) (all_named states)
+pub alone : IsBehind []
+alone = record { unbroken = refl; stops = refl; no_names = refl }
 
-  pub run-alone : plain (codes "run" ∷ file ∷ states) ≡ Some (run file states 1000000)
-  run-alone = run-pieces file states (file ∷ states) 1000000 (name file ∷ map name states) file_cut (all_unbroken states) file_named
-      (ap (number_or 1000000 1000000000) (none_valued states (codes "--steps")))
-
-  module _ (n : Text) (most : ℕ) (spelled : number 1000000000 n ≡ Some most) where
-    abbrev option : Piece
-    option = given (codes "--steps") n
-
-    valued_once : number_or 1000000 1000000000 (n ∷ values (codes "--steps") (map name states)) ≡ Some most
-    valued_once = ap (λ vs. number_or 1000000 1000000000 (n ∷ vs)) (none_valued states (codes "--steps")) ∙ spelled
-
-    pub run-first : plain (codes "run" ∷ codes "--steps" ∷ n ∷ file ∷ states) ≡ Some (run file states most)
-    run-first = run-pieces file states (codes "--steps" ∷ n ∷ file ∷ states) most (option ∷ name file ∷ map name states)
-        (ap (begun option) file_cut) (all_unbroken states) file_named valued_once
-
-    pub run-second : plain (codes "run" ∷ file ∷ codes "--steps" ∷ n ∷ states) ≡ Some (run file states most)
-    run-second = run-pieces file states (file ∷ codes "--steps" ∷ n ∷ states) most (name file ∷ option ∷ map name states)
-        (pieces-name steps [] file (codes "--steps" ∷ n ∷ states) p ∙ ap (λ o. begun (name file) (begun option o)) (all_cut states steps [] q))
-        (all_unbroken states) file_named valued_once
-
-    pub run-last : plain (codes "run" ∷ file ∷ (states ++ codes "--steps" ∷ n ∷ [])) ≡ Some (run file states most)
-    run-last = run-pieces file states (file ∷ (states ++ codes "--steps" ∷ n ∷ [])) most (name file ∷ (map name states ++ option ∷ []))
-        (pieces-name steps [] file (states ++ codes "--steps" ∷ n ∷ []) p
-        ∙ ap (begun (name file)) (pieces-names steps [] states (codes "--steps" ∷ n ∷ []) (option ∷ []) q refl))
-        (is_unbroken-map states (option ∷ []) refl refl)
-        (ap (λ ws. file ∷ ws) (names-map states (option ∷ []) ∙ append-nil states))
-        (ap (number_or 1000000 1000000000) (values-map (codes "--steps") states (option ∷ [])) ∙ spelled)
+pub names-list : (ws : List Text) (ps : List Piece) → IsBehind ps → names (map name ws ++ ps) ≡ ws
+names-list ws ps behind = names-names ws ps ∙ (ap (λ ns. ws ++ ns) behind.no_names ∙ append-nil ws)
 
 -- ---- `slice`
 
 pub slice-plain : (file point : Text) (points : List Text) → is_name file ≡ true → list_all is_name (point ∷ points) ≡ true → plain (codes "slice" ∷ file ∷ point ∷ points) ≡ Some (slice file (point ∷ points))
 slice-plain file point points p q =
-    ap (option_and_then plain_slice) (all_cut (file ∷ point ∷ points) [] [] (ap₂ (λ b c. b && c) p q)) ∙ ap slice_from (all_named (file ∷ point ∷ points))
+    let ws = file ∷ point ∷ points in
+    ap (λ vs. option_and_then plain_slice (pieces [] [] vs)) (sym (spelling-names_alone ws))
+    ∙ (ap (option_and_then plain_slice) (pieces-spelling [] [] (map name ws ++ []) (is_cut-names [] [] ws [] (ap₂ (λ b c. b && c) p q) refl)) ∙ ap slice_from (names-names ws [] ∙ append-nil ws))

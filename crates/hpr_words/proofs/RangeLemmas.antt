@@ -6,9 +6,9 @@ use Rattle.clap.specs.ValueTests.{accepts}
 use Rattle.clap.specs.Walk.{is_empty}
 use Rattle.clap.specs.Words.{App, Row, fault_of, first_of, matches_of}
 use Rattle.clap.specs.declared.builder.value_parser.ValueParser.TheVariants.{Unsigned}
-use Rattle.hpr_words.specs.Commands.{integrate_app, run_app, slice_app}
+use Rattle.hpr_words.specs.Commands.{integrate_app, run_app, slice_app, trial_app}
 use Rattle.hpr_words.specs.Request.{IsInRange, Request, Text}
-use Rattle.hpr_words.specs.Taken.{integrate_in, integrate_with, list_in, number_in, number_of, number_or, run_in, run_with, slice_in, slice_with, taken_by}
+use Rattle.hpr_words.specs.Taken.{flag_in, integrate_in, integrate_with, list_in, number_in, number_of, number_or, run_in, run_with, slice_in, slice_with, steps_in, taken_by, trial_in, trial_with}
 use Rattle.hpr_words.proofs.PieceLemmas.{none_some}
 
 number_of-range : (most : ℕ) (text : Text) (n : ℕ) → number_of most text ≡ Some n → (1 ≤ n) × (n ≤ most)
@@ -31,13 +31,19 @@ integrate_with-range : (base a b : Option Text) (o : Option ℕ) (r : Request) �
 integrate_with-range (Some base) (Some a) (Some b) (Some tries) r range e = subst IsInRange (ap (λ o. unwrap_or o r) e) (range tries refl)
 integrate_with-range base a b o r range e = absurd (none_some r e)
 
-run_with-range : (file : Option Text) (states : List Text) (o : Option ℕ) (r : Request) → ((n : ℕ) → o ≡ Some n → (1 ≤ n) × (n ≤ 1000000000)) → run_with file states o ≡ Some r → IsInRange r
-run_with-range (Some file) states (Some steps) r range e = subst IsInRange (ap (λ o. unwrap_or o r) e) (range steps refl)
-run_with-range file states o r range e = absurd (none_some r e)
+run_with-range : (file : Option Text) (states : List Text) (o : Option ℕ) (trace : Bool) (r : Request) → ((n : ℕ) → o ≡ Some n → (1 ≤ n) × (n ≤ 1000000000))
+    → run_with file states o trace ≡ Some r → IsInRange r
+run_with-range (Some file) states (Some steps) trace r range e = subst IsInRange (ap (λ o. unwrap_or o r) e) (range steps refl)
+run_with-range file states o trace r range e = absurd (none_some r e)
 
 slice_with-range : (file : Option Text) (points : List Text) (r : Request) → slice_with file points ≡ Some r → IsInRange r
 slice_with-range (Some file) (point ∷ points) r e = subst IsInRange (ap (λ o. unwrap_or o r) e) (omega arith)
 slice_with-range file points r e = absurd (none_some r e)
+
+trial_with-range : (base a b : Option Text) (states : List Text) (o : Option ℕ) (r : Request) → ((n : ℕ) → o ≡ Some n → (1 ≤ n) × (n ≤ 1000000000))
+    → trial_with base a b states o ≡ Some r → IsInRange r
+trial_with-range (Some base) (Some a) (Some b) states (Some steps) r range e = subst IsInRange (ap (λ o. unwrap_or o r) e) (range steps refl)
+trial_with-range base a b states o r range e = absurd (none_some r e)
 
 taken_by-range : (app : App) (request_in : List Row → Option Request) → ((rows : List Row) (r : Request) → request_in rows ≡ Some r → IsInRange r)
     → (words : List Text) (r : Request) → taken_by app request_in words ≡ Some r → IsInRange r
@@ -47,6 +53,9 @@ taken_by-range app request_in range words r e = go (is_empty (fault_of app words
     go true f = range (matches_of app words) r f
     go false f = absurd (none_some r f)
 
+steps_in-range : (rows : List Row) (n : ℕ) → steps_in rows ≡ Some n → (1 ≤ n) × (n ≤ 1000000000)
+steps_in-range rows n = number_or-range 1000000000 1000000 (first_of (codes "steps") rows) n (omega arith) (omega arith)
+
 pub integrate_taken-range : (words : List Text) (r : Request) → taken_by integrate_app integrate_in words ≡ Some r → IsInRange r
 integrate_taken-range = taken_by-range integrate_app integrate_in (λ rows r.
     integrate_with-range (first_of (codes "base") rows) (first_of (codes "a") rows) (first_of (codes "b") rows) (number_in (codes "tries") 1000000000 10000 rows) r
@@ -54,11 +63,14 @@ integrate_taken-range = taken_by-range integrate_app integrate_in (λ rows r.
 
 pub run_taken-range : (words : List Text) (r : Request) → taken_by run_app run_in words ≡ Some r → IsInRange r
 run_taken-range = taken_by-range run_app run_in (λ rows r.
-    run_with-range (first_of (codes "file") rows) (list_in (codes "state") rows) (number_in (codes "steps") 1000000000 1000000 rows) r
-    (λ n. number_or-range 1000000000 1000000 (first_of (codes "steps") rows) n (omega arith) (omega arith)))
+    run_with-range (first_of (codes "file") rows) (list_in (codes "state") rows) (steps_in rows) (flag_in (codes "trace") rows) r (steps_in-range rows))
 
 pub slice_taken-range : (words : List Text) (r : Request) → taken_by slice_app slice_in words ≡ Some r → IsInRange r
 slice_taken-range = taken_by-range slice_app slice_in (λ rows r. slice_with-range (first_of (codes "file") rows) (list_in (codes "point") rows) r)
+
+pub trial_taken-range : (words : List Text) (r : Request) → taken_by trial_app trial_in words ≡ Some r → IsInRange r
+trial_taken-range = taken_by-range trial_app trial_in (λ rows r.
+    trial_with-range (first_of (codes "base") rows) (first_of (codes "a") rows) (first_of (codes "b") rows) (list_in (codes "state") rows) (steps_in rows) r (steps_in-range rows))
 
 pub IfOk-range : {X E : Type 0} (f : X → Request) (r : Result X E) (asked : Option Request) → ((q : Request) → asked ≡ Some q → IsInRange q)
     → IfOk r (λ x. asked ≡ Some (f x)) → IfOk r (λ x. IsInRange (f x))

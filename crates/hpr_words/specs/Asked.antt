@@ -2,13 +2,14 @@
 --
 -- request asked == the request
 use Rattle.std.specs.Prelude.{map}
-use Rattle.hpr_words.specs.Request.{Request, affected, graph, integrate, run, slice}
+use Rattle.hpr_words.specs.Request.{Request, affected, graph, integrate, run, slice, trial}
 use Rattle.hpr_words.specs.declared.asked.Asked.{Asked}
 use Rattle.hpr_words.specs.declared.asked.Asked.TheVariants as asked
 
 abbrev pub request : Asked → Request
 request (asked.Integrate base a b tries) = integrate base.now a.now b.now tries
-request (asked.Run file states steps) = run file.now (map (λ s. s.now) states.items) steps
+request (asked.Run file states steps trace) = run file.now (map (λ s. s.now) states.items) steps trace
 request (asked.Graph file json) = graph file.now json
 request (asked.Slice file points) = slice file.now (map (λ s. s.now) points.items)
 request (asked.Affected base a) = affected base.now a.now
+request (asked.Trial base a b states steps) = trial base.now a.now b.now (map (λ s. s.now) states.items) steps

@@ -5,11 +5,14 @@
 -- filled_list_rule id  == a positional of one word or more
 -- number_rule id most  == the option `--id`, whose value is a number from 1 to most
 -- flag_rule id         == the flag `--id`
+-- steps_rule           == the option of the steps
+-- variants_app name    == a command of that name, of the names of base and two variants
 -- integrate_app        == `integrate BASE A B [--tries N]`
--- run_app              == `run FILE [STATE..] [--steps N]`
+-- run_app              == `run FILE [STATE..] [--steps N] [--trace]`
 -- graph_app            == `graph FILE [--json]`
 -- slice_app            == `slice FILE POINT..`
 -- affected_app         == `affected BASE A`
+-- trial_app            == `trial BASE A B [STATE..] [--steps N]`
 use Rattle.std.specs.Prelude.{ℕ, Some, true, codes}
 use Rattle.clap.specs.Words.{App, Rule, Text, new_app, new_rule, with_rule}
 use Rattle.clap.specs.declared.builder.action.ArgAction.TheVariants.{Append, SetTrue}
@@ -30,13 +33,17 @@ number_rule id most = record (new_rule id) { long = Some id; parser = Some (Unsi
 abbrev pub flag_rule : Text → Rule
 flag_rule id = record (new_rule id) { long = Some id; action = Some SetTrue }
 
+abbrev pub steps_rule : Rule
+steps_rule = number_rule (codes "steps") 1000000000
+
+abbrev pub variants_app : Text → App
+variants_app name = with_rule (with_rule (with_rule (new_app name) (name_rule (codes "base"))) (name_rule (codes "a"))) (name_rule (codes "b"))
+
 abbrev pub integrate_app : App
-integrate_app = with_rule (with_rule (with_rule (with_rule (new_app (codes "integrate"))
-    (name_rule (codes "base"))) (name_rule (codes "a"))) (name_rule (codes "b"))) (number_rule (codes "tries") 1000000000)
+integrate_app = with_rule (variants_app (codes "integrate")) (number_rule (codes "tries") 1000000000)
 
 abbrev pub run_app : App
-run_app = with_rule (with_rule (with_rule (new_app (codes "run"))
-    (name_rule (codes "file"))) (list_rule (codes "state"))) (number_rule (codes "steps") 1000000000)
+run_app = with_rule (with_rule (with_rule (with_rule (new_app (codes "run")) (name_rule (codes "file"))) (list_rule (codes "state"))) steps_rule) (flag_rule (codes "trace"))
 
 abbrev pub graph_app : App
 graph_app = with_rule (with_rule (new_app (codes "graph")) (name_rule (codes "file"))) (flag_rule (codes "json"))
@@ -46,3 +53,6 @@ slice_app = with_rule (with_rule (new_app (codes "slice")) (name_rule (codes "fi
 
 abbrev pub affected_app : App
 affected_app = with_rule (with_rule (new_app (codes "affected")) (name_rule (codes "base"))) (name_rule (codes "a"))
+
+abbrev pub trial_app : App
+trial_app = with_rule (with_rule (variants_app (codes "trial")) (list_rule (codes "state"))) steps_rule

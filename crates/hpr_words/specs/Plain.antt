@@ -16,23 +16,26 @@
 -- number most word              == the number that they spell, if it is from 1 to most
 -- number_or n most words        == the number of the one word, or n where there is none
 -- is_used n                     == whether a flag stands there that stands there n times, if not twice
+-- plain_steps ps                == the number of the steps
 -- integrate_from names n        == the request of three names and a number
 -- plain_integrate ps            == `integrate BASE A B [--tries N]`: what the pieces ask for
--- run_from names n              == the request of a file, states and a number
--- plain_run ps                  == `run FILE [STATE..] [--steps N]`: what the pieces ask for, the states unbroken
+-- run_from names n trace        == the request of a file, states, a number and a flag
+-- plain_run ps                  == `run FILE [STATE..] [--steps N] [--trace]`: what the pieces ask for, the states unbroken
 -- graph_from names json         == the request of a file and a flag
 -- plain_graph ps                == `graph FILE [--json]`: what the pieces ask for
 -- slice_from names              == the request of a file and points
 -- plain_slice ps                == `slice FILE POINT..`: what the pieces ask for
 -- affected_from names           == the request of two names
 -- plain_affected ps             == `affected BASE A`: what the pieces ask for
+-- trial_from names n            == the request of three names, states and a number
+-- plain_trial ps                == `trial BASE A B [STATE..] [--steps N]`: what the pieces ask for, the states unbroken
 -- plain words                   == the request that plain words spell
 use Rattle.std.specs.Prelude.{ℕ, Bool, true, false, not, ◌&&◌, ◌==◌, List, [], ◌∷◌, Option, Some, None, option_map, option_and_then, if◌then◌else◌, codes, nat_le, zero, suc}
 use Rattle.std.specs.List.{list_all, list_any}
 use Rattle.std.specs.Char.{is_digit}
 use Rattle.std.specs.Str.{bytes_eq}
 use Rattle.std.specs.Str.Parse.{digits_value}
-use Rattle.hpr_words.specs.Request.{Request, Text, affected, graph, integrate, run, slice}
+use Rattle.hpr_words.specs.Request.{Request, Text, affected, graph, integrate, run, slice, trial}
 
 -- 45 is `-`
 abbrev pub is_name : Text → Bool
@@ -127,6 +130,9 @@ is_used zero = Some false
 is_used (suc zero) = Some true
 is_used (suc (suc n)) = None
 
+abbrev pub plain_steps : List Piece → Option ℕ
+plain_steps ps = number_or 1000000 1000000000 (values (codes "--steps") ps)
+
 abbrev pub integrate_from : List Text → Option ℕ → Option Request
 integrate_from (base ∷ a ∷ b ∷ []) (Some tries) = Some (integrate base a b tries)
 integrate_from _ _ = None
@@ -134,12 +140,12 @@ integrate_from _ _ = None
 abbrev pub plain_integrate : List Piece → Option Request
 plain_integrate ps = integrate_from (names ps) (number_or 10000 1000000000 (values (codes "--tries") ps))
 
-abbrev pub run_from : List Text → Option ℕ → Option Request
-run_from (file ∷ states) (Some steps) = Some (run file states steps)
-run_from _ _ = None
+abbrev pub run_from : List Text → Option ℕ → Option Bool → Option Request
+run_from (file ∷ states) (Some steps) (Some trace) = Some (run file states steps trace)
+run_from _ _ _ = None
 
 abbrev pub plain_run : List Piece → Option Request
-plain_run ps = if is_unbroken (behind 1 ps) then run_from (names ps) (number_or 1000000 1000000000 (values (codes "--steps") ps)) else None
+plain_run ps = if is_unbroken (behind 1 ps) then run_from (names ps) (plain_steps ps) (is_used (uses (codes "--trace") ps)) else None
 
 abbrev pub graph_from : List Text → Option Bool → Option Request
 graph_from (file ∷ []) (Some json) = Some (graph file json)
@@ -162,12 +168,20 @@ affected_from _ = None
 abbrev pub plain_affected : List Piece → Option Request
 plain_affected ps = affected_from (names ps)
 
+abbrev pub trial_from : List Text → Option ℕ → Option Request
+trial_from (base ∷ a ∷ b ∷ states) (Some steps) = Some (trial base a b states steps)
+trial_from _ _ = None
+
+abbrev pub plain_trial : List Piece → Option Request
+plain_trial ps = if is_unbroken (behind 3 ps) then trial_from (names ps) (plain_steps ps) else None
+
 abbrev pub plain : List Text → Option Request
 plain [] = None
 plain (command ∷ words) =
     if bytes_eq command (codes "integrate") then option_and_then plain_integrate (pieces (codes "--tries" ∷ []) [] words)
-    else (if bytes_eq command (codes "run") then option_and_then plain_run (pieces (codes "--steps" ∷ []) [] words)
+    else (if bytes_eq command (codes "run") then option_and_then plain_run (pieces (codes "--steps" ∷ []) (codes "--trace" ∷ []) words)
     else (if bytes_eq command (codes "graph") then option_and_then plain_graph (pieces [] (codes "--json" ∷ []) words)
     else (if bytes_eq command (codes "slice") then option_and_then plain_slice (pieces [] [] words)
     else (if bytes_eq command (codes "affected") then option_and_then plain_affected (pieces [] [] words)
-    else None))))
+    else (if bytes_eq command (codes "trial") then option_and_then plain_trial (pieces (codes "--steps" ∷ []) [] words)
+    else None)))))

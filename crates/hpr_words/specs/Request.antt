@@ -2,10 +2,11 @@
 --
 -- Text                    == the bytes of a word
 -- integrate base a b n    == integrate the variants a and b with their base, within n tries
--- run file states n       == run the program of a file from the state that the words tell, for at most n steps
+-- run file states n trace == run the program of a file from the state that the words tell, for at most n steps, and show its trace or not
 -- graph file json         == show the graph of the program of a file, as JSON or as text
 -- slice file points       == show the slice of the graph of the program of a file for the points that the words tell
 -- affected base a         == show the affected points of the variant a of base
+-- trial base a b states n == run base, its variants a and b and their integration from the state that the words tell, the first three for at most n steps each
 -- IsInRange request       == its number, if it has one, is from 1 to 1,000,000,000, and its points, if it asks for some, are at least one
 use Rattle.std.specs.Prelude.{◌≤◌, ℕ, Bool, List, length}
 
@@ -14,14 +15,16 @@ Text = List ℕ
 
 pub data Request : Type 0 where
   integrate : (base a b : Text) (tries : ℕ) → Request
-  run : (file : Text) (states : List Text) (steps : ℕ) → Request
+  run : (file : Text) (states : List Text) (steps : ℕ) (trace : Bool) → Request
   graph : (file : Text) (json : Bool) → Request
   slice : (file : Text) (points : List Text) → Request
   affected : (base a : Text) → Request
+  trial : (base a b : Text) (states : List Text) (steps : ℕ) → Request
 
 abbrev pub IsInRange : Request → Type 0
 IsInRange (integrate base a b tries) = (1 ≤ tries) × (tries ≤ 1000000000)
-IsInRange (run file states steps) = (1 ≤ steps) × (steps ≤ 1000000000)
+IsInRange (run file states steps trace) = (1 ≤ steps) × (steps ≤ 1000000000)
 IsInRange (graph file json) = Unit {0}
 IsInRange (slice file points) = 1 ≤ length points
 IsInRange (affected base a) = Unit {0}
+IsInRange (trial base a b states steps) = (1 ≤ steps) × (steps ≤ 1000000000)

@@ -5,9 +5,10 @@
 -- number_in id most n rows       == the number of an option, n where it isn't given
 -- list_in id rows                == the words of a list, none where it isn't given
 -- flag_in id rows                == whether a flag is given
+-- steps_in rows                  == the number of the steps
 -- integrate_with base a b n      == the request of three names and a number, if each is there
 -- integrate_in rows              == the request of `integrate`, whose arguments have these rows
--- run_with file states n         == the request of a file, states and a number, if each is there
+-- run_with file states n trace   == the request of a file, states, a number and a flag, if each is there
 -- run_in rows                    == the request of `run`, whose arguments have these rows
 -- graph_with file json           == the request of a file and a flag, if the file is there
 -- graph_in rows                  == the request of `graph`, whose arguments have these rows
@@ -15,6 +16,8 @@
 -- slice_in rows                  == the request of `slice`, whose arguments have these rows
 -- affected_with base a           == the request of two names, if each is there
 -- affected_in rows               == the request of `affected`, whose arguments have these rows
+-- trial_with base a b states n   == the request of three names, states and a number, if each is there
+-- trial_in rows                  == the request of `trial`, whose arguments have these rows
 -- taken_by app request_in words  == the request of a command, where `clap` takes the words for it
 -- taken words                    == the first word picks the command, which takes the words or doesn't
 use Rattle.std.specs.Prelude.{ℕ, Bool, false, List, [], ◌∷◌, Option, Some, None, codes, if◌then◌else◌, unwrap_or}
@@ -25,8 +28,8 @@ use Rattle.clap.specs.Words.{App, Row, all_of, fault_of, first_of, matches_of}
 use Rattle.clap.specs.Walk.{is_empty}
 use Rattle.clap.specs.ValueTests.{accepts}
 use Rattle.clap.specs.declared.builder.value_parser.ValueParser.TheVariants.{Unsigned}
-use Rattle.hpr_words.specs.Request.{Request, Text, affected, graph, integrate, run, slice}
-use Rattle.hpr_words.specs.Commands.{affected_app, graph_app, integrate_app, run_app, slice_app}
+use Rattle.hpr_words.specs.Request.{Request, Text, affected, graph, integrate, run, slice, trial}
+use Rattle.hpr_words.specs.Commands.{affected_app, graph_app, integrate_app, run_app, slice_app, trial_app}
 
 abbrev pub number_of : ℕ → Text → Option ℕ
 number_of most text = if accepts false (Unsigned 1 most) text then Some (digits_value 10 (without_leading_plus text)) else None
@@ -45,6 +48,9 @@ list_in id rows = unwrap_or (all_of id rows) []
 abbrev pub flag_in : Text → List Row → Bool
 flag_in id rows = option_map_or (λ text. bytes_eq text (codes "true")) (first_of id rows) false
 
+abbrev pub steps_in : List Row → Option ℕ
+steps_in rows = number_in (codes "steps") 1000000000 1000000 rows
+
 abbrev pub integrate_with : Option Text → Option Text → Option Text → Option ℕ → Option Request
 integrate_with (Some base) (Some a) (Some b) (Some tries) = Some (integrate base a b tries)
 integrate_with _ _ _ _ = None
@@ -53,12 +59,12 @@ abbrev pub integrate_in : List Row → Option Request
 integrate_in rows = integrate_with (first_of (codes "base") rows) (first_of (codes "a") rows) (first_of (codes "b") rows)
     (number_in (codes "tries") 1000000000 10000 rows)
 
-abbrev pub run_with : Option Text → List Text → Option ℕ → Option Request
-run_with (Some file) states (Some steps) = Some (run file states steps)
-run_with _ _ _ = None
+abbrev pub run_with : Option Text → List Text → Option ℕ → Bool → Option Request
+run_with (Some file) states (Some steps) trace = Some (run file states steps trace)
+run_with _ _ _ _ = None
 
 abbrev pub run_in : List Row → Option Request
-run_in rows = run_with (first_of (codes "file") rows) (list_in (codes "state") rows) (number_in (codes "steps") 1000000000 1000000 rows)
+run_in rows = run_with (first_of (codes "file") rows) (list_in (codes "state") rows) (steps_in rows) (flag_in (codes "trace") rows)
 
 abbrev pub graph_with : Option Text → Bool → Option Request
 graph_with (Some file) json = Some (graph file json)
@@ -81,6 +87,13 @@ affected_with _ _ = None
 abbrev pub affected_in : List Row → Option Request
 affected_in rows = affected_with (first_of (codes "base") rows) (first_of (codes "a") rows)
 
+abbrev pub trial_with : Option Text → Option Text → Option Text → List Text → Option ℕ → Option Request
+trial_with (Some base) (Some a) (Some b) states (Some steps) = Some (trial base a b states steps)
+trial_with _ _ _ _ _ = None
+
+abbrev pub trial_in : List Row → Option Request
+trial_in rows = trial_with (first_of (codes "base") rows) (first_of (codes "a") rows) (first_of (codes "b") rows) (list_in (codes "state") rows) (steps_in rows)
+
 abbrev pub taken_by : App → (List Row → Option Request) → List Text → Option Request
 taken_by app request_in words = if is_empty (fault_of app words) then request_in (matches_of app words) else None
 
@@ -92,4 +105,5 @@ taken (command ∷ words) =
     else (if bytes_eq command (codes "graph") then taken_by graph_app graph_in (command ∷ words)
     else (if bytes_eq command (codes "slice") then taken_by slice_app slice_in (command ∷ words)
     else (if bytes_eq command (codes "affected") then taken_by affected_app affected_in (command ∷ words)
-    else None))))
+    else (if bytes_eq command (codes "trial") then taken_by trial_app trial_in (command ∷ words)
+    else None)))))

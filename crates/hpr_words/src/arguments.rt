@@ -1,8 +1,8 @@
 //! The kinds of arguments that commands have.
 ghost use Rattle.std.specs.Prelude.{◌≡◌, [], false, true, map, string_bytes, IfOk, IsErrOf, option_map, Some, None};
-ghost use Rattle.hpr_words.specs.Commands.{filled_list_rule, flag_rule, name_rule, list_rule, number_rule};
+ghost use Rattle.hpr_words.specs.Commands.{filled_list_rule, flag_rule, name_rule, list_rule, number_rule, steps_rule, variants_app};
 ghost use Rattle.hpr_words.specs.Taken as spec;
-ghost use Rattle.hpr_words.specs.Taken.{flag_in, number_in, list_in};
+ghost use Rattle.hpr_words.specs.Taken.{flag_in, number_in, list_in, steps_in};
 ghost use Rattle.clap.specs.Walk.{is_empty};
 ghost use Rattle.clap.specs.Words.{app_of, fault_of, first_of, found_of, is_simple_and_free, rule_of, matches_of, rows_of};
 
@@ -10,6 +10,10 @@ use crate::asked::WordsError;
 use clap::error::ErrorKind;
 use clap::{Arg, ArgAction, ArgMatches, Command};
 use std::alloc::{AllocError, Global};
+
+const MOST_STEPS: u32 = 1_000_000_000;
+
+const DEFAULT_STEPS: u64 = 1_000_000;
 
 /// What the command finds in the words, of which the first is the command's name.
 pub fn parse<'a>(command: Command<'a>, words: &'a [String]) -> Result<ArgMatches<'a>, WordsError>
@@ -63,12 +67,31 @@ pub fn number_arg<'a>(alloc: Global, id: &'a str, most: u32) -> Arg<'a>
         .value_parser(clap::value_parser!(u64).range(1..=i64::from(most)))
 }
 
+/// The option of the steps.
+pub fn steps_arg<'a>(alloc: Global) -> Arg<'a>
+    ensures rule { rule_of result ≡ steps_rule }
+    ensures local { result.global ≡ false }
+{
+    number_arg(alloc, "steps", MOST_STEPS)
+}
+
 /// A flag.
 pub fn flag_arg<'a>(alloc: Global, id: &'a str) -> Arg<'a>
     ensures rule { rule_of result ≡ flag_rule id.entry.now }
     ensures local { result.global ≡ false }
 {
     Arg::new(alloc, id).long(id).action(ArgAction::SetTrue)
+}
+
+/// A command of this name, of the names of base and two variants.
+pub fn variants_command<'a>(alloc: Global, name: &'a str) -> Result<Command<'a>, AllocError>
+    ensures { IfOk result (λ c. app_of c ≡ variants_app name.entry.now) }
+{
+    let command = Command::new(alloc, name)
+        .arg(name_arg(alloc, "base"))?
+        .arg(name_arg(alloc, "a"))?
+        .arg(name_arg(alloc, "b"))?;
+    Ok(command)
 }
 
 /// The word of a positional of one word.
@@ -104,6 +127,13 @@ pub fn number_from(matches: &ArgMatches<'_>, id: &str, most: u32, default: u64) 
         Some(text) => number_of(text, most),
         None => Some(default),
     }
+}
+
+/// The number of the steps.
+pub fn steps_from(matches: &ArgMatches<'_>) -> Option<u64>
+    ensures { result ≡ steps_in (rows_of (found_of matches.now)) }
+{
+    number_from(matches, "steps", MOST_STEPS, DEFAULT_STEPS)
 }
 
 /// Whether a flag is given.

@@ -9,6 +9,7 @@ use crate::graph::read_graph;
 use crate::integrate::read_integrate;
 use crate::run::read_run;
 use crate::slice::read_slice;
+use crate::trial::read_trial;
 use std::alloc::{AllocError, Global};
 
 /// What the words of a command line ask for. The commands are our profile.
@@ -22,13 +23,14 @@ pub enum Asked<'a> {
         b: &'a str,
         tries: u64,
     },
-    /// `run FILE [STATE..] [--steps N]`: run the program of a file from the state that the words
-    /// tell, which nothing has read yet, for at most a number of steps from 1 to 1,000,000,000, by
-    /// default 1,000,000.
+    /// `run FILE [STATE..] [--steps N] [--trace]`: run the program of a file from the state that the
+    /// words tell, which nothing has read yet, for at most a number of steps from 1 to
+    /// 1,000,000,000, by default 1,000,000, and show its trace where the flag is given.
     Run {
         file: &'a str,
         states: Vec<&'a str>,
         steps: u64,
+        trace: bool,
     },
     /// `graph FILE [--json]`: show the graph of the program of a file, as JSON or as text.
     Graph {
@@ -45,6 +47,16 @@ pub enum Asked<'a> {
     Affected {
         base: &'a str,
         a: &'a str,
+    },
+    /// `trial BASE A B [STATE..] [--steps N]`: run base and two variants from the state that the
+    /// words tell, which nothing has read yet, each for at most a number of steps from 1 to
+    /// 1,000,000,000, by default 1,000,000, and run their integration as well.
+    Trial {
+        base: &'a str,
+        a: &'a str,
+        b: &'a str,
+        states: Vec<&'a str>,
+        steps: u64,
     },
 }
 
@@ -87,6 +99,7 @@ pub fn read_words<'a>(alloc: Global, words: &'a [String]) -> Result<Asked<'a>, W
             "graph" => read_graph(alloc, words),
             "slice" => read_slice(alloc, words),
             "affected" => read_affected(alloc, words),
+            "trial" => read_trial(alloc, words),
             _ => Err(WordsError::Refused),
         },
         None => Err(WordsError::Refused),

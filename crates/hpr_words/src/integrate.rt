@@ -5,7 +5,7 @@ ghost use Rattle.hpr_words.specs.Commands.{integrate_app};
 ghost use Rattle.hpr_words.specs.Taken.{integrate_in, taken_by};
 ghost use Rattle.clap.specs.Words.{app_of, found_of, rows_of};
 
-use crate::arguments::{name_arg, name_from, number_arg, number_from, parse};
+use crate::arguments::{name_from, number_arg, number_from, parse, variants_command};
 use crate::asked::{Asked, WordsError};
 use clap::{ArgMatches, Command};
 use std::alloc::{AllocError, Global};
@@ -26,11 +26,8 @@ pub fn read_integrate<'a>(alloc: Global, words: &'a [String]) -> Result<Asked<'a
 fn integrate_command<'a>(alloc: Global) -> Result<Command<'a>, AllocError>
     ensures { IfOk result (λ c. app_of c ≡ integrate_app) }
 {
-    let command = Command::new(alloc, "integrate")
-        .arg(name_arg(alloc, "base"))?
-        .arg(name_arg(alloc, "a"))?
-        .arg(name_arg(alloc, "b"))?
-        .arg(number_arg(alloc, "tries", MOST_TRIES))?;
+    let tries = number_arg(alloc, "tries", MOST_TRIES);
+    let command = variants_command(alloc, "integrate")?.arg(tries)?;
     Ok(command)
 }
 

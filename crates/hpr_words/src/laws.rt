@@ -1,11 +1,11 @@
 //! Laws of the words: each function's contract is the law, for all words.
 ghost use Rattle.std.specs.Prelude.{◌≡◌, ℕ, true, false, List, [], ◌∷◌, ◌++◌, Some, codes};
 ghost use Rattle.std.specs.List.{list_all};
-ghost use Rattle.hpr_words.specs.Request.{Request, Text, affected, graph, integrate, run, slice};
+ghost use Rattle.hpr_words.specs.Request.{Request, Text, affected, graph, integrate, run, slice, trial};
 ghost use Rattle.hpr_words.specs.Taken.{taken};
 ghost use Rattle.hpr_words.specs.Plain.{is_name, number, plain};
 
-/// Plain words are taken, with the values that are read straight from the words: the option may
+/// Plain words are taken, with the values that are read straight from the words: an option may
 /// stand in any place behind the command, but not between two words of a list.
 pub fn plain_words_are_taken()
     ensures { (words : List Text) (asked : Request) → plain words ≡ Some asked → taken words ≡ Some asked }
@@ -25,16 +25,26 @@ pub fn integrate_words_are_plain()
         → plain (codes "integrate" ∷ base ∷ a ∷ b ∷ codes "--tries" ∷ n ∷ []) ≡ Some (integrate base a b tries) }
 {}
 
-/// The words of `run` are plain, with the option in each of its places or with none.
+/// The words of `run` are plain, with each option in each of its places or with none, and with both.
 pub fn run_words_are_plain()
     ensures alone { (file : Text) (states : List Text) → is_name file ≡ true → list_all is_name states ≡ true
-        → plain (codes "run" ∷ file ∷ states) ≡ Some (run file states 1000000) }
+        → plain (codes "run" ∷ file ∷ states) ≡ Some (run file states 1000000 false) }
     ensures first { (file n : Text) (states : List Text) (steps : ℕ) → is_name file ≡ true → list_all is_name states ≡ true → number 1000000000 n ≡ Some steps
-        → plain (codes "run" ∷ codes "--steps" ∷ n ∷ file ∷ states) ≡ Some (run file states steps) }
+        → plain (codes "run" ∷ codes "--steps" ∷ n ∷ file ∷ states) ≡ Some (run file states steps false) }
     ensures second { (file n : Text) (states : List Text) (steps : ℕ) → is_name file ≡ true → list_all is_name states ≡ true → number 1000000000 n ≡ Some steps
-        → plain (codes "run" ∷ file ∷ codes "--steps" ∷ n ∷ states) ≡ Some (run file states steps) }
+        → plain (codes "run" ∷ file ∷ codes "--steps" ∷ n ∷ states) ≡ Some (run file states steps false) }
     ensures last { (file n : Text) (states : List Text) (steps : ℕ) → is_name file ≡ true → list_all is_name states ≡ true → number 1000000000 n ≡ Some steps
-        → plain (codes "run" ∷ file ∷ (states ++ codes "--steps" ∷ n ∷ [])) ≡ Some (run file states steps) }
+        → plain (codes "run" ∷ file ∷ (states ++ codes "--steps" ∷ n ∷ [])) ≡ Some (run file states steps false) }
+    ensures traced_first { (file : Text) (states : List Text) → is_name file ≡ true → list_all is_name states ≡ true
+        → plain (codes "run" ∷ codes "--trace" ∷ file ∷ states) ≡ Some (run file states 1000000 true) }
+    ensures traced_second { (file : Text) (states : List Text) → is_name file ≡ true → list_all is_name states ≡ true
+        → plain (codes "run" ∷ file ∷ codes "--trace" ∷ states) ≡ Some (run file states 1000000 true) }
+    ensures traced_last { (file : Text) (states : List Text) → is_name file ≡ true → list_all is_name states ≡ true
+        → plain (codes "run" ∷ file ∷ (states ++ codes "--trace" ∷ [])) ≡ Some (run file states 1000000 true) }
+    ensures both { (file n : Text) (states : List Text) (steps : ℕ) → is_name file ≡ true → list_all is_name states ≡ true → number 1000000000 n ≡ Some steps
+        → plain (codes "run" ∷ file ∷ (states ++ codes "--steps" ∷ n ∷ codes "--trace" ∷ [])) ≡ Some (run file states steps true) }
+    ensures both_apart { (file n : Text) (states : List Text) (steps : ℕ) → is_name file ≡ true → list_all is_name states ≡ true → number 1000000000 n ≡ Some steps
+        → plain (codes "run" ∷ codes "--trace" ∷ file ∷ codes "--steps" ∷ n ∷ states) ≡ Some (run file states steps true) }
 {}
 
 /// The words of `graph` are plain, with the flag in each of its places or with none.
@@ -53,4 +63,20 @@ pub fn slice_words_are_plain()
 /// Two names behind `affected` are plain.
 pub fn affected_words_are_plain()
     ensures { (base a : Text) → is_name base ≡ true → is_name a ≡ true → plain (codes "affected" ∷ base ∷ a ∷ []) ≡ Some (affected base a) }
+{}
+
+/// The words of `trial` are plain, with the option in each of its places or with none.
+pub fn trial_words_are_plain()
+    ensures alone { (base a b : Text) (states : List Text) → is_name base ≡ true → is_name a ≡ true → is_name b ≡ true → list_all is_name states ≡ true
+        → plain (codes "trial" ∷ base ∷ a ∷ b ∷ states) ≡ Some (trial base a b states 1000000) }
+    ensures first { (base a b n : Text) (states : List Text) (steps : ℕ) → is_name base ≡ true → is_name a ≡ true → is_name b ≡ true → list_all is_name states ≡ true
+        → number 1000000000 n ≡ Some steps → plain (codes "trial" ∷ codes "--steps" ∷ n ∷ base ∷ a ∷ b ∷ states) ≡ Some (trial base a b states steps) }
+    ensures second { (base a b n : Text) (states : List Text) (steps : ℕ) → is_name base ≡ true → is_name a ≡ true → is_name b ≡ true → list_all is_name states ≡ true
+        → number 1000000000 n ≡ Some steps → plain (codes "trial" ∷ base ∷ codes "--steps" ∷ n ∷ a ∷ b ∷ states) ≡ Some (trial base a b states steps) }
+    ensures third { (base a b n : Text) (states : List Text) (steps : ℕ) → is_name base ≡ true → is_name a ≡ true → is_name b ≡ true → list_all is_name states ≡ true
+        → number 1000000000 n ≡ Some steps → plain (codes "trial" ∷ base ∷ a ∷ codes "--steps" ∷ n ∷ b ∷ states) ≡ Some (trial base a b states steps) }
+    ensures fourth { (base a b n : Text) (states : List Text) (steps : ℕ) → is_name base ≡ true → is_name a ≡ true → is_name b ≡ true → list_all is_name states ≡ true
+        → number 1000000000 n ≡ Some steps → plain (codes "trial" ∷ base ∷ a ∷ b ∷ codes "--steps" ∷ n ∷ states) ≡ Some (trial base a b states steps) }
+    ensures last { (base a b n : Text) (states : List Text) (steps : ℕ) → is_name base ≡ true → is_name a ≡ true → is_name b ≡ true → list_all is_name states ≡ true
+        → number 1000000000 n ≡ Some steps → plain (codes "trial" ∷ base ∷ a ∷ b ∷ (states ++ codes "--steps" ∷ n ∷ [])) ≡ Some (trial base a b states steps) }
 {}

@@ -1,7 +1,8 @@
 //! The words of a command line: each command's own words are read by `clap`.
 //!
-//! The commands are `integrate BASE A B [--tries N]`, `run FILE [STATE..] [--steps N]`,
-//! `graph FILE [--json]`, `slice FILE POINT..` and `affected BASE A`.
+//! The commands are `integrate BASE A B [--tries N]`, `run FILE [STATE..] [--steps N] [--trace]`,
+//! `graph FILE [--json]`, `slice FILE POINT..`, `affected BASE A` and
+//! `trial BASE A B [STATE..] [--steps N]`.
 #![tactic(auto)]
 
 mod affected;
@@ -14,5 +15,6 @@ mod run;
 mod slice;
 #[cfg(test)]
 mod tests;
+mod trial;
 
 pub use asked::{Asked, WordsError, read_words};

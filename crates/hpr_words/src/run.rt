@@ -5,16 +5,14 @@ ghost use Rattle.hpr_words.specs.Commands.{run_app};
 ghost use Rattle.hpr_words.specs.Taken.{run_in, taken_by};
 ghost use Rattle.clap.specs.Words.{app_of, found_of, rows_of};
 
-use crate::arguments::{list_arg, list_from, name_arg, name_from, number_arg, number_from, parse};
+use crate::arguments::{
+    flag_arg, flag_from, list_arg, list_from, name_arg, name_from, parse, steps_arg, steps_from,
+};
 use crate::asked::{Asked, WordsError};
 use clap::{ArgMatches, Command};
 use std::alloc::{AllocError, Global};
 
-const MOST_STEPS: u32 = 1_000_000_000;
-
-const DEFAULT_STEPS: u64 = 1_000_000;
-
-/// What `run FILE [STATE..] [--steps N]` asks for.
+/// What `run FILE [STATE..] [--steps N] [--trace]` asks for.
 pub fn read_run<'a>(alloc: Global, words: &'a [String]) -> Result<Asked<'a>, WordsError>
     ensures taken { IfOk result (λ a. taken_by run_app run_in (map string_bytes words.entry.now) ≡ Some (request a)) }
     ensures refused { IsErrOf result WordsError.Refused → taken_by run_app run_in (map string_bytes words.entry.now) ≡ None }
@@ -29,7 +27,8 @@ fn run_command<'a>(alloc: Global) -> Result<Command<'a>, AllocError>
     let command = Command::new(alloc, "run")
         .arg(name_arg(alloc, "file"))?
         .arg(list_arg(alloc, "state"))?
-        .arg(number_arg(alloc, "steps", MOST_STEPS))?;
+        .arg(steps_arg(alloc))?
+        .arg(flag_arg(alloc, "trace"))?;
     Ok(command)
 }
 
@@ -37,14 +36,12 @@ fn run_from<'a>(alloc: Global, matches: &ArgMatches<'a>) -> Result<Option<Asked<
     ensures { IfOk result (λ asked. option_map request asked ≡ run_in (rows_of (found_of matches.now))) }
 {
     let states = list_from(alloc, matches, "state")?;
-    match (
-        name_from(matches, "file"),
-        number_from(matches, "steps", MOST_STEPS, DEFAULT_STEPS),
-    ) {
+    match (name_from(matches, "file"), steps_from(matches)) {
         (Some(file), Some(steps)) => Ok(Some(Asked::Run {
             file,
             states,
             steps,
+            trace: flag_from(matches, "trace"),
         })),
         _ => Ok(None),
     }

@@ -32,7 +32,13 @@ fn joined(alloc: Global, words: &[&str]) -> Result<String, Fail> {
     Ok(text)
 }
 
-fn takes_run(alloc: Global, line: &str, wanted: &str, most: u64) -> Result<bool, Fail> {
+fn takes_run(
+    alloc: Global,
+    line: &str,
+    wanted: &str,
+    most: u64,
+    is_traced: bool,
+) -> Result<bool, Fail> {
     let words = words_of(alloc, line)?;
     match read_words(alloc, words.as_slice()) {
         Ok(
@@ -40,9 +46,11 @@ fn takes_run(alloc: Global, line: &str, wanted: &str, most: u64) -> Result<bool,
                 file,
                 states,
                 steps,
+                trace,
             },
         ) => {
-            Ok(file == "F" && steps == most && joined(alloc, states.as_slice())?.as_str() == wanted)
+            let states = joined(alloc, states.as_slice())?;
+            Ok(file == "F" && steps == most && trace == is_traced && states.as_str() == wanted)
         }
         _ => Ok(false),
     }
@@ -70,6 +78,26 @@ fn takes_affected(alloc: Global, line: &str, names: [&str; 2]) -> Result<bool, F
     let words = words_of(alloc, line)?;
     match read_words(alloc, words.as_slice()) {
         Ok(Asked::Affected { base, a }) => Ok(base == names[0] && a == names[1]),
+        _ => Ok(false),
+    }
+}
+
+fn takes_trial(alloc: Global, line: &str, wanted: &str, most: u64) -> Result<bool, Fail> {
+    let words = words_of(alloc, line)?;
+    match read_words(alloc, words.as_slice()) {
+        Ok(
+            Asked::Trial {
+                base,
+                a,
+                b,
+                states,
+                steps,
+            },
+        ) => {
+            let states = joined(alloc, states.as_slice())?;
+            let is_named = base == "X" && a == "Y" && b == "Z";
+            Ok(is_named && states.as_str() == wanted && steps == most)
+        }
         _ => Ok(false),
     }
 }
@@ -110,18 +138,23 @@ fn takes_integrations(rt: HostRuntime) -> Result<(), Fail> {
 #[test]
 fn takes_runs(rt: HostRuntime) -> Result<(), Fail> {
     let steps = 1_000_000;
-    assert!(rt; takes_run(rt.alloc(), "run F", "", steps)?);
-    assert!(rt; takes_run(rt.alloc(), "run --steps 6 F", "", 6)?);
-    for (line, steps) in [
-        ("run F x=1 y=-2", 1_000_000),
-        ("run --steps 6 F x=1 y=-2", 6),
-        ("run F --steps 6 x=1 y=-2", 6),
-        ("run F x=1 y=-2 --steps 6", 6),
-        ("run F x=1 --steps 6 y=-2", 6),
-        ("run F x=1 y=-2 --steps=1000000000", 1_000_000_000),
+    assert!(rt; takes_run(rt.alloc(), "run F", "", steps, false)?);
+    assert!(rt; takes_run(rt.alloc(), "run F --trace", "", steps, true)?);
+    assert!(rt; takes_run(rt.alloc(), "run --steps 6 F", "", 6, false)?);
+    for (line, steps, trace) in [
+        ("run F x=1 y=-2", 1_000_000, false),
+        ("run --steps 6 F x=1 y=-2", 6, false),
+        ("run F --steps 6 x=1 y=-2", 6, false),
+        ("run F x=1 y=-2 --steps 6", 6, false),
+        ("run F x=1 --steps 6 y=-2", 6, false),
+        ("run F x=1 y=-2 --steps=1000000000", 1_000_000_000, false),
+        ("run --trace F x=1 y=-2", 1_000_000, true),
+        ("run F x=1 --trace y=-2", 1_000_000, true),
+        ("run F x=1 y=-2 --steps 6 --trace", 6, true),
+        ("run F --trace x=1 y=-2 --steps 6", 6, true),
     ] {
         assert!(rt;
-            takes_run(rt.alloc(), line, "x=1 y=-2 ", steps)?,
+            takes_run(rt.alloc(), line, "x=1 y=-2 ", steps, trace)?,
             "at {line}"
         );
     }
@@ -166,58 +199,82 @@ fn takes_affected_points(rt: HostRuntime) -> Result<(), Fail> {
     Ok(())
 }
 
+/// Lines that are no call.
+static REFUSED: [&str; 53] = [
+    "",
+    "merge X Y Z",
+    "Integrate X Y Z",
+    "--help",
+    "integrate --help",
+    "integrate X Y Z -h",
+    "integrate X Y",
+    "integrate X Y Z W",
+    "integrate X Y Z --tries",
+    "integrate X Y --tries Z",
+    "integrate X Y Z --tries 0",
+    "integrate X Y Z --tries 1000000001",
+    "integrate X Y Z --tries -7",
+    "integrate X Y Z --tries 7 --tries 7",
+    "integrate X Y Z --steps 7",
+    "integrate X Y -Z",
+    "run",
+    "run --steps 6",
+    "run F -h",
+    "run F --steps 0",
+    "run F --steps 1000000001",
+    "run F --steps 6 --steps 6",
+    "run F --trace --trace",
+    "run F --trace=true",
+    "run F --json",
+    "run F -x=1",
+    "graph",
+    "graph --json",
+    "graph F G",
+    "graph F --json --json",
+    "graph F --json=true",
+    "graph F --json=",
+    "graph F --json true",
+    "graph F --jso",
+    "graph F --steps 6",
+    "graph F -h",
+    "graph -F",
+    "slice",
+    "slice F",
+    "slice F --",
+    "slice F -1",
+    "slice F entry --json",
+    "slice F entry -h",
+    "affected",
+    "affected X",
+    "affected X Y Z",
+    "affected X Y --json",
+    "affected X Y --help",
+    "trial",
+    "trial X Y",
+    "trial X Y Z --steps 0",
+    "trial X Y Z --steps 6 --steps 6",
+    "trial X Y Z --trace",
+];
+
+#[test]
+fn takes_trials(rt: HostRuntime) -> Result<(), Fail> {
+    for (line, states, steps) in [
+        ("trial X Y Z", "", 1_000_000),
+        ("trial X Y Z x=1 y=-2", "x=1 y=-2 ", 1_000_000),
+        ("trial --steps 6 X Y Z x=1", "x=1 ", 6),
+        ("trial X Y Z --steps 6 x=1", "x=1 ", 6),
+        ("trial X Y Z x=1 --steps 1000000000", "x=1 ", 1_000_000_000),
+    ] {
+        assert!(rt; takes_trial(rt.alloc(), line, states, steps)?, "at {line}");
+    }
+    Ok(())
+}
+
 #[test]
 fn refuses_words(rt: HostRuntime) -> Result<(), Fail> {
     let none: [String; 0] = [];
     assert!(rt; matches!(read_words(rt.alloc(), &none), Err(WordsError::Refused)));
-    for line in [
-        "",
-        "merge X Y Z",
-        "Integrate X Y Z",
-        "--help",
-        "integrate --help",
-        "integrate X Y Z -h",
-        "integrate X Y",
-        "integrate X Y Z W",
-        "integrate X Y Z --tries",
-        "integrate X Y --tries Z",
-        "integrate X Y Z --tries 0",
-        "integrate X Y Z --tries 1000000001",
-        "integrate X Y Z --tries -7",
-        "integrate X Y Z --tries 7 --tries 7",
-        "integrate X Y Z --steps 7",
-        "integrate X Y -Z",
-        "run",
-        "run --steps 6",
-        "run F -h",
-        "run F --steps 0",
-        "run F --steps 1000000001",
-        "run F --steps 6 --steps 6",
-        "run F --trace=true",
-        "run F -x=1",
-        "graph",
-        "graph --json",
-        "graph F G",
-        "graph F --json --json",
-        "graph F --json=true",
-        "graph F --json=",
-        "graph F --json true",
-        "graph F --jso",
-        "graph F --steps 6",
-        "graph F -h",
-        "graph -F",
-        "slice",
-        "slice F",
-        "slice F --",
-        "slice F -1",
-        "slice F entry --json",
-        "slice F entry -h",
-        "affected",
-        "affected X",
-        "affected X Y Z",
-        "affected X Y --json",
-        "affected X Y --help",
-    ] {
+    for line in REFUSED.iter() {
         let words = words_of(rt.alloc(), line)?;
         let refused = matches!(
             read_words(rt.alloc(), words.as_slice()),

@@ -1,10 +1,10 @@
 use Rattle.std.proofs.Common.{◌∙◌, Some, ap, map, option_map, string_bytes, sym}
 use Rattle.std.proofs.lemmas.Option.{slice_get-map}
 use Rattle.hpr_words.specs.Asked.{request}
-use Rattle.hpr_words.specs.Commands.{integrate_app, run_app, slice_app}
-use Rattle.hpr_words.specs.Taken.{integrate_in, run_in, slice_in, taken_by}
+use Rattle.hpr_words.specs.Commands.{integrate_app, run_app, slice_app, trial_app}
+use Rattle.hpr_words.specs.Taken.{integrate_in, run_in, slice_in, taken_by, trial_in}
 use Rattle.hpr_words.proofs.OtherLemmas.{other_taken}
-use Rattle.hpr_words.proofs.RangeLemmas.{IfOk-range, integrate_taken-range, run_taken-range, slice_taken-range}
+use Rattle.hpr_words.proofs.RangeLemmas.{IfOk-range, integrate_taken-range, run_taken-range, slice_taken-range, trial_taken-range}
 use Rattle.hpr_words.proofs.asked.read_words.Goals as goal
 
 pub returns-in-integrate-clause-in_range : goal.returns-in-integrate-clause-in_range
@@ -22,8 +22,13 @@ returns-in-slice-clause-in_range c =
     let words = map string_bytes c.args.words.now in
     IfOk-range request c.read_slice.result (taken_by slice_app slice_in words) (slice_taken-range words) c.read_slice.ensures.taken
 
+pub returns-in-trial-clause-in_range : goal.returns-in-trial-clause-in_range
+returns-in-trial-clause-in_range c =
+    let words = map string_bytes c.args.words.now in
+    IfOk-range request c.read_trial.result (taken_by trial_app trial_in words) (trial_taken-range words) c.read_trial.ensures.taken
+
 pub returns-in_default-clause-refused : goal.returns-in_default-clause-refused
 returns-in_default-clause-refused c refused =
     other_taken (map string_bytes c.args.words.now) c.as_str.result.now
     (slice_get-map string_bytes c.args.words.now 0 ∙ (ap (option_map string_bytes) (sym c.in-Some.ensures.value) ∙ ap Some (sym c.as_str.ensures.value)))
-    c.in_default.not-integrate c.in_default.not-run c.in_default.not-graph c.in_default.not-slice c.in_default.not-affected
+    c.in_default.not-integrate c.in_default.not-run c.in_default.not-graph c.in_default.not-slice c.in_default.not-affected c.in_default.not-trial
