@@ -1,0 +1,10 @@
+pub mod Around
+pub mod Placed
+pub mod Falls
+pub mod Lists
+pub mod Tags
+pub mod Undone
+pub mod Fresh
+pub mod Outside
+pub mod Back
+pub mod Ends

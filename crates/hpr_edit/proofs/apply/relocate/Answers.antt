@@ -1,0 +1,51 @@
+use Rattle.std.proofs.Common.{◌≡◌, ◌≤◌, ◌+◌, ◌∙◌, Bool, true, false, not, sym, ap, subst, Some, Err}
+use Rattle.hpr_terms.specs.declared.tag.Tag.{Tag}
+use Rattle.hpr_syntax.specs.BodyOf.{before}
+use Rattle.hpr_syntax.specs.Parts.{find_stmt}
+use Rattle.hpr_syntax.specs.Rows.{content_of}
+use Rattle.hpr_syntax.specs.Issued.{issued_to, raised}
+use Rattle.hpr_syntax.specs.Tree.{Tree}
+use Rattle.hpr_edit.specs.declared.command.Inverse.TheVariants.{PutBack, MoveBack, Lift, Rewrap}
+use Rattle.hpr_edit.specs.declared.command.EditError.TheVariants.{IntoItself, NoPlace, KindDiffers, SerialsSpent}
+use Rattle.hpr_edit.specs.Places.{width, is_place, place_of}
+use Rattle.hpr_edit.specs.Changes.{at_part, at_place, gone, first_block, second_block, wrapped, unwrapped}
+use Rattle.hpr_edit.specs.Edited.{becomes, refuse, settled, stands_in, is_assignment, is_spent, next_tag, with_new}
+use Rattle.hpr_edit.specs.InPlace.{times}
+use Rattle.hpr_edit.proofs.Ends.{once_taken, spare, found_ends, found_err, settled_ok, settled_err, passed, passed_err}
+use Rattle.hpr_edit.proofs.apply.relocate.Goals as goal
+
+pub put_at_place-requires : goal.put_at_place-requires
+put_at_place-requires c = record {
+  once = λ u. subst (λ y. times u y ≤ 1) (sym c.in_ok-body.ensures) (once_taken c.args.program.now c.in-Some.ensures.program c.args.tag u);
+}
+
+pub returns-in-Ok : goal.returns-in-Ok
+returns-in-Ok c =
+    let p = c.args.program.now in
+    let left = at_part c.args.tag gone p.body in
+    let part = c.in-Some.part.now in
+    found_ends c.args.tag _ _ _ part c.in-Some.old _ c.in-Some.ensures.found.0 c.in-Some.ensures.found.1
+    (passed (IntoItself c.args.tag) (stands_in c.args.place.parent part) _ _ (sym c.stands_in.ensures ∙ c.if-stands_in.false)
+    (passed NoPlace (not (is_place c.args.place left)) _ _
+    (ap (λ y. not (is_place c.args.place y)) (sym c.in_ok-body.ensures) ∙ ap not (sym c.is_place.ensures ∙ c.if-not-is_place.false))
+    (settled_ok (record p { body = c.put_at_place.new.body }) (record p { body = at_place c.args.place (before part) left }) c.in-Ok.after (MoveBack c.args.tag c.in-Some.old)
+    (ap (λ y. record p { body = y }) (c.in_ok-put_at_place.ensures ∙ ap (at_place c.args.place (before part)) c.in_ok-body.ensures)) c.in-Ok.ensures)))
+
+pub returns-in-Err : goal.returns-in-Err
+returns-in-Err c =
+    let p = c.args.program.now in
+    let t = c.args.tag in
+    let place = c.args.place in
+    let left = at_part t gone p.body in
+    let part = c.in-Some.part.now in
+    let why = c.in-Err.why in
+    found_err t (find_stmt t p.body) (place_of t p.body)
+    (λ s old. refuse (IntoItself t) (stands_in place.parent s) (refuse NoPlace (not (is_place place left)) (settled (record p { body = at_place place (before s) left }) (MoveBack t old))))
+    part c.in-Some.old why c.in-Some.ensures.found.0 c.in-Some.ensures.found.1
+    (passed_err (IntoItself t) (stands_in place.parent part)
+    (refuse NoPlace (not (is_place place left)) (settled (record p { body = at_place place (before part) left }) (MoveBack t c.in-Some.old))) why
+    (sym c.stands_in.ensures ∙ c.if-stands_in.false)
+    (passed_err NoPlace (not (is_place place left)) (settled (record p { body = at_place place (before part) left }) (MoveBack t c.in-Some.old)) why
+    (ap (λ y. not (is_place place y)) (sym c.in_ok-body.ensures) ∙ ap not (sym c.is_place.ensures ∙ c.if-not-is_place.false))
+    (settled_err (record p { body = c.put_at_place.new.body }) (record p { body = at_place place (before part) left }) (MoveBack t c.in-Some.old) why
+    (ap (λ y. record p { body = y }) (c.in_ok-put_at_place.ensures ∙ ap (at_place place (before part)) c.in_ok-body.ensures)) c.in-Err.ensures)))

@@ -1,0 +1,45 @@
+use Rattle.std.proofs.Common.{◌≡◌, ◌≤◌, ◌+◌, ◌∙◌, Bool, true, false, not, sym, ap, subst, Some, Err}
+use Rattle.hpr_terms.specs.declared.tag.Tag.{Tag}
+use Rattle.hpr_syntax.specs.BodyOf.{before}
+use Rattle.hpr_syntax.specs.Parts.{find_stmt}
+use Rattle.hpr_syntax.specs.Rows.{content_of}
+use Rattle.hpr_syntax.specs.Issued.{issued_to, raised}
+use Rattle.hpr_syntax.specs.Tree.{Tree}
+use Rattle.hpr_edit.specs.declared.command.Inverse.TheVariants.{PutBack, MoveBack, Lift, Rewrap}
+use Rattle.hpr_edit.specs.declared.command.EditError.TheVariants.{IntoItself, NoPlace, KindDiffers, SerialsSpent}
+use Rattle.hpr_edit.specs.Places.{width, is_place, place_of}
+use Rattle.hpr_edit.specs.Changes.{at_part, at_place, gone, first_block, second_block, wrapped, unwrapped}
+use Rattle.hpr_edit.specs.Edited.{becomes, refuse, settled, stands_in, is_assignment, is_spent, next_tag, with_new}
+use Rattle.hpr_edit.specs.InPlace.{times}
+use Rattle.hpr_edit.proofs.Ends.{once_taken, spare, found_ends, found_err, settled_ok, settled_err, passed, passed_err}
+use Rattle.hpr_edit.proofs.apply.unwrap.Goals as goal
+
+pub returns-in-Ok : goal.returns-in-Ok
+returns-in-Ok c =
+    let p = c.args.program.now in
+    let t = c.args.tag in
+    let part = c.in-Some.part.now in
+    let old = c.in-Some.place in
+    found_ends t _ _ _ part old _ c.in-Some.ensures.found.0 c.in-Some.ensures.found.1
+    (passed (KindDiffers t) (is_assignment (content_of part)) _ _ (ap is_assignment (sym c.in_ok-old.ensures) ∙ sym c.is_assignment.ensures ∙ c.if-is_assignment.false)
+    (settled_ok (record p { body = c.in_ok-body.body }) (record p { body = at_part t unwrapped p.body }) c.in-Ok.after (Rewrap old t (content_of part) (width (first_block part)) (width (second_block part)))
+    (ap (λ y. record p { body = y }) c.in_ok-body.ensures) c.in-Ok.ensures
+    ∙ ap (λ y. becomes c.in-Ok.after (Rewrap old t y (width (first_block part)) (width (second_block part)))) (sym c.in_ok-old.ensures)
+    ∙ ap (λ n. becomes c.in-Ok.after (Rewrap old t c.in_ok-old.old n (width (second_block part)))) (sym c.widths-first.ensures.first)
+    ∙ ap (λ n. becomes c.in-Ok.after (Rewrap old t c.in_ok-old.old c.widths-first.result.0 n)) (sym c.widths-first.ensures.second)))
+
+pub returns-in-Err : goal.returns-in-Err
+returns-in-Err c =
+    let p = c.args.program.now in
+    let t = c.args.tag in
+    let part = c.in-Some.part.now in
+    let old = c.in-Some.place in
+    let why = c.in-Err.why in
+    found_err t (find_stmt t p.body) (place_of t p.body)
+    (λ s place. refuse (KindDiffers t) (is_assignment (content_of s)) (settled (record p { body = at_part t unwrapped p.body }) (Rewrap place t (content_of s) (width (first_block s)) (width (second_block s)))))
+    part old why c.in-Some.ensures.found.0 c.in-Some.ensures.found.1
+    (passed_err (KindDiffers t) (is_assignment (content_of part))
+    (settled (record p { body = at_part t unwrapped p.body }) (Rewrap old t (content_of part) (width (first_block part)) (width (second_block part)))) why
+    (ap is_assignment (sym c.in_ok-old.ensures) ∙ sym c.is_assignment.ensures ∙ c.if-is_assignment.false)
+    (settled_err (record p { body = c.in_ok-body.body }) (record p { body = at_part t unwrapped p.body }) (Rewrap old t (content_of part) (width (first_block part)) (width (second_block part))) why
+    (ap (λ y. record p { body = y }) c.in_ok-body.ensures) c.in-Err.ensures))

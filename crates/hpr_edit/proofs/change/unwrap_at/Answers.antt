@@ -1,0 +1,25 @@
+use Rattle.std.proofs.Common.{rules, ◌≡◌, ◌<◌, ◌≤◌, ◌+◌, ℕ, refl, ap, sym, ◌∙◌, subst, arith, length, get_or, take, drop, [], ◌∷◌, ◌++◌, min, vec_len, true, false}
+use Rattle.std.proofs.lemmas.Result.{on_ok_weaker}
+use Rattle.std.specs.List.{insert, remove}
+use Rattle.hpr_syntax.specs.Body.{Body, done}
+use Rattle.hpr_syntax.specs.BodyOf.{before, body_of}
+use Rattle.hpr_syntax.specs.Parts.{tag_of, same_tag}
+use Rattle.hpr_edit.specs.Places.{joined}
+use Rattle.hpr_edit.specs.Changes.{at_part, from, with_block, saying, wrapped, unwrapped, made, firsts, later, rewrapped}
+use Rattle.hpr_edit.specs.InPlace.{times, put_by, done_by}
+use Rattle.hpr_edit.proofs.Lists.{taken, back_at, set_at_place, said_with, joined_append, joined_twice, joined_done, poured_at, firsts_cut, later_cut, enclosed}
+use Rattle.hpr_edit.proofs.change.unwrap_at.Goals as goal
+
+pub returns : goal.returns
+returns c =
+    let at = c.args.at in
+    let xs = c.args.stmts.now.items in
+    let d = c.remove-part.result in
+    let h : at < length xs = grind (arith, c.requires) in
+    let v : d ≡ get_or xs at d = c.remove-part.ensures.value in
+    ap body_of c.in_ok-append.ensures.items
+    ∙ ap (λ ys. body_of (c.pour.new.stmts.items ++ ys)) (c.in_ok-rest.ensures.tail ∙ ap (drop at) c.remove-part.ensures.items)
+    ∙ poured_at at xs c.pour.new.stmts.items d h
+    (c.in_ok-pour.ensures
+    ∙ ap (λ ys. joined (body_of ys) (unwrapped d done)) (c.in_ok-rest.ensures.items ∙ ap (take at) c.remove-part.ensures.items)
+    ∙ ap (λ s. joined (body_of (take at (remove xs at))) (unwrapped s done)) v)

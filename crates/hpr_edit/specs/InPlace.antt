@@ -1,0 +1,86 @@
+-- Steps of the code, which changes a body in its place.
+--
+-- times t body           == how many parts have this tag
+-- put_by what            == what is put in place of the rest of a block
+-- done_by change         == what the change puts in place of a part and of the rest of its block
+-- on_first f block       == `f part rest` stands in place of a block's first part and of the rest
+-- in_part t f part       == the part with the change f made at the part with this tag in it
+-- with_content c part    == the part, saying this
+-- Settles tree result    == the result is this tree where it is a program, and else its refusal; memory aside
+-- Located t body found   == what is found is the part with this tag and its place; nothing, where no part has the tag
+-- Answers edited result  == the result is the program and the inverse, or the refusal; memory aside
+use Rattle.std.specs.Prelude.{◌≡◌, ◌≢◌, ℕ, ◌+◌, Bool, true, false, if◌then◌else◌, Option, Some, None, is_some, Result}
+use Rattle.std.proofs.Common.{Ok, Err, Bor}
+use Rattle.hpr_terms.specs.declared.tag.Tag.{Tag}
+use Rattle.hpr_syntax.specs.declared.tree.Stmt.{Stmt}
+use Rattle.hpr_syntax.specs.declared.tree.Stmt.TheVariants.{Assign, If, While}
+use Rattle.hpr_syntax.specs.declared.rows.Content.{Content}
+use Rattle.hpr_syntax.specs.Body.{Body, done, assign, branch, loop}
+use Rattle.hpr_syntax.specs.BodyOf.{before}
+use Rattle.hpr_syntax.specs.Parts.{same_tag, find_stmt}
+use Rattle.hpr_syntax.specs.Tree.{Tree}
+use Rattle.hpr_syntax.specs.Shape.{IsProgram, shape}
+use Rattle.hpr_edit.specs.declared.change.Change.{Change}
+use Rattle.hpr_edit.specs.declared.change.Change.TheVariants.{Take, Say, Wrap, Unwrap}
+use Rattle.hpr_edit.specs.declared.change.Change.TheVariants as change
+use Rattle.hpr_edit.specs.declared.change.Put.{Put}
+use Rattle.hpr_edit.specs.declared.change.Put.TheVariants.{Part, Round}
+use Rattle.hpr_edit.specs.declared.command.Place.{Place}
+use Rattle.hpr_edit.specs.declared.command.Inverse.{Inverse}
+use Rattle.hpr_edit.specs.declared.command.EditError.{EditError}
+use Rattle.hpr_edit.specs.declared.command.EditError.TheVariants.{NoTag, Shape, Memory}
+use Rattle.hpr_edit.specs.Places.{place_of}
+use Rattle.hpr_edit.specs.Changes.{at_part, from, with_block, made, gone, saying, wrapped, unwrapped, rewrapped}
+use Rattle.hpr_edit.specs.Edited.{Edited, becomes, refused, named}
+
+abbrev pub one_if : Bool → ℕ
+one_if true = 1
+one_if false = 0
+
+abbrev pub times : Tag → Body → ℕ
+times t done = 0
+times t (assign u x e rest) = one_if (same_tag u t) + times t rest
+times t (branch u e a b rest) = one_if (same_tag u t) + times t a + times t b + times t rest
+times t (loop u e b rest) = one_if (same_tag u t) + times t b + times t rest
+
+abbrev pub put_by : Put → Body → Body
+put_by (Part x) rest = before x.now rest
+put_by (Round t c k m) rest = rewrapped t c.now k m rest
+
+abbrev pub done_by : Change → Stmt → Body → Body
+done_by Take part rest = gone part rest
+done_by (Say c) part rest = saying c.now part rest
+done_by (Wrap t c) part rest = wrapped t c.now part rest
+done_by Unwrap part rest = unwrapped part rest
+done_by (change.Put w n x) part rest = before (with_block w (from n (put_by x)) part) rest
+
+abbrev pub on_first : (Stmt → Body → Body) → Body → Body
+on_first f done = done
+on_first f (assign t x e rest) = f (Assign t x e) rest
+on_first f (branch t e a b rest) = f (If t e a b) rest
+on_first f (loop t e b rest) = f (While t e b) rest
+
+abbrev pub in_part : Tag → (Stmt → Body → Body) → Stmt → Stmt
+in_part t f (Assign u x e) = Assign u x e
+in_part t f (If u e a b) = If u e (at_part t f a) (at_part t f b)
+in_part t f (While u e b) = While u e (at_part t f b)
+
+abbrev pub with_content : Content → Stmt → Stmt
+with_content c (Assign t x e) = made t c done done
+with_content c (If t e a b) = made t c a b
+with_content c (While t e b) = made t c b done
+
+abbrev pub Settles : Tree → Result Tree EditError → Type 0
+Settles tree (Ok p) = (p ≡ tree) × IsProgram tree
+Settles tree (Err Memory) = Unit {0}
+Settles tree (Err (Shape why)) = shape tree ≡ Some why
+Settles tree (Err why) = ⊥
+
+abbrev pub Answers : Edited → Result (Tree × Inverse) EditError → Type 0
+Answers edited (Ok r) = edited ≡ becomes r.0 r.1
+Answers edited (Err Memory) = Unit {0}
+Answers edited (Err why) = edited ≡ refused why
+
+abbrev pub Located : Tag → Body → Option (Bor Stmt × Place) → Type 0
+Located t body (Some found) = (find_stmt t body ≡ Some found.0.now) × (place_of t body ≡ Some found.1)
+Located t body None = (next : Stmt → Place → Edited) → named t body next ≡ refused (NoTag t)

@@ -1,0 +1,317 @@
+//! Commands, each carried out on a copy of the program that is edited.
+ghost use Rattle.std.specs.Prelude.{◌≡◌, ◌≤◌, None, Some, IfOk, if◌then◌else◌};
+ghost use Rattle.hpr_syntax.specs.Issued.{raised};
+ghost use Rattle.hpr_syntax.specs.Shape.{IsProgram};
+ghost use Rattle.hpr_edit.specs.declared.command.Command.TheVariants.{Insert, Delete, Move, Set, Wrap, Unwrap, Finals};
+ghost use Rattle.hpr_edit.specs.Places.{width};
+ghost use Rattle.hpr_edit.specs.Changes.{at_part, first_block, second_block};
+ghost use Rattle.hpr_edit.specs.Edited.{edited, next_tag, is_spent, is_assignment, same_kind};
+ghost use Rattle.hpr_edit.specs.InPlace.{done_by, Located, Settles, Answers};
+
+use crate::change::{Change, Put, change_part, make, put_at_place};
+use crate::command::{Command, EditError, FinalNames, Inverse, Place};
+use crate::places::{is_place, place_of, stands_in, width};
+use hpr_syntax::{Block, Content, Issued, NoMemory, Program, ShapeError, Stmt, content_of};
+use hpr_terms::{Name, Tag, copy_names};
+use std::alloc::Global;
+
+/// What a command makes of a program, with its inverse.
+pub(crate) fn edited(
+    alloc: Global,
+    program: &Program,
+    command: &Command,
+    author: u32,
+) -> Result<(Program, Inverse), EditError>
+    ensures { Answers (edited program.now command.now author) result }
+{
+    match command {
+        Command::Insert(place, content) => insert(alloc, program, *place, content, author),
+        Command::Delete(tag) => delete(alloc, program, *tag, author),
+        Command::Move(tag, place) => relocate(alloc, program, *tag, *place, author),
+        Command::Set(tag, content) => set(alloc, program, *tag, content, author),
+        Command::Wrap(tag, content) => wrap(alloc, program, *tag, content, author),
+        Command::Unwrap(tag) => unwrap(alloc, program, *tag, author),
+        Command::Finals(names) => name_finals(alloc, program, names, author),
+    }
+}
+
+/// Inserts a new part.
+#[tactic(auto, using(crate::proofs::Tags::once))]
+fn insert(
+    alloc: Global,
+    program: &Program,
+    place: Place,
+    content: &Content,
+    author: u32,
+) -> Result<(Program, Inverse), EditError>
+    ensures { Answers (edited program.now (Insert place content.now) author) result }
+{
+    if !is_place(program.body(), place) {
+        return Err(EditError::NoPlace);
+    }
+    let Some(tag) = next_tag(program.issued(), author) else {
+        return Err(EditError::SerialsSpent);
+    };
+    let part = make(
+        tag,
+        content.copy(alloc)?,
+        Block::new(Vec::new(alloc)),
+        Block::new(Vec::new(alloc)),
+    );
+    let mut body = program.body().copy(alloc)?;
+    put_at_place(alloc, &mut body, place, Put::Part(&part))?;
+    match settle_new(alloc, program, body, tag) {
+        Ok(after) => Ok((after, Inverse::Remove(tag))),
+        Err(why) => Err(why),
+    }
+}
+
+/// Deletes a part and all that stands in it.
+fn delete(
+    alloc: Global,
+    program: &Program,
+    tag: Tag,
+    author: u32,
+) -> Result<(Program, Inverse), EditError>
+    ensures { Answers (edited program.now (Delete tag) author) result }
+{
+    let Some((part, old)) = located(program, tag) else {
+        return Err(EditError::NoTag(tag));
+    };
+    let body = changed(alloc, program, tag, Change::Take)?;
+    let part = part.copy(alloc)?;
+    match settle(alloc, program, body) {
+        Ok(after) => Ok((after, Inverse::PutBack(old, part))),
+        Err(why) => Err(why),
+    }
+}
+
+/// Moves a part with all that stands in it.
+fn relocate(
+    alloc: Global,
+    program: &Program,
+    tag: Tag,
+    place: Place,
+    author: u32,
+) -> Result<(Program, Inverse), EditError>
+    ensures { Answers (edited program.now (Move tag place) author) result }
+{
+    let Some((part, old)) = located(program, tag) else {
+        return Err(EditError::NoTag(tag));
+    };
+    if stands_in(place.parent, part) {
+        return Err(EditError::IntoItself(tag));
+    }
+    let mut body = changed(alloc, program, tag, Change::Take)?;
+    if !is_place(&body, place) {
+        return Err(EditError::NoPlace);
+    }
+    put_at_place(alloc, &mut body, place, Put::Part(part))?;
+    match settle(alloc, program, body) {
+        Ok(after) => Ok((after, Inverse::MoveBack(tag, old))),
+        Err(why) => Err(why),
+    }
+}
+
+/// Lets a part say something else.
+fn set(
+    alloc: Global,
+    program: &Program,
+    tag: Tag,
+    content: &Content,
+    author: u32,
+) -> Result<(Program, Inverse), EditError>
+    ensures { Answers (edited program.now (Set tag content.now) author) result }
+{
+    let Some((part, _)) = located(program, tag) else {
+        return Err(EditError::NoTag(tag));
+    };
+    let old = content_of(alloc, part)?;
+    if !same_kind(content, &old) {
+        return Err(EditError::KindDiffers(tag));
+    }
+    let body = changed(alloc, program, tag, Change::Say(content))?;
+    match settle(alloc, program, body) {
+        Ok(after) => Ok((after, Inverse::SetBack(tag, old))),
+        Err(why) => Err(why),
+    }
+}
+
+/// Puts a new part round a part.
+fn wrap(
+    alloc: Global,
+    program: &Program,
+    tag: Tag,
+    content: &Content,
+    author: u32,
+) -> Result<(Program, Inverse), EditError>
+    ensures { Answers (edited program.now (Wrap tag content.now) author) result }
+{
+    let Some((_, _)) = located(program, tag) else {
+        return Err(EditError::NoTag(tag));
+    };
+    if is_assignment(content) {
+        return Err(EditError::KindDiffers(tag));
+    }
+    let Some(new) = next_tag(program.issued(), author) else {
+        return Err(EditError::SerialsSpent);
+    };
+    let body = changed(alloc, program, tag, Change::Wrap(new, content))?;
+    match settle_new(alloc, program, body, new) {
+        Ok(after) => Ok((after, Inverse::Lift(new))),
+        Err(why) => Err(why),
+    }
+}
+
+/// Puts what stands in a part in its place.
+fn unwrap(
+    alloc: Global,
+    program: &Program,
+    tag: Tag,
+    author: u32,
+) -> Result<(Program, Inverse), EditError>
+    ensures { Answers (edited program.now (Unwrap tag) author) result }
+{
+    let Some((part, place)) = located(program, tag) else {
+        return Err(EditError::NoTag(tag));
+    };
+    let old = content_of(alloc, part)?;
+    if is_assignment(&old) {
+        return Err(EditError::KindDiffers(tag));
+    }
+    let (first, second) = widths(part);
+    let body = changed(alloc, program, tag, Change::Unwrap)?;
+    match settle(alloc, program, body) {
+        Ok(after) => Ok((after, Inverse::Rewrap(place, tag, old, first, second))),
+        Err(why) => Err(why),
+    }
+}
+
+/// Lets `end` name these.
+fn name_finals(
+    alloc: Global,
+    program: &Program,
+    names: &FinalNames,
+    author: u32,
+) -> Result<(Program, Inverse), EditError>
+    ensures { Answers (edited program.now (Finals names.now) author) result }
+{
+    let issued = program.issued().copy(alloc)?;
+    let body = program.body().copy(alloc)?;
+    let old = FinalNames::new(copy_names(alloc, program.finals())?);
+    match settled(alloc, issued, body, copy_names(alloc, names.names())?) {
+        Ok(after) => Ok((after, Inverse::FinalsBack(old))),
+        Err(why) => Err(why),
+    }
+}
+
+/// A copy of the body in which the part with this tag is changed.
+#[tactic(auto, using(crate::proofs::Tags::once))]
+fn changed(
+    alloc: Global,
+    program: &Program,
+    tag: Tag,
+    change: Change<'_>,
+) -> Result<Block, NoMemory>
+    ensures { IfOk result (λ body. body ≡ at_part tag (done_by change.entry) program.now.body) }
+{
+    let mut body = program.body().copy(alloc)?;
+    change_part(alloc, &mut body, tag, change)?;
+    Ok(body)
+}
+
+/// The part with this tag, and where it stands.
+fn located(program: &Program, tag: Tag) -> Option<(&Stmt, Place)>
+    ensures found { Located tag program.now.body result }
+    ensures program { IsProgram program.now }
+{
+    let body = program.body();
+    let part = body.find(tag)?;
+    let place = place_of(body, tag)?;
+    Some((part, place))
+}
+
+/// The tag of the author's next part, or none where its serials are spent.
+fn next_tag(issued: &Issued, author: u32) -> Option<Tag>
+    ensures { result ≡ (if is_spent author issued.now then None else Some (next_tag author issued.now)) }
+{
+    let serial = issued.get(author);
+    if serial == u32::MAX {
+        return None;
+    }
+    Some(Tag {
+        author,
+        serial: serial + 1,
+    })
+}
+
+/// Whether two contents are of one kind.
+fn same_kind(a: &Content, b: &Content) -> bool
+    ensures { result ≡ same_kind a.now b.now }
+{
+    match (a, b) {
+        (Content::Assign(_, _), Content::Assign(_, _)) => true,
+        (Content::If(_), Content::If(_)) => true,
+        (Content::While(_), Content::While(_)) => true,
+        _ => false,
+    }
+}
+
+/// Whether a content is one of an assignment.
+fn is_assignment(content: &Content) -> bool
+    ensures { result ≡ is_assignment content.now }
+{
+    match content {
+        Content::Assign(_, _) => true,
+        Content::If(_) => false,
+        Content::While(_) => false,
+    }
+}
+
+/// How many parts a part's two blocks have, without those that stand in them.
+fn widths(part: &Stmt) -> (usize, usize)
+    ensures first { result.0 ≡ width (first_block part.now) }
+    ensures second { result.1 ≡ width (second_block part.now) }
+{
+    match part {
+        Stmt::Assign(_, _, _) => (0, 0),
+        Stmt::If(_, _, yes, no) => (width(yes), width(no)),
+        Stmt::While(_, _, body) => (width(body), 0),
+    }
+}
+
+/// The program with another body.
+fn settle(alloc: Global, program: &Program, body: Block) -> Result<Program, EditError>
+    ensures { Settles (record program.now { body = body }) result }
+{
+    let issued = program.issued().copy(alloc)?;
+    let finals = copy_names(alloc, program.finals())?;
+    settled(alloc, issued, body, finals)
+}
+
+/// The program with another body, in which there is a new part with this tag.
+fn settle_new(alloc: Global, program: &Program, body: Block, new: Tag) -> Result<Program, EditError>
+    requires { 1 ≤ new.serial }
+    ensures { Settles (record { issued = raised new.author new.serial program.now.issued; body = body; finals = program.now.finals }) result }
+{
+    let mut issued = program.issued().copy(alloc)?;
+    issued.raise(new.author, new.serial)?;
+    let finals = copy_names(alloc, program.finals())?;
+    settled(alloc, issued, body, finals)
+}
+
+/// The program of these three, if it is one.
+fn settled(
+    alloc: Global,
+    issued: Issued,
+    body: Block,
+    finals: Vec<Name>,
+) -> Result<Program, EditError>
+    ensures { Settles (record { issued = issued; body = body; finals = finals.items }) result }
+{
+    match Program::new(alloc, issued, body, finals) {
+        Ok(program) => Ok(program),
+        Err(ShapeError::Memory) => Err(EditError::Memory),
+        Err(why) => Err(EditError::Shape(why)),
+    }
+}

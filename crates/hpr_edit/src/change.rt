@@ -1,0 +1,359 @@
+//! Changes of a block in its place.
+//!
+//! One walk goes down to the part with a tag, along a path of references, and does there what is
+//! asked. It looks at each part of the block at most once. It ends on blocks of any depth, but the
+//! stack that it takes is outside what is proved.
+ghost use Rattle.std.specs.Prelude.{◌≡◌, ◌<◌, ◌≤◌, ◌+◌, vec_len, IfOk, OnOk};
+ghost use Rattle.hpr_syntax.specs.Body.{done};
+ghost use Rattle.hpr_syntax.specs.BodyOf.{before, body_of};
+ghost use Rattle.hpr_syntax.specs.Parts.{tag_of, same_tag};
+ghost use Rattle.hpr_edit.specs.Places.{joined};
+ghost use Rattle.hpr_edit.specs.Changes.{at_part, at_place, from, with_block, made, gone, saying, wrapped, unwrapped, firsts, later, rewrapped};
+ghost use Rattle.hpr_edit.specs.InPlace.{times, one_if, put_by, done_by, on_first, in_part, with_content};
+
+use crate::command::Place;
+use hpr_syntax::{Block, Content, NoMemory, Stmt};
+use hpr_terms::Tag;
+use std::alloc::Global;
+
+/// What is put at a place of a block.
+#[derive(Clone, Copy)]
+pub(crate) enum Put<'a> {
+    /// A copy of this part.
+    Part(&'a Stmt),
+    /// A part with this tag and content. So many parts from the place on go into its first block, and
+    /// so many of those behind them into its second.
+    Round(Tag, &'a Content, usize, usize),
+}
+
+/// What is done to a part.
+#[derive(Clone, Copy)]
+pub(crate) enum Change<'a> {
+    /// It goes, with all that stands in it.
+    Take,
+    /// It says this.
+    Say(&'a Content),
+    /// A new part with this tag and content is put round it.
+    Wrap(Tag, &'a Content),
+    /// What stands in it takes its place.
+    Unwrap,
+    /// This is put into one of its blocks, at this place. The bool is true for a loop's body and for
+    /// a conditional's first block.
+    Put(bool, usize, Put<'a>),
+}
+
+/// Changes the part with this tag, and tells whether there is one.
+#[cycle(change)]
+pub(crate) fn change_part(
+    alloc: Global,
+    block: &mut Block,
+    tag: Tag,
+    change: Change<'_>,
+) -> Result<bool, NoMemory>
+    requires once { times tag block.old ≤ 1 }
+    ensures changed { OnOk result (block.new ≡ at_part tag (done_by change.entry) block.old) }
+    ensures found { IfOk result (λ found. one_if found ≡ times tag block.old) }
+{
+    for at in 0..block.stmts.len() {
+        if block.stmts[at].tag() == tag {
+            act(alloc, &mut block.stmts, at, change)?;
+            return Ok(true);
+        }
+        if change_within(alloc, &mut block.stmts[at], tag, change)? {
+            return Ok(true);
+        }
+    }
+    Ok(false)
+}
+
+/// Changes the part with this tag among those that stand in this one, and tells whether it is there.
+#[cycle(change)]
+fn change_within(
+    alloc: Global,
+    stmt: &mut Stmt,
+    tag: Tag,
+    change: Change<'_>,
+) -> Result<bool, NoMemory>
+    requires once { times tag (before stmt.old done) ≤ 1 }
+    ensures changed { OnOk result (stmt.new ≡ in_part tag (done_by change.entry) stmt.old) }
+    ensures found { IfOk result (λ found. one_if (same_tag (tag_of stmt.old) tag) + one_if found ≡ times tag (before stmt.old done)) }
+{
+    match stmt {
+        Stmt::Assign(_, _, _) => Ok(false),
+        Stmt::If(_, _, yes, no) => {
+            if change_part(alloc, yes, tag, change)? {
+                return Ok(true);
+            }
+            change_part(alloc, no, tag, change)
+        }
+        Stmt::While(_, _, body) => change_part(alloc, body, tag, change),
+    }
+}
+
+/// Does it to the part at this place.
+fn act(alloc: Global, stmts: &mut Vec<Stmt>, at: usize, change: Change<'_>) -> Result<(), NoMemory>
+    requires { at < vec_len stmts.old }
+    ensures { OnOk result (body_of stmts.new.items ≡ from at (on_first (done_by change.entry)) (body_of stmts.old.items)) }
+{
+    match change {
+        Change::Take => {
+            take_at(stmts, at);
+            Ok(())
+        }
+        Change::Say(content) => say_at(alloc, stmts, at, content),
+        Change::Wrap(tag, content) => wrap_at(alloc, stmts, at, tag, content),
+        Change::Unwrap => unwrap_at(stmts, at),
+        Change::Put(branch, place, what) => put_at(alloc, stmts, at, branch, place, what),
+    }
+}
+
+/// Takes the part at this place away.
+fn take_at(stmts: &mut Vec<Stmt>, at: usize)
+    requires { at < vec_len stmts.old }
+    ensures { body_of stmts.new.items ≡ from at (on_first gone) (body_of stmts.old.items) }
+{
+    stmts.remove(at);
+}
+
+/// Lets the part at this place say this.
+fn say_at(
+    alloc: Global,
+    stmts: &mut Vec<Stmt>,
+    at: usize,
+    content: &Content,
+) -> Result<(), NoMemory>
+    requires { at < vec_len stmts.old }
+    ensures { OnOk result (body_of stmts.new.items ≡ from at (on_first (saying content.now)) (body_of stmts.old.items)) }
+{
+    let content = content.copy(alloc)?;
+    let part = stmts.remove(at);
+    stmts.insert(at, say(alloc, part, content))?;
+    Ok(())
+}
+
+/// Puts a new part round the part at this place.
+fn wrap_at(
+    alloc: Global,
+    stmts: &mut Vec<Stmt>,
+    at: usize,
+    tag: Tag,
+    content: &Content,
+) -> Result<(), NoMemory>
+    requires { at < vec_len stmts.old }
+    ensures { OnOk result (body_of stmts.new.items ≡ from at (on_first (wrapped tag content.now)) (body_of stmts.old.items)) }
+{
+    let content = content.copy(alloc)?;
+    let part = stmts.remove(at);
+    let whole = wrap(alloc, tag, content, part)?;
+    stmts.insert(at, whole)?;
+    Ok(())
+}
+
+/// Puts what stands in the part at this place there.
+fn unwrap_at(stmts: &mut Vec<Stmt>, at: usize) -> Result<(), NoMemory>
+    requires { at < vec_len stmts.old }
+    ensures { OnOk result (body_of stmts.new.items ≡ from at (on_first unwrapped) (body_of stmts.old.items)) }
+{
+    let part = stmts.remove(at);
+    let mut rest = stmts.split_off(at)?;
+    pour(stmts, part)?;
+    stmts.append(&mut rest)?;
+    Ok(())
+}
+
+/// Puts what stands in a part behind these parts.
+fn pour(stmts: &mut Vec<Stmt>, part: Stmt) -> Result<(), NoMemory>
+    ensures { OnOk result (body_of stmts.new.items ≡ joined (body_of stmts.old.items) (unwrapped part done)) }
+{
+    match part {
+        Stmt::Assign(_, _, _) => Ok(()),
+        Stmt::If(_, _, yes, no) => {
+            pour_block(stmts, yes)?;
+            pour_block(stmts, no)
+        }
+        Stmt::While(_, _, body) => pour_block(stmts, body),
+    }
+}
+
+/// Puts the parts of a block behind these.
+fn pour_block(stmts: &mut Vec<Stmt>, block: Block) -> Result<(), NoMemory>
+    ensures { OnOk result (body_of stmts.new.items ≡ joined (body_of stmts.old.items) block) }
+{
+    let mut parts = block.into_stmts();
+    stmts.append(&mut parts)?;
+    Ok(())
+}
+
+/// Puts something into a block of the part at this place.
+fn put_at(
+    alloc: Global,
+    stmts: &mut Vec<Stmt>,
+    at: usize,
+    branch: bool,
+    place: usize,
+    what: Put<'_>,
+) -> Result<(), NoMemory>
+    requires { at < vec_len stmts.old }
+    ensures { OnOk result (body_of stmts.new.items ≡ from at (on_first (λ part rest. before (with_block branch (from place (put_by what.entry)) part) rest)) (body_of stmts.old.items)) }
+{
+    put_in(alloc, &mut stmts[at], branch, place, what)
+}
+
+/// Puts something into a part's block.
+fn put_in(
+    alloc: Global,
+    stmt: &mut Stmt,
+    branch: bool,
+    place: usize,
+    what: Put<'_>,
+) -> Result<(), NoMemory>
+    ensures { OnOk result (stmt.new ≡ with_block branch (from place (put_by what.entry)) stmt.old) }
+{
+    match stmt {
+        Stmt::Assign(_, _, _) => Ok(()),
+        Stmt::If(_, _, yes, no) => {
+            if branch {
+                put_into(alloc, yes, place, what)
+            } else {
+                put_into(alloc, no, place, what)
+            }
+        }
+        Stmt::While(_, _, body) => {
+            if branch {
+                put_into(alloc, body, place, what)
+            } else {
+                Ok(())
+            }
+        }
+    }
+}
+
+/// Puts something into a block, if there is such a place.
+fn put_into(alloc: Global, block: &mut Block, place: usize, what: Put<'_>) -> Result<(), NoMemory>
+    ensures { OnOk result (block.new ≡ from place (put_by what.entry) block.old) }
+{
+    match what {
+        Put::Part(part) => put_part(alloc, block, place, part),
+        Put::Round(tag, content, first, second) => enclose(
+            alloc, block, place, tag, content, first, second,
+        ),
+    }
+}
+
+/// Puts a copy of a part into a block, if there is such a place.
+#[tactic(auto, using(crate::proofs::Lists::inserted, crate::proofs::Lists::from_past))]
+fn put_part(alloc: Global, block: &mut Block, place: usize, part: &Stmt) -> Result<(), NoMemory>
+    ensures { OnOk result (block.new ≡ from place (before part.now) block.old) }
+{
+    if place <= block.stmts.len() {
+        block.stmts.insert(place, part.copy(alloc)?)?;
+    }
+    Ok(())
+}
+
+/// Puts a new part round parts of a block from this place on, if there is such a place.
+#[tactic(auto, using(crate::proofs::Lists::from_past))]
+fn enclose(
+    alloc: Global,
+    block: &mut Block,
+    place: usize,
+    tag: Tag,
+    content: &Content,
+    first: usize,
+    second: usize,
+) -> Result<(), NoMemory>
+    ensures { OnOk result (block.new ≡ from place (rewrapped tag content.now first second) block.old) }
+{
+    if place <= block.stmts.len() {
+        enclose_at(alloc, &mut block.stmts, place, tag, content, first, second)?;
+    }
+    Ok(())
+}
+
+/// Puts a new part round parts from this place on.
+fn enclose_at(
+    alloc: Global,
+    stmts: &mut Vec<Stmt>,
+    at: usize,
+    tag: Tag,
+    content: &Content,
+    first: usize,
+    second: usize,
+) -> Result<(), NoMemory>
+    requires { at ≤ vec_len stmts.old }
+    ensures { OnOk result (body_of stmts.new.items ≡ from at (rewrapped tag content.now first second) (body_of stmts.old.items)) }
+{
+    let content = content.copy(alloc)?;
+    let mut yes = stmts.split_off(at)?;
+    let mut no = cut(&mut yes, first)?;
+    let mut rest = cut(&mut no, second)?;
+    stmts.push(make(tag, content, Block::new(yes), Block::new(no)))?;
+    stmts.append(&mut rest)?;
+    Ok(())
+}
+
+/// Keeps so many of the parts, or all if there are no more, and answers those behind them.
+fn cut(stmts: &mut Vec<Stmt>, count: usize) -> Result<Vec<Stmt>, NoMemory>
+    ensures kept { OnOk result (body_of stmts.new.items ≡ firsts count (body_of stmts.old.items)) }
+    ensures rest { IfOk result (λ rest. body_of rest.items ≡ later count (body_of stmts.old.items)) }
+{
+    let most = count.min(stmts.len());
+    Ok(stmts.split_off(most)?)
+}
+
+/// The part, saying this.
+fn say(alloc: Global, part: Stmt, content: Content) -> Stmt
+    ensures { result ≡ with_content content part }
+{
+    match part {
+        Stmt::Assign(tag, _, _) => make(
+            tag,
+            content,
+            Block::new(Vec::new(alloc)),
+            Block::new(Vec::new(alloc)),
+        ),
+        Stmt::If(tag, _, yes, no) => make(tag, content, yes, no),
+        Stmt::While(tag, _, body) => make(tag, content, body, Block::new(Vec::new(alloc))),
+    }
+}
+
+/// The part that says this and has the other one in its first block.
+fn wrap(alloc: Global, tag: Tag, content: Content, part: Stmt) -> Result<Stmt, NoMemory>
+    ensures { IfOk result (λ whole. whole ≡ made tag content (before part done) done) }
+{
+    let mut stmts = Vec::new(alloc);
+    stmts.push(part)?;
+    let first = Block::new(stmts);
+    let second = Block::new(Vec::new(alloc));
+    Ok(make(tag, content, first, second))
+}
+
+/// The part that says this and has these blocks, as far as it has blocks.
+pub(crate) fn make(tag: Tag, content: Content, first: Block, second: Block) -> Stmt
+    ensures { result ≡ made tag content first second }
+{
+    match content {
+        Content::Assign(name, value) => Stmt::Assign(tag, name, value),
+        Content::If(test) => Stmt::If(tag, test, first, second),
+        Content::While(test) => Stmt::While(tag, test, first),
+    }
+}
+
+/// Puts something at a place of a body, if there is such a place.
+pub(crate) fn put_at_place(
+    alloc: Global,
+    body: &mut Block,
+    place: Place,
+    what: Put<'_>,
+) -> Result<(), NoMemory>
+    requires once { (t : Tag) → times t body.old ≤ 1 }
+    ensures { OnOk result (body.new ≡ at_place place (put_by what.entry) body.old) }
+{
+    match place.parent {
+        None => put_into(alloc, body, place.at, what),
+        Some((tag, branch)) => {
+            change_part(alloc, body, tag, Change::Put(branch, place.at, what))?;
+            Ok(())
+        }
+    }
+}

@@ -1,0 +1,13 @@
+//! The editor: commands that change a program one at a time, and the inverses that take them back.
+#![tactic(auto)]
+
+mod apply;
+mod change;
+mod command;
+mod editor;
+pub mod laws;
+mod places;
+mod revert;
+
+pub use command::{Command, EditError, FinalNames, Inverse, Place};
+pub use editor::Editor;

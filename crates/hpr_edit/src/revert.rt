@@ -1,0 +1,97 @@
+//! Inverses, each carried out on a copy of the program that is edited.
+ghost use Rattle.std.specs.Prelude.{◌≡◌, ◌≤◌, IfOk, OnOk};
+ghost use Rattle.hpr_syntax.specs.Shape.{IsProgram};
+ghost use Rattle.hpr_syntax.specs.Parts.{find_stmt};
+ghost use Rattle.hpr_edit.specs.Changes.{at_part, gone};
+ghost use Rattle.hpr_edit.specs.Reverted.{reverted, body_back, finals_back, moved};
+ghost use Rattle.hpr_edit.specs.InPlace.{times};
+
+use crate::change::{Change, Put, change_part, put_at_place};
+use crate::command::{Inverse, Place};
+use hpr_syntax::{Block, NoMemory, Program};
+use hpr_terms::{Name, Tag, copy_names};
+use std::alloc::Global;
+
+/// What an inverse makes of a program.
+pub(crate) fn reverted(
+    alloc: Global,
+    program: &Program,
+    inverse: &Inverse,
+) -> Result<Program, NoMemory>
+    requires { IsProgram (reverted inverse.now program.now) }
+    ensures { IfOk result (λ p. p ≡ reverted inverse.now program.now) }
+{
+    let issued = program.issued().copy(alloc)?;
+    let finals = finals_back(alloc, program.finals(), inverse)?;
+    let body = body_back(alloc, program, inverse)?;
+    Ok(Program::from_parts(issued, body, finals))
+}
+
+/// The names of `end` from before a command.
+fn finals_back(alloc: Global, finals: &[Name], inverse: &Inverse) -> Result<Vec<Name>, NoMemory>
+    ensures { IfOk result (λ names. names.items ≡ finals_back inverse.now finals.now) }
+{
+    match inverse {
+        Inverse::FinalsBack(names) => copy_names(alloc, names.names()),
+        _ => copy_names(alloc, finals),
+    }
+}
+
+/// The body from before a command.
+#[tactic(auto, using(crate::proofs::Tags::once))]
+fn body_back(alloc: Global, program: &Program, inverse: &Inverse) -> Result<Block, NoMemory>
+    ensures { IfOk result (λ body. body ≡ body_back inverse.now program.now.body) }
+{
+    let mut body = program.body().copy(alloc)?;
+    change_back(alloc, &mut body, inverse)?;
+    Ok(body)
+}
+
+/// Makes the body that of before a command.
+fn change_back(alloc: Global, body: &mut Block, inverse: &Inverse) -> Result<(), NoMemory>
+    requires once { (t : Tag) → times t body.old ≤ 1 }
+    ensures { OnOk result (body.new ≡ body_back inverse.now body.old) }
+{
+    match inverse {
+        Inverse::Remove(tag) => take(alloc, body, *tag),
+        Inverse::PutBack(place, part) => put_at_place(alloc, body, *place, Put::Part(part)),
+        Inverse::MoveBack(tag, place) => move_back(alloc, body, *tag, *place),
+        Inverse::SetBack(tag, content) => {
+            change_part(alloc, body, *tag, Change::Say(content))?;
+            Ok(())
+        }
+        Inverse::Lift(tag) => {
+            change_part(alloc, body, *tag, Change::Unwrap)?;
+            Ok(())
+        }
+        Inverse::Rewrap(place, tag, content, first, second) => put_at_place(
+            alloc,
+            body,
+            *place,
+            Put::Round(*tag, content, *first, *second),
+        ),
+        Inverse::FinalsBack(_) => Ok(()),
+    }
+}
+
+/// Takes a part out.
+fn take(alloc: Global, body: &mut Block, tag: Tag) -> Result<(), NoMemory>
+    requires once { times tag body.old ≤ 1 }
+    ensures { OnOk result (body.new ≡ at_part tag gone body.old) }
+{
+    change_part(alloc, body, tag, Change::Take)?;
+    Ok(())
+}
+
+/// Takes a part out and puts it at a place.
+fn move_back(alloc: Global, body: &mut Block, tag: Tag, place: Place) -> Result<(), NoMemory>
+    requires once { (t : Tag) → times t body.old ≤ 1 }
+    ensures { OnOk result (body.new ≡ moved (find_stmt tag body.old) tag place body.old) }
+{
+    let part = match body.find(tag) {
+        None => return Ok(()),
+        Some(part) => part.copy(alloc)?,
+    };
+    take(alloc, body, tag)?;
+    put_at_place(alloc, body, place, Put::Part(&part))
+}
