@@ -1,0 +1,6 @@
+pub mod Answers
+pub mod Machine
+pub mod Reading
+pub mod ScriptGrammar
+pub mod ScriptWords
+pub mod Stages

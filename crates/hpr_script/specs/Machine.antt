@@ -1,0 +1,188 @@
+-- The machine that reads the tokens of a script.
+--
+-- State            == what was read, and what was read last: a token of a command's head, or a token of a content; `lost` is behind a name where one of
+--                     the words of scripts stands, and nothing leads on from it
+-- with_command c f == one more command was read
+-- with_finals f    == a command `finals` with the names was read
+-- with_plain p f   == a command without a content was read
+-- without_names f  == no name of `finals` was read
+-- with_name x f    == one more name of `finals` was read
+-- filled h c       == the command with the content c
+-- turned f turn    == at what comes next
+-- at_head o        == at the place of a head, if there is one
+-- at_turn o        == at what comes next, if something does
+-- found_at, turns_at, turns_to == what was found, with what comes next, if something does
+-- word_turn, any_name_turn == the same behind a word of scripts, and behind a name that may be any
+-- name_turn f s x  == what comes next behind the name x, if it can stand there
+-- number_after f s n == what comes next behind the number n, if it can stand there
+-- dot_stage, comma_stage, close_stage, opened, ended == where one sign leads, if it can stand there
+-- sign_after f sign s == the place of the head behind the sign, if it can stand there
+-- or_lost o        == lost, where no place is next
+-- name_next wants o == the state behind a name: where a word of scripts is wanted, it may be lost
+-- content_goes f h o == the content goes on, or its `;` was read
+-- head_next f s t  == the state after the token t of a head
+-- next s t         == the state after the token, if the token can stand next
+-- start            == nothing was read
+-- ends_script s    == a command may begin there, so a script may end
+-- is_end s         == a script may end here
+-- commands_of s    == the commands that were read
+use Rattle.std.specs.Prelude.{ℕ, Bool, true, false, if◌then◌else◌, List, [], ◌∷◌, ◌++◌, Option, Some, None}
+use Rattle.hpr_terms.specs.declared.token.Sign.{Sign}
+use Rattle.hpr_terms.specs.declared.token.Sign.TheVariants.{Dot, Comma, Semicolon, Open, Close}
+use Rattle.hpr_terms.specs.declared.token.Token.{Token}
+use Rattle.hpr_terms.specs.declared.token.Token.TheVariants.{Word, Name, Number, Mark}
+use Rattle.hpr_syntax.specs.declared.rows.Content.{Content}
+use Rattle.hpr_scan.specs.Steps.{and_then}
+use Rattle.hpr_text.specs.declared.content.ContentState.{ContentState}
+use Rattle.hpr_text.specs.declared.content.ContentState.TheVariants.{Start, Ended}
+use Rattle.hpr_text.specs.ContentMachine.{content_next}
+use Rattle.hpr_edit.specs.declared.command.Command.{Command}
+use Rattle.hpr_edit.specs.declared.command.Command.TheVariants as command
+use Rattle.hpr_script.specs.declared.stage.Holder.{Holder}
+use Rattle.hpr_script.specs.declared.stage.Holder.TheVariants as holder
+use Rattle.hpr_script.specs.declared.stage.Plain.{Plain}
+use Rattle.hpr_script.specs.declared.stage.Plain.TheVariants as plain
+use Rattle.hpr_script.specs.declared.stage.Stage.{Stage}
+use Rattle.hpr_script.specs.declared.stage.Stage.TheVariants.{AtCommand, AfterAuthor, AfterDot, AtNames, AfterOpen, AfterName, AfterComma, AtEnd}
+use Rattle.hpr_script.specs.declared.stage.Turn.{Turn}
+use Rattle.hpr_script.specs.declared.stage.Turn.TheVariants as turn
+use Rattle.hpr_script.specs.declared.found.Found.{Found}
+use Rattle.hpr_script.specs.ScriptWords.{script_word}
+use Rattle.hpr_script.specs.Stages.{word_stage, wants_word, takes_name, number_turn}
+
+pub data State : Type 0 where
+  head : (found : Found) → (stage : Stage) → State
+  inside : (found : Found) → (holder : Holder) → (content : ContentState) → State
+  lost : State
+
+abbrev pub nothing_found : Found
+nothing_found = record { commands = []; names = [] }
+
+abbrev pub with_command : Command → Found → Found
+with_command c f = record f { commands = f.commands ++ (c ∷ []) }
+
+abbrev pub with_finals : Found → Found
+with_finals f = record { commands = f.commands ++ (command.Finals f.names ∷ []); names = [] }
+
+abbrev pub with_plain : Plain → Found → Found
+with_plain (plain.Delete t) f = with_command (command.Delete t) f
+with_plain (plain.Move t p) f = with_command (command.Move t p) f
+with_plain (plain.Unwrap t) f = with_command (command.Unwrap t) f
+with_plain plain.Finals f = with_finals f
+
+abbrev pub without_names : Found → Found
+without_names f = record f { names = [] }
+
+abbrev pub with_name : List ℕ → Found → Found
+with_name x f = record f { names = f.names ++ (x ∷ []) }
+
+abbrev pub filled : Holder → Content → Command
+filled (holder.Insert p) c = command.Insert p c
+filled (holder.Set t) c = command.Set t c
+filled (holder.Wrap t) c = command.Wrap t c
+
+abbrev pub turned : Found → Turn → State
+turned f (turn.Head s) = head f s
+turned f (turn.Content h) = inside f h Start
+
+abbrev pub at_head : Option (Found × Stage) → Option State
+at_head None = None
+at_head (Some p) = Some (head p.0 p.1)
+
+abbrev pub at_turn : Option (Found × Turn) → Option State
+at_turn None = None
+at_turn (Some p) = Some (turned p.0 p.1)
+
+abbrev pub found_at : Found → Option Stage → Option (Found × Stage)
+found_at f None = None
+found_at f (Some s) = Some (f, s)
+
+abbrev pub turns_at : Found → Option Turn → Option (Found × Turn)
+turns_at f None = None
+turns_at f (Some t) = Some (f, t)
+
+abbrev pub turns_to : Found → Option Stage → Option (Found × Turn)
+turns_to f None = None
+turns_to f (Some s) = Some (f, turn.Head s)
+
+abbrev pub word_turn : Found → Stage → List ℕ → Option (Found × Turn)
+word_turn f s x = turns_to f (and_then (script_word x) (word_stage s))
+
+abbrev pub any_name_turn : Found → Stage → List ℕ → Option (Found × Turn)
+any_name_turn f s x = if takes_name s then Some (with_name x f, turn.Head AfterName) else None
+
+unfoldable pub name_turn : Found → Stage → List ℕ → Option (Found × Turn)
+name_turn f s x = if wants_word s then word_turn f s x else any_name_turn f s x
+
+unfoldable pub number_after : Found → Stage → ℕ → Option (Found × Turn)
+number_after f s n = turns_at f (number_turn s n)
+
+abbrev pub dot_stage : Stage → Option Stage
+dot_stage (AfterAuthor a n) = Some (AfterDot a n)
+dot_stage _ = None
+
+abbrev pub comma_stage : Stage → Option Stage
+comma_stage AfterName = Some AfterComma
+comma_stage _ = None
+
+abbrev pub close_stage : Stage → Option Stage
+close_stage AfterOpen = Some (AtEnd plain.Finals)
+close_stage AfterName = Some (AtEnd plain.Finals)
+close_stage _ = None
+
+abbrev pub opened : Found → Stage → Option (Found × Stage)
+opened f AtNames = Some (without_names f, AfterOpen)
+opened f _ = None
+
+abbrev pub ended : Found → Stage → Option (Found × Stage)
+ended f (AtEnd p) = Some (with_plain p f, AtCommand)
+ended f _ = None
+
+unfoldable pub sign_after : Found → Sign → Stage → Option (Found × Stage)
+sign_after f Dot s = found_at f (dot_stage s)
+sign_after f Comma s = found_at f (comma_stage s)
+sign_after f Open s = opened f s
+sign_after f Close s = found_at f (close_stage s)
+sign_after f Semicolon s = ended f s
+sign_after f _ s = None
+
+abbrev pub or_lost : Option State → Option State
+or_lost None = Some lost
+or_lost (Some s) = Some s
+
+abbrev pub name_next : Bool → Option State → Option State
+name_next true o = or_lost o
+name_next false o = o
+
+abbrev pub content_goes : Found → Holder → Option ContentState → Option State
+content_goes f h None = None
+content_goes f h (Some (Ended c)) = Some (head (with_command (filled h c) f) AtCommand)
+content_goes f h (Some c) = Some (inside f h c)
+
+abbrev pub head_next : Found → Stage → Token → Option State
+head_next f s (Word k) = None
+head_next f s (Name x) = name_next (wants_word s) (at_turn (name_turn f s x))
+head_next f s (Number n) = at_turn (number_after f s n)
+head_next f s (Mark sign) = at_head (sign_after f sign s)
+
+unfoldable pub next : State → Token → Option State
+next (head f s) t = head_next f s t
+next (inside f h c) t = content_goes f h (content_next c t)
+next lost t = None
+
+abbrev pub start : State
+start = head nothing_found AtCommand
+
+abbrev pub ends_script : Stage → Bool
+ends_script AtCommand = true
+ends_script _ = false
+
+abbrev pub is_end : State → Bool
+is_end (head f s) = ends_script s
+is_end (inside f h c) = false
+is_end lost = false
+
+abbrev pub commands_of : State → List Command
+commands_of (head f s) = f.commands
+commands_of (inside f h c) = f.commands
+commands_of lost = []

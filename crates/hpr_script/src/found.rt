@@ -1,0 +1,155 @@
+//! What was read so far.
+ghost use Rattle.std.specs.Prelude.{◌≡◌, [], ◌∷◌, ◌++◌, IfOk};
+ghost use Rattle.hpr_script.specs.Machine as machine;
+
+use crate::stage::{Holder, Plain};
+use hpr_edit::{Command, FinalNames};
+use hpr_syntax::Content;
+use hpr_terms::{Name, NoMemory};
+use std::alloc::Global;
+use std::marker::Model;
+
+/// Commands in their order. A contract sees their list.
+#[derive(Debug, Drop)]
+pub struct Commands {
+    commands: Vec<Command>,
+}
+
+impl Model for Commands {
+    ghost use Rattle.std.specs.Prelude.{List};
+    ghost use Rattle.std.specs.Coded.{codes};
+    ghost use Rattle.hpr_terms.specs.TermCode.{term_coded};
+    ghost use Rattle.hpr_edit.specs.declared.command.Command.{Command};
+
+    ghost Value = { List Command };
+
+    ghost coded = { Prim.hlevel (codes, term_coded) };
+
+    ghost view = { λ c. c.commands.items };
+}
+
+impl Commands {
+    fn new(alloc: Global) -> Commands
+        ensures { result ≡ [] }
+    {
+        Commands {
+            commands: Vec::new(alloc),
+        }
+    }
+
+    fn with(self, command: Command) -> Result<Commands, NoMemory>
+        ensures { IfOk result (λ c. c ≡ self ++ (command ∷ [])) }
+    {
+        let Commands { mut commands } = self;
+        commands.push(command)?;
+        Ok(Commands { commands })
+    }
+
+    /// The commands.
+    pub fn into_vec(self) -> Vec<Command>
+        ensures { result.items ≡ self }
+    {
+        let Commands { commands } = self;
+        commands
+    }
+}
+
+/// What was read so far.
+#[derive(Debug, Drop)]
+pub struct Found {
+    /// The commands whose `;` was read.
+    pub commands: Commands,
+    /// The names of `finals`, while they are read.
+    pub names: FinalNames,
+}
+
+fn no_names(alloc: Global) -> FinalNames
+    ensures { result ≡ [] }
+{
+    FinalNames::new(Vec::new(alloc))
+}
+
+fn filled(holder: Holder, content: Content) -> Command
+    ensures { result ≡ machine.filled holder content }
+{
+    match holder {
+        Holder::Insert(place) => Command::Insert(place, content),
+        Holder::Set(tag) => Command::Set(tag, content),
+        Holder::Wrap(tag) => Command::Wrap(tag, content),
+    }
+}
+
+impl Found {
+    /// Nothing was read.
+    pub fn new(alloc: Global) -> Found
+        ensures { result ≡ machine.nothing_found }
+    {
+        Found {
+            commands: Commands::new(alloc),
+            names: no_names(alloc),
+        }
+    }
+
+    fn with_command(self, command: Command) -> Result<Found, NoMemory>
+        ensures { IfOk result (λ f. f ≡ machine.with_command command self) }
+    {
+        let Found { commands, names } = self;
+        Ok(Found {
+            commands: commands.with(command)?,
+            names,
+        })
+    }
+
+    /// A command with this content was read.
+    pub fn with_content(self, holder: Holder, content: Content) -> Result<Found, NoMemory>
+        ensures { IfOk result (λ f. f ≡ machine.with_command (machine.filled holder content) self) }
+    {
+        self.with_command(filled(holder, content))
+    }
+
+    fn with_finals(self, alloc: Global) -> Result<Found, NoMemory>
+        ensures { IfOk result (λ f. f ≡ machine.with_finals self) }
+    {
+        let Found { commands, names } = self;
+        Ok(Found {
+            commands: commands.with(Command::Finals(names))?,
+            names: no_names(alloc),
+        })
+    }
+
+    /// A command without a content was read.
+    pub fn with_plain(self, alloc: Global, plain: Plain) -> Result<Found, NoMemory>
+        ensures { IfOk result (λ f. f ≡ machine.with_plain plain self) }
+    {
+        match plain {
+            Plain::Delete(tag) => self.with_command(Command::Delete(tag)),
+            Plain::Move(tag, place) => self.with_command(Command::Move(tag, place)),
+            Plain::Unwrap(tag) => self.with_command(Command::Unwrap(tag)),
+            Plain::Finals => self.with_finals(alloc),
+        }
+    }
+
+    /// No name of `finals` was read.
+    pub fn without_names(self, alloc: Global) -> Found
+        ensures { result ≡ machine.without_names self }
+    {
+        let Found { commands, names: _ } = self;
+        Found {
+            commands,
+            names: no_names(alloc),
+        }
+    }
+
+    /// One more name of `finals` was read.
+    pub fn with_name(self, name: Name) -> Result<Found, NoMemory>
+        ensures { IfOk result (λ f. f ≡ machine.with_name name self) }
+    {
+        let Found { commands, names } = self;
+        let mut names = names.into_names();
+        names.push(name)?;
+        Ok(Found {
+            commands,
+            names: FinalNames::new(names),
+        })
+    }
+}
