@@ -1,13 +1,14 @@
 -- Where nothing failed and each file spells a program, the outcome is the one that those programs have.
-use Rattle.std.proofs.Common.{◌≡◌, ℕ, suc, Bool, All, arith, List, [], ◌∷◌, refl, ap, sym, ◌∙◌, subst, inl, inr, ◌⊎◌, Option, Some, None, Ok}
+use Rattle.std.proofs.Common.{◌≡◌, ◌≤◌, ℕ, suc, Bool, All, arith, List, [], ◌∷◌, refl, ap, sym, ◌∙◌, subst, inl, inr, ◌⊎◌, Option, Some, None, Ok}
 use Rattle.hpr_io.specs.Counts.{Rose}
 use Rattle.hpr_io.specs.Files.{Files, bytes_of}
 use Rattle.hpr_io.specs.Taken.{taken_then}
 use Rattle.hpr_syntax.specs.Grammar.{tagged}
-use Rattle.hpr_syntax.specs.Shape.{shape}
+use Rattle.hpr_syntax.specs.Print.{text}
+use Rattle.hpr_syntax.specs.Shape.{shape, IsProgram}
 use Rattle.hpr_syntax.specs.Tree.{Tree}
 use Rattle.hpr_syntax.specs.Values.{Values}
-use Rattle.hpr_graph.specs.Answer.{IsWithoutConflict}
+use Rattle.hpr_graph.specs.Answer.{Answer, interference, printed, no_program, spent, IsAnswer, IsWithoutConflict, issued_of}
 use Rattle.hpr_graph.specs.Graphs.{Graph}
 use Rattle.hpr_graph.specs.Points.{IsAffected}
 use Rattle.hpr_graph.specs.ProgramGraph.{graph_of}
@@ -15,28 +16,31 @@ use Rattle.hpr_graph.specs.Slices.{slice_of}
 use Rattle.hpr_report.specs.AffectedText.{IsAffectedText}
 use Rattle.hpr_report.specs.GraphTexts.{IsGraphText}
 use Rattle.hpr_text.proofs.Texts.{one_tree}
-use Rattle.hpr_words.specs.Request.{Request, Text, integrate, run, graph, slice, affected}
-use Rattle.hpr_app.specs.Complete.{DonePrinting, Completes, PrintsOther, RequestCompletes, Runs}
+use Rattle.hpr_words.specs.Request.{Request, Text, IsInRange, integrate, run, graph, slice, affected, trial}
+use Rattle.hpr_app.specs.Complete.{DonePrinting, Completes, IsOtherText, PrintsOther, RequestCompletes, Runs, Tries}
 use Rattle.hpr_app.specs.Decision.{Decision, Prints}
 use Rattle.hpr_app.specs.AffectedFiles.{AffectedPoints, AffectedOutcome}
 use Rattle.hpr_app.specs.GraphFile.{IsShown, Graphed, GraphOutcome}
 use Rattle.hpr_engine.specs.Limit.{AreInLimit, HasTooManyEdges}
-use Rattle.hpr_engine.proofs.OneList.{one_conflicts}
-use Rattle.hpr_engine.proofs.OneSide.{a_is_base, b_is_base, free_when_kept}
+use Rattle.hpr_engine.proofs.OneAnswer.{fit_is_printed, enough}
+use Rattle.hpr_engine.proofs.OneSideAnswer.{a_unchanged, b_unchanged}
+use Rattle.hpr_rebuild.specs.Settled.{IsSettled}
 use Rattle.hpr_app.specs.Graphs.{OnGraph}
-use Rattle.hpr_app.specs.Integrate.{OnFile, OnConflicts, IsOneSideText, Integrated, OneSideOutcome, IntegrateOutcome}
+use Rattle.hpr_app.specs.Integrate.{OnFile, OnFiles, OnGraphs, report, IsReported, Integrated, IntegrateOutcome}
 use Rattle.hpr_app.specs.Outcome.{RequestOutcome, OutcomeIfTold}
 use Rattle.hpr_app.specs.Points.{IsFirstStranger, IsNamed, IsPoint, OnPoints}
 use Rattle.hpr_app.specs.Refusals.{IsFileOf, IsCause}
 use Rattle.hpr_app.specs.RunFile.{OnState, Ran, RunOutcome}
 use Rattle.hpr_app.specs.SliceFile.{Sliced, SliceOutcome}
 use Rattle.hpr_app.specs.States.{states_of}
+use Rattle.hpr_app.specs.TrialFiles.{IsTried, Tried, TrialOutcome}
 use Rattle.hpr_app.specs.Ends.{Change, Ends, Decided, status_of, text_of}
 use Rattle.hpr_app.specs.declared.refusals.Refusal.{Refusal}
 use Rattle.hpr_app.specs.declared.refusals.Refusal.TheVariants as refusal
 use Rattle.hpr_app.specs.declared.status.Status.{Status}
 use Rattle.hpr_app.specs.declared.status.Status.TheVariants as status
 use Rattle.hpr_app.proofs.EndsLemmas.{asked_ends}
+use Rattle.hpr_app.proofs.VersionLemmas.{of_state}
 
 -- what spells a program is not refused
 pub not_refused : (bytes : List ℕ) (why : Refusal) (p : Tree) → IsCause bytes why → IsFileOf bytes p → ⊥
@@ -59,62 +63,91 @@ pub of_program_graph : (file : Text) (p : Tree) (next : Type 0) (r : Decision) �
 of_program_graph file p next r few (inl (many, _)) = absurd (few many)
 of_program_graph file p next r few (inr (_, n)) = n
 
--- where there is no conflict, none is printed
-of_no_conflict : (p q r : Tree) (next : Type 0) (d : Decision) → IsWithoutConflict p q r → OnConflicts p q r next d → next
-of_no_conflict p q r next d none (inl (cs, are, _)) = absurd (are.some (one_conflicts (graph_of p) (graph_of q) (graph_of r) cs [] are.conflicts none))
-of_no_conflict p q r next d none (inr (_, n)) = n
+pub of_programs : (fs : Files) (base a b : List ℕ) (next : Tree → Tree → Tree → Type 0) (d : Decision) (p q r : Tree) → OnFiles fs base a b next d
+    → IsFileOf (bytes_of fs base) p → IsFileOf (bytes_of fs a) q → IsFileOf (bytes_of fs b) r → next p q r
+of_programs fs base a b next d p q r o hp hq hr =
+    let on_base = of_program fs base (λ p. OnFile fs a (λ q. OnFile fs b (λ r. next p q r) d) d) d p o hp in
+    let on_a = of_program fs a (λ q. OnFile fs b (λ r. next p q r) d) d q on_base hq in
+    of_program fs b (λ r. next p q r) d r on_a hr
 
-module _ (p q r : Tree) (old new : Option (List ℕ)) (s : Status) where
-  -- the outcome of three programs completes the call
-  completes_so : (d : Decision) → s ≡ status_of d → new ≡ taken_then old (text_of d) → OneSideOutcome p q r d → Completes p q r old new s
-  completes_so d is took (inl (e, prints)) = inl (e, done_printing (IsOneSideText p q r q) old new s d is took prints)
-  completes_so d is took (inr (inl (n, e, prints))) = inr (inl (n, e, done_printing (IsOneSideText p q r r) old new s d is took prints))
-  completes_so d is took (inr (inr (n, m, same))) = inr (inr (n, m, is ∙ ap status_of same))
+pub of_program_graphs : (base : List ℕ) (p : Tree) (a : List ℕ) (q : Tree) (b : List ℕ) (r : Tree) (next : Type 0) (d : Decision) → AreInLimit p q r → OnGraphs base p a q b r next d → next
+of_program_graphs base p a q b r next d few o =
+    of_program_graph b r next d few.2 (of_program_graph a q (OnGraph b r next d) d few.1 (of_program_graph base p (OnGraph a q (OnGraph b r next d) d) d few.0 o))
 
-  module _ (fs : Files) (base a b : List ℕ) (d : Decision) (o : IntegrateOutcome fs base a b d) (hp : IsFileOf (bytes_of fs base) p) (hq : IsFileOf (bytes_of fs a) q)
+-- what is known of the decision that reports an answer of three programs
+module _ (p q r : Tree) (tries : ℕ) (old new : Option (List ℕ)) (s : Status) where
+  printing : (m : Tree) (P : List ℕ → Type 0) → P (text m) → s ≡ status.Done → new ≡ taken_then old (text m) → DonePrinting P old new s
+  printing m P shown is took = (is, text m, shown, took)
+
+  module _ (x : Answer) (answer : IsAnswer p q r tries x) (is : s ≡ status_of (report tries x)) (took : new ≡ taken_then old (text_of (report tries x))) where
+    printed_so : (m : Tree) (P : List ℕ → Type 0) → P (text m) → x ≡ printed m → DonePrinting P old new s
+    printed_so m P shown e = printing m P shown (is ∙ ap (λ y. status_of (report tries y)) e) (took ∙ ap (λ y. taken_then old (text_of (report tries y))) e)
+
+    spent_status : (y : Answer) → status.Spent ≡ status_of (report tries y) → y ≡ spent
+    spent_status (interference cs) e = absurd cc
+    spent_status (printed m) e = absurd cc
+    spent_status (no_program n) e = absurd cc
+    spent_status spent e = refl
+
+    answer_completes : IsProgram q → IsProgram r → IsWithoutConflict p q r → Completes p q r tries old new s
+    answer_completes is_q is_r free = record {
+      answered = (x, answer, is, took);
+      first = λ ps m tried fits. printed_so m (λ bytes. bytes ≡ text m) refl (fit_is_printed p q r is_q is_r tries ps free tried m x fits answer);
+      enough = λ ps tried few e. enough p q r is_q is_r tries ps free tried x few answer (spent_status x (sym e ∙ is));
+    }
+
+    other_b : IsProgram p → IsProgram r → 1 ≤ tries → q ≡ p → DonePrinting (IsOtherText p q r r) old new s
+    other_b is_p is_r one e =
+        let (m, shown, settled) = a_unchanged p r tries x is_p is_r one (subst (λ (t : Tree). IsAnswer p t r tries x) e answer) in
+        printed_so m (IsOtherText p q r r) (m, subst (λ (t : Tree). IsSettled (issued_of p t r) r m) (sym e) settled, refl) shown
+
+    other_a : IsProgram p → IsProgram q → 1 ≤ tries → r ≡ p → DonePrinting (IsOtherText p q r q) old new s
+    other_a is_p is_q one e =
+        let (m, shown, settled) = b_unchanged p q tries x is_p is_q one (subst (λ (t : Tree). IsAnswer p q t tries x) e answer) in
+        printed_so m (IsOtherText p q r q) (m, subst (λ (t : Tree). IsSettled (issued_of p q t) q m) (sym e) settled, refl) shown
+
+  module _ (fs : Files) (base a b : List ℕ) (d : Decision) (o : IntegrateOutcome fs base a b tries d) (hp : IsFileOf (bytes_of fs base) p) (hq : IsFileOf (bytes_of fs a) q)
       (hr : IsFileOf (bytes_of fs b) r) (few : AreInLimit p q r) where
     abbrev BehindGraphs : Type 0
-    BehindGraphs = OnConflicts p q r (OneSideOutcome p q r d) d
+    BehindGraphs = IsReported p q r tries d
 
     behind_graphs : BehindGraphs
     behind_graphs =
-        let on_base = of_program fs base (λ p. OnFile fs a (λ q. OnFile fs b (λ r. Integrated base p a q b r d) d) d) d p o hp in
-        let on_a = of_program fs a (λ q. OnFile fs b (λ r. Integrated base p a q b r d) d) d q on_base hq in
-        let on_b = of_program fs b (λ r. Integrated base p a q b r d) d r on_a hr in
-        of_program_graph b r BehindGraphs d few.2
-        (of_program_graph a q (OnGraph b r BehindGraphs d) d few.1 (of_program_graph base p (OnGraph a q (OnGraph b r BehindGraphs d) d) d few.0 on_b))
+        of_program_graphs base p a q b r BehindGraphs d few (of_programs fs base a b (λ p q r. Integrated base p a q b r tries d) d p q r o hp hq hr)
 
     module _ (is : s ≡ status_of d) (took : new ≡ taken_then old (text_of d)) where
-      of_three : IsWithoutConflict p q r → Completes p q r old new s
-      of_three none = completes_so d is took (of_no_conflict p q r (OneSideOutcome p q r d) d none behind_graphs)
+      abbrev Answered : Type 0
+      Answered = (x : Answer) × IsAnswer p q r tries x × (s ≡ status_of (report tries x)) × (new ≡ taken_then old (text_of (report tries x)))
 
-      other_a : r ≡ p → Completes p q r old new s → DonePrinting (IsOneSideText p q r q) old new s
-      other_a e (inl (_, printed)) = printed
-      other_a e (inr (inl (n, _, _))) = absurd (n e)
-      other_a e (inr (inr (n, _, _))) = absurd (n e)
+      answered : Answered
+      answered =
+          let (x, answer, shown) = behind_graphs in
+          (x, answer, is ∙ ap status_of shown, took ∙ ap (λ y. taken_then old (text_of y)) shown)
 
-      other_b : q ≡ p → Completes p q r old new s → DonePrinting (IsOneSideText p q r r) old new s
-      other_b e (inl (e_too, printed)) = subst (λ (t : Tree). DonePrinting (IsOneSideText p q r t) old new s) (e ∙ sym e_too) printed
-      other_b e (inr (inl (_, _, printed))) = printed
-      other_b e (inr (inr (_, n, _))) = absurd (n e)
+      of_three : IsWithoutConflict p q r → Completes p q r tries old new s
+      of_three free = let (x, answer, is_x, took_x) = answered in answer_completes x answer is_x took_x hq.program hr.program free
 
-      -- a variant that is the base interferes with no other
-      free_of_b : r ≡ p → IsWithoutConflict p q r
-      free_of_b e = subst (λ (t : Tree). IsWithoutConflict p q t) (sym e) (free_when_kept p q p (b_is_base p q hp.program hq.program))
-
-      free_of_a : q ≡ p → IsWithoutConflict p q r
-      free_of_a e = subst (λ (t : Tree). IsWithoutConflict p t r) (sym e) (free_when_kept p p r (a_is_base p r hp.program hr.program))
-
-      other_printed : (q ≡ p → DonePrinting (IsOneSideText p q r r) old new s) × (r ≡ p → DonePrinting (IsOneSideText p q r q) old new s)
-      other_printed = (λ e. other_b e (of_three (free_of_a e)), λ e. other_a e (of_three (free_of_b e)))
+      other_printed : 1 ≤ tries → (q ≡ p → DonePrinting (IsOtherText p q r r) old new s) × (r ≡ p → DonePrinting (IsOtherText p q r q) old new s)
+      other_printed one =
+          let (x, answer, is_x, took_x) = answered in
+          (other_b x answer is_x took_x hp.program hr.program one, other_a x answer is_x took_x hp.program hq.program one)
 
 module _ (state : Values) (p : Tree) (old new : Option (List ℕ)) (s : Status) where
-  of_run : (fs : Files) (file : List ℕ) (words : List Text) (steps : ℕ) (d : Decision) → s ≡ status_of d → new ≡ taken_then old (text_of d) → RunOutcome fs file words steps d
-      → states_of words ≡ Ok state → IsFileOf (bytes_of fs file) p → Runs p state steps old new s
-  of_run fs file words steps d is took o told hp =
-      let on_state : OnFile fs file (λ q. Ran q state steps d) d = subst (λ x. OnState x (λ t. OnFile fs file (λ q. Ran q t steps d) d) d) told o in
-      let same = of_program fs file (λ q. Ran q state steps d) d p on_state hp in
+  of_run : (fs : Files) (file : List ℕ) (words : List Text) (steps : ℕ) (trace : Bool) (d : Decision) → s ≡ status_of d → new ≡ taken_then old (text_of d)
+      → RunOutcome fs file words steps trace d → states_of words ≡ Ok state → IsFileOf (bytes_of fs file) p → Runs p state steps trace old new s
+  of_run fs file words steps trace d is took o told hp =
+      let on_state : OnFile fs file (λ q. Ran q state steps trace d) d = subst (λ x. OnState x (λ t. OnFile fs file (λ q. Ran q t steps trace d) d) d) told o in
+      let same = of_program fs file (λ q. Ran q state steps trace d) d p on_state hp in
       (is ∙ ap status_of same, took ∙ ap (λ x. taken_then old (text_of x)) same)
+
+module _ (state : Values) (p q r : Tree) (old new : Option (List ℕ)) (s : Status) where
+  of_trial : (fs : Files) (base a b : List ℕ) (words : List Text) (steps : ℕ) (d : Decision) → s ≡ status_of d → new ≡ taken_then old (text_of d)
+      → TrialOutcome fs base a b words steps d → states_of words ≡ Ok state → IsFileOf (bytes_of fs base) p → IsFileOf (bytes_of fs a) q → IsFileOf (bytes_of fs b) r
+      → AreInLimit p q r → Tries p q r state steps old new s
+  of_trial fs base a b words steps d is took o told hp hq hr few =
+      let on_files = of_state (states_of words) state told (λ t d. OnFiles fs base a b (λ p q r. Tried base p a q b r t steps d) d) d o in
+      let on_graphs = of_programs fs base a b (λ p q r. Tried base p a q b r state steps d) d p q r on_files hp hq hr in
+      (d, of_program_graphs base p a q b r (IsTried p q r state steps d) d few on_graphs, is, took)
 
 -- where each word is that for a vertex, no point is refused
 pub not_stranger : (P : Text → Type 0) (words : List Text) (word : Text) → IsFirstStranger P words word → All P words → ⊥
@@ -152,20 +185,22 @@ module _ (old new : Option (List ℕ)) (s : Status) (fs : Files) (d : Decision) 
 
 request_completes : (request : Request) (fs : Files) (old new : Option (List ℕ)) (s : Status) (d : Decision) → s ≡ status_of d → new ≡ taken_then old (text_of d)
     → RequestOutcome request fs d → RequestCompletes request fs old new s
-request_completes (integrate base a b tries) fs old new s d is took o = λ p q r hp hq hr few none. of_three p q r old new s fs base a b d o hp hq hr few is took none
-request_completes (run file words steps) fs old new s d is took o = λ state p told hp. of_run state p old new s fs file words steps d is took o told hp
+request_completes (integrate base a b tries) fs old new s d is took o = λ p q r hp hq hr few none. of_three p q r tries old new s fs base a b d o hp hq hr few is took none
+request_completes (run file words steps trace) fs old new s d is took o = λ state p told hp. of_run state p old new s fs file words steps trace d is took o told hp
 request_completes (graph file json) fs old new s d is took o = λ p hp few. of_graph old new s fs d is took file json p o hp few
 request_completes (slice file points) fs old new s d is took o = λ p hp few named. of_slice old new s fs d is took file points p o hp few named
 request_completes (affected base a) fs old new s d is took o = λ p q hp hq few few_too. of_affected old new s fs d is took base a p q o hp hq few few_too
+request_completes (trial base a b words steps) fs old new s d is took o = λ state p q r told hp hq hr few. of_trial state p q r old new s fs base a b words steps d is took o told hp hq hr few
 
 -- where one variant is the base, the other one is printed
 request_prints_other : (request : Request) (fs : Files) (old new : Option (List ℕ)) (s : Status) (d : Decision) → s ≡ status_of d → new ≡ taken_then old (text_of d)
-    → RequestOutcome request fs d → PrintsOther request fs old new s
-request_prints_other (integrate base a b tries) fs old new s d is took o = λ p q r hp hq hr few. other_printed p q r old new s fs base a b d o hp hq hr few is took
-request_prints_other (run file words steps) fs old new s d is took o = tt
-request_prints_other (graph file json) fs old new s d is took o = tt
-request_prints_other (slice file points) fs old new s d is took o = tt
-request_prints_other (affected base a) fs old new s d is took o = tt
+    → IsInRange request → RequestOutcome request fs d → PrintsOther request fs old new s
+request_prints_other (integrate base a b tries) fs old new s d is took range o = λ p q r hp hq hr few. other_printed p q r tries old new s fs base a b d o hp hq hr few is took range.0
+request_prints_other (run file words steps trace) fs old new s d is took range o = tt
+request_prints_other (graph file json) fs old new s d is took range o = tt
+request_prints_other (slice file points) fs old new s d is took range o = tt
+request_prints_other (affected base a) fs old new s d is took range o = tt
+request_prints_other (trial base a b words steps) fs old new s d is took range o = tt
 
 module _ (request : Request) (fs : Files) (reads : List ℕ → Type 0) (before now : ℕ) (out err : Change)
     (read : Rose before now → ⊥) (written : Rose out.before out.now → ⊥) where
@@ -184,13 +219,12 @@ module _ (request : Request) (fs : Files) (reads : List ℕ → Type 0) (before 
   settled Q f status.Refused h = inr (f status.Refused h)
   settled Q f status.Words h = inr (f status.Words h)
   settled Q f status.NotEnded h = inr (f status.NotEnded h)
-  settled Q f status.NotBuilt h = inr (f status.NotBuilt h)
 
   pub completes : (s : Status) → Ends s Told reads before now out err → (s ≡ status.Memory) ⊎ RequestCompletes request fs out.old out.new s
   completes = settled (λ s. RequestCompletes request fs out.old out.new s) (λ s d. request_completes request fs out.old out.new s d.r d.status_is d.took (d.outcome fs refl))
 
-  pub prints_other : (s : Status) → Ends s Told reads before now out err → (s ≡ status.Memory) ⊎ PrintsOther request fs out.old out.new s
-  prints_other = settled (λ s. PrintsOther request fs out.old out.new s) (λ s d. request_prints_other request fs out.old out.new s d.r d.status_is d.took (d.outcome fs refl))
+  pub prints_other : IsInRange request → (s : Status) → Ends s Told reads before now out err → (s ≡ status.Memory) ⊎ PrintsOther request fs out.old out.new s
+  prints_other range = settled (λ s. PrintsOther request fs out.old out.new s) (λ s d. request_prints_other request fs out.old out.new s d.r d.status_is d.took range (d.outcome fs refl))
 
 -- the same, for a request and files that are known by other names
 pub asked_completes : (known request : Request) (taken : Option Request) (files : Option Files) (fs : Files) (reads : List ℕ → Type 0) (s : Status) (before now : ℕ) (out err : Change)
@@ -200,8 +234,11 @@ asked_completes known request taken files fs reads s before now out err is asked
     completes request fs reads before now out err read written s
     (asked_ends known request taken files fs reads s before now out err is asked told h)
 
+pub known_range : (known request : Request) (taken : Option Request) → Some known ≡ taken → taken ≡ Some request → IsInRange known → IsInRange request
+known_range known request taken is asked range = let same : known ≡ request = cc in subst IsInRange same range
+
 pub asked_prints_other : (known request : Request) (taken : Option Request) (files : Option Files) (fs : Files) (reads : List ℕ → Type 0) (s : Status) (before now : ℕ) (out err : Change)
-    → Some known ≡ taken → taken ≡ Some request → files ≡ Some fs → (Rose before now → ⊥) → (Rose out.before out.now → ⊥)
+    → Some known ≡ taken → taken ≡ Some request → files ≡ Some fs → IsInRange known → (Rose before now → ⊥) → (Rose out.before out.now → ⊥)
     → Ends s (OutcomeIfTold (Some known) files) reads before now out err → (s ≡ status.Memory) ⊎ PrintsOther request fs out.old out.new s
-asked_prints_other known request taken files fs reads s before now out err is asked told read written h =
-    prints_other request fs reads before now out err read written s (asked_ends known request taken files fs reads s before now out err is asked told h)
+asked_prints_other known request taken files fs reads s before now out err is asked told range read written h =
+    prints_other request fs reads before now out err read written (known_range known request taken is asked range) s (asked_ends known request taken files fs reads s before now out err is asked told h)

@@ -6,7 +6,7 @@ use Rattle.hpr_io.specs.Files.{Files}
 use Rattle.hpr_words.specs.Request.{Request}
 use Rattle.hpr_app.specs.Outcome.{OutcomeIfTold}
 use Rattle.hpr_app.specs.Reads.{MayReadIfTaken}
-use Rattle.hpr_app.specs.Decision.{Decision, prints, refuses, not_built}
+use Rattle.hpr_app.specs.Decision.{Decision, prints, refuses}
 use Rattle.hpr_app.specs.Answer.{Decides}
 use Rattle.hpr_app.specs.Writes.{Writes, PutsAll, PutsPrefix}
 use Rattle.hpr_app.specs.Ends.{Change, Ends, Says, status_of_kind}
@@ -31,6 +31,10 @@ module _ (P : Decision → Type 0) (reads : List ℕ → Type 0) (before now : �
       at_status s status.Done w.status_is (record { r = prints kind.Done text; outcome = p; status_is = refl; shelf = same; count = w.count; took = w.took; says = w.silent })
   all_put kind.Interference text s p same w =
       at_status s status.Interference w.status_is (record { r = prints kind.Interference text; outcome = p; status_is = refl; shelf = same; count = w.count; took = w.took; says = w.silent })
+  all_put kind.NoProgram text s p same w =
+      at_status s status.NoProgram w.status_is (record { r = prints kind.NoProgram text; outcome = p; status_is = refl; shelf = same; count = w.count; took = w.took; says = w.silent })
+  all_put kind.Spent text s p same w =
+      at_status s status.Spent w.status_is (record { r = prints kind.Spent text; outcome = p; status_is = refl; shelf = same; count = w.count; took = w.took; says = w.silent })
   all_put kind.NotEnded text s p same w =
       at_status s status.NotEnded w.status_is (record { r = prints kind.NotEnded text; outcome = p; status_is = refl; shelf = same; count = w.count; took = w.took; says = w.silent })
 
@@ -41,8 +45,6 @@ module _ (P : Decision → Type 0) (reads : List ℕ → Type 0) (before now : �
   pub ends_of : (answer : Result Report Stop) (s : Status) → Decides P reads before now answer → Writes answer s out err → Ends s P reads before now out err
   ends_of (Ok report) s d (inl w) = all_put report.kind report.text.items s d.0 d.1 w
   ends_of (Ok report) s d (inr w) = front_put report.kind report.text.items s d.0 d.1 w
-  ends_of (Err stop.NotBuilt) s d w =
-      at_status s status.NotBuilt w.0 (record { r = not_built; outcome = d.0; status_is = refl; shelf = d.1; count = w.1.0; took = w.1.1 ∙ taken_nothing out.old; says = w.2 })
   ends_of (Err (stop.Refused message)) s d w =
       at_status s status.Refused w.0
       (record { r = refuses (string_bytes message); outcome = d.0; status_is = refl; shelf = d.1; count = w.1.0; took = w.1.1 ∙ taken_nothing out.old; says = w.2 })

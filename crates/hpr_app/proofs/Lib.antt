@@ -1,16 +1,19 @@
 pub mod FileLemmas
-pub mod IssuedRows
 pub mod ReadLemmas
+pub mod VersionLemmas
 pub mod IntegrateLemmas
+pub mod TrialLemmas
+pub mod ExactSteps
 pub mod ValueLemmas
 pub mod StateLemmas
 pub mod EndsLemmas
 pub mod WordLemmas
 pub mod Completeness
-pub mod Ascending
 pub mod Once
 pub mod Theorem
-pub mod Interferes
+pub mod TrialTheorem
+pub mod Reported
+mod TraceLemmas
 pub mod GraphLemmas
 pub mod PointLemmas
 pub mod SliceLemmas

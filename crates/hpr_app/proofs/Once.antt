@@ -6,6 +6,7 @@ use Rattle.hpr_scan.specs.Place.{IsPlace}
 use Rattle.hpr_syntax.specs.declared.shape.ShapeError.{ShapeError}
 use Rattle.hpr_syntax.specs.Grammar.{tagged}
 use Rattle.hpr_syntax.specs.Print.{text}
+use Rattle.hpr_syntax.specs.Shape.{IsProgram}
 use Rattle.hpr_syntax.specs.Shape.{shape}
 use Rattle.hpr_syntax.specs.Tree.{Tree}
 use Rattle.hpr_syntax.specs.Values.{Values}
@@ -23,24 +24,28 @@ use Rattle.hpr_app.specs.Decision.{Decision, Prints, prints, refuses}
 use Rattle.hpr_app.specs.Ends.{Change, Ends, Decided, SaysIfAny, has_text, message_of, status_of}
 use Rattle.hpr_app.specs.GraphFile.{IsShown}
 use Rattle.hpr_app.specs.Graphs.{OnGraph}
-use Rattle.hpr_engine.proofs.OneList.{one_conflicts}
+use Rattle.hpr_graph.specs.declared.conflict.Conflict.{Conflict}
+use Rattle.hpr_graph.specs.Answer.{Answer, interference, printed, no_program, spent}
+use Rattle.hpr_engine.specs.Budget as budget
+use Rattle.hpr_engine.proofs.OneAnswer.{one_answer}
 use Rattle.hpr_report.specs.ConflictsText.{conflicts_text}
-use Rattle.hpr_app.specs.Integrate.{OnFile, OnConflicts, IsOneSided, IsOneSideText, Integrated, OneSideOutcome}
-use Rattle.hpr_app.specs.Outcome.{RequestOutcome, Outcome, OutcomeIfTold}
+use Rattle.hpr_app.specs.Integrate.{OnFile, OnFiles, OnGraphs, report, spent_text, no_program_text, IsReported, Integrated}
+use Rattle.hpr_app.specs.Outcome.{RequestOutcome, Outcome, OutcomeIfTold, HasSearched, AgreeButForBudget}
 use Rattle.hpr_app.specs.Points.{IsFirstStranger, IsNamed, IsPoint, OnPoints, no_such_point}
-use Rattle.hpr_app.specs.Refusals.{IsCause, IsRefused, refusal_text}
+use Rattle.hpr_app.specs.Refusals.{IsCause, IsFileOf, IsRefused, refusal_text}
 use Rattle.hpr_app.specs.RunFile.{OnState}
 use Rattle.hpr_app.specs.States.{RefusedWord, states_of}
-use Rattle.hpr_words.specs.Request.{Request, Text, integrate, run, graph, slice, affected}
+use Rattle.hpr_app.specs.TrialFiles.{IsTried, Tried}
+use Rattle.hpr_words.specs.Request.{Request, Text, integrate, run, graph, slice, affected, trial}
 use Rattle.hpr_app.specs.declared.answer.Kind.TheVariants.{Done, Interference}
 use Rattle.hpr_app.specs.declared.refusals.Refusal.{Refusal}
 use Rattle.hpr_app.specs.declared.refusals.Refusal.TheVariants as refusal
 use Rattle.hpr_app.specs.declared.status.Status.{Status}
 use Rattle.hpr_app.specs.declared.status.Status.TheVariants as status
-use Rattle.hpr_app.proofs.Ascending.{one_order}
 use Rattle.hpr_app.proofs.EndsLemmas.{asked_ends}
 use Rattle.hpr_app.proofs.Completeness.{not_refused, not_stranger}
 use Rattle.hpr_app.proofs.GraphLemmas.{one_shown}
+use Rattle.hpr_app.proofs.TrialLemmas.{one_tried}
 
 one_place : (L : List ℕ → Type 0) (bytes : List ℕ) (m n : ℕ) → IsPlace L bytes m → IsPlace L bytes n → m ≡ n
 one_place L bytes m n h k = omega (arith, h.longest n k.within k.viable, k.longest m h.within h.viable)
@@ -64,43 +69,28 @@ one_cause bytes (refusal.Shape d) (refusal.Shape e) h k = ap refusal.Shape (one_
 one_message : (file bytes m n : List ℕ) → IsRefused file bytes m → IsRefused file bytes n → m ≡ n
 one_message file bytes m n (r, h, is) (s, k, so) = is ∙ ap (refusal_text file) (one_cause bytes r s h k) ∙ sym so
 
-same_tree : (m n : Tree) → m.issued ≡ n.issued → m.body ≡ n.body → m.finals ≡ n.finals → m ≡ n
-same_tree m n issued body finals = λ i. record { issued = issued i; body = body i; finals = finals i }
-
-one_sided : (base a b other m n : Tree) → IsOneSided base a b other m → IsOneSided base a b other n → m ≡ n
-one_sided base a b other m n h k =
-    same_tree m n (h.issued ∙ sym k.issued) (sym h.body ∙ k.body) (one_order other.finals m.finals n.finals h.names k.names h.ascending k.ascending)
-
 -- where one text has P, what prints it is one decision
 one_printed : (P : List ℕ → Type 0) → ((x y : List ℕ) → P x → P y → x ≡ y) → (r s : Decision) → Prints P r → Prints P s → r ≡ s
 one_printed P one r s (x, h, is) (y, k, so) = is ∙ ap (prints Done) (one x y h k) ∙ sym so
 
-one_text : (base a b other : Tree) (r s : Decision) → Prints (IsOneSideText base a b other) r → Prints (IsOneSideText base a b other) s → r ≡ s
-one_text base a b other =
-    one_printed (IsOneSideText base a b other) (λ x y (m, h, is) (n, k, so). is ∙ ap text (one_sided base a b other m n h k) ∙ sym so)
+-- answers that agree are reported so
+searched : (tries : ℕ) (x : Answer) (r : Decision) → budget.HasSearched x → r ≡ report tries x → HasSearched r
+searched tries (interference cs) r h is = absurd h
+searched tries (printed m) r h is = (text m, inl is)
+searched tries (no_program n) r h is = (no_program_text n, inr (inl is))
+searched tries spent r h is = absurd h
 
-one_side : (base a b : Tree) (r s : Decision) → OneSideOutcome base a b r → OneSideOutcome base a b s → r ≡ s
-one_side base a b r s (inl (_, h)) (inl (_, k)) = one_text base a b a r s h k
-one_side base a b r s (inl (e, _)) (inr (inl (n, _, _))) = absurd (n e)
-one_side base a b r s (inl (e, _)) (inr (inr (n, _, _))) = absurd (n e)
-one_side base a b r s (inr (inl (n, _, _))) (inl (e, _)) = absurd (n e)
-one_side base a b r s (inr (inl (_, _, h))) (inr (inl (_, _, k))) = one_text base a b b r s h k
-one_side base a b r s (inr (inl (_, e, _))) (inr (inr (_, n, _))) = absurd (n e)
-one_side base a b r s (inr (inr (n, _, _))) (inl (e, _)) = absurd (n e)
-one_side base a b r s (inr (inr (_, n, _))) (inr (inl (_, e, _))) = absurd (n e)
-one_side base a b r s (inr (inr (_, _, is))) (inr (inr (_, _, so))) = is ∙ sym so
+agree_reported : (tries : ℕ) (x y : Answer) (r s : Decision) → budget.Agree x y → r ≡ report tries x → s ≡ report tries y → AgreeButForBudget r s
+agree_reported tries x y r s (inl e) is so = inl (is ∙ ap (report tries) e ∙ sym so)
+agree_reported tries x y r s (inr (inl (e, h))) is so = inr (inl ((spent_text tries, is ∙ ap (report tries) e), searched tries y s h so))
+agree_reported tries x y r s (inr (inr (h, e))) is so = inr (inr (searched tries x r h is, (spent_text tries, so ∙ ap (report tries) e)))
 
-one_on_conflicts : (r s : Decision) (p q o : Tree) (next also : Type 0) → (next → also → r ≡ s) → OnConflicts p q o next r → OnConflicts p q o also s → r ≡ s
-one_on_conflicts r s p q o next also rest (inl (cs, h, is)) (inl (ds, k, so)) =
-    is ∙ ap (λ xs. prints Interference (conflicts_text xs)) (one_conflicts (graph_of p) (graph_of q) (graph_of o) cs ds h.conflicts k.conflicts) ∙ sym so
-one_on_conflicts r s p q o next also rest (inl (cs, h, _)) (inr (none, _)) =
-    absurd (h.some (one_conflicts (graph_of p) (graph_of q) (graph_of o) cs [] h.conflicts none))
-one_on_conflicts r s p q o next also rest (inr (none, _)) (inl (ds, k, _)) =
-    absurd (k.some (one_conflicts (graph_of p) (graph_of q) (graph_of o) ds [] k.conflicts none))
-one_on_conflicts r s p q o next also rest (inr (_, h)) (inr (_, k)) = rest h k
+one_reported : (r s : Decision) (p q o : Tree) (tries : ℕ) → IsProgram q → IsProgram o → IsReported p q o tries r → IsReported p q o tries s → AgreeButForBudget r s
+one_reported r s p q o tries is_q is_o (x, answer, is) (y, answer_too, so) =
+    agree_reported tries x y r s (one_answer p q o is_q is_o tries x y answer answer_too) is so
 
-one_on_graph : (r s : Decision) (file : Text) (p : Tree) (next also : Type 0) → (next → also → r ≡ s) → OnGraph file p next r → OnGraph file p also s → r ≡ s
-one_on_graph r s file p next also rest (inl (_, is)) (inl (_, so)) = is ∙ sym so
+one_on_graph : (r s : Decision) (file : Text) (p : Tree) (next also : Type 0) → (next → also → AgreeButForBudget r s) → OnGraph file p next r → OnGraph file p also s → AgreeButForBudget r s
+one_on_graph r s file p next also rest (inl (_, is)) (inl (_, so)) = inl (is ∙ sym so)
 one_on_graph r s file p next also rest (inl (many, _)) (inr (few, _)) = absurd (few many)
 one_on_graph r s file p next also rest (inr (few, _)) (inl (many, _)) = absurd (few many)
 one_on_graph r s file p next also rest (inr (_, h)) (inr (_, k)) = rest h k
@@ -112,49 +102,85 @@ one_stranger P (w ∷ ws) x y (inl (n, _)) (inr (p, _)) = absurd (n p)
 one_stranger P (w ∷ ws) x y (inr (p, _)) (inl (n, _)) = absurd (n p)
 one_stranger P (w ∷ ws) x y (inr (_, h)) (inr (_, k)) = one_stranger P ws x y h k
 
-one_integrated : (r s : Decision) (base : Text) (p : Tree) (a : Text) (q : Tree) (b : Text) (o : Tree) → Integrated base p a q b o r → Integrated base p a q b o s → r ≡ s
-one_integrated r s base p a q b o h k =
-    one_on_graph r s base p _ _
-    (λ h k. one_on_graph r s a q _ _ (λ h k. one_on_graph r s b o _ _ (λ h k. one_on_conflicts r s p q o _ _ (λ h k. one_side p q o r s h k) h k) h k) h k) h k
+one_on_graphs : (r s : Decision) (base : Text) (p : Tree) (a : Text) (q : Tree) (b : Text) (o : Tree) (next also : Type 0) → (next → also → AgreeButForBudget r s)
+    → OnGraphs base p a q b o next r → OnGraphs base p a q b o also s → AgreeButForBudget r s
+one_on_graphs r s base p a q b o next also rest h k =
+    one_on_graph r s base p _ _ (λ h k. one_on_graph r s a q _ _ (λ h k. one_on_graph r s b o next also rest h k) h k) h k
 
-one_on_points : (r s : Decision) (g : Graph) (words : List Text) (next also : Type 0) → (next → also → r ≡ s) → OnPoints g words next r → OnPoints g words also s → r ≡ s
-one_on_points r s g words next also rest (inl (x, h, is)) (inl (y, k, so)) = is ∙ ap (λ w. refuses (no_such_point w)) (one_stranger (IsNamed g) words x y h k) ∙ sym so
+one_integrated : (r s : Decision) (base : Text) (p : Tree) (a : Text) (q : Tree) (b : Text) (o : Tree) (tries : ℕ) → IsProgram q → IsProgram o
+    → Integrated base p a q b o tries r → Integrated base p a q b o tries s → AgreeButForBudget r s
+one_integrated r s base p a q b o tries is_q is_o h k =
+    one_on_graphs r s base p a q b o (IsReported p q o tries r) (IsReported p q o tries s) (λ h k. one_reported r s p q o tries is_q is_o h k) h k
+
+one_on_points : (r s : Decision) (g : Graph) (words : List Text) (next also : Type 0) → (next → also → AgreeButForBudget r s) → OnPoints g words next r → OnPoints g words also s → AgreeButForBudget r s
+one_on_points r s g words next also rest (inl (x, h, is)) (inl (y, k, so)) =
+    inl (is ∙ ap (λ w. refuses (no_such_point w)) (one_stranger (IsNamed g) words x y h k) ∙ sym so)
 one_on_points r s g words next also rest (inl (x, h, _)) (inr (all, _)) = absurd (not_stranger (IsNamed g) words x h all)
 one_on_points r s g words next also rest (inr (all, _)) (inl (y, k, _)) = absurd (not_stranger (IsNamed g) words y k all)
 one_on_points r s g words next also rest (inr (_, h)) (inr (_, k)) = rest h k
 
 module _ (fs : Files) (r s : Decision) where
-  one_on_file : (file : List ℕ) (next also : Tree → Type 0) → ((p : Tree) → next p → also p → r ≡ s) → OnFile fs file next r → OnFile fs file also s → r ≡ s
-  one_on_file file next also rest (inl (k, h, is)) (inl (l, g, so)) = is ∙ ap refuses (one_message file (bytes_of fs file) k l h g) ∙ sym so
+  one_on_file : (file : List ℕ) (next also : Tree → Type 0) → ((p : Tree) → IsFileOf (bytes_of fs file) p → next p → also p → AgreeButForBudget r s) → OnFile fs file next r → OnFile fs file also s → AgreeButForBudget r s
+  one_on_file file next also rest (inl (k, h, is)) (inl (l, g, so)) = inl (is ∙ ap refuses (one_message file (bytes_of fs file) k l h g) ∙ sym so)
   one_on_file file next also rest (inl (_, (why, cause, _), _)) (inr (q, hq, _)) = absurd (not_refused (bytes_of fs file) why q cause hq)
   one_on_file file next also rest (inr (p, hp, _)) (inl (_, (why, cause, _), _)) = absurd (not_refused (bytes_of fs file) why p cause hp)
-  one_on_file file next also rest (inr (p, hp, h)) (inr (q, hq, k)) = rest p h (subst also (one_tree tagged (bytes_of fs file) q p hq.spelled hp.spelled) k)
+  one_on_file file next also rest (inr (p, hp, h)) (inr (q, hq, k)) = rest p hp h (subst also (one_tree tagged (bytes_of fs file) q p hq.spelled hp.spelled) k)
 
-  one_on_state : (told : Result Values RefusedWord) (next also : Values → Type 0) → ((state : Values) → next state → also state → r ≡ s) → OnState told next r → OnState told also s → r ≡ s
+  one_on_state : (told : Result Values RefusedWord) (next also : Values → Type 0) → ((state : Values) → next state → also state → AgreeButForBudget r s) → OnState told next r → OnState told also s → AgreeButForBudget r s
   one_on_state (Ok state) next also rest h k = rest state h k
-  one_on_state (Err refused) next also rest h k = h ∙ sym k
+  one_on_state (Err refused) next also rest h k = inl (h ∙ sym k)
 
-  one_outcome : (request : Request) → RequestOutcome request fs r → RequestOutcome request fs s → r ≡ s
+  one_on_files : (base a b : List ℕ) (next also : Tree → Tree → Tree → Type 0) → ((p q o : Tree) → IsProgram q → IsProgram o → next p q o → also p q o → AgreeButForBudget r s)
+      → OnFiles fs base a b next r → OnFiles fs base a b also s → AgreeButForBudget r s
+  one_on_files base a b next also rest h k =
+      one_on_file base _ _ (λ p hp h k. one_on_file a _ _ (λ q hq h k. one_on_file b _ _ (λ o ho h k. rest p q o hq.program ho.program h k) h k) h k) h k
+
+  one_outcome : (request : Request) → RequestOutcome request fs r → RequestOutcome request fs s → AgreeButForBudget r s
   one_outcome (integrate base a b tries) h k =
-      one_on_file base _ _ (λ p h k. one_on_file a _ _ (λ q h k. one_on_file b _ _ (λ o h k. one_integrated r s base p a q b o h k) h k) h k) h k
-  one_outcome (run file words steps) h k = one_on_state (states_of words) _ _ (λ state h k. one_on_file file _ _ (λ p h k. h ∙ sym k) h k) h k
+      one_on_files base a b (λ p q o. Integrated base p a q b o tries r) (λ p q o. Integrated base p a q b o tries s)
+      (λ p q o is_q is_o h k. one_integrated r s base p a q b o tries is_q is_o h k) h k
+  one_outcome (run file words steps trace) h k = one_on_state (states_of words) _ _ (λ state h k. one_on_file file _ _ (λ p hp h k. inl (h ∙ sym k)) h k) h k
   one_outcome (graph file json) h k =
-      one_on_file file _ _ (λ p h k. one_on_graph r s file p _ _ (λ h k. one_printed (IsShown json (graph_of p)) (one_shown json (graph_of p)) r s h k) h k) h k
+      one_on_file file _ _ (λ p hp h k. one_on_graph r s file p _ _ (λ h k. inl (one_printed (IsShown json (graph_of p)) (one_shown json (graph_of p)) r s h k)) h k) h k
   one_outcome (slice file points) h k =
       one_on_file file _ _
-      (λ p h k. one_on_graph r s file p _ _
+      (λ p hp h k. one_on_graph r s file p _ _
       (λ h k. one_on_points r s (graph_of p) points _ _
-      (λ h k. (let part = slice_of (graph_of p) (IsPoint points) in one_printed (IsGraphText part) (one_graph_text part) r s h k)) h k) h k) h k
+      (λ h k. (let part = slice_of (graph_of p) (IsPoint points) in inl (one_printed (IsGraphText part) (one_graph_text part) r s h k))) h k) h k) h k
   one_outcome (affected base a) h k =
       one_on_file base _ _
-      (λ p h k. one_on_file a _ _
-      (λ q h k. one_on_graph r s base p _ _
+      (λ p hp h k. one_on_file a _ _
+      (λ q hq h k. one_on_graph r s base p _ _
       (λ h k. one_on_graph r s a q _ _
-      (λ h k. (let P = IsAffected (graph_of q) (graph_of p) in one_printed (IsAffectedText P) (one_affected_text P) r s h k)) h k) h k) h k) h k
+      (λ h k. (let P = IsAffected (graph_of q) (graph_of p) in inl (one_printed (IsAffectedText P) (one_affected_text P) r s h k))) h k) h k) h k) h k
+  one_outcome (trial base a b words steps) h k =
+      one_on_state (states_of words) (λ state. OnFiles fs base a b (λ p q o. Tried base p a q b o state steps r) r) (λ state. OnFiles fs base a b (λ p q o. Tried base p a q b o state steps s) s)
+      (λ state h k. one_on_files base a b (λ p q o. Tried base p a q b o state steps r) (λ p q o. Tried base p a q b o state steps s)
+      (λ p q o is_q is_o h k. one_on_graphs r s base p a q b o (IsTried p q o state steps r) (IsTried p q o state steps s)
+      (λ h k. one_tried p q o state steps r s is_q is_o h k) h k) h k) h k
 
-pub one_decision : (request : Option Request) (fs : Files) (r s : Decision) → Outcome request fs r → Outcome request fs s → r ≡ s
-one_decision None fs r s h k = h ∙ sym k
+pub one_decision : (request : Option Request) (fs : Files) (r s : Decision) → Outcome request fs r → Outcome request fs s → AgreeButForBudget r s
+one_decision None fs r s h k = inl (h ∙ sym k)
 one_decision (Some request) fs r s h k = one_outcome fs r s request h k
+
+-- what has nothing to do with the budget is one decision
+agree_refused : (r : Decision) (m : List ℕ) → AgreeButForBudget r (refuses m) → r ≡ refuses m
+agree_refused r m (inl e) = e
+agree_refused r m (inr (inl (spent_is, (text, inl e)))) = absurd cc
+agree_refused r m (inr (inl (spent_is, (text, inr (inl e))))) = absurd cc
+agree_refused r m (inr (inl (spent_is, (text, inr (inr e))))) = absurd cc
+agree_refused r m (inr (inr (searched_is, (text, e)))) = absurd cc
+
+agree_interference : (r : Decision) (bytes : List ℕ) → AgreeButForBudget r (prints Interference bytes) → r ≡ prints Interference bytes
+agree_interference r bytes (inl e) = e
+agree_interference r bytes (inr (inl (spent_is, (text, inl e)))) = absurd cc
+agree_interference r bytes (inr (inl (spent_is, (text, inr (inl e))))) = absurd cc
+agree_interference r bytes (inr (inl (spent_is, (text, inr (inr e))))) = absurd cc
+agree_interference r bytes (inr (inr (searched_is, (text, e)))) = absurd cc
+
+pub one_interference : (request : Request) (fs : Files) (r : Decision) (cs : List Conflict) → RequestOutcome request fs r
+    → RequestOutcome request fs (prints Interference (conflicts_text cs)) → r ≡ prints Interference (conflicts_text cs)
+one_interference request fs r cs h k = agree_interference r (conflicts_text cs) (one_decision (Some request) fs r (prints Interference (conflicts_text cs)) h k)
 
 module _ (request : Request) (fs : Files) (reads : List ℕ → Type 0) (before now : ℕ) (out err : Change) (m : List ℕ)
     (refused : RequestOutcome request fs (refuses m)) (read : Rose before now → ⊥) where
@@ -162,7 +188,7 @@ module _ (request : Request) (fs : Files) (reads : List ℕ → Type 0) (before 
   Told = OutcomeIfTold (Some request) (Some fs)
 
   is_refused : (r : Decision) → Told r → r ≡ refuses m
-  is_refused r o = one_decision (Some request) fs r (refuses m) (o fs refl) refused
+  is_refused r o = agree_refused r m (one_decision (Some request) fs r (refuses m) (o fs refl) refused)
 
   decided : (s : Status) → Decided s Told before now out err → IsRefusedCall m s err
   decided s d =
@@ -180,7 +206,6 @@ module _ (request : Request) (fs : Files) (reads : List ℕ → Type 0) (before 
   refused_ends status.Refused h = decided status.Refused h
   refused_ends status.Words h = decided status.Words h
   refused_ends status.NotEnded h = decided status.NotEnded h
-  refused_ends status.NotBuilt h = decided status.NotBuilt h
 
 -- the same, for a request and files that are known by other names
 pub asked_refused : (known request : Request) (taken : Option Request) (files : Option Files) (fs : Files) (reads : List ℕ → Type 0) (m : List ℕ) (s : Status) (before now : ℕ) (out err : Change)

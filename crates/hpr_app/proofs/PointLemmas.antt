@@ -42,7 +42,6 @@ stranger_map P Q f (w ∷ ws) word (inl (n, is)) = inl (λ q. n ((f w).1 q), is)
 stranger_map P Q f (w ∷ ws) word (inr (p, later)) = inr ((f w).0 p, stranger_map P Q f ws word later)
 
 pub refuses_map : (P Q : Text → Type 0) → ((w : Text) → P w ↔ Q w) → (words : List Text) (s : Stop) → RefusesPoint P words s → RefusesPoint Q words s
-refuses_map P Q f words stop.NotBuilt h = h
 refuses_map P Q f words (stop.Refused message) (word, first, is) = (word, stranger_map P Q f words word first, is)
 refuses_map P Q f words (stop.ReadFault message) h = h
 refuses_map P Q f words stop.Memory h = tt

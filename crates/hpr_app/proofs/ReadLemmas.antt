@@ -16,25 +16,22 @@ FileOf files file p = IfTold files (λ fs. IsFileOf (bytes_of fs file) p)
 
 pub merges_map : (P Q : Decision → Type 0) → ((r : Decision) → P r → Q r) → (result : Result Report Stop) → Merges P result → Merges Q result
 merges_map P Q f (Ok report) h = f _ h
-merges_map P Q f (Err stop.NotBuilt) h = f _ h
 merges_map P Q f (Err (stop.Refused message)) h = f _ h
 merges_map P Q f (Err (stop.ReadFault message)) h = h
 merges_map P Q f (Err stop.Memory) h = h
 
 module _ (files : Option Files) (reads : List ℕ → Type 0) (before now : ℕ) where
   -- what is decided of P is decided of what P gives
-  decides_map : (P Q : Decision → Type 0) → ((r : Decision) → P r → Q r) → (result : Result Report Stop) → Decides P reads before now result
+  pub decides_map : (P Q : Decision → Type 0) → ((r : Decision) → P r → Q r) → (result : Result Report Stop) → Decides P reads before now result
       → Decides Q reads before now result
   decides_map P Q f (Ok report) h = (f _ h.0, h.1)
-  decides_map P Q f (Err stop.NotBuilt) h = (f _ h.0, h.1)
   decides_map P Q f (Err (stop.Refused message)) h = (f _ h.0, h.1)
   decides_map P Q f (Err (stop.ReadFault message)) h = h
   decides_map P Q f (Err stop.Memory) h = h
 
   -- what is decided in memory, behind the last read
-  merges_told : (P : Decision → Type 0) (result : Result Report Stop) → now ≡ before → Merges P result → Decides (λ r. IfTold files (λ fs. P r)) reads before now result
+  pub merges_told : (P : Decision → Type 0) (result : Result Report Stop) → now ≡ before → Merges P result → Decides (λ r. IfTold files (λ fs. P r)) reads before now result
   merges_told P (Ok report) same h = (λ fs t. h, same)
-  merges_told P (Err stop.NotBuilt) same h = (λ fs t. h, same)
   merges_told P (Err (stop.Refused message)) same h = (λ fs t. h, same)
   merges_told P (Err (stop.ReadFault message)) same h = absurd h
   merges_told P (Err stop.Memory) same h = omega (arith, same)
@@ -44,7 +41,6 @@ module _ (files : Option Files) (reads : List ℕ → Type 0) (before now : ℕ)
     Reaches r = IfTold files (λ fs. OnFile fs file (λ p. next fs p r) r)
 
     pub file_fails : (s : Stop) → reads file → Fails files file before now s → StopIs Reaches reads before now s
-    file_fails stop.NotBuilt is h = absurd h
     file_fails (stop.Refused message) is (h, e) = (λ fs t. inl (string_bytes message, h fs t, refl), e)
     file_fails (stop.ReadFault message) is (h, e) = (h, file, is, e)
     file_fails stop.Memory is h = h

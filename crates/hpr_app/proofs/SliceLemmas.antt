@@ -49,7 +49,6 @@ module _ (file : Text) (p : Tree) (points : List Text) (g : Numbered) (same : Sa
       inr (few, inr (all, (bytes, shown, refl)))
 
   refused : (s : Stop) → RefusesPoint (IsNamed (graph_of p)) points s → Merges (Sliced file p points) (Err s)
-  refused stop.NotBuilt h = absurd h
   refused (stop.Refused message) (word, first, is) = inr (few, inl (word, first, ap refuses is))
   refused (stop.ReadFault message) h = absurd h
   refused stop.Memory h = tt

@@ -66,7 +66,6 @@ module _ (words : List Text) where
         )
 
     pub refused_here : (old : Values) (s : Stop) → Taken i old → RefusesWord old word s → RefusesState words s
-    refused_here old stop.NotBuilt t h = absurd h
     refused_here old (stop.Refused message) t (why, e, is) =
         (record { word = word; why = why }, ap (λ r. state_unless r (told words)) (sym (at_word old (Some why) t e)), is)
     refused_here old (stop.ReadFault message) t h = absurd h

@@ -1,56 +1,69 @@
 -- What a call is sure to do where nothing fails.
 --
 -- DonePrinting P old new s          == the status is Done, and `out` took a text that has P in full
--- Completes base a b old new s      == so it is with the text of a where b is the base, and else with that of b where a is; else the case is not built yet
--- Runs p state steps old new s      == the status is that of how the run went, and `out` took its text in full
+-- Completes base a b tries old new s == the status and the text report an answer; the first program that fits, of the arrangements that may be tried, is
+--                                      printed; and the budget is not spent where there are no more arrangements
+-- IsOtherText base a b other bytes  == the text of the variant `other` with its finals ascending and, for each author, the greatest issued number of the three
+-- Runs p state steps trace old new s == the status is that of how the run went, and `out` took its text in full
+-- Tries base a b state steps old new s == the status and the text are those of a decision on the trial of the three programs
 -- RequestCompletes request files .. == that, where no state word is refused, each file of the request is of an accepted length and spells a program, no graph
 --                                      that the request needs has too many edges, the variants don't interfere, and each point is named
 -- PrintsOther request files ..      == where one variant of an integration is the base and no graph has too many edges, the other one is printed so
 -- IsRefusedCall message s err       == the status is Refused, and `err` got the message; or memory ran out
-use Rattle.std.specs.Prelude.{◌≡◌, ◌⊎◌, ℕ, List, All, Option, Ok}
+use Rattle.std.specs.Prelude.{◌≡◌, ◌≢◌, ◌≤◌, ◌⊎◌, ℕ, Bool, List, All, Option, Ok, length, take}
 use Rattle.hpr_io.specs.Files.{Files, bytes_of}
 use Rattle.hpr_io.specs.Taken.{taken_then}
 use Rattle.hpr_syntax.specs.Run as means
 use Rattle.hpr_syntax.specs.Tree.{Tree}
 use Rattle.hpr_syntax.specs.Values.{Values}
-use Rattle.hpr_graph.specs.Answer.{IsWithoutConflict}
+use Rattle.hpr_syntax.specs.Print.{text}
+use Rattle.hpr_graph.specs.Answer.{Answer, IsAnswer, IsFirstFit, IsWithoutConflict, issued_of, merged_of}
 use Rattle.hpr_graph.specs.Points.{IsAffected}
 use Rattle.hpr_graph.specs.ProgramGraph.{graph_of}
 use Rattle.hpr_graph.specs.Slices.{slice_of}
 use Rattle.hpr_report.specs.AffectedText.{IsAffectedText}
 use Rattle.hpr_report.specs.GraphTexts.{IsGraphText}
-use Rattle.hpr_report.specs.Texts.{outcome_text}
-use Rattle.hpr_app.specs.Ends.{Change, Says, status_of_kind}
+use Rattle.hpr_app.specs.Decision.{Decision}
+use Rattle.hpr_app.specs.Ends.{Change, Says, status_of, status_of_kind, text_of}
 use Rattle.hpr_app.specs.GraphFile.{IsShown}
 use Rattle.hpr_engine.specs.Limit.{AreInLimit, HasTooManyEdges}
-use Rattle.hpr_app.specs.Integrate.{IsOneSideText}
+use Rattle.hpr_engine.specs.Budget.{AreTried}
+use Rattle.hpr_rebuild.specs.Settled.{IsSettled}
+use Rattle.hpr_app.specs.Integrate.{report}
 use Rattle.hpr_app.specs.Points.{IsNamed, IsPoint}
 use Rattle.hpr_app.specs.Refusals.{IsFileOf}
 use Rattle.hpr_app.specs.RunFile.{kind_of}
 use Rattle.hpr_app.specs.States.{states_of}
-use Rattle.hpr_words.specs.Request.{Request, integrate, run, graph, slice, affected}
+use Rattle.hpr_app.specs.TraceText.{run_text}
+use Rattle.hpr_app.specs.TrialFiles.{IsTried}
+use Rattle.hpr_words.specs.Request.{Request, integrate, run, graph, slice, affected, trial}
 use Rattle.hpr_app.specs.declared.status.Status.{Status}
-use Rattle.hpr_app.specs.declared.status.Status.TheVariants.{Done, Refused, Memory, NotBuilt}
+use Rattle.hpr_app.specs.declared.status.Status.TheVariants.{Done, Refused, Spent, Memory}
 
 abbrev pub DonePrinting : (List ℕ → Type 0) → Option (List ℕ) → Option (List ℕ) → Status → Type 0
 DonePrinting P old new s = (s ≡ Done) × (bytes : List ℕ) × P bytes × (new ≡ taken_then old bytes)
 
-abbrev pub Completes : Tree → Tree → Tree → Option (List ℕ) → Option (List ℕ) → Status → Type 0
-Completes base a b old new s =
-    ((b ≡ base) × DonePrinting (IsOneSideText base a b a) old new s)
-    ⊎ (((b ≡ base → ⊥) × (a ≡ base) × DonePrinting (IsOneSideText base a b b) old new s)
-    ⊎ ((b ≡ base → ⊥) × (a ≡ base → ⊥) × (s ≡ NotBuilt)))
+pub record Completes (base a b : Tree) (tries : ℕ) (old new : Option (List ℕ)) (s : Status) : Type 0 where
+  pub answered : (x : Answer) × IsAnswer base a b tries x × (s ≡ status_of (report tries x)) × (new ≡ taken_then old (text_of (report tries x)))
+  pub first : (ps : List Tree) (m : Tree) → AreTried base a b ps → IsFirstFit (merged_of base a b) (take tries ps) m → DonePrinting (λ bytes. bytes ≡ text m) old new s
+  pub enough : (ps : List Tree) → AreTried base a b ps → length ps ≤ tries → s ≢ Spent
 
-abbrev pub Runs : Tree → Values → ℕ → Option (List ℕ) → Option (List ℕ) → Status → Type 0
-Runs p state steps old new s =
-    (s ≡ status_of_kind (kind_of (means.run p state steps))) × (new ≡ taken_then old (outcome_text (means.run p state steps)))
+abbrev pub IsOtherText : Tree → Tree → Tree → Tree → List ℕ → Type 0
+IsOtherText base a b other bytes = (m : Tree) × IsSettled (issued_of base a b) other m × (bytes ≡ text m)
+
+abbrev pub Runs : Tree → Values → ℕ → Bool → Option (List ℕ) → Option (List ℕ) → Status → Type 0
+Runs p state steps trace old new s =
+    (s ≡ status_of_kind (kind_of (means.run p state steps))) × (new ≡ taken_then old (run_text p state steps trace))
+
+abbrev pub Tries : Tree → Tree → Tree → Values → ℕ → Option (List ℕ) → Option (List ℕ) → Status → Type 0
+Tries base a b state steps old new s = (d : Decision) × IsTried base a b state steps d × (s ≡ status_of d) × (new ≡ taken_then old (text_of d))
 
 abbrev pub RequestCompletes : Request → Files → Option (List ℕ) → Option (List ℕ) → Status → Type 0
 RequestCompletes (integrate base a b tries) files old new s =
     (p q r : Tree) → IsFileOf (bytes_of files base) p → IsFileOf (bytes_of files a) q → IsFileOf (bytes_of files b) r → AreInLimit p q r
-    → IsWithoutConflict p q r → Completes p q r old new s
-RequestCompletes (run file states steps) files old new s =
-    (state : Values) (p : Tree) → states_of states ≡ Ok state → IsFileOf (bytes_of files file) p → Runs p state steps old new s
+    → IsWithoutConflict p q r → Completes p q r tries old new s
+RequestCompletes (run file states steps trace) files old new s =
+    (state : Values) (p : Tree) → states_of states ≡ Ok state → IsFileOf (bytes_of files file) p → Runs p state steps trace old new s
 RequestCompletes (graph file json) files old new s =
     (p : Tree) → IsFileOf (bytes_of files file) p → (HasTooManyEdges p → ⊥) → DonePrinting (IsShown json (graph_of p)) old new s
 RequestCompletes (slice file points) files old new s =
@@ -59,15 +72,19 @@ RequestCompletes (slice file points) files old new s =
 RequestCompletes (affected base a) files old new s =
     (p q : Tree) → IsFileOf (bytes_of files base) p → IsFileOf (bytes_of files a) q → (HasTooManyEdges p → ⊥) → (HasTooManyEdges q → ⊥)
     → DonePrinting (IsAffectedText (IsAffected (graph_of q) (graph_of p))) old new s
+RequestCompletes (trial base a b states steps) files old new s =
+    (state : Values) (p q r : Tree) → states_of states ≡ Ok state → IsFileOf (bytes_of files base) p → IsFileOf (bytes_of files a) q → IsFileOf (bytes_of files b) r
+    → AreInLimit p q r → Tries p q r state steps old new s
 
 abbrev pub PrintsOther : Request → Files → Option (List ℕ) → Option (List ℕ) → Status → Type 0
 PrintsOther (integrate base a b tries) files old new s =
     (p q r : Tree) → IsFileOf (bytes_of files base) p → IsFileOf (bytes_of files a) q → IsFileOf (bytes_of files b) r → AreInLimit p q r
-    → (q ≡ p → DonePrinting (IsOneSideText p q r r) old new s) × (r ≡ p → DonePrinting (IsOneSideText p q r q) old new s)
-PrintsOther (run file states steps) files old new s = Unit {0}
+    → (q ≡ p → DonePrinting (IsOtherText p q r r) old new s) × (r ≡ p → DonePrinting (IsOtherText p q r q) old new s)
+PrintsOther (run file states steps trace) files old new s = Unit {0}
 PrintsOther (graph file json) files old new s = Unit {0}
 PrintsOther (slice file points) files old new s = Unit {0}
 PrintsOther (affected base a) files old new s = Unit {0}
+PrintsOther (trial base a b states steps) files old new s = Unit {0}
 
 abbrev pub IsRefusedCall : List ℕ → Status → Change → Type 0
 IsRefusedCall message s err = (s ≡ Memory) ⊎ ((s ≡ Refused) × Says message err)

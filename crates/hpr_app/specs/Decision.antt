@@ -10,7 +10,6 @@ use Rattle.hpr_app.specs.declared.answer.Kind.TheVariants.{Done}
 pub data Decision : Type 0 where
   prints : Kind → List ℕ → Decision
   refuses : (message : List ℕ) → Decision
-  not_built : Decision
   usage : Decision
 
 abbrev pub Prints : (List ℕ → Type 0) → Decision → Type 0

@@ -17,13 +17,10 @@ use Rattle.hpr_app.specs.declared.answer.Kind.{Kind}
 use Rattle.hpr_app.specs.declared.answer.Kind.TheVariants as kind
 use Rattle.hpr_app.specs.declared.status.Status.{Status}
 use Rattle.hpr_app.specs.declared.status.Status.TheVariants as status
-use Rattle.hpr_app.specs.Decision.{Decision, prints, refuses, not_built, usage}
+use Rattle.hpr_app.specs.Decision.{Decision, prints, refuses, usage}
 
 abbrev pub usage_text : List ℕ
-usage_text = codes "usage: hpr integrate BASE A B [--tries N]\n       hpr run FILE [STATE..] [--steps N]\n       hpr graph FILE [--json]\n       hpr slice FILE POINT..\n       hpr affected BASE A\n"
-
-abbrev pub not_built_text : List ℕ
-not_built_text = codes "hpr: not built yet\n"
+usage_text = codes "usage: hpr integrate BASE A B [--tries N]\n       hpr run FILE [STATE..] [--steps N] [--trace]\n       hpr graph FILE [--json]\n       hpr slice FILE POINT..\n       hpr affected BASE A\n       hpr trial BASE A B [STATE..] [--steps N]\n"
 
 abbrev pub cannot_write : List ℕ
 cannot_write = codes "hpr: cannot write output\n"
@@ -46,12 +43,13 @@ IsUntouched c = (c.now ≡ c.before) × (c.new ≡ c.old)
 abbrev pub status_of_kind : Kind → Status
 status_of_kind kind.Done = status.Done
 status_of_kind kind.Interference = status.Interference
+status_of_kind kind.NoProgram = status.NoProgram
+status_of_kind kind.Spent = status.Spent
 status_of_kind kind.NotEnded = status.NotEnded
 
 abbrev pub status_of : Decision → Status
 status_of (prints k text) = status_of_kind k
 status_of (refuses message) = status.Refused
-status_of not_built = status.NotBuilt
 status_of usage = status.Words
 
 abbrev pub text_of : Decision → List ℕ
@@ -65,7 +63,6 @@ has_text _ = ⊥
 abbrev pub message_of : Decision → Option (List ℕ)
 message_of (prints k text) = None
 message_of (refuses message) = Some message
-message_of not_built = Some not_built_text
 message_of usage = Some usage_text
 
 pub record Says (message : List ℕ) (err : Change) : Type 0 where

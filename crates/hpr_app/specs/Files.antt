@@ -22,7 +22,6 @@ abbrev pub Refuses : Option io.Files → List ℕ → List ℕ → Type 0
 Refuses files file message = IfTold files (λ fs. IsRefused file (io.bytes_of fs file) message)
 
 abbrev pub Fails : Option io.Files → List ℕ → ℕ → ℕ → Stop → Type 0
-Fails files file before now stop.NotBuilt = ⊥
 Fails files file before now (stop.Refused message) = Refuses files file (string_bytes message) × (now ≡ before)
 Fails files file before now (stop.ReadFault message) = Rose before now × (string_bytes message ≡ cannot_read file)
 Fails files file before now stop.Memory = before ≤ now

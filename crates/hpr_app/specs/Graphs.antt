@@ -22,13 +22,11 @@ abbrev pub OnGraph : List ℕ → Tree → Type 0 → Decision → Type 0
 OnGraph file p next r = (HasTooManyEdges p × (r ≡ refuses (too_many_edges file))) ⊎ ((HasTooManyEdges p → ⊥) × next)
 
 abbrev pub RefusesGraph : List ℕ → Stop → Type 0
-RefusesGraph file stop.NotBuilt = ⊥
 RefusesGraph file (stop.Refused message) = string_bytes message ≡ too_many_edges file
 RefusesGraph file (stop.ReadFault message) = ⊥
 RefusesGraph file stop.Memory = Unit {0}
 
 abbrev pub FailsGraph : List ℕ → Tree → Stop → Type 0
-FailsGraph file p stop.NotBuilt = ⊥
 FailsGraph file p (stop.Refused message) = HasTooManyEdges p × (string_bytes message ≡ too_many_edges file)
 FailsGraph file p (stop.ReadFault message) = ⊥
 FailsGraph file p stop.Memory = Unit {0}

@@ -3,6 +3,8 @@ pub mod Refusals
 pub mod States
 pub mod Reads
 pub mod Integrate
+pub mod TraceText
+pub mod ItemLine
 pub mod RunFile
 pub mod ReadsState
 pub mod Graphs
@@ -11,12 +13,15 @@ pub mod Points
 pub mod ReadsPoints
 pub mod SliceFile
 pub mod AffectedFiles
+pub mod TrialFiles
 pub mod Outcome
 pub mod Ends
 pub mod Answer
 pub mod Files
+pub mod ReadsFiles
 pub mod Writes
 pub mod Number
 pub mod Complete
-pub mod Interference
+pub mod Reports
 pub mod Theorem
+pub mod TrialKeeps

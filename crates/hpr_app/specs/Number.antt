@@ -16,4 +16,3 @@ number_of status.WriteFault = 6
 number_of status.Words = 7
 number_of status.Memory = 8
 number_of status.NotEnded = 9
-number_of status.NotBuilt = 20

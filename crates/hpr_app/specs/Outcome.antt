@@ -3,23 +3,28 @@
 -- RequestOutcome request files r == r is the decision on the request, where the shelf holds these files
 -- Outcome request files r        == the same, or the usage text where the words are no call
 -- OutcomeIfTold request files r  == the same, for whatever files the shelf tells
--- OneDecision                    == the words and the files make at most one decision
-use Rattle.std.specs.Prelude.{◌≡◌, Option, Some, None}
+-- IsSpent r, HasSearched r       == r prints that the budget of tries is spent; r prints a program or what it does, or that there is none
+-- AgreeButForBudget r s          == they are the same; or one is that the budget is spent, and the other comes of a search that went on
+-- OneDecision                    == the words and the files make one decision, but that a search may go on past its budget or not
+use Rattle.std.specs.Prelude.{◌≡◌, ◌⊎◌, ℕ, List, Option, Some, None}
 use Rattle.hpr_io.specs.Files.{Files}
-use Rattle.hpr_words.specs.Request.{Request, integrate, run, graph, slice, affected}
-use Rattle.hpr_app.specs.Decision.{Decision, usage}
+use Rattle.hpr_words.specs.Request.{Request, integrate, run, graph, slice, affected, trial}
+use Rattle.hpr_app.specs.Decision.{Decision, prints, usage}
 use Rattle.hpr_app.specs.Integrate.{IntegrateOutcome}
 use Rattle.hpr_app.specs.RunFile.{RunOutcome}
 use Rattle.hpr_app.specs.GraphFile.{GraphOutcome}
 use Rattle.hpr_app.specs.SliceFile.{SliceOutcome}
 use Rattle.hpr_app.specs.AffectedFiles.{AffectedOutcome}
+use Rattle.hpr_app.specs.TrialFiles.{TrialOutcome}
+use Rattle.hpr_app.specs.declared.answer.Kind.TheVariants.{Done, NoProgram, Spent, NotEnded}
 
 abbrev pub RequestOutcome : Request → Files → Decision → Type 0
-RequestOutcome (integrate base a b tries) files r = IntegrateOutcome files base a b r
-RequestOutcome (run file states steps) files r = RunOutcome files file states steps r
+RequestOutcome (integrate base a b tries) files r = IntegrateOutcome files base a b tries r
+RequestOutcome (run file states steps trace) files r = RunOutcome files file states steps trace r
 RequestOutcome (graph file json) files r = GraphOutcome files file json r
 RequestOutcome (slice file points) files r = SliceOutcome files file points r
 RequestOutcome (affected base a) files r = AffectedOutcome files base a r
+RequestOutcome (trial base a b states steps) files r = TrialOutcome files base a b states steps r
 
 abbrev pub Outcome : Option Request → Files → Decision → Type 0
 Outcome None files r = r ≡ usage
@@ -28,5 +33,14 @@ Outcome (Some request) files r = RequestOutcome request files r
 abbrev pub OutcomeIfTold : Option Request → Option Files → Decision → Type 0
 OutcomeIfTold request files r = (fs : Files) → files ≡ Some fs → Outcome request fs r
 
+abbrev pub IsSpent : Decision → Type 0
+IsSpent r = (text : List ℕ) × (r ≡ prints Spent text)
+
+abbrev pub HasSearched : Decision → Type 0
+HasSearched r = (text : List ℕ) × ((r ≡ prints Done text) ⊎ ((r ≡ prints NoProgram text) ⊎ (r ≡ prints NotEnded text)))
+
+abbrev pub AgreeButForBudget : Decision → Decision → Type 0
+AgreeButForBudget r s = (r ≡ s) ⊎ ((IsSpent r × HasSearched s) ⊎ (HasSearched r × IsSpent s))
+
 abbrev pub OneDecision : Type 0
-OneDecision = (request : Option Request) (files : Files) (r s : Decision) → Outcome request files r → Outcome request files s → r ≡ s
+OneDecision = (request : Option Request) (files : Files) (r s : Decision) → Outcome request files r → Outcome request files s → AgreeButForBudget r s

@@ -16,7 +16,6 @@ use Rattle.hpr_app.specs.declared.answer.Stop.{Stop}
 use Rattle.hpr_app.specs.declared.answer.Stop.TheVariants as stop
 
 abbrev pub RefusesPoint : (Text → Type 0) → List Text → Stop → Type 0
-RefusesPoint P words stop.NotBuilt = ⊥
 RefusesPoint P words (stop.Refused message) = (word : Text) × IsFirstStranger P words word × (string_bytes message ≡ no_such_point word)
 RefusesPoint P words (stop.ReadFault message) = ⊥
 RefusesPoint P words stop.Memory = Unit {0}

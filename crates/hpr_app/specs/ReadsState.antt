@@ -13,7 +13,6 @@ use Rattle.hpr_app.specs.declared.answer.Stop.TheVariants as stop
 use Rattle.hpr_app.specs.declared.states.WordRefusal.{WordRefusal}
 
 abbrev pub RefusesState : List Text → Stop → Type 0
-RefusesState words stop.NotBuilt = ⊥
 RefusesState words (stop.Refused message) = (r : RefusedWord) × (states_of words ≡ Err r) × (string_bytes message ≡ refused_word_text r)
 RefusesState words (stop.ReadFault message) = ⊥
 RefusesState words stop.Memory = Unit {0}
@@ -23,7 +22,6 @@ ReadsState words (Ok state) = states_of words ≡ Ok state
 ReadsState words (Err s) = RefusesState words s
 
 abbrev pub RefusesWord : Values → Text → Stop → Type 0
-RefusesWord state word stop.NotBuilt = ⊥
 RefusesWord state word (stop.Refused message) =
     (why : WordRefusal) × (refusal state word ≡ Some why) × (string_bytes message ≡ refused_word_text (record { word = word; why = why }))
 RefusesWord state word (stop.ReadFault message) = ⊥

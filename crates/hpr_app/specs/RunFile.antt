@@ -2,18 +2,18 @@
 --
 -- kind_of o                            == a run that ends is done; one that faults or is spent is not ended
 -- OnState told next r                  == r is the refusal of a state word; or r is what next says of the state
--- Ran p state steps r                  == r prints how the run of the program p from the state went, with so many steps to spend
--- RunOutcome files file words steps r  == that, of the state that the words tell and the program that the file spells
-use Rattle.std.specs.Prelude.{◌≡◌, ℕ, List, Result, Ok, Err}
+-- Ran p state steps trace r            == r prints the run of the program p from the state with so many steps to spend, with its trace or without
+-- RunOutcome files file words steps trace r == that, of the state that the words tell and the program that the file spells
+use Rattle.std.specs.Prelude.{◌≡◌, ℕ, Bool, List, Result, Ok, Err}
 use Rattle.hpr_io.specs.Files.{Files}
 use Rattle.hpr_syntax.specs.Run.{Outcome, ends, faults, more, run}
 use Rattle.hpr_syntax.specs.Tree.{Tree}
 use Rattle.hpr_syntax.specs.Values.{Values}
-use Rattle.hpr_report.specs.Texts.{outcome_text}
 use Rattle.hpr_words.specs.Request.{Text}
 use Rattle.hpr_app.specs.Decision.{Decision, prints, refuses}
 use Rattle.hpr_app.specs.Integrate.{OnFile}
 use Rattle.hpr_app.specs.States.{RefusedWord, refused_word_text, states_of}
+use Rattle.hpr_app.specs.TraceText.{run_text}
 use Rattle.hpr_app.specs.declared.answer.Kind.{Kind}
 use Rattle.hpr_app.specs.declared.answer.Kind.TheVariants.{Done, NotEnded}
 
@@ -26,8 +26,8 @@ abbrev pub OnState : Result Values RefusedWord → (Values → Type 0) → Decis
 OnState (Ok state) next r = next state
 OnState (Err refused) next r = r ≡ refuses (refused_word_text refused)
 
-abbrev pub Ran : Tree → Values → ℕ → Decision → Type 0
-Ran p state steps r = r ≡ prints (kind_of (run p state steps)) (outcome_text (run p state steps))
+abbrev pub Ran : Tree → Values → ℕ → Bool → Decision → Type 0
+Ran p state steps trace r = r ≡ prints (kind_of (run p state steps)) (run_text p state steps trace)
 
-abbrev pub RunOutcome : Files → Text → List Text → ℕ → Decision → Type 0
-RunOutcome files file words steps r = OnState (states_of words) (λ state. OnFile files file (λ p. Ran p state steps r) r) r
+abbrev pub RunOutcome : Files → Text → List Text → ℕ → Bool → Decision → Type 0
+RunOutcome files file words steps trace r = OnState (states_of words) (λ state. OnFile files file (λ p. Ran p state steps trace r) r) r

@@ -8,7 +8,7 @@
 use Rattle.std.specs.Prelude.{◌≡◌, ◌⊎◌, ℕ, List, Result, Ok, Err, string_bytes}
 use Rattle.hpr_io.specs.Counts.{Rose}
 use Rattle.hpr_io.specs.Taken.{taken_then, TookPrefix}
-use Rattle.hpr_app.specs.Ends.{Change, IsUntouched, Says, cannot_write, no_memory, not_built_text, status_of_kind}
+use Rattle.hpr_app.specs.Ends.{Change, IsUntouched, Says, cannot_write, no_memory, status_of_kind}
 use Rattle.hpr_app.specs.declared.answer.Report.{Report}
 use Rattle.hpr_app.specs.declared.answer.Stop.{Stop}
 use Rattle.hpr_app.specs.declared.answer.Stop.TheVariants as stop
@@ -16,13 +16,11 @@ use Rattle.hpr_app.specs.declared.status.Status.{Status}
 use Rattle.hpr_app.specs.declared.status.Status.TheVariants as status
 
 abbrev pub stop_status : Stop → Status
-stop_status stop.NotBuilt = status.NotBuilt
 stop_status (stop.Refused message) = status.Refused
 stop_status (stop.ReadFault message) = status.ReadFault
 stop_status stop.Memory = status.Memory
 
 abbrev pub stop_message : Stop → List ℕ
-stop_message stop.NotBuilt = not_built_text
 stop_message (stop.Refused message) = string_bytes message
 stop_message (stop.ReadFault message) = string_bytes message
 stop_message stop.Memory = no_memory

@@ -10,7 +10,7 @@ use std::alloc::AllocError;
 
 /// The text for words that are no call.
 pub const USAGE: &[u8] =
-    b"usage: hpr integrate BASE A B [--tries N]\n       hpr run FILE [STATE..] [--steps N]\n       hpr graph FILE [--json]\n       hpr slice FILE POINT..\n       hpr affected BASE A\n";
+    b"usage: hpr integrate BASE A B [--tries N]\n       hpr run FILE [STATE..] [--steps N] [--trace]\n       hpr graph FILE [--json]\n       hpr slice FILE POINT..\n       hpr affected BASE A\n       hpr trial BASE A B [STATE..] [--steps N]\n";
 
 /// The kinds of answers that have a text for `out`.
 #[derive(Clone, Copy)]
@@ -19,6 +19,10 @@ pub enum Kind {
     Done,
     /// The variants interfere.
     Interference,
+    /// No program has the merged graph.
+    NoProgram,
+    /// The budget of tries is spent.
+    Spent,
     /// A run did not end normally.
     NotEnded,
 }
@@ -33,7 +37,6 @@ pub struct Report {
 /// Why there is no text for `out`, with the message for `err` where it isn't a fixed one.
 #[derive(Drop)]
 pub enum Stop {
-    NotBuilt,
     Refused(String),
     ReadFault(String),
     Memory,
@@ -71,6 +74,8 @@ impl Kind {
         match self {
             Kind::Done => Status::Done,
             Kind::Interference => Status::Interference,
+            Kind::NoProgram => Status::NoProgram,
+            Kind::Spent => Status::Spent,
             Kind::NotEnded => Status::NotEnded,
         }
     }
@@ -113,10 +118,6 @@ fn write_stop<E: Sink>(stop: &Stop, err: &mut E) -> Status
     ensures says { Says (stop_message stop.now) (record { before = E.faults err.old; now = E.faults err.new; old = E.taken err.old; new = E.taken err.new }) }
 {
     match stop {
-        Stop::NotBuilt => {
-            write_message(b"hpr: not built yet\n", err);
-            Status::NotBuilt
-        }
         Stop::Refused(message) => {
             write_message(message.as_bytes(), err);
             Status::Refused

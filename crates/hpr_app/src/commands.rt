@@ -1,6 +1,7 @@
 //! The commands: each has its own decision.
 ghost use Rattle.std.specs.Prelude.{All, IsTrue, Some};
 ghost use Rattle.hpr_words.specs.Asked.{request};
+ghost use Rattle.hpr_words.specs.Request.{IsInRange};
 ghost use Rattle.hpr_app.specs.Outcome.{OutcomeIfTold};
 ghost use Rattle.hpr_app.specs.Reads.{MayRead, files_of};
 ghost use Rattle.hpr_app.specs.Answer.{Decides};
@@ -11,29 +12,36 @@ use crate::graph::graph_file;
 use crate::integrate::integrate_files;
 use crate::run::run_file;
 use crate::slice::slice_file;
+use crate::trial::trial_files;
 use hpr_io::Shelf;
 use hpr_words::Asked;
 use std::alloc::Global;
 
 /// What a request comes to.
 pub fn decide<S: Shelf>(alloc: Global, asked: Asked<'_>, shelf: &mut S) -> Result<Report, Stop>
-    requires { All (λ name. IsTrue (S.serves shelf.old name)) (files_of (request asked)) }
+    requires serves { All (λ name. IsTrue (S.serves shelf.old name)) (files_of (request asked)) }
+    requires in_range { IsInRange (request asked) }
     ensures { Decides (OutcomeIfTold (Some (request asked.entry)) (S.files shelf.old)) (MayRead (request asked.entry)) (S.faults shelf.old) (S.faults shelf.new) result }
 {
     match asked {
-        Asked::Integrate {
-            base,
-            a,
-            b,
-            tries: _,
-        } => integrate_files(alloc, base, a, b, shelf),
+        Asked::Integrate { base, a, b, tries } => {
+            integrate_files(alloc, base, a, b, tries, shelf)
+        }
         Asked::Run {
             file,
             states,
             steps,
-        } => run_file(alloc, file, states.as_slice(), steps, shelf),
+            trace,
+        } => run_file(alloc, file, states.as_slice(), steps, trace, shelf),
         Asked::Graph { file, json } => graph_file(alloc, file, json, shelf),
         Asked::Slice { file, points } => slice_file(alloc, file, points.as_slice(), shelf),
         Asked::Affected { base, a } => affected_files(alloc, base, a, shelf),
+        Asked::Trial {
+            base,
+            a,
+            b,
+            states,
+            steps,
+        } => trial_files(alloc, base, a, b, states.as_slice(), steps, shelf),
     }
 }

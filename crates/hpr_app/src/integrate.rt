@@ -1,65 +1,82 @@
 //! The command `integrate`.
-ghost use Rattle.std.specs.Prelude.{◌≡◌, [], ◌∷◌, Contains, IsTrue, IfOk, OnOk};
-ghost use Rattle.hpr_syntax.specs.Issued.{raised_by};
-ghost use Rattle.hpr_app.specs.Files.{IfTold};
+ghost use Rattle.std.specs.Prelude.{◌≡◌, ◌≤◌, [], ◌∷◌, Contains, IsTrue};
+ghost use Rattle.hpr_syntax.specs.Print.{text};
 ghost use Rattle.hpr_report.specs.ConflictsText.{conflicts_text};
+ghost use Rattle.hpr_app.specs.Files.{IfTold};
 ghost use Rattle.hpr_app.specs.Decision.{prints};
-ghost use Rattle.hpr_app.specs.Integrate.{file_of, Integrated, IntegrateOutcome, OneSideOutcome, IsOneSideText};
+ghost use Rattle.hpr_app.specs.Integrate.{file_of, no_program_text, spent_text, Integrated, IntegrateOutcome, IsStopped};
 ghost use Rattle.hpr_app.specs.Answer.{Decides, Merges};
 
 use crate::answer::{Kind, Report, Stop};
-use crate::files::read_program;
 use crate::graphs::refuse_graph;
-use hpr_engine::{Which, merge_programs};
+use crate::versions::{Versions, read_versions};
+use hpr_engine::{Which, integrate};
 use hpr_graph::Conflict;
 use hpr_io::Shelf;
-use hpr_print::text_of_parts;
+use hpr_print::text_of;
 use hpr_report::conflicts_text;
-use hpr_syntax::{Issued, NoMemory, Program};
-use hpr_terms::copy_names;
+use hpr_syntax::Program;
 use std::alloc::Global;
 
-/// Integrates two variants with their base: prints the conflicts where they interfere, and the other
-/// variant where one is the base.
+/// Integrates two variants with their base, trying as many arrangements as `tries` allows: prints the
+/// merged program; or the conflicts, where the variants interfere; or that no program has the merged
+/// graph; or that the budget is spent.
 pub fn integrate_files<S: Shelf>(
     alloc: Global,
     base: &str,
     a: &str,
     b: &str,
+    tries: u64,
     shelf: &mut S,
 ) -> Result<Report, Stop>
     requires base { IsTrue (S.serves shelf.old base.now) }
     requires a { IsTrue (S.serves shelf.old a.now) }
     requires b { IsTrue (S.serves shelf.old b.now) }
-    ensures { Decides (λ r. IfTold (S.files shelf.old) (λ fs. IntegrateOutcome fs base.now a.now b.now r)) (λ file. Contains (base.now ∷ a.now ∷ b.now ∷ []) file) (S.faults shelf.old) (S.faults shelf.new) result }
+    requires tries { 1 ≤ tries }
+    ensures { Decides (λ r. IfTold (S.files shelf.old) (λ fs. IntegrateOutcome fs base.now a.now b.now tries r)) (λ file. Contains (base.now ∷ a.now ∷ b.now ∷ []) file) (S.faults shelf.old) (S.faults shelf.new) result }
 {
-    let base_program = read_program(alloc, base, shelf)?;
-    let a_program = read_program(alloc, a, shelf)?;
-    let b_program = read_program(alloc, b, shelf)?;
-    integrate_programs(alloc, base, &base_program, a, &a_program, b, &b_program)
+    let versions = read_versions(alloc, base, a, b, shelf)?;
+    integrate_versions(alloc, base, a, b, &versions, tries)
 }
 
 /// The answer for the programs of three files.
-fn integrate_programs(
+fn integrate_versions(
     alloc: Global,
     base: &str,
-    base_program: &Program,
     a: &str,
-    a_program: &Program,
     b: &str,
-    b_program: &Program,
+    versions: &Versions,
+    tries: u64,
 ) -> Result<Report, Stop>
-    ensures { Merges (Integrated base.now base_program.now a.now a_program.now b.now b_program.now) result }
+    requires { 1 ≤ tries }
+    ensures { Merges (Integrated base.now versions.now.base a.now versions.now.a b.now versions.now.b tries) result }
 {
-    match merge_programs(alloc, base_program, a_program, b_program) {
-        Ok(_) => one_side(alloc, base_program, a_program, b_program),
-        Err(hpr_engine::Stop::TooManyEdges(which)) => {
-            let file = named(which, base, a, b);
+    match integrate(alloc, &versions.base, &versions.a, &versions.b, tries) {
+        Ok(merged) => merged_program(alloc, &merged),
+        Err(stop) => stopped(alloc, base, a, b, tries, &stop),
+    }
+}
+
+/// The answer where an integration stops without a program.
+pub fn stopped(
+    alloc: Global,
+    base: &str,
+    a: &str,
+    b: &str,
+    tries: u64,
+    stop: &hpr_engine::Stop,
+) -> Result<Report, Stop>
+    ensures { Merges (IsStopped base.now a.now b.now tries stop.now) result }
+{
+    match stop {
+        hpr_engine::Stop::TooManyEdges(which) => {
+            let file = named(*which, base, a, b);
             Err(refuse_graph(alloc, file))
         }
-        Err(hpr_engine::Stop::Interference(conflicts)) => interference(alloc, &conflicts),
-        Err(hpr_engine::Stop::NoProgram(_) | hpr_engine::Stop::Spent) => unreachable!(),
-        Err(hpr_engine::Stop::Memory) => Err(Stop::Memory),
+        hpr_engine::Stop::Interference(conflicts) => interference(alloc, conflicts),
+        hpr_engine::Stop::NoProgram(parts) => no_program(alloc, *parts),
+        hpr_engine::Stop::Spent => spent(alloc, tries),
+        hpr_engine::Stop::Memory => Err(Stop::Memory),
     }
 }
 
@@ -74,7 +91,18 @@ fn named<'a>(which: Which, base: &'a str, a: &'a str, b: &'a str) -> &'a str
     }
 }
 
-/// The answer where the variants interfere.
+/// The report where a program is found.
+fn merged_program(alloc: Global, merged: &Program) -> Result<Report, Stop>
+    ensures { Merges (λ r. r ≡ prints Kind.Done (text merged.now)) result }
+{
+    let text = text_of(alloc, merged)?;
+    Ok(Report {
+        kind: Kind::Done,
+        text,
+    })
+}
+
+/// The report where the variants interfere.
 fn interference(alloc: Global, conflicts: &[Conflict]) -> Result<Report, Stop>
     ensures { Merges (λ r. r ≡ prints Kind.Interference (conflicts_text conflicts.now)) result }
 {
@@ -85,53 +113,28 @@ fn interference(alloc: Global, conflicts: &[Conflict]) -> Result<Report, Stop>
     })
 }
 
-/// The answer where one variant is the base.
-fn one_side(alloc: Global, base: &Program, a: &Program, b: &Program) -> Result<Report, Stop>
-    ensures { Merges (OneSideOutcome base.now a.now b.now) result }
+/// The report where no program has the merged graph, which has so many parts.
+fn no_program(alloc: Global, parts: usize) -> Result<Report, Stop>
+    ensures { Merges (λ r. r ≡ prints Kind.NoProgram (no_program_text parts)) result }
 {
-    if b.is_same(base) {
-        let text = printed(alloc, base, a, b, a)?;
-        return Ok(Report {
-            kind: Kind::Done,
-            text,
-        });
-    }
-    if a.is_same(base) {
-        let text = printed(alloc, base, a, b, b)?;
-        return Ok(Report {
-            kind: Kind::Done,
-            text,
-        });
-    }
-    Err(Stop::NotBuilt)
+    let line = format!(in alloc;
+        "no program with at most 1000 parts has the merged graph, which has {parts} parts\n"
+    )?;
+    Ok(Report {
+        kind: Kind::NoProgram,
+        text: line.into_bytes(),
+    })
 }
 
-/// The text of the variant `other`, with its finals ascending and each author's issued number the
-/// greatest of the three programs.
-#[tactic(auto, using(hpr_syntax::proofs::DepthBound::shallow))]
-fn printed(
-    alloc: Global,
-    base: &Program,
-    a: &Program,
-    b: &Program,
-    other: &Program,
-) -> Result<Vec<u8>, NoMemory>
-    ensures { IfOk result (λ v. IsOneSideText base.now a.now b.now other.now v.items) }
+/// The report where the budget of tries is spent.
+fn spent(alloc: Global, tries: u64) -> Result<Report, Stop>
+    ensures { Merges (λ r. r ≡ prints Kind.Spent (spent_text tries)) result }
 {
-    let mut issued = base.issued().copy(alloc)?;
-    raise_all(&mut issued, a.issued())?;
-    raise_all(&mut issued, b.issued())?;
-    let mut finals = copy_names(alloc, other.finals())?;
-    finals.sort()?;
-    text_of_parts(alloc, &issued, other.body(), &finals)
-}
-
-/// Raises each author's number to that of other issued numbers.
-fn raise_all(issued: &mut Issued, other: &Issued) -> Result<(), NoMemory>
-    ensures { OnOk result (issued.new ≡ raised_by other.now issued.old) }
-{
-    for (author, serial) in other.rows() {
-        issued.raise(*author, *serial)?;
-    }
-    Ok(())
+    let line = format!(in alloc;
+        "spent: none of the first {tries} arrangements has the merged graph\n"
+    )?;
+    Ok(Report {
+        kind: Kind::Spent,
+        text: line.into_bytes(),
+    })
 }

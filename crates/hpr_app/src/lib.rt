@@ -16,6 +16,9 @@ mod run;
 mod slice;
 mod states;
 mod status;
+mod trace_text;
+mod trial;
+mod versions;
 
 ghost use Rattle.std.specs.Prelude.{◌≡◌, ◌≢◌, ℕ, List, ◌++◌, ◌<◌, ◌⊎◌, ◌↔◌, All, None, IsTrue, map, string_bytes};
 ghost use Rattle.hpr_graph.specs.declared.conflict.Conflict.{Conflict};
@@ -23,14 +26,16 @@ ghost use Rattle.hpr_io.specs.Files.{Files};
 ghost use Rattle.hpr_io.specs.Counts.{Rose};
 ghost use Rattle.hpr_words.specs.Asked.{request};
 ghost use Rattle.hpr_words.specs.Plain.{plain};
-ghost use Rattle.hpr_words.specs.Request.{Request};
+ghost use Rattle.hpr_words.specs.Request.{Request, IsInRange};
 ghost use Rattle.hpr_words.specs.Taken.{taken};
 ghost use Rattle.hpr_app.specs.Reads.{MayRead, MayReadIfTaken, files_of, files_of_taken};
 ghost use Rattle.hpr_app.specs.Outcome.{RequestOutcome, OutcomeIfTold};
 ghost use Rattle.hpr_app.specs.Decision.{refuses};
 ghost use Rattle.hpr_app.specs.Complete.{RequestCompletes, PrintsOther, IsRefusedCall};
-ghost use Rattle.hpr_app.specs.Interference.{Interferes, IsInterference};
+ghost use Rattle.hpr_graph.specs.Answer.{interference, no_program, spent};
+ghost use Rattle.hpr_app.specs.Reports.{HasAnswer, IsInterference};
 ghost use Rattle.hpr_app.specs.Theorem.{KeepsMeaning};
+ghost use Rattle.hpr_app.specs.TrialKeeps.{EndsTrial, KeepsTrial};
 ghost use Rattle.hpr_app.specs.Ends.{Ends};
 
 use crate::answer::Stop;
@@ -46,8 +51,9 @@ use std::alloc::Global;
 /// before the next one is fetched: one that has more than 4,194,304 bytes, spells no tree, or spells
 /// a tree that is no program is refused. So is a file whose program has a graph of more than
 /// 1,000,000 edges, where the command needs it; then the first word for a point that names no vertex
-/// is refused. Variants that interfere are reported with all their conflicts. All text of `out` is made before its first byte is put. Faults of `err` change no
-/// status.
+/// is refused. Variants that interfere are reported with all their conflicts; else the merged program
+/// is printed, or it is said that there is none, or that the budget of tries is spent. A trial runs
+/// where a program would be printed. All text of `out` is made before its first byte is put. Faults of `err` change no status.
 pub fn hpr<S: Shelf, O: Sink, E: Sink>(
     alloc: Global,
     words: &[String],
@@ -84,10 +90,16 @@ pub fn hpr<S: Shelf, O: Sink, E: Sink>(
 
     // The status is Interference exactly where there are conflicts and no earlier cause holds; `out` then takes the text of all of them.
     ensures interference { (asked : Request) (fs : Files) → taken (map string_bytes words.now) ≡ Some asked → S.files shelf.old ≡ Some fs
-        → result ≡ Status.Interference → (cs : List Conflict) × Interferes asked fs cs × IsInterference cs (O.taken out.old) (O.taken out.new) result }
+        → result ≡ Status.Interference → (cs : List Conflict) × HasAnswer asked fs (interference cs) × IsInterference cs (O.taken out.old) (O.taken out.new) result }
     ensures interferes { (asked : Request) (fs : Files) (cs : List Conflict) → taken (map string_bytes words.now) ≡ Some asked → S.files shelf.old ≡ Some fs
-        → Interferes asked fs cs → ¬ Rose (S.faults shelf.old) (S.faults shelf.new) → ¬ Rose (O.faults out.old) (O.faults out.new)
+        → HasAnswer asked fs (interference cs) → ¬ Rose (S.faults shelf.old) (S.faults shelf.new) → ¬ Rose (O.faults out.old) (O.faults out.new)
         → (result ≡ Status.Memory) ⊎ IsInterference cs (O.taken out.old) (O.taken out.new) result }
+
+    // NoProgram comes only where no program has the merged graph, and Spent only where none of the arrangements that may be tried has it and there are more.
+    ensures no_program { (asked : Request) (fs : Files) → taken (map string_bytes words.now) ≡ Some asked → S.files shelf.old ≡ Some fs
+        → result ≡ Status.NoProgram → (parts : ℕ) × HasAnswer asked fs (no_program parts) }
+    ensures spent { (asked : Request) (fs : Files) → taken (map string_bytes words.now) ≡ Some asked → S.files shelf.old ≡ Some fs
+        → result ≡ Status.Spent → HasAnswer asked fs spent }
 
     // Where no read failed, a call with a file that is refused gives its message, if memory was found.
     ensures refused { (asked : Request) (fs : Files) (message : List ℕ) → taken (map string_bytes words.now) ≡ Some asked → S.files shelf.old ≡ Some fs
@@ -95,9 +107,16 @@ pub fn hpr<S: Shelf, O: Sink, E: Sink>(
         → IsRefusedCall message result
         (record { before = E.faults err.old; now = E.faults err.new; old = E.taken err.old; new = E.taken err.new }) }
 
-    // The integration theorem: the bytes that `out` took in this call spell a program that keeps the meaning of both variants.
+    // The integration theorem: the bytes that `out` took in this call spell a program whose graph is the merged graph, and which keeps the meaning of
+    // both variants.
     ensures keeps { (asked : Request) (fs : Files) (old : List ℕ) → taken (map string_bytes words.now) ≡ Some asked → S.files shelf.old ≡ Some fs
         → O.taken out.old ≡ Some old → result ≡ Status.Done → (new : List ℕ) × (O.taken out.new ≡ Some (old ++ new)) × KeepsMeaning asked fs new }
+
+    // A trial is finished wherever base, A and B end. Then the merged program ends too, within as many steps as the three took together, and the
+    // rows of the table have what a variant changed and what all three agree on.
+    ensures trial_ends { (asked : Request) (fs : Files) → taken (map string_bytes words.now) ≡ Some asked → S.files shelf.old ≡ Some fs → EndsTrial asked fs result }
+    ensures trial { (asked : Request) (fs : Files) (old : List ℕ) → taken (map string_bytes words.now) ≡ Some asked → S.files shelf.old ≡ Some fs
+        → O.taken out.old ≡ Some old → result ≡ Status.Done → (new : List ℕ) × (O.taken out.new ≡ Some (old ++ new)) × KeepsTrial asked fs new }
 {
     match read_words(alloc, words) {
         Ok(asked) => run_asked(alloc, asked, shelf, out, err),
@@ -116,7 +135,8 @@ fn run_asked<S: Shelf, O: Sink, E: Sink>(
     out: &mut O,
     err: &mut E,
 ) -> Status
-    requires { All (λ name. IsTrue (S.serves shelf.old name)) (files_of (request asked)) }
+    requires in_range { IsInRange (request asked) }
+    requires serves { All (λ name. IsTrue (S.serves shelf.old name)) (files_of (request asked)) }
     ensures ends { Ends result (OutcomeIfTold (Some (request asked.entry)) (S.files shelf.old))
         (MayRead (request asked.entry))
         (S.faults shelf.old) (S.faults shelf.new)

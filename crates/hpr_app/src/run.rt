@@ -1,5 +1,5 @@
 //! The command `run`.
-ghost use Rattle.std.specs.Prelude.{◌≡◌, IsTrue, IfOk, Some, map};
+ghost use Rattle.std.specs.Prelude.{◌≡◌, true, IsTrue, IfOk, Some, map};
 ghost use Rattle.hpr_words.specs.Request.{run};
 ghost use Rattle.hpr_syntax.specs.Run as means;
 ghost use Rattle.hpr_report.specs.Texts.{outcome_text};
@@ -12,37 +12,63 @@ ghost use Rattle.hpr_app.specs.Answer.{Decides, Merges};
 use crate::answer::{Kind, Report, Stop};
 use crate::files::read_program;
 use crate::states::read_state;
+use crate::trace_text::trace_text;
 use hpr_io::Shelf;
+use hpr_meaning::trace;
 use hpr_report::outcome_text;
 use hpr_run::{Outcome, State, run};
 use hpr_syntax::Program;
 use std::alloc::Global;
 
-/// Runs the program of a file from the state that the words tell, for at most so many steps. The
-/// words are judged before the file is read.
+/// Runs the program of a file from the state that the words tell, for at most so many steps, and shows
+/// each step if its trace is asked for. The words are judged before the file is read.
 pub fn run_file<S: Shelf>(
     alloc: Global,
     file: &str,
     words: &[&str],
     steps: u64,
+    trace: bool,
     shelf: &mut S,
 ) -> Result<Report, Stop>
     requires { IsTrue (S.serves shelf.old file.now) }
-    ensures { Decides (OutcomeIfTold (Some (run file.now (map (λ w. w.now) words.now) steps)) (S.files shelf.old)) (MayRead (run file.now (map (λ w. w.now) words.now) steps)) (S.faults shelf.old) (S.faults shelf.new) result }
+    ensures { Decides (OutcomeIfTold (Some (run file.now (map (λ w. w.now) words.now) steps trace)) (S.files shelf.old)) (MayRead (run file.now (map (λ w. w.now) words.now) steps trace)) (S.faults shelf.old) (S.faults shelf.new) result }
 {
     let state = read_state(alloc, words)?;
     let program = read_program(alloc, file, shelf)?;
-    run_program(alloc, &program, &state, steps)
+    run_program(alloc, &program, &state, steps, trace)
 }
 
 /// The answer for a program and a state.
-fn run_program(alloc: Global, program: &Program, state: &State, steps: u64) -> Result<Report, Stop>
-    ensures { Merges (Ran program.now state.now steps) result }
+fn run_program(
+    alloc: Global,
+    program: &Program,
+    state: &State,
+    steps: u64,
+    trace: bool,
+) -> Result<Report, Stop>
+    ensures { Merges (Ran program.now state.now steps trace) result }
 {
+    if trace {
+        return traced_run(alloc, program, state, steps);
+    }
     let outcome = run(alloc, program, state, steps)?;
     let text = outcome_text(alloc, &outcome)?;
     Ok(Report {
         kind: kind_of(&outcome),
+        text,
+    })
+}
+
+/// The same with a line for each finished step.
+fn traced_run(alloc: Global, program: &Program, state: &State, steps: u64) -> Result<Report, Stop>
+    ensures { Merges (Ran program.now state.now steps true) result }
+{
+    let traced = trace(alloc, program, state, steps)?;
+    let mut text = trace_text(alloc, &traced.items)?;
+    let outcome = outcome_text(alloc, &traced.outcome)?;
+    text.extend_from_slice(&outcome)?;
+    Ok(Report {
+        kind: kind_of(&traced.outcome),
         text,
     })
 }

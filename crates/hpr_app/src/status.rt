@@ -23,16 +23,13 @@ pub enum Status {
     Memory,
     /// A run did not end normally.
     NotEnded,
-    /// The case is not built yet.
-    NotBuilt,
 }
 
 impl Status {
     ghost use Rattle.std.specs.Prelude.{◌≡◌};
     ghost use Rattle.hpr_app.specs.Number.{number_of};
 
-    /// The exit status of the program: 0 to 9 in the declared order, and 20 where a case is not
-    /// built yet.
+    /// The exit status of the program: 0 to 9 in the declared order.
     pub fn number(&self) -> u8
         ensures { result ≡ number_of self.now }
     {
@@ -47,7 +44,6 @@ impl Status {
             Status::Words => 7,
             Status::Memory => 8,
             Status::NotEnded => 9,
-            Status::NotBuilt => 20,
         }
     }
 }

@@ -1,15 +1,16 @@
 use Rattle.std.proofs.Common.{All, IsTrue, ap, map, string_bytes, subst, sym, Err}
 use Rattle.hpr_app.specs.Reads.{files_of_taken}
 use Rattle.hpr_app.proofs.Completeness.{asked_completes, asked_prints_other}
-use Rattle.hpr_app.proofs.EndsLemmas.{Ends-for}
-use Rattle.hpr_app.proofs.Interferes.{asked_interference, asked_interferes}
+use Rattle.hpr_app.proofs.EndsLemmas.{Ends-for, asked_ends}
+use Rattle.hpr_app.proofs.Reported.{interference_ends, interferes_ends, no_program_ends, spent_ends}
 use Rattle.hpr_app.proofs.Once.{asked_refused}
 use Rattle.hpr_app.proofs.Theorem.{asked_keeps}
+use Rattle.hpr_app.proofs.TrialTheorem.{done_trial, ends_trial}
 use Rattle.hpr_app.proofs.WordLemmas.{plain_is_taken}
 use Rattle.hpr_app.proofs.hpr.Goals as goal
 
-pub run_asked-requires : goal.run_asked-requires
-run_asked-requires g c = subst (λ o. All (λ name. IsTrue (g.S.Shelf.serves c.args.shelf.now name)) (files_of_taken o)) c.in-Ok.ensures.taken c.requires
+pub run_asked-requires-clause-serves : goal.run_asked-requires-clause-serves
+run_asked-requires-clause-serves g c = subst (λ o. All (λ name. IsTrue (g.S.Shelf.serves c.args.shelf.now name)) (files_of_taken o)) c.in-Ok.ensures.taken c.requires
 
 pub returns-in-Ok-clause-ends : goal.returns-in-Ok-clause-ends
 returns-in-Ok-clause-ends g c = Ends-for _ _ _ _ _ _ _ _ (sym c.in-Ok.ensures.taken) c.run_asked.ensures.ends
@@ -24,15 +25,37 @@ returns-in-Ok-clause-complete g c asked fs is told read written =
 
 pub returns-in-Ok-clause-one_side : goal.returns-in-Ok-clause-one_side
 returns-in-Ok-clause-one_side g c asked fs is told read written =
-    asked_prints_other _ asked _ (g.S.Shelf.files c.args.shelf.now) fs _ _ _ _ _ _ (sym c.in-Ok.ensures.taken) is told read written c.run_asked.ensures.ends
+    asked_prints_other _ asked _ (g.S.Shelf.files c.args.shelf.now) fs _ _ _ _ _ _ (sym c.in-Ok.ensures.taken) is told c.in-Ok.ensures.in_range read written c.run_asked.ensures.ends
 
 pub returns-in-Ok-clause-interference : goal.returns-in-Ok-clause-interference
 returns-in-Ok-clause-interference g c asked fs is told interfered =
-    asked_interference _ asked _ (g.S.Shelf.files c.args.shelf.now) fs _ _ _ _ _ _ (sym c.in-Ok.ensures.taken) is told interfered c.run_asked.ensures.ends
+    interference_ends asked fs _ _ _ _ _ _ interfered
+    (asked_ends _ asked _ (g.S.Shelf.files c.args.shelf.now) fs _ _ _ _ _ _ (sym c.in-Ok.ensures.taken) is told c.run_asked.ensures.ends)
 
 pub returns-in-Ok-clause-interferes : goal.returns-in-Ok-clause-interferes
 returns-in-Ok-clause-interferes g c asked fs cs is told interferes read written =
-    asked_interferes _ asked _ (g.S.Shelf.files c.args.shelf.now) fs _ cs _ _ _ _ _ (sym c.in-Ok.ensures.taken) is told interferes read written c.run_asked.ensures.ends
+    interferes_ends asked fs _ _ _ _ _ cs interferes read written _
+    (asked_ends _ asked _ (g.S.Shelf.files c.args.shelf.now) fs _ _ _ _ _ _ (sym c.in-Ok.ensures.taken) is told c.run_asked.ensures.ends)
+
+pub returns-in-Ok-clause-no_program : goal.returns-in-Ok-clause-no_program
+returns-in-Ok-clause-no_program g c asked fs is told none =
+    no_program_ends asked fs _ _ _ _ _ _ none
+    (asked_ends _ asked _ (g.S.Shelf.files c.args.shelf.now) fs _ _ _ _ _ _ (sym c.in-Ok.ensures.taken) is told c.run_asked.ensures.ends)
+
+pub returns-in-Ok-clause-spent : goal.returns-in-Ok-clause-spent
+returns-in-Ok-clause-spent g c asked fs is told over =
+    spent_ends asked fs _ _ _ _ _ _ over
+    (asked_ends _ asked _ (g.S.Shelf.files c.args.shelf.now) fs _ _ _ _ _ _ (sym c.in-Ok.ensures.taken) is told c.run_asked.ensures.ends)
+
+pub returns-in-Ok-clause-trial : goal.returns-in-Ok-clause-trial
+returns-in-Ok-clause-trial g c asked fs old is told took done =
+    done_trial asked fs _ old _ _ _ _ _ done took
+    (asked_ends _ asked _ (g.S.Shelf.files c.args.shelf.now) fs _ _ _ _ _ _ (sym c.in-Ok.ensures.taken) is told c.run_asked.ensures.ends)
+
+pub returns-in-Ok-clause-trial_ends : goal.returns-in-Ok-clause-trial_ends
+returns-in-Ok-clause-trial_ends g c asked fs is told =
+    ends_trial asked fs _ _ _ _ _ _
+    (asked_ends _ asked _ (g.S.Shelf.files c.args.shelf.now) fs _ _ _ _ _ _ (sym c.in-Ok.ensures.taken) is told c.run_asked.ensures.ends)
 
 pub returns-in-Ok-clause-refused : goal.returns-in-Ok-clause-refused
 returns-in-Ok-clause-refused g c asked fs message is told refused read =

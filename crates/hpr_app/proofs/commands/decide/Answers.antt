@@ -14,3 +14,6 @@ returns-in-Slice g c = rw c.in-Slice.is (rw c.as_slice-in-Slice.ensures.value at
 
 pub returns-in-Affected : goal.returns-in-Affected
 returns-in-Affected g c = rw c.in-Affected.is c.affected_files.ensures
+
+pub returns-in-Trial : goal.returns-in-Trial
+returns-in-Trial g c = rw c.in-Trial.is (rw c.as_slice-in-Trial.ensures.value at c.trial_files.ensures)

@@ -1,0 +1,240 @@
+-- The calls of `integrate` that print no program.
+use Rattle.std.proofs.Common.{◌≡◌, ℕ, Bool, true, false, List, refl, ap, ◌∙◌, subst, inl, inr, ◌⊎◌, Some, Ok, Err, Result}
+use Rattle.hpr_io.specs.Counts.{Rose}
+use Rattle.hpr_io.specs.Files.{Files, bytes_of}
+use Rattle.hpr_io.specs.Taken.{taken_then}
+use Rattle.hpr_syntax.specs.Run.{Outcome, ends, faults, more}
+use Rattle.hpr_syntax.specs.Run as means
+use Rattle.hpr_syntax.specs.Tree.{Tree}
+use Rattle.hpr_syntax.specs.Values.{Values}
+use Rattle.hpr_graph.specs.declared.conflict.Conflict.{Conflict}
+use Rattle.hpr_graph.specs.Answer.{Answer, interference, printed, no_program, spent}
+use Rattle.hpr_graph.specs.Graphs.{Graph}
+use Rattle.hpr_graph.specs.ProgramGraph.{graph_of}
+use Rattle.hpr_engine.specs.Limit.{AreInLimit, HasTooManyEdges}
+use Rattle.hpr_report.specs.ConflictsText.{conflicts_text}
+use Rattle.hpr_words.specs.Request.{Request, Text, integrate, run, graph, slice, affected, trial}
+use Rattle.hpr_app.specs.Decision.{Decision, Prints, prints, refuses}
+use Rattle.hpr_app.specs.Ends.{Change, Ends, Decided, status_of, text_of}
+use Rattle.hpr_app.specs.Graphs.{OnGraph}
+use Rattle.hpr_app.specs.Integrate.{OnFile, OnFiles, OnGraphs, report}
+use Rattle.hpr_app.specs.Outcome.{RequestOutcome, OutcomeIfTold}
+use Rattle.hpr_app.specs.Points.{OnPoints}
+use Rattle.hpr_app.specs.Refusals.{IsFileOf}
+use Rattle.hpr_app.specs.Reports.{HasAnswer, IsInterference}
+use Rattle.hpr_app.specs.RunFile.{OnState, kind_of}
+use Rattle.hpr_app.specs.States.{RefusedWord, states_of}
+use Rattle.hpr_app.specs.TrialFiles.{IsTrialBy, ShowsIf, Tried, have_ended, steps_together, trial_tries}
+use Rattle.hpr_app.specs.declared.answer.Kind.TheVariants as kind
+use Rattle.hpr_app.specs.declared.status.Status.{Status}
+use Rattle.hpr_app.specs.declared.status.Status.TheVariants as status
+use Rattle.hpr_app.proofs.Completeness.{settled}
+use Rattle.hpr_app.proofs.Once.{one_interference}
+use Rattle.hpr_app.proofs.VersionLemmas.{on_state}
+
+-- an answer of the files is reported
+answer_outcome : (request : Request) (fs : Files) (cs : List Conflict) → HasAnswer request fs (interference cs)
+    → RequestOutcome request fs (prints kind.Interference (conflicts_text cs))
+answer_outcome (integrate base a b tries) fs cs h =
+    inr (h.p, h.base_is, inr (h.q, h.a_is, inr (h.r, h.b_is, inr (h.within.0, inr (h.within.1, inr (h.within.2, (interference cs, h.answer, refl)))))))
+answer_outcome (run file words steps trace) fs cs h = absurd h
+answer_outcome (graph file json) fs cs h = absurd h
+answer_outcome (slice file points) fs cs h = absurd h
+answer_outcome (affected base a) fs cs h = absurd h
+answer_outcome (trial base a b words steps) fs cs (state, told, h) =
+    let d = prints kind.Interference (conflicts_text cs) in
+    on_state (states_of words) state told (λ t d. OnFiles fs base a b (λ p q r. Tried base p a q b r t steps d) d) d
+    (inr (h.p, h.base_is, inr (h.q, h.a_is, inr (h.r, h.b_is, inr (h.within.0, inr (h.within.1, inr (h.within.2, (interference cs, h.answer, refl))))))))
+
+-- the statuses that only an answer without a program has
+abbrev pub IsReport : Status → Type 0
+IsReport status.Interference = Unit {0}
+IsReport status.NoProgram = Unit {0}
+IsReport status.Spent = Unit {0}
+IsReport _ = ⊥
+
+-- a decision with such a status reports an answer
+module _ (fs : Files) (d : Decision) (is : IsReport (status_of d)) where
+  no_refusal : (message : List ℕ) → d ≡ refuses message → ⊥
+  no_refusal message e = subst (λ (r : Decision). IsReport (status_of r)) e is
+
+  not_done : (P : List ℕ → Type 0) → Prints P d → ⊥
+  not_done P (bytes, shown, e) = subst (λ (r : Decision). IsReport (status_of r)) e is
+
+  not_run : (o : Outcome) (text : List ℕ) → d ≡ prints (kind_of o) text → ⊥
+  not_run (ends finals steps) text e = subst (λ (r : Decision). IsReport (status_of r)) e is
+  not_run (faults tag fault steps) text e = subst (λ (r : Decision). IsReport (status_of r)) e is
+  not_run (more steps) text e = subst (λ (r : Decision). IsReport (status_of r)) e is
+
+  past_file : (file : List ℕ) (next : Tree → Type 0) → OnFile fs file next d → (p : Tree) × IsFileOf (bytes_of fs file) p × next p
+  past_file file next (inl (message, refused, e)) = absurd (no_refusal message e)
+  past_file file next (inr h) = h
+
+  past_graph : (file : Text) (p : Tree) (next : Type 0) → OnGraph file p next d → (HasTooManyEdges p → ⊥) × next
+  past_graph file p next (inl (many, e)) = absurd (no_refusal _ e)
+  past_graph file p next (inr h) = h
+
+  past_points : (g : Graph) (points : List Text) (next : Type 0) → OnPoints g points next d → next
+  past_points g points next (inl (word, first, e)) = absurd (no_refusal _ e)
+  past_points g points next (inr (all, h)) = h
+
+  not_shown : (all : Bool) (o o1 o2 om : Outcome) → ShowsIf all o o1 o2 om d → ⊥
+  not_shown true o o1 o2 om (text, shown, e) = subst (λ (r : Decision). IsReport (status_of r)) e is
+  not_shown false o o1 o2 om e = subst (λ (r : Decision). IsReport (status_of r)) e is
+
+  past_state : (told : Result Values RefusedWord) (next : Values → Type 0) → OnState told next d → (state : Values) × (told ≡ Ok state) × next state
+  past_state (Ok state) next h = (state, refl, h)
+  past_state (Err refused) next h = absurd (no_refusal _ h)
+
+  past_trial : (p q r : Tree) (state : Values) (steps : ℕ) (x : Answer) → IsTrialBy p q r state steps x d → d ≡ report trial_tries x
+  past_trial p q r state steps (interference cs) h = h
+  past_trial p q r state steps (printed m) h =
+      let o = means.run p state steps in
+      let o1 = means.run q state steps in
+      let o2 = means.run r state steps in
+      absurd (not_shown (have_ended o o1 o2) o o1 o2 (means.run m state (steps_together o o1 o2)) h)
+  past_trial p q r state steps (no_program n) h = h
+  past_trial p q r state steps spent h = h
+
+  past_files : (base a b : List ℕ) (next : Tree → Tree → Tree → Type 0) → OnFiles fs base a b next d
+      → (p q r : Tree) × IsFileOf (bytes_of fs base) p × IsFileOf (bytes_of fs a) q × IsFileOf (bytes_of fs b) r × next p q r
+  past_files base a b next o =
+      let (p, base_is, on_a) = past_file base _ o in
+      let (q, a_is, on_b) = past_file a _ on_a in
+      let (r, b_is, h) = past_file b _ on_b in
+      (p, q, r, base_is, a_is, b_is, h)
+
+  past_graphs : (base : List ℕ) (p : Tree) (a : List ℕ) (q : Tree) (b : List ℕ) (r : Tree) (next : Type 0) → OnGraphs base p a q b r next d → AreInLimit p q r × next
+  past_graphs base p a q b r next o =
+      let (few, on_a) = past_graph base p _ o in
+      let (few_too, on_b) = past_graph a q _ on_a in
+      let (few_three, h) = past_graph b r _ on_b in
+      ((few, few_too, few_three), h)
+
+  abbrev Reports : Request → Type 0
+  Reports (integrate base a b tries) = (x : Answer) × HasAnswer (integrate base a b tries) fs x × (d ≡ report tries x)
+  Reports (run file words steps trace) = ⊥
+  Reports (graph file json) = ⊥
+  Reports (slice file points) = ⊥
+  Reports (affected base a) = ⊥
+  Reports (trial base a b words steps) = (x : Answer) × HasAnswer (trial base a b words steps) fs x × (d ≡ report trial_tries x)
+
+  reports : (request : Request) → RequestOutcome request fs d → Reports request
+  reports (integrate base a b tries) o =
+      let (p, q, r, base_is, a_is, b_is, on_graphs) = past_files base a b _ o in
+      let (few, (x, answer, shown)) = past_graphs base p a q b r _ on_graphs in
+      (x, record { p = p; q = q; r = r; base_is = base_is; a_is = a_is; b_is = b_is; within = few; answer = answer }, shown)
+  reports (run file words steps trace) o =
+      let (state, told, on_file) = past_state (states_of words) _ o in
+      let (p, file_is, ran) = past_file file _ on_file in
+      absurd (not_run (means.run p state steps) _ ran)
+  reports (graph file json) o =
+      let (p, file_is, on_graph) = past_file file _ o in
+      absurd (not_done _ (past_graph file p _ on_graph).1)
+  reports (slice file points) o =
+      let (p, file_is, on_graph) = past_file file _ o in
+      absurd (not_done _ (past_points (graph_of p) points _ (past_graph file p _ on_graph).1))
+  reports (affected base a) o =
+      let (p, base_is, on_a) = past_file base _ o in
+      let (q, a_is, on_graphs) = past_file a _ on_a in
+      absurd (not_done _ (past_graph a q _ (past_graph base p _ on_graphs).1).1)
+  reports (trial base a b words steps) o =
+      let (state, told, on_files) = past_state (states_of words) _ o in
+      let (p, q, r, base_is, a_is, b_is, on_graphs) = past_files base a b _ on_files in
+      let (few, (x, answer, by)) = past_graphs base p a q b r _ on_graphs in
+      (x, (state, told, record { p = p; q = q; r = r; base_is = base_is; a_is = a_is; b_is = b_is; within = few; answer = answer }), past_trial p q r state steps x by)
+
+-- which answer it is, its status tells
+interference_of : (tries : ℕ) (x : Answer) → status.Interference ≡ status_of (report tries x) → (cs : List Conflict) × (x ≡ interference cs)
+interference_of tries (interference cs) e = (cs, refl)
+interference_of tries (printed m) e = absurd cc
+interference_of tries (no_program n) e = absurd cc
+interference_of tries spent e = absurd cc
+
+no_program_of : (tries : ℕ) (x : Answer) → status.NoProgram ≡ status_of (report tries x) → (n : ℕ) × (x ≡ no_program n)
+no_program_of tries (interference cs) e = absurd cc
+no_program_of tries (printed m) e = absurd cc
+no_program_of tries (no_program n) e = (n, refl)
+no_program_of tries spent e = absurd cc
+
+spent_of : (tries : ℕ) (x : Answer) → status.Spent ≡ status_of (report tries x) → x ≡ spent
+spent_of tries (interference cs) e = absurd cc
+spent_of tries (printed m) e = absurd cc
+spent_of tries (no_program n) e = absurd cc
+spent_of tries spent e = refl
+
+module _ (request : Request) (fs : Files) (d : Decision) where
+  shows_interference : status.Interference ≡ status_of d → RequestOutcome request fs d
+      → (cs : List Conflict) × HasAnswer request fs (interference cs) × (d ≡ prints kind.Interference (conflicts_text cs))
+  shows_interference is o = by_request request (reports fs d (subst IsReport is tt) request o)
+    where
+      by_request : (request : Request) → Reports fs d (subst IsReport is tt) request
+          → (cs : List Conflict) × HasAnswer request fs (interference cs) × (d ≡ prints kind.Interference (conflicts_text cs))
+      by_request (integrate base a b tries) (x, has, shown) =
+          let (cs, e) = interference_of tries x (is ∙ ap status_of shown) in
+          (cs, subst (λ (y : Answer). HasAnswer (integrate base a b tries) fs y) e has, shown ∙ ap (report tries) e)
+      by_request (run file words steps trace) h = absurd h
+      by_request (graph file json) h = absurd h
+      by_request (slice file points) h = absurd h
+      by_request (affected base a) h = absurd h
+      by_request (trial base a b words steps) (x, has, shown) =
+          let (cs, e) = interference_of trial_tries x (is ∙ ap status_of shown) in
+          (cs, subst (λ (y : Answer). HasAnswer (trial base a b words steps) fs y) e has, shown ∙ ap (report trial_tries) e)
+
+  shows_no_program : status.NoProgram ≡ status_of d → RequestOutcome request fs d → (n : ℕ) × HasAnswer request fs (no_program n)
+  shows_no_program is o = by_request request (reports fs d (subst IsReport is tt) request o)
+    where
+      by_request : (request : Request) → Reports fs d (subst IsReport is tt) request → (n : ℕ) × HasAnswer request fs (no_program n)
+      by_request (integrate base a b tries) (x, has, shown) =
+          let (n, e) = no_program_of tries x (is ∙ ap status_of shown) in
+          (n, subst (λ (y : Answer). HasAnswer (integrate base a b tries) fs y) e has)
+      by_request (run file words steps trace) h = absurd h
+      by_request (graph file json) h = absurd h
+      by_request (slice file points) h = absurd h
+      by_request (affected base a) h = absurd h
+      by_request (trial base a b words steps) (x, has, shown) =
+          let (n, e) = no_program_of trial_tries x (is ∙ ap status_of shown) in
+          (n, subst (λ (y : Answer). HasAnswer (trial base a b words steps) fs y) e has)
+
+  shows_spent : status.Spent ≡ status_of d → RequestOutcome request fs d → HasAnswer request fs spent
+  shows_spent is o = by_request request (reports fs d (subst IsReport is tt) request o)
+    where
+      by_request : (request : Request) → Reports fs d (subst IsReport is tt) request → HasAnswer request fs spent
+      by_request (integrate base a b tries) (x, has, shown) =
+          subst (λ (y : Answer). HasAnswer (integrate base a b tries) fs y) (spent_of tries x (is ∙ ap status_of shown)) has
+      by_request (run file words steps trace) h = absurd h
+      by_request (graph file json) h = absurd h
+      by_request (slice file points) h = absurd h
+      by_request (affected base a) h = absurd h
+      by_request (trial base a b words steps) (x, has, shown) =
+          subst (λ (y : Answer). HasAnswer (trial base a b words steps) fs y) (spent_of trial_tries x (is ∙ ap status_of shown)) has
+
+module _ (request : Request) (fs : Files) (reads : List ℕ → Type 0) (before now : ℕ) (out err : Change) where
+  abbrev Told : Decision → Type 0
+  Told = OutcomeIfTold (Some request) (Some fs)
+
+  -- the status Interference has its cause, and comes with the whole list
+  pub interference_ends : (s : Status) → s ≡ status.Interference → Ends s Told reads before now out err
+      → (cs : List Conflict) × HasAnswer request fs (interference cs) × IsInterference cs out.old out.new s
+  interference_ends s e h =
+      let d : Decided status.Interference Told before now out err = subst (λ x. Ends x Told reads before now out err) e h in
+      let (cs, has, shown) = shows_interference request fs d.r d.status_is (d.outcome fs refl) in
+      (cs, has, (e, d.took ∙ ap (λ r. taken_then out.old (text_of r)) shown))
+
+  pub no_program_ends : (s : Status) → s ≡ status.NoProgram → Ends s Told reads before now out err → (n : ℕ) × HasAnswer request fs (no_program n)
+  no_program_ends s e h =
+      let d : Decided status.NoProgram Told before now out err = subst (λ x. Ends x Told reads before now out err) e h in
+      shows_no_program request fs d.r d.status_is (d.outcome fs refl)
+
+  pub spent_ends : (s : Status) → s ≡ status.Spent → Ends s Told reads before now out err → HasAnswer request fs spent
+  spent_ends s e h =
+      let d : Decided status.Spent Told before now out err = subst (λ x. Ends x Told reads before now out err) e h in
+      shows_spent request fs d.r d.status_is (d.outcome fs refl)
+
+  -- and comes wherever it has
+  pub interferes_ends : (cs : List Conflict) → HasAnswer request fs (interference cs) → (Rose before now → ⊥) → (Rose out.before out.now → ⊥) → (s : Status)
+      → Ends s Told reads before now out err → (s ≡ status.Memory) ⊎ IsInterference cs out.old out.new s
+  interferes_ends cs has read written =
+      settled request fs reads before now out err read written (λ s. IsInterference cs out.old out.new s)
+      (λ s d. let same : d.r ≡ prints kind.Interference (conflicts_text cs) = one_interference request fs d.r cs (d.outcome fs refl) (answer_outcome request fs cs has) in
+      (d.status_is ∙ ap status_of same, d.took ∙ ap (λ r. taken_then out.old (text_of r)) same))

@@ -1,0 +1,103 @@
+-- Trials: the final values of runs, and what is decided of a trial.
+use Rattle.std.proofs.Common.{◌≡◌, ℕ, Bool, true, false, List, ◌++◌, ap, sym, ◌∙◌, subst, inl, inr, Option, Ok, Result, IsOk, is_ok, codes}
+use Rattle.hpr_io.specs.Files.{Files}
+use Rattle.hpr_syntax.specs.Run.{Outcome, ends, faults, more, run}
+use Rattle.hpr_syntax.specs.Shape.{IsProgram}
+use Rattle.hpr_syntax.specs.Tree.{Tree}
+use Rattle.hpr_syntax.specs.Values.{Values}
+use Rattle.hpr_graph.specs.Answer.{Answer, interference, printed, no_program, spent, IsAnswer}
+use Rattle.hpr_graph.proofs.Lists.{in_none}
+use Rattle.hpr_engine.specs.Budget as budget
+use Rattle.hpr_engine.proofs.OneAnswer.{one_answer}
+use Rattle.hpr_report.specs.TableText.{IsSingleValued}
+use Rattle.hpr_report.proofs.OneTable.{one_table_text, ended_single_valued}
+use Rattle.hpr_words.specs.Request.{Text}
+use Rattle.hpr_app.specs.Answer.{Decides}
+use Rattle.hpr_app.specs.Decision.{Decision, prints}
+use Rattle.hpr_app.specs.Files.{IfTold}
+use Rattle.hpr_app.specs.Integrate.{OnFiles, no_program_text, report, spent_text}
+use Rattle.hpr_app.specs.Outcome.{AgreeButForBudget, HasSearched}
+use Rattle.hpr_app.specs.States.{states_of}
+use Rattle.hpr_app.specs.TrialFiles.{IsTrialBy, IsTrialText, IsTried, ShowsIf, Tried, TrialOutcome, finals_of, have_ended, steps_together, three_lines, trial_line, trial_tries}
+use Rattle.hpr_app.specs.declared.answer.Kind.TheVariants.{Done}
+use Rattle.hpr_app.specs.declared.answer.Report.{Report}
+use Rattle.hpr_app.specs.declared.answer.Stop.{Stop}
+use Rattle.hpr_app.proofs.IntegrateLemmas.{IsUnprinted}
+use Rattle.hpr_app.proofs.VersionLemmas.{Reached, Reads, decides_other, on_state}
+
+-- no name has two values where a run ends, and else no name has one
+pub single_finals : (p : Tree) (s : Values) (n : ℕ) (o : Outcome) → o ≡ run p s n → IsSingleValued (finals_of o)
+single_finals p s n (ends f steps) e = ended_single_valued p s n steps f (sym e)
+single_finals p s n (faults tag fault steps) e = λ x v w h k. absurd (in_none (x, v) h)
+single_finals p s n (more steps) e = λ x v w h k. absurd (in_none (x, v) h)
+
+-- behind a state that the words tell
+module _ (files : Option Files) (base a b : Text) (words : List Text) (steps : ℕ) (state : Values) (is : states_of words ≡ Ok state) where
+  abbrev pub Next : Tree → Tree → Tree → Decision → Type 0
+  Next p q s d = Tried base p a q b s state steps d
+
+  known_state : IsOk (states_of words)
+  known_state = ap is_ok is
+
+  pub trial_decides : (before now : ℕ) (result : Result Report Stop) → Decides (Reached files base a b Next) (Reads files base a b) before now result
+      → Decides (λ r. IfTold files (λ fs. TrialOutcome fs base a b words steps r)) (λ file. Reads files base a b file × IsOk (states_of words)) before now result
+  trial_decides before now result h =
+      decides_other (Reached files base a b Next) (λ r. IfTold files (λ fs. TrialOutcome fs base a b words steps r)) (Reads files base a b) (λ file. Reads files base a b file × IsOk (states_of words))
+      (λ r k fs t. on_state (states_of words) state is (λ st d. OnFiles fs base a b (λ p q s. Tried base p a q b s st steps d) d) r (k fs t))
+      (λ file reads. (reads, known_state)) before now result h
+
+module _ (p q s : Tree) (state : Values) (steps : ℕ) where
+  -- what reports an answer without a program is decided of a trial
+  pub unprinted_tried : (x : Answer) (d : Decision) → IsUnprinted x → IsAnswer p q s trial_tries x → d ≡ report trial_tries x → IsTried p q s state steps d
+  unprinted_tried (interference cs) d none answer is = (interference cs, answer, is)
+  unprinted_tried (printed m) d none answer is = absurd none
+  unprinted_tried (no_program n) d none answer is = (no_program n, answer, is)
+  unprinted_tried spent d none answer is = (spent, answer, is)
+
+  -- one answer makes one decision
+  module _ (o o1 o2 om : Outcome) where
+    one_text : (t u : List ℕ) → IsTrialText o o1 o2 om t → IsTrialText o o1 o2 om u → t ≡ u
+    one_text t u (table, is_table, is) (other, is_too, so) =
+        is ∙ ap (λ x. three_lines o o1 o2 ++ trial_line (codes "merged ") om ++ x) (one_table_text (finals_of o) (finals_of o1) (finals_of o2) (finals_of om) table other is_table is_too) ∙ sym so
+
+    one_shown : (all : Bool) (c d : Decision) → ShowsIf all o o1 o2 om c → ShowsIf all o o1 o2 om d → c ≡ d
+    one_shown true c d (t, shows, is) (u, shows_too, so) = is ∙ ap (prints Done) (one_text t u shows shows_too) ∙ sym so
+    one_shown false c d h k = h ∙ sym k
+
+    shown_searched : (all : Bool) (d : Decision) → ShowsIf all o o1 o2 om d → HasSearched d
+    shown_searched true d (t, shows, is) = (t, inl is)
+    shown_searched false d h = (three_lines o o1 o2, inr (inr h))
+
+  abbrev base_run : Outcome
+  base_run = run p state steps
+
+  abbrev a_run : Outcome
+  a_run = run q state steps
+
+  abbrev b_run : Outcome
+  b_run = run s state steps
+
+  abbrev merged_run : Tree → Outcome
+  merged_run m = run m state (steps_together base_run a_run b_run)
+
+  one_by : (x : Answer) (c d : Decision) → IsTrialBy p q s state steps x c → IsTrialBy p q s state steps x d → c ≡ d
+  one_by (interference cs) c d h k = h ∙ sym k
+  one_by (printed m) c d h k = one_shown base_run a_run b_run (merged_run m) (have_ended base_run a_run b_run) c d h k
+  one_by (no_program n) c d h k = h ∙ sym k
+  one_by spent c d h k = h ∙ sym k
+
+  searched_by : (x : Answer) (d : Decision) → budget.HasSearched x → IsTrialBy p q s state steps x d → HasSearched d
+  searched_by (interference cs) d h is = absurd h
+  searched_by (printed m) d h is = shown_searched base_run a_run b_run (merged_run m) (have_ended base_run a_run b_run) d is
+  searched_by (no_program n) d h is = (no_program_text n, inr (inl is))
+  searched_by spent d h is = absurd h
+
+  agree_by : (x y : Answer) (c d : Decision) → budget.Agree x y → IsTrialBy p q s state steps x c → IsTrialBy p q s state steps y d → AgreeButForBudget c d
+  agree_by x y c d (inl e) is so = inl (one_by x c d is (subst (λ (z : Answer). IsTrialBy p q s state steps z d) (sym e) so))
+  agree_by x y c d (inr (inl (e, h))) is so =
+      inr (inl ((spent_text trial_tries, subst (λ (z : Answer). IsTrialBy p q s state steps z c) e is), searched_by y d h so))
+  agree_by x y c d (inr (inr (h, e))) is so =
+      inr (inr (searched_by x c h is, (spent_text trial_tries, subst (λ (z : Answer). IsTrialBy p q s state steps z d) e so)))
+
+  pub one_tried : (c d : Decision) → IsProgram q → IsProgram s → IsTried p q s state steps c → IsTried p q s state steps d → AgreeButForBudget c d
+  one_tried c d is_q is_s (x, answer, is) (y, answer_too, so) = agree_by x y c d (one_answer p q s is_q is_s trial_tries x y answer answer_too) is so
