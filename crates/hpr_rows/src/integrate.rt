@@ -1,5 +1,6 @@
 //! The command `integrate`.
 use crate::calls::{Call, FilesRow, USAGE, ending_of, first_wrong_of};
+use crate::merges::{MEAN_AND_PRODUCT, MEAN_AND_PRODUCT_MERGED};
 use hpr_app::Status;
 use std::test::Fail;
 
@@ -168,7 +169,7 @@ fn calls_end_with_their_status_and_texts(rt: HostRuntime) -> Result<(), Fail> {
     Ok(())
 }
 
-/// The call in which one variant adds a part, over a shelf and an output that may fail.
+/// The merge of mean and product, over a shelf and an output that may fail.
 struct FaultRow {
     shows: &'static str,
     failing_reads: &'static [u64],
@@ -188,7 +189,7 @@ static FAULT_ROWS: [FaultRow; 6] = [
         step: 1,
         room: 4096,
         status: Status::Done,
-        out: MERGED,
+        out: MEAN_AND_PRODUCT_MERGED,
         err: b"",
     },
     FaultRow {
@@ -198,7 +199,7 @@ static FAULT_ROWS: [FaultRow; 6] = [
         step: 4096,
         room: 20,
         status: Status::WriteFault,
-        out: b"program\nissued 1:1, ",
+        out: b"program\nissued 1:5, ",
         err: CANNOT_WRITE,
     },
     FaultRow {
@@ -248,7 +249,7 @@ fn faults_have_their_status_and_texts(rt: HostRuntime) -> Result<(), Fail> {
     for row in FAULT_ROWS.iter() {
         let call = Call {
             words: WORDS,
-            files: A_PART_ADDED,
+            files: MEAN_AND_PRODUCT,
             failing_reads: row.failing_reads,
             failing_writes: row.failing_writes,
             step: row.step,

@@ -23,7 +23,7 @@ const OTHER_PRICE: &[u8] =
 const TAX: &[u8] =
     b"program 1.1: price := 40; 1.2: count := 3; 1.3: total := price * count; 3.1: tax := total / 5; end(tax, total)";
 
-static CONFLICTS: [FilesRow; 5] = [
+static CONFLICTS: [FilesRow; 7] = [
     FilesRow {
         shows: "the changes are in different lines: a new part uses what another changed",
         words: WORDS,
@@ -84,55 +84,23 @@ static CONFLICTS: [FilesRow; 5] = [
         out: b"interference 2\nA [final x]: flow x [1.1 x := 3] -> [final x]\nB [final x]: flow x [1.1 x := 2] -> [final x]\n",
         err: b"",
     },
-];
-
-#[test]
-fn conflicts_are_listed(rt: HostRuntime) -> Result<(), Fail> {
-    assert_eq!(rt; first_wrong_of(rt.alloc(), &CONFLICTS)?, None);
-    Ok(())
-}
-
-const NOT_BUILT: &[u8] = b"hpr: not built yet\n";
-
-static NO_CONFLICT: [FilesRow; 4] = [
     FilesRow {
-        shows: "not built yet: the same change on both sides",
+        shows: "the edge of a conflict is the least by its vertices, not by its text, and ends in the side's slice",
         words: WORDS,
         files: &[
-            ("BASE", b"program 1.1: x := 1; end(x)"),
-            ("A", b"program 1.1: x := 2; end(x)"),
-            ("B", b"program 1.1: x := 2; end(x)"),
-        ],
-        status: Status::NotBuilt,
-        out: b"",
-        err: NOT_BUILT,
-    },
-    FilesRow {
-        shows: "not built yet: deleted here, newly used there",
-        words: WORDS,
-        files: &[
-            ("BASE", b"program 1.1: x := 1; end(x)"),
-            ("A", b"program issued 1:1 end(x)"),
-            ("B", b"program 1.1: x := 1; 3.1: y := x; end(x, y)"),
-        ],
-        status: Status::NotBuilt,
-        out: b"",
-        err: NOT_BUILT,
-    },
-    FilesRow {
-        shows: "not built yet: one tag with two contents",
-        words: WORDS,
-        files: &[
-            ("BASE", b"program 1.1: x := 1; 1.2: z := x; end(z)"),
-            ("A", b"program 1.1: x := 2; 1.2: z := x; end(z)"),
+            ("BASE", b"program 1.1: x := 1; 1.2: y := x; end(y)"),
+            (
+                "A",
+                b"program 1.1: x := 1; 1.2: y := x; 1.10: z := y; end(y, z)",
+            ),
             (
                 "B",
-                b"program 1.1: x := 1; 1.2: z := x; 3.1: y := x; end(y, z)",
+                b"program 1.1: x := 1; 2.1: if x then 1.2: y := x; fi end(y)",
             ),
         ],
-        status: Status::NotBuilt,
-        out: b"",
-        err: NOT_BUILT,
+        status: Status::Interference,
+        out: b"interference 4\nA [1.10 z := y]: control true [2.1 if x] -> [1.2 y := x]\nA [final z]: control true [2.1 if x] -> [1.2 y := x]\nB [1.2 y := x]: control true [entry] -> [1.2 y := x]\nB [final y]: control true [entry] -> [1.2 y := x]\n",
+        err: b"",
     },
     FilesRow {
         shows: "a file that spells no program is refused, whatever the others change",
@@ -149,8 +117,8 @@ static NO_CONFLICT: [FilesRow; 4] = [
 ];
 
 #[test]
-fn other_answers_come_without_a_conflict(rt: HostRuntime) -> Result<(), Fail> {
-    assert_eq!(rt; first_wrong_of(rt.alloc(), &NO_CONFLICT)?, None);
+fn conflicts_are_listed(rt: HostRuntime) -> Result<(), Fail> {
+    assert_eq!(rt; first_wrong_of(rt.alloc(), &CONFLICTS)?, None);
     Ok(())
 }
 

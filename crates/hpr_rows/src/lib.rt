@@ -13,9 +13,13 @@ mod integrate;
 #[cfg(test)]
 mod interference;
 #[cfg(test)]
+mod merges;
+#[cfg(test)]
 mod programs;
 #[cfg(test)]
 mod refusals;
+#[cfg(test)]
+mod regions;
 #[cfg(test)]
 mod run;
 #[cfg(test)]
@@ -24,3 +28,5 @@ mod run_texts;
 mod slice;
 #[cfg(test)]
 mod steady;
+#[cfg(test)]
+mod trial;

@@ -125,7 +125,7 @@ fn values(rt: HostRuntime) -> Result<(), Fail> {
     Ok(())
 }
 
-static COUNTDOWN: [Row; 8] = [
+static COUNTDOWN: [Row; 12] = [
     Row {
         shows: "the countdown to its end",
         words: &["run", "F"],
@@ -133,6 +133,38 @@ static COUNTDOWN: [Row; 8] = [
         status: Status::Done,
         out: b"ended, steps 6\nx = 0\n",
         err: b"",
+    },
+    Row {
+        shows: "the trace: each evaluation of the loop's predicate is a turn of its own",
+        words: &["run", "F", "--trace"],
+        text: b"program 1.1: x := 2; 1.2: while x do 1.3: x := x - 1; od end(x)",
+        status: Status::Done,
+        out: b"1.1 [] 2\n1.2 [0] 2\n1.3 [0] 1\n1.2 [1] 1\n1.3 [1] 0\n1.2 [2] 0\nended, steps 6\nx = 0\n",
+        err: b"",
+    },
+    Row {
+        shows: "a trace of a loop in a loop",
+        words: &["run", "F", "--trace", "y=1"],
+        text: b"program 1.1: while y do 1.2: while z < 1 do 1.3: z := z + 1; od 1.4: y := 0; od end()",
+        status: Status::Done,
+        out: b"1.1 [0] 1\n1.2 [0,0] 1\n1.3 [0,0] 1\n1.2 [0,1] 0\n1.4 [0] 0\n1.1 [1] 0\nended, steps 6\n",
+        err: b"",
+    },
+    Row {
+        shows: "a faulting step has no line in a trace",
+        words: &["run", "F", "--trace"],
+        text: b"program 1.1: y := 1 / x; end(y)",
+        status: Status::NotEnded,
+        out: b"faulted zero-divide at 1.1, steps 1\n",
+        err: b"",
+    },
+    Row {
+        shows: "the flag with a value",
+        words: &["run", "F", "--trace=true"],
+        text: b"program 1.1: x := 2; 1.2: while x do 1.3: x := x - 1; od end(x)",
+        status: Status::Words,
+        out: b"",
+        err: USAGE,
     },
     Row {
         shows: "one step too few",
