@@ -9,7 +9,7 @@ use Rattle.clap.proofs.WalkLemmas.{both}
 use Rattle.clap.specs.Walk.{Text}
 use Rattle.clap.specs.ValueTests.{accepts}
 use Rattle.clap.specs.declared.builder.value_parser.ValueParser.TheVariants.{Unsigned}
-use Rattle.hpr_words.specs.Plain.{is_name, is_numeral, number, number_or}
+use Rattle.hpr_words.specs.Plain.{is_name, is_numeral, number, number_or, only_number}
 use Rattle.hpr_words.specs.Taken as taken
 
 -- what `clap` makes of the words that give an option its number
@@ -17,6 +17,13 @@ pub record IsFair (default most : ℕ) (words : List Text) (n : ℕ) : Type 0 wh
   pub passes : list_all (λ w. is_name w && accepts false (Unsigned 1 most) w) words ≡ true
   pub once : nat_le (length words) 1 ≡ true
   pub is : taken.number_or most default (slice_get words 0) ≡ Some n
+
+-- what `clap` makes of the words that give an option its number, where it must be given
+pub record IsFairOnly (most : ℕ) (words : List Text) (n : ℕ) : Type 0 where
+  pub word : Text
+  pub only : words ≡ word ∷ []
+  pub passes : list_all (λ w. is_name w && accepts false (Unsigned 1 most) w) words ≡ true
+  pub is : taken.number_of most word ≡ Some n
 
 digits_of : (word : Text) → is_numeral word ≡ true → list_all (λ d. is_digit d 10) word ≡ true
 digits_of [] e = refl
@@ -74,3 +81,11 @@ pub numbers_fair : (default most : ℕ) (words : List Text) (n : ℕ) → most <
 numbers_fair default most [] n fits e = record { passes = refl; once = refl; is = e }
 numbers_fair default most (w ∷ []) n fits e = number_fair default most w n fits e
 numbers_fair default most (w ∷ x ∷ ws) n fits e = absurd (true≢false (ap is_some (sym e)))
+
+-- the default is of no account where a number is given
+pub only_fair : (most : ℕ) (words : List Text) (n : ℕ) → most < 2 ^ 64 → only_number most words ≡ Some n → IsFairOnly most words n
+only_fair most (w ∷ []) n fits e =
+    let fair = number_fair most most w n fits e in
+    record { word = w; only = refl; passes = fair.passes; is = fair.is }
+only_fair most [] n fits e = absurd (true≢false (ap is_some (sym e)))
+only_fair most (w ∷ x ∷ ws) n fits e = absurd (true≢false (ap is_some (sym e)))

@@ -13,6 +13,8 @@ pub mod GraphLemmas
 pub mod SliceLemmas
 pub mod AffectedLemmas
 pub mod TrialLemmas
+pub mod EditLemmas
+pub mod TagLemmas
 pub mod OtherLemmas
 pub mod PlainLemmas
 pub mod RangeLemmas

@@ -17,9 +17,11 @@ passes : (command first other : Text) (asked rest : Option Request) → command 
 passes command first other asked rest is unlike none = ap (λ b. cond b asked rest) (differs first other (λ e. unlike (is ∙ e))) ∙ none
 
 pub other_taken : (words : List Text) (command : Text) → slice_get words 0 ≡ Some command → (command ≡ codes "integrate" → ⊥) → (command ≡ codes "run" → ⊥) → (command ≡ codes "graph" → ⊥)
-    → (command ≡ codes "slice" → ⊥) → (command ≡ codes "affected" → ⊥) → (command ≡ codes "trial" → ⊥) → taken words ≡ None
-other_taken [] command e p q r s t u = absurd (none_some command e)
-other_taken (first ∷ words) command e p q r s t u =
+    → (command ≡ codes "slice" → ⊥) → (command ≡ codes "affected" → ⊥) → (command ≡ codes "trial" → ⊥)
+    → (command ≡ codes "edit" → ⊥) → (command ≡ codes "tag" → ⊥) → taken words ≡ None
+other_taken [] command e p q r s t u v w = absurd (none_some command e)
+other_taken (first ∷ words) command e p q r s t u v w =
     let is : command ≡ first = sym (ap (λ o. unwrap_or o first) e) in
     passes command first (codes "integrate") _ _ is p (passes command first (codes "run") _ _ is q (passes command first (codes "graph") _ _ is r
-    (passes command first (codes "slice") _ _ is s (passes command first (codes "affected") _ _ is t (passes command first (codes "trial") _ _ is u refl)))))
+    (passes command first (codes "slice") _ _ is s (passes command first (codes "affected") _ _ is t (passes command first (codes "trial") _ _ is u
+    (passes command first (codes "edit") _ _ is v (passes command first (codes "tag") _ _ is w refl)))))))

@@ -4,11 +4,13 @@ use Rattle.hpr_words.specs.Plain.{plain}
 use Rattle.hpr_words.specs.Request.{Request, Text}
 use Rattle.hpr_words.specs.Taken.{taken}
 use Rattle.hpr_words.proofs.AffectedLemmas.{affected_taken}
+use Rattle.hpr_words.proofs.EditLemmas.{edit_taken}
 use Rattle.hpr_words.proofs.GraphLemmas.{graph_taken}
 use Rattle.hpr_words.proofs.IntegrateLemmas.{integrate_taken}
 use Rattle.hpr_words.proofs.PieceLemmas.{none_some}
 use Rattle.hpr_words.proofs.RunLemmas.{run_taken}
 use Rattle.hpr_words.proofs.SliceLemmas.{slice_taken}
+use Rattle.hpr_words.proofs.TagLemmas.{tag_taken}
 use Rattle.hpr_words.proofs.TrialLemmas.{trial_taken}
 
 -- what follows from each of two choices follows from the one that is made
@@ -25,4 +27,6 @@ plain_taken (command ∷ words) r e =
     (either_way (bytes_eq command (codes "slice")) r (slice_taken command words r)
     (either_way (bytes_eq command (codes "affected")) r (affected_taken command words r)
     (either_way (bytes_eq command (codes "trial")) r (trial_taken command words r)
-    (λ f. absurd (none_some r f))))))) e
+    (either_way (bytes_eq command (codes "edit")) r (edit_taken command words r)
+    (either_way (bytes_eq command (codes "tag")) r (tag_taken command words r)
+    (λ f. absurd (none_some r f))))))))) e

@@ -1,14 +1,14 @@
 -- The numbers of what is taken are in their range.
-use Rattle.std.proofs.Common.{◌≡◌, ◌≤◌, ℕ, Bool, true, false, cond, List, ◌∷◌, Option, Some, None, Result, Ok, Err, IfOk, refl, ap, subst, codes, arith, unwrap_or}
+use Rattle.std.proofs.Common.{◌≡◌, ◌≤◌, ℕ, Bool, true, false, cond, List, ◌∷◌, Option, Some, None, Result, Ok, Err, IfOk, refl, ap, subst, codes, arith, option_and_then, unwrap_or}
 use Rattle.std.specs.Str.Parse.{digits_value, without_leading_plus}
 use Rattle.clap.proofs.ValueTestLemmas.{accepts-Accepts}
 use Rattle.clap.specs.ValueTests.{accepts}
 use Rattle.clap.specs.Walk.{is_empty}
 use Rattle.clap.specs.Words.{App, Row, fault_of, first_of, matches_of}
 use Rattle.clap.specs.declared.builder.value_parser.ValueParser.TheVariants.{Unsigned}
-use Rattle.hpr_words.specs.Commands.{integrate_app, run_app, slice_app, trial_app}
+use Rattle.hpr_words.specs.Commands.{edit_app, integrate_app, run_app, slice_app, tag_app, trial_app}
 use Rattle.hpr_words.specs.Request.{IsInRange, Request, Text}
-use Rattle.hpr_words.specs.Taken.{flag_in, integrate_in, integrate_with, list_in, number_in, number_of, number_or, run_in, run_with, slice_in, slice_with, steps_in, taken_by, trial_in, trial_with}
+use Rattle.hpr_words.specs.Taken.{author_in, edit_in, edit_with, flag_in, integrate_in, integrate_with, list_in, number_in, number_of, number_or, run_in, run_with, slice_in, slice_with, steps_in, tag_in, tag_with, taken_by, trial_in, trial_with}
 use Rattle.hpr_words.proofs.PieceLemmas.{none_some}
 
 number_of-range : (most : ℕ) (text : Text) (n : ℕ) → number_of most text ≡ Some n → (1 ≤ n) × (n ≤ most)
@@ -45,6 +45,14 @@ trial_with-range : (base a b : Option Text) (states : List Text) (o : Option ℕ
 trial_with-range (Some base) (Some a) (Some b) states (Some steps) r range e = subst IsInRange (ap (λ o. unwrap_or o r) e) (range steps refl)
 trial_with-range base a b states o r range e = absurd (none_some r e)
 
+edit_with-range : (file script : Option Text) (o : Option ℕ) (r : Request) → ((n : ℕ) → o ≡ Some n → (1 ≤ n) × (n ≤ 4294967295)) → edit_with file script o ≡ Some r → IsInRange r
+edit_with-range (Some file) (Some script) (Some author) r range e = subst IsInRange (ap (λ o. unwrap_or o r) e) (range author refl)
+edit_with-range file script o r range e = absurd (none_some r e)
+
+tag_with-range : (file : Option Text) (o : Option ℕ) (r : Request) → ((n : ℕ) → o ≡ Some n → (1 ≤ n) × (n ≤ 4294967295)) → tag_with file o ≡ Some r → IsInRange r
+tag_with-range (Some file) (Some author) r range e = subst IsInRange (ap (λ o. unwrap_or o r) e) (range author refl)
+tag_with-range file o r range e = absurd (none_some r e)
+
 taken_by-range : (app : App) (request_in : List Row → Option Request) → ((rows : List Row) (r : Request) → request_in rows ≡ Some r → IsInRange r)
     → (words : List Text) (r : Request) → taken_by app request_in words ≡ Some r → IsInRange r
 taken_by-range app request_in range words r e = go (is_empty (fault_of app words)) e
@@ -55,6 +63,13 @@ taken_by-range app request_in range words r e = go (is_empty (fault_of app words
 
 steps_in-range : (rows : List Row) (n : ℕ) → steps_in rows ≡ Some n → (1 ≤ n) × (n ≤ 1000000000)
 steps_in-range rows n = number_or-range 1000000000 1000000 (first_of (codes "steps") rows) n (omega arith) (omega arith)
+
+author_in-range : (rows : List Row) (n : ℕ) → author_in rows ≡ Some n → (1 ≤ n) × (n ≤ 4294967295)
+author_in-range rows n = go (first_of (codes "author") rows)
+  where
+    go : (o : Option Text) → option_and_then (number_of 4294967295) o ≡ Some n → (1 ≤ n) × (n ≤ 4294967295)
+    go None e = absurd (none_some n e)
+    go (Some text) e = number_of-range 4294967295 text n e
 
 pub integrate_taken-range : (words : List Text) (r : Request) → taken_by integrate_app integrate_in words ≡ Some r → IsInRange r
 integrate_taken-range = taken_by-range integrate_app integrate_in (λ rows r.
@@ -71,6 +86,12 @@ slice_taken-range = taken_by-range slice_app slice_in (λ rows r. slice_with-ran
 pub trial_taken-range : (words : List Text) (r : Request) → taken_by trial_app trial_in words ≡ Some r → IsInRange r
 trial_taken-range = taken_by-range trial_app trial_in (λ rows r.
     trial_with-range (first_of (codes "base") rows) (first_of (codes "a") rows) (first_of (codes "b") rows) (list_in (codes "state") rows) (steps_in rows) r (steps_in-range rows))
+
+pub edit_taken-range : (words : List Text) (r : Request) → taken_by edit_app edit_in words ≡ Some r → IsInRange r
+edit_taken-range = taken_by-range edit_app edit_in (λ rows r. edit_with-range (first_of (codes "file") rows) (first_of (codes "script") rows) (author_in rows) r (author_in-range rows))
+
+pub tag_taken-range : (words : List Text) (r : Request) → taken_by tag_app tag_in words ≡ Some r → IsInRange r
+tag_taken-range = taken_by-range tag_app tag_in (λ rows r. tag_with-range (first_of (codes "file") rows) (author_in rows) r (author_in-range rows))
 
 pub IfOk-range : {X E : Type 0} (f : X → Request) (r : Result X E) (asked : Option Request) → ((q : Request) → asked ≡ Some q → IsInRange q)
     → IfOk r (λ x. asked ≡ Some (f x)) → IfOk r (λ x. IsInRange (f x))

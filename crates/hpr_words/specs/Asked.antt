@@ -2,7 +2,7 @@
 --
 -- request asked == the request
 use Rattle.std.specs.Prelude.{map}
-use Rattle.hpr_words.specs.Request.{Request, affected, graph, integrate, run, slice, trial}
+use Rattle.hpr_words.specs.Request.{Request, affected, edit, graph, integrate, run, slice, tag, trial}
 use Rattle.hpr_words.specs.declared.asked.Asked.{Asked}
 use Rattle.hpr_words.specs.declared.asked.Asked.TheVariants as asked
 
@@ -13,3 +13,5 @@ request (asked.Graph file json) = graph file.now json
 request (asked.Slice file points) = slice file.now (map (λ s. s.now) points.items)
 request (asked.Affected base a) = affected base.now a.now
 request (asked.Trial base a b states steps) = trial base.now a.now b.now (map (λ s. s.now) states.items) steps
+request (asked.Edit file script author) = edit file.now script.now author
+request (asked.Tag file author) = tag file.now author

@@ -6,6 +6,7 @@
 -- number_rule id most  == the option `--id`, whose value is a number from 1 to most
 -- flag_rule id         == the flag `--id`
 -- steps_rule           == the option of the steps
+-- author_rule          == the option of the author, which must be given
 -- variants_app name    == a command of that name, of the names of base and two variants
 -- integrate_app        == `integrate BASE A B [--tries N]`
 -- run_app              == `run FILE [STATE..] [--steps N] [--trace]`
@@ -13,6 +14,8 @@
 -- slice_app            == `slice FILE POINT..`
 -- affected_app         == `affected BASE A`
 -- trial_app            == `trial BASE A B [STATE..] [--steps N]`
+-- edit_app             == `edit FILE SCRIPT --author N`
+-- tag_app              == `tag FILE --author N`
 use Rattle.std.specs.Prelude.{ℕ, Some, true, codes}
 use Rattle.clap.specs.Words.{App, Rule, Text, new_app, new_rule, with_rule}
 use Rattle.clap.specs.declared.builder.action.ArgAction.TheVariants.{Append, SetTrue}
@@ -36,6 +39,9 @@ flag_rule id = record (new_rule id) { long = Some id; action = Some SetTrue }
 abbrev pub steps_rule : Rule
 steps_rule = number_rule (codes "steps") 1000000000
 
+abbrev pub author_rule : Rule
+author_rule = record (number_rule (codes "author") 4294967295) { required = true }
+
 abbrev pub variants_app : Text → App
 variants_app name = with_rule (with_rule (with_rule (new_app name) (name_rule (codes "base"))) (name_rule (codes "a"))) (name_rule (codes "b"))
 
@@ -56,3 +62,9 @@ affected_app = with_rule (with_rule (new_app (codes "affected")) (name_rule (cod
 
 abbrev pub trial_app : App
 trial_app = with_rule (with_rule (variants_app (codes "trial")) (list_rule (codes "state"))) steps_rule
+
+abbrev pub edit_app : App
+edit_app = with_rule (with_rule (with_rule (new_app (codes "edit")) (name_rule (codes "file"))) (name_rule (codes "script"))) author_rule
+
+abbrev pub tag_app : App
+tag_app = with_rule (with_rule (new_app (codes "tag")) (name_rule (codes "file"))) author_rule

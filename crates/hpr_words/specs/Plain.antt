@@ -15,8 +15,10 @@
 -- is_numeral word               == decimal digits without leading zeros
 -- number most word              == the number that they spell, if it is from 1 to most
 -- number_or n most words        == the number of the one word, or n where there is none
+-- only_number most words        == the number of the one word
 -- is_used n                     == whether a flag stands there that stands there n times, if not twice
 -- plain_steps ps                == the number of the steps
+-- plain_author ps               == the number of the author
 -- integrate_from names n        == the request of three names and a number
 -- plain_integrate ps            == `integrate BASE A B [--tries N]`: what the pieces ask for
 -- run_from names n trace        == the request of a file, states, a number and a flag
@@ -29,13 +31,17 @@
 -- plain_affected ps             == `affected BASE A`: what the pieces ask for
 -- trial_from names n            == the request of three names, states and a number
 -- plain_trial ps                == `trial BASE A B [STATE..] [--steps N]`: what the pieces ask for, the states unbroken
+-- edit_from names n             == the request of a file, a script and a number
+-- plain_edit ps                 == `edit FILE SCRIPT --author N`: what the pieces ask for
+-- tag_from names n              == the request of a file and a number
+-- plain_tag ps                  == `tag FILE --author N`: what the pieces ask for
 -- plain words                   == the request that plain words spell
 use Rattle.std.specs.Prelude.{ℕ, Bool, true, false, not, ◌&&◌, ◌==◌, List, [], ◌∷◌, Option, Some, None, option_map, option_and_then, if◌then◌else◌, codes, nat_le, zero, suc}
 use Rattle.std.specs.List.{list_all, list_any}
 use Rattle.std.specs.Char.{is_digit}
 use Rattle.std.specs.Str.{bytes_eq}
 use Rattle.std.specs.Str.Parse.{digits_value}
-use Rattle.hpr_words.specs.Request.{Request, Text, affected, graph, integrate, run, slice, trial}
+use Rattle.hpr_words.specs.Request.{Request, Text, affected, edit, graph, integrate, run, slice, tag, trial}
 
 -- 45 is `-`
 abbrev pub is_name : Text → Bool
@@ -125,6 +131,10 @@ number_or default most [] = Some default
 number_or default most (word ∷ []) = number most word
 number_or default most _ = None
 
+abbrev pub only_number : ℕ → List Text → Option ℕ
+only_number most (word ∷ []) = number most word
+only_number most _ = None
+
 abbrev pub is_used : ℕ → Option Bool
 is_used zero = Some false
 is_used (suc zero) = Some true
@@ -132,6 +142,9 @@ is_used (suc (suc n)) = None
 
 abbrev pub plain_steps : List Piece → Option ℕ
 plain_steps ps = number_or 1000000 1000000000 (values (codes "--steps") ps)
+
+abbrev pub plain_author : List Piece → Option ℕ
+plain_author ps = only_number 4294967295 (values (codes "--author") ps)
 
 abbrev pub integrate_from : List Text → Option ℕ → Option Request
 integrate_from (base ∷ a ∷ b ∷ []) (Some tries) = Some (integrate base a b tries)
@@ -175,6 +188,20 @@ trial_from _ _ = None
 abbrev pub plain_trial : List Piece → Option Request
 plain_trial ps = if is_unbroken (behind 3 ps) then trial_from (names ps) (plain_steps ps) else None
 
+abbrev pub edit_from : List Text → Option ℕ → Option Request
+edit_from (file ∷ script ∷ []) (Some author) = Some (edit file script author)
+edit_from _ _ = None
+
+abbrev pub plain_edit : List Piece → Option Request
+plain_edit ps = edit_from (names ps) (plain_author ps)
+
+abbrev pub tag_from : List Text → Option ℕ → Option Request
+tag_from (file ∷ []) (Some author) = Some (tag file author)
+tag_from _ _ = None
+
+abbrev pub plain_tag : List Piece → Option Request
+plain_tag ps = tag_from (names ps) (plain_author ps)
+
 abbrev pub plain : List Text → Option Request
 plain [] = None
 plain (command ∷ words) =
@@ -184,4 +211,6 @@ plain (command ∷ words) =
     else (if bytes_eq command (codes "slice") then option_and_then plain_slice (pieces [] [] words)
     else (if bytes_eq command (codes "affected") then option_and_then plain_affected (pieces [] [] words)
     else (if bytes_eq command (codes "trial") then option_and_then plain_trial (pieces (codes "--steps" ∷ []) [] words)
-    else None)))))
+    else (if bytes_eq command (codes "edit") then option_and_then plain_edit (pieces (codes "--author" ∷ []) [] words)
+    else (if bytes_eq command (codes "tag") then option_and_then plain_tag (pieces (codes "--author" ∷ []) [] words)
+    else None)))))))

@@ -7,7 +7,9 @@
 -- slice file points       == show the slice of the graph of the program of a file for the points that the words tell
 -- affected base a         == show the affected points of the variant a of base
 -- trial base a b states n == run base, its variants a and b and their integration from the state that the words tell, the first three for at most n steps each
--- IsInRange request       == its number, if it has one, is from 1 to 1,000,000,000, and its points, if it asks for some, are at least one
+-- edit file script n      == apply the commands of a script to the program of a file, as the author of the number n
+-- tag file n              == tag the untagged program of a file, as the author of the number n
+-- IsInRange request       == its tries or steps, if it has some, are from 1 to 1,000,000,000, its author, if it has one, is from 1 to 4,294,967,295, and its points, if it asks for some, are at least one
 use Rattle.std.specs.Prelude.{◌≤◌, ℕ, Bool, List, length}
 
 abbrev pub Text : Type 0
@@ -20,6 +22,8 @@ pub data Request : Type 0 where
   slice : (file : Text) (points : List Text) → Request
   affected : (base a : Text) → Request
   trial : (base a b : Text) (states : List Text) (steps : ℕ) → Request
+  edit : (file script : Text) (author : ℕ) → Request
+  tag : (file : Text) (author : ℕ) → Request
 
 abbrev pub IsInRange : Request → Type 0
 IsInRange (integrate base a b tries) = (1 ≤ tries) × (tries ≤ 1000000000)
@@ -28,3 +32,5 @@ IsInRange (graph file json) = Unit {0}
 IsInRange (slice file points) = 1 ≤ length points
 IsInRange (affected base a) = Unit {0}
 IsInRange (trial base a b states steps) = (1 ≤ steps) × (steps ≤ 1000000000)
+IsInRange (edit file script author) = (1 ≤ author) × (author ≤ 4294967295)
+IsInRange (tag file author) = (1 ≤ author) × (author ≤ 4294967295)

@@ -1,8 +1,8 @@
 //! The kinds of arguments that commands have.
 ghost use Rattle.std.specs.Prelude.{◌≡◌, [], false, true, map, string_bytes, IfOk, IsErrOf, option_map, Some, None};
-ghost use Rattle.hpr_words.specs.Commands.{filled_list_rule, flag_rule, name_rule, list_rule, number_rule, steps_rule, variants_app};
+ghost use Rattle.hpr_words.specs.Commands.{filled_list_rule, author_rule, flag_rule, name_rule, list_rule, number_rule, steps_rule, variants_app};
 ghost use Rattle.hpr_words.specs.Taken as spec;
-ghost use Rattle.hpr_words.specs.Taken.{flag_in, number_in, list_in, steps_in};
+ghost use Rattle.hpr_words.specs.Taken.{author_in, flag_in, number_in, list_in, steps_in};
 ghost use Rattle.clap.specs.Walk.{is_empty};
 ghost use Rattle.clap.specs.Words.{app_of, fault_of, first_of, found_of, is_simple_and_free, rule_of, matches_of, rows_of};
 
@@ -14,6 +14,8 @@ use std::alloc::{AllocError, Global};
 const MOST_STEPS: u32 = 1_000_000_000;
 
 const DEFAULT_STEPS: u64 = 1_000_000;
+
+const MOST_AUTHORS: u32 = 4_294_967_295;
 
 /// What the command finds in the words, of which the first is the command's name.
 pub fn parse<'a>(command: Command<'a>, words: &'a [String]) -> Result<ArgMatches<'a>, WordsError>
@@ -75,6 +77,14 @@ pub fn steps_arg<'a>(alloc: Global) -> Arg<'a>
     number_arg(alloc, "steps", MOST_STEPS)
 }
 
+/// The option of the author, which must be given.
+pub fn author_arg<'a>(alloc: Global) -> Arg<'a>
+    ensures rule { rule_of result ≡ author_rule }
+    ensures local { result.global ≡ false }
+{
+    number_arg(alloc, "author", MOST_AUTHORS).required(true)
+}
+
 /// A flag.
 pub fn flag_arg<'a>(alloc: Global, id: &'a str) -> Arg<'a>
     ensures rule { rule_of result ≡ flag_rule id.entry.now }
@@ -134,6 +144,15 @@ pub fn steps_from(matches: &ArgMatches<'_>) -> Option<u64>
     ensures { result ≡ steps_in (rows_of (found_of matches.now)) }
 {
     number_from(matches, "steps", MOST_STEPS, DEFAULT_STEPS)
+}
+
+/// The number of the author, if it is given.
+pub fn author_from(matches: &ArgMatches<'_>) -> Option<u32>
+    ensures { result ≡ author_in (rows_of (found_of matches.now)) }
+{
+    let text = name_from(matches, "author")?;
+    let number = number_of(text, MOST_AUTHORS)?;
+    u32::try_from(number).ok()
 }
 
 /// Whether a flag is given.

@@ -5,10 +5,12 @@ ghost use Rattle.hpr_words.specs.Request.{IsInRange};
 ghost use Rattle.hpr_words.specs.Taken.{taken};
 
 use crate::affected::read_affected;
+use crate::edit::read_edit;
 use crate::graph::read_graph;
 use crate::integrate::read_integrate;
 use crate::run::read_run;
 use crate::slice::read_slice;
+use crate::tag::read_tag;
 use crate::trial::read_trial;
 use std::alloc::{AllocError, Global};
 
@@ -58,6 +60,19 @@ pub enum Asked<'a> {
         states: Vec<&'a str>,
         steps: u64,
     },
+    /// `edit FILE SCRIPT --author N`: apply the commands of a script, itself a file, to the program
+    /// of a file, as the author of a number from 1 to 4,294,967,295.
+    Edit {
+        file: &'a str,
+        script: &'a str,
+        author: u32,
+    },
+    /// `tag FILE --author N`: tag the untagged program of a file, as the author of a number from 1
+    /// to 4,294,967,295.
+    Tag {
+        file: &'a str,
+        author: u32,
+    },
 }
 
 /// Why words are not read.
@@ -100,6 +115,8 @@ pub fn read_words<'a>(alloc: Global, words: &'a [String]) -> Result<Asked<'a>, W
             "slice" => read_slice(alloc, words),
             "affected" => read_affected(alloc, words),
             "trial" => read_trial(alloc, words),
+            "edit" => read_edit(alloc, words),
+            "tag" => read_tag(alloc, words),
             _ => Err(WordsError::Refused),
         },
         None => Err(WordsError::Refused),

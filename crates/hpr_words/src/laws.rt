@@ -1,7 +1,7 @@
 //! Laws of the words: each function's contract is the law, for all words.
 ghost use Rattle.std.specs.Prelude.{◌≡◌, ℕ, true, false, List, [], ◌∷◌, ◌++◌, Some, codes};
 ghost use Rattle.std.specs.List.{list_all};
-ghost use Rattle.hpr_words.specs.Request.{Request, Text, affected, graph, integrate, run, slice, trial};
+ghost use Rattle.hpr_words.specs.Request.{Request, Text, affected, edit, graph, integrate, run, slice, tag, trial};
 ghost use Rattle.hpr_words.specs.Taken.{taken};
 ghost use Rattle.hpr_words.specs.Plain.{is_name, number, plain};
 
@@ -79,4 +79,22 @@ pub fn trial_words_are_plain()
         → number 1000000000 n ≡ Some steps → plain (codes "trial" ∷ base ∷ a ∷ b ∷ codes "--steps" ∷ n ∷ states) ≡ Some (trial base a b states steps) }
     ensures last { (base a b n : Text) (states : List Text) (steps : ℕ) → is_name base ≡ true → is_name a ≡ true → is_name b ≡ true → list_all is_name states ≡ true
         → number 1000000000 n ≡ Some steps → plain (codes "trial" ∷ base ∷ a ∷ b ∷ (states ++ codes "--steps" ∷ n ∷ [])) ≡ Some (trial base a b states steps) }
+{}
+
+/// The words of `edit` are plain, with the option in each of its places.
+pub fn edit_words_are_plain()
+    ensures first { (file script n : Text) (author : ℕ) → is_name file ≡ true → is_name script ≡ true → number 4294967295 n ≡ Some author
+        → plain (codes "edit" ∷ codes "--author" ∷ n ∷ file ∷ script ∷ []) ≡ Some (edit file script author) }
+    ensures second { (file script n : Text) (author : ℕ) → is_name file ≡ true → is_name script ≡ true → number 4294967295 n ≡ Some author
+        → plain (codes "edit" ∷ file ∷ codes "--author" ∷ n ∷ script ∷ []) ≡ Some (edit file script author) }
+    ensures last { (file script n : Text) (author : ℕ) → is_name file ≡ true → is_name script ≡ true → number 4294967295 n ≡ Some author
+        → plain (codes "edit" ∷ file ∷ script ∷ codes "--author" ∷ n ∷ []) ≡ Some (edit file script author) }
+{}
+
+/// The words of `tag` are plain, with the option in each of its places.
+pub fn tag_words_are_plain()
+    ensures first { (file n : Text) (author : ℕ) → is_name file ≡ true → number 4294967295 n ≡ Some author
+        → plain (codes "tag" ∷ codes "--author" ∷ n ∷ file ∷ []) ≡ Some (tag file author) }
+    ensures last { (file n : Text) (author : ℕ) → is_name file ≡ true → number 4294967295 n ≡ Some author
+        → plain (codes "tag" ∷ file ∷ codes "--author" ∷ n ∷ []) ≡ Some (tag file author) }
 {}

@@ -1,18 +1,20 @@
 //! The words of a command line: each command's own words are read by `clap`.
 //!
 //! The commands are `integrate BASE A B [--tries N]`, `run FILE [STATE..] [--steps N] [--trace]`,
-//! `graph FILE [--json]`, `slice FILE POINT..`, `affected BASE A` and
-//! `trial BASE A B [STATE..] [--steps N]`.
+//! `graph FILE [--json]`, `slice FILE POINT..`, `affected BASE A`,
+//! `trial BASE A B [STATE..] [--steps N]`, `edit FILE SCRIPT --author N` and `tag FILE --author N`.
 #![tactic(auto)]
 
 mod affected;
 mod arguments;
 mod asked;
+mod edit;
 mod graph;
 mod integrate;
 pub mod laws;
 mod run;
 mod slice;
+mod tag;
 #[cfg(test)]
 mod tests;
 mod trial;

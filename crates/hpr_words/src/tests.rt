@@ -102,6 +102,31 @@ fn takes_trial(alloc: Global, line: &str, wanted: &str, most: u64) -> Result<boo
     }
 }
 
+fn takes_edit(alloc: Global, line: &str, names: [&str; 2], wanted: u32) -> Result<bool, Fail> {
+    let words = words_of(alloc, line)?;
+    match read_words(alloc, words.as_slice()) {
+        Ok(
+            Asked::Edit {
+                file,
+                script,
+                author,
+            },
+        ) => {
+            let is_named = file == names[0] && script == names[1];
+            Ok(is_named && author == wanted)
+        }
+        _ => Ok(false),
+    }
+}
+
+fn takes_tag(alloc: Global, line: &str, name: &str, wanted: u32) -> Result<bool, Fail> {
+    let words = words_of(alloc, line)?;
+    match read_words(alloc, words.as_slice()) {
+        Ok(Asked::Tag { file, author }) => Ok(file == name && author == wanted),
+        _ => Ok(false),
+    }
+}
+
 #[test]
 fn takes_integrations(rt: HostRuntime) -> Result<(), Fail> {
     let names = ["X", "Y", "Z"];
@@ -200,7 +225,7 @@ fn takes_affected_points(rt: HostRuntime) -> Result<(), Fail> {
 }
 
 /// Lines that are no call.
-static REFUSED: [&str; 53] = [
+static REFUSED: [&str; 75] = [
     "",
     "merge X Y Z",
     "Integrate X Y Z",
@@ -254,6 +279,28 @@ static REFUSED: [&str; 53] = [
     "trial X Y Z --steps 0",
     "trial X Y Z --steps 6 --steps 6",
     "trial X Y Z --trace",
+    "edit",
+    "edit F --author 7",
+    "edit F S",
+    "edit F S T --author 7",
+    "edit F S --author",
+    "edit F S --author 0",
+    "edit F S --author 4294967296",
+    "edit F S --author 4294967303",
+    "edit F S --author -7",
+    "edit F S --author=",
+    "edit F S --author 7 --author 7",
+    "edit F S --author 7 --steps 6",
+    "edit F S -h",
+    "edit F S --author 7 --help",
+    "tag",
+    "tag F",
+    "tag --author 7",
+    "tag F G --author 7",
+    "tag F --author 0",
+    "tag F --author 4294967296",
+    "tag F --author 7 --author 7",
+    "tag F --author 7 -h",
 ];
 
 #[test]
@@ -266,6 +313,39 @@ fn takes_trials(rt: HostRuntime) -> Result<(), Fail> {
         ("trial X Y Z x=1 --steps 1000000000", "x=1 ", 1_000_000_000),
     ] {
         assert!(rt; takes_trial(rt.alloc(), line, states, steps)?, "at {line}");
+    }
+    Ok(())
+}
+
+#[test]
+fn takes_edits(rt: HostRuntime) -> Result<(), Fail> {
+    for (line, names, author) in [
+        ("edit --author 7 F S", ["F", "S"], 7),
+        ("edit F --author 7 S", ["F", "S"], 7),
+        ("edit F S --author 7", ["F", "S"], 7),
+        ("edit F S --author 1", ["F", "S"], 1),
+        ("edit F S --author 4294967295", ["F", "S"], 4_294_967_295),
+        ("edit F S --author=7", ["F", "S"], 7),
+        ("edit F S --author +7", ["F", "S"], 7),
+        ("edit F S --author 007", ["F", "S"], 7),
+        ("edit --author 7 F -- --author", ["F", "--author"], 7),
+    ] {
+        assert!(rt; takes_edit(rt.alloc(), line, names, author)?, "at {line}");
+    }
+    Ok(())
+}
+
+#[test]
+fn takes_tags(rt: HostRuntime) -> Result<(), Fail> {
+    for (line, file, author) in [
+        ("tag --author 7 F", "F", 7),
+        ("tag F --author 7", "F", 7),
+        ("tag F --author=1", "F", 1),
+        ("tag F --author 4294967295", "F", 4_294_967_295),
+        ("tag F --author 007", "F", 7),
+        ("tag --author 7 -- -F", "-F", 7),
+    ] {
+        assert!(rt; takes_tag(rt.alloc(), line, file, author)?, "at {line}");
     }
     Ok(())
 }
