@@ -1,0 +1,9 @@
+use Rattle.std.proofs.Common.{◌≡◌}
+use Rattle.hpr_refusals.proofs.Scripts.{Left}
+use Rattle.hpr_refusals.proofs.commands.apply_all.Given as goal
+
+abbrev pub invariant-loop-at : goal.invariant-loop-at
+invariant-loop-at l = record {
+  left : Left l.fn.editor.program l.commands l.fn.editor.author l.at l.editor.program;
+  author : l.editor.author ≡ l.fn.editor.author;
+}

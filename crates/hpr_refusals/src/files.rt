@@ -1,0 +1,45 @@
+//! Why a file is refused, and what is said of it.
+ghost use Rattle.std.specs.Prelude.{◌≡◌, IfOk, string_bytes};
+ghost use Rattle.hpr_refusals.specs.Reasons.{reason, refusal_text};
+
+use crate::reasons::{about, shape_reason};
+use hpr_syntax::ShapeError;
+use std::alloc::{AllocError, Global};
+
+/// The longest file that is accepted, in bytes. The limit is our profile.
+pub const MAX_FILE: usize = 4_194_304;
+
+/// Why a file is refused. A script is refused for its length or its syntax alone.
+#[derive(Drop)]
+pub enum Refusal {
+    /// It has more than 4,194,304 bytes.
+    Longer,
+    /// It spells no tree, or no script: so many of its first bytes can still be completed, and no
+    /// more.
+    Syntax { place: usize },
+    /// It spells a tree that is no program.
+    Shape(ShapeError),
+}
+
+impl Refusal {
+    /// The message on the file with this name.
+    ///
+    /// It fails where memory runs out, also where that is why there is no program. Messages are our
+    /// profile.
+    pub fn message(&self, alloc: Global, file: &str) -> Result<String, AllocError>
+        ensures { IfOk result (λ text. string_bytes text ≡ refusal_text file.now self.now) }
+    {
+        let reason = self.reason(alloc)?;
+        about(alloc, file, reason.as_str())
+    }
+
+    fn reason(&self, alloc: Global) -> Result<String, AllocError>
+        ensures { IfOk result (λ text. string_bytes text ≡ reason self.now) }
+    {
+        match self {
+            Refusal::Longer => String::from_str(alloc, "longer than 4194304 bytes"),
+            Refusal::Syntax { place } => format!(in alloc; "syntax at byte {place}"),
+            Refusal::Shape(error) => shape_reason(alloc, error),
+        }
+    }
+}

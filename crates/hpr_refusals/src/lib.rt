@@ -1,0 +1,15 @@
+//! Why a file, a script or a command of a script is refused, and what is said of it.
+#![tactic(auto)]
+
+mod commands;
+mod files;
+pub mod laws;
+mod reasons;
+#[cfg(test)]
+mod tests;
+
+pub use commands::{CommandRefusal, apply_script};
+pub use files::{MAX_FILE, Refusal};
+pub use hpr_edit::{Command, EditError};
+pub use hpr_syntax::{Program, ShapeError, Tag};
+pub use reasons::{about, tag_name};

@@ -1,0 +1,53 @@
+//! What is said of a file, a word or a tree that is refused.
+ghost use Rattle.std.specs.Prelude.{◌≡◌, IfOk, string_bytes};
+ghost use Rattle.hpr_syntax.specs.Print.{tag_text};
+ghost use Rattle.hpr_refusals.specs.Reasons.{about, shape_text};
+
+use hpr_syntax::{ShapeError, Tag};
+use std::alloc::{AllocError, Global};
+
+/// A text on the file or the word with this name: a whole message, in one line.
+pub fn about(alloc: Global, file: &str, text: &str) -> Result<String, AllocError>
+    ensures { IfOk result (λ message. string_bytes message ≡ about file.now text.now) }
+{
+    format!(in alloc; "hpr: {file}: {text}\n")
+}
+
+/// The tag as it is written in a program.
+pub fn tag_name(alloc: Global, tag: &Tag) -> Result<String, AllocError>
+    ensures { IfOk result (λ text. string_bytes text ≡ tag_text tag.now) }
+{
+    let author = tag.author;
+    let serial = tag.serial;
+    format!(in alloc; "{author}.{serial}")
+}
+
+/// What is said of a tree that is no program. Want of memory is no such reason, and fails.
+pub(crate) fn shape_reason(alloc: Global, error: &ShapeError) -> Result<String, AllocError>
+    ensures { IfOk result (λ text. string_bytes text ≡ shape_text error.now) }
+{
+    match error {
+        ShapeError::DuplicateTag(tag) => {
+            let tag = tag_name(alloc, tag)?;
+            format!(in alloc; "tag {tag} stands twice")
+        }
+        ShapeError::Unissued(tag) => {
+            let tag = tag_name(alloc, tag)?;
+            format!(in alloc; "tag {tag} was not issued")
+        }
+        ShapeError::TooDeep(tag) => {
+            let tag = tag_name(alloc, tag)?;
+            format!(in alloc; "part {tag} is nested deeper than 64")
+        }
+        ShapeError::ExprTooLarge(tag) => {
+            let tag = tag_name(alloc, tag)?;
+            format!(in alloc; "expression of {tag} has more than 256 operators")
+        }
+        ShapeError::TooManyParts(count) => { format!(in alloc; "{count} parts, more than 1000") }
+        ShapeError::DuplicateFinal(name) => {
+            let name = name.text();
+            format!(in alloc; "end names {name} twice")
+        }
+        ShapeError::Memory => Err(AllocError),
+    }
+}
