@@ -15,3 +15,4 @@ mod IssuedRows
 mod Unsearched
 mod ProgramRegular
 pub mod PrintedKeeps
+pub mod WithinBounds
