@@ -1,11 +1,11 @@
 -- Where nothing failed and each file spells a program, the outcome is the one that those programs have.
-use Rattle.std.proofs.Common.{◌≡◌, ◌≤◌, ℕ, suc, Bool, All, arith, List, [], ◌∷◌, refl, ap, sym, ◌∙◌, subst, inl, inr, ◌⊎◌, Option, Some, None, Ok}
+use Rattle.std.proofs.Common.{◌≡◌, ◌≤◌, ℕ, suc, Bool, All, arith, List, [], ◌∷◌, refl, ap, sym, ◌∙◌, subst, inl, inr, ◌⊎◌, Option, Some, Ok}
 use Rattle.hpr_io.specs.Counts.{Rose}
 use Rattle.hpr_io.specs.Files.{Files, bytes_of}
 use Rattle.hpr_io.specs.Taken.{taken_then}
-use Rattle.hpr_syntax.specs.Grammar.{tagged}
+use Rattle.hpr_syntax.specs.Grammar.{tagged, untagged}
 use Rattle.hpr_syntax.specs.Print.{text}
-use Rattle.hpr_syntax.specs.Shape.{shape, IsProgram}
+use Rattle.hpr_syntax.specs.Shape.{IsProgram}
 use Rattle.hpr_syntax.specs.Tree.{Tree}
 use Rattle.hpr_syntax.specs.Values.{Values}
 use Rattle.hpr_graph.specs.Answer.{Answer, interference, printed, no_program, spent, IsAnswer, IsWithoutConflict, issued_of}
@@ -15,11 +15,11 @@ use Rattle.hpr_graph.specs.ProgramGraph.{graph_of}
 use Rattle.hpr_graph.specs.Slices.{slice_of}
 use Rattle.hpr_report.specs.AffectedText.{IsAffectedText}
 use Rattle.hpr_report.specs.GraphTexts.{IsGraphText}
-use Rattle.hpr_text.proofs.Texts.{one_tree}
-use Rattle.hpr_words.specs.Request.{Request, Text, IsInRange, integrate, run, graph, slice, affected, trial}
+use Rattle.hpr_words.specs.Request.{Request, Text, IsInRange, integrate, run, graph, slice, affected, trial, edit, tag}
 use Rattle.hpr_app.specs.Complete.{DonePrinting, Completes, IsOtherText, PrintsOther, RequestCompletes, Runs, Tries}
-use Rattle.hpr_app.specs.Decision.{Decision, Prints}
+use Rattle.hpr_app.specs.Decision.{Decision, OnRead, Prints, prints}
 use Rattle.hpr_app.specs.AffectedFiles.{AffectedPoints, AffectedOutcome}
+use Rattle.hpr_app.specs.EditFiles.{EditOutcome, OnScript, TagOutcome, edit_decision}
 use Rattle.hpr_app.specs.GraphFile.{IsShown, Graphed, GraphOutcome}
 use Rattle.hpr_engine.specs.Limit.{AreInLimit, HasTooManyEdges}
 use Rattle.hpr_engine.proofs.OneAnswer.{fit_is_printed, enough}
@@ -29,31 +29,28 @@ use Rattle.hpr_app.specs.Graphs.{OnGraph}
 use Rattle.hpr_app.specs.Integrate.{OnFile, OnFiles, OnGraphs, report, IsReported, Integrated, IntegrateOutcome}
 use Rattle.hpr_app.specs.Outcome.{RequestOutcome, OutcomeIfTold}
 use Rattle.hpr_app.specs.Points.{IsFirstStranger, IsNamed, IsPoint, OnPoints}
-use Rattle.hpr_app.specs.Refusals.{IsFileOf, IsCause}
+use Rattle.hpr_edit.specs.declared.command.Command.{Command}
+use Rattle.hpr_refusals.specs.Applied.{applied, becomes}
+use Rattle.hpr_refusals.specs.Refusals.{IsFileIn, IsFileOf, IsOne, IsRefused, IsRefusedIn, IsRefusedScript, IsScriptOf}
+use Rattle.hpr_refusals.proofs.Once.{one_file, one_script_file}
 use Rattle.hpr_app.specs.RunFile.{OnState, Ran, RunOutcome}
 use Rattle.hpr_app.specs.SliceFile.{Sliced, SliceOutcome}
 use Rattle.hpr_app.specs.States.{states_of}
 use Rattle.hpr_app.specs.TrialFiles.{IsTried, Tried, TrialOutcome}
 use Rattle.hpr_app.specs.Ends.{Change, Ends, Decided, status_of, text_of}
-use Rattle.hpr_app.specs.declared.refusals.Refusal.{Refusal}
-use Rattle.hpr_app.specs.declared.refusals.Refusal.TheVariants as refusal
+use Rattle.hpr_app.specs.declared.answer.Kind.TheVariants.{Done}
 use Rattle.hpr_app.specs.declared.status.Status.{Status}
 use Rattle.hpr_app.specs.declared.status.Status.TheVariants as status
 use Rattle.hpr_app.proofs.EndsLemmas.{asked_ends}
 use Rattle.hpr_app.proofs.VersionLemmas.{of_state}
 
--- what spells a program is not refused
-pub not_refused : (bytes : List ℕ) (why : Refusal) (p : Tree) → IsCause bytes why → IsFileOf bytes p → ⊥
-not_refused bytes refusal.Longer p h is = omega (arith, h, is.short)
-not_refused bytes (refusal.Syntax place) p h is = h.1.unspelled (p, is.spelled)
-not_refused bytes (refusal.Shape error) p (_, (t, spelled, fails)) is =
-    let same : shape p ≡ shape t = ap shape (one_tree tagged bytes p t is.spelled spelled) in
-    let e : None ≡ Some error = sym is.program.shape ∙ same ∙ fails in
-    absurd cc
+-- what is read one way is not refused
+of_read : {A : Type 0} (refused : List ℕ → Type 0) (is : A → Type 0) → IsOne refused is → (next : A → Type 0) (r : Decision) (a : A) → OnRead refused is next r → is a → next a
+of_read refused is one next r a (inl (m, h, _)) k = absurd (one.apart m a h k)
+of_read refused is one next r a (inr (b, h, n)) k = subst next (one.value b a h k) n
 
 pub of_program : (fs : Files) (file : List ℕ) (next : Tree → Type 0) (r : Decision) (p : Tree) → OnFile fs file next r → IsFileOf (bytes_of fs file) p → next p
-of_program fs file next r p (inl (_, (why, cause, _), _)) is = absurd (not_refused (bytes_of fs file) why p cause is)
-of_program fs file next r p (inr (q, h, n)) is = subst next (one_tree tagged (bytes_of fs file) q p h.spelled is.spelled) n
+of_program fs file next r p o h = of_read (IsRefused file (bytes_of fs file)) (IsFileOf (bytes_of fs file)) (one_file tagged (bytes_of fs file) file) next r p o h
 
 done_printing : (P : List ℕ → Type 0) (old new : Option (List ℕ)) (s : Status) (d : Decision) → s ≡ status_of d → new ≡ taken_then old (text_of d) → Prints P d → DonePrinting P old new s
 done_printing P old new s d is took (bytes, text, same) = (is ∙ ap status_of same, bytes, text, took ∙ ap (λ x. taken_then old (text_of x)) same)
@@ -183,6 +180,23 @@ module _ (old new : Option (List ℕ)) (s : Status) (fs : Files) (d : Decision) 
       (of_program_graph a q Shown d few_too
       (of_program_graph base p (OnGraph a q Shown d) d few (of_program fs a (λ q. AffectedPoints base p a q d) d q on_a hq)))
 
+  of_edit : (file script : Text) (author : ℕ) (p q : Tree) (cs : List Command) → EditOutcome fs file script author d → IsFileOf (bytes_of fs file) p
+      → IsScriptOf (bytes_of fs script) cs → applied p cs author ≡ becomes q → DonePrinting (λ bytes. bytes ≡ text q) old new s
+  of_edit file script author p q cs o hp hs made =
+      let on_script = of_program fs file (λ p. OnScript fs script (λ cs. d ≡ edit_decision script (applied p cs author)) d) d p o hp in
+      let bytes = bytes_of fs script in
+      let same =
+      of_read (IsRefusedScript script bytes) (IsScriptOf bytes) (one_script_file script bytes) (λ cs. d ≡ edit_decision script (applied p cs author)) d cs on_script hs in
+      done_printing (λ bytes. bytes ≡ text q) old new s d is took (text q, refl, same ∙ ap (edit_decision script) made)
+
+  of_tag : (file : Text) (author : ℕ) (p : Tree) → TagOutcome fs file author d → IsFileIn (untagged author) (bytes_of fs file) p
+      → DonePrinting (λ bytes. bytes ≡ text p) old new s
+  of_tag file author p o hp =
+      let form = untagged author in
+      let bytes = bytes_of fs file in
+      let same = of_read (IsRefusedIn form file bytes) (IsFileIn form bytes) (one_file form bytes file) (λ p. d ≡ prints Done (text p)) d p o hp in
+      done_printing (λ bytes. bytes ≡ text p) old new s d is took (text p, refl, same)
+
 request_completes : (request : Request) (fs : Files) (old new : Option (List ℕ)) (s : Status) (d : Decision) → s ≡ status_of d → new ≡ taken_then old (text_of d)
     → RequestOutcome request fs d → RequestCompletes request fs old new s
 request_completes (integrate base a b tries) fs old new s d is took o = λ p q r hp hq hr few none. of_three p q r tries old new s fs base a b d o hp hq hr few is took none
@@ -191,6 +205,8 @@ request_completes (graph file json) fs old new s d is took o = λ p hp few. of_g
 request_completes (slice file points) fs old new s d is took o = λ p hp few named. of_slice old new s fs d is took file points p o hp few named
 request_completes (affected base a) fs old new s d is took o = λ p q hp hq few few_too. of_affected old new s fs d is took base a p q o hp hq few few_too
 request_completes (trial base a b words steps) fs old new s d is took o = λ state p q r told hp hq hr few. of_trial state p q r old new s fs base a b words steps d is took o told hp hq hr few
+request_completes (edit file script author) fs old new s d is took o = λ p q cs hp hs made. of_edit old new s fs d is took file script author p q cs o hp hs made
+request_completes (tag file author) fs old new s d is took o = λ p hp. of_tag old new s fs d is took file author p o hp
 
 -- where one variant is the base, the other one is printed
 request_prints_other : (request : Request) (fs : Files) (old new : Option (List ℕ)) (s : Status) (d : Decision) → s ≡ status_of d → new ≡ taken_then old (text_of d)
@@ -201,6 +217,8 @@ request_prints_other (graph file json) fs old new s d is took range o = tt
 request_prints_other (slice file points) fs old new s d is took range o = tt
 request_prints_other (affected base a) fs old new s d is took range o = tt
 request_prints_other (trial base a b words steps) fs old new s d is took range o = tt
+request_prints_other (edit file script author) fs old new s d is took range o = tt
+request_prints_other (tag file author) fs old new s d is took range o = tt
 
 module _ (request : Request) (fs : Files) (reads : List ℕ → Type 0) (before now : ℕ) (out err : Change)
     (read : Rose before now → ⊥) (written : Rose out.before out.now → ⊥) where

@@ -18,3 +18,17 @@ pub mod GraphLemmas
 pub mod PointLemmas
 pub mod SliceLemmas
 pub mod AffectedLemmas
+mod TotalLists
+mod TotalEdges
+mod TotalPlaces
+mod TotalTrees
+mod TotalFiles
+mod TotalGraphs
+mod TotalConflicts
+mod TotalRank
+mod TotalBodies
+mod TotalArrangements
+mod TotalAnswers
+mod TotalTables
+pub mod Total
+pub mod EditLemmas

@@ -1,13 +1,10 @@
 -- The words and the files make one decision.
-use Rattle.std.proofs.Common.{◌≡◌, ℕ, arith, List, [], ◌∷◌, refl, sym, ap, ◌∙◌, subst, inl, inr, Option, Some, None, Result, Ok, Err}
+use Rattle.std.proofs.Common.{◌≡◌, ℕ, List, [], ◌∷◌, refl, sym, ap, ◌∙◌, subst, inl, inr, Option, Some, None, Result, Ok, Err}
 use Rattle.hpr_io.specs.Counts.{Rose}
 use Rattle.hpr_io.specs.Files.{Files, bytes_of}
-use Rattle.hpr_scan.specs.Place.{IsPlace}
-use Rattle.hpr_syntax.specs.declared.shape.ShapeError.{ShapeError}
-use Rattle.hpr_syntax.specs.Grammar.{tagged}
+use Rattle.hpr_syntax.specs.Grammar.{tagged, untagged}
 use Rattle.hpr_syntax.specs.Print.{text}
 use Rattle.hpr_syntax.specs.Shape.{IsProgram}
-use Rattle.hpr_syntax.specs.Shape.{shape}
 use Rattle.hpr_syntax.specs.Tree.{Tree}
 use Rattle.hpr_syntax.specs.Values.{Values}
 use Rattle.hpr_graph.specs.Graphs.{Graph}
@@ -17,10 +14,8 @@ use Rattle.hpr_graph.specs.Slices.{slice_of}
 use Rattle.hpr_report.specs.AffectedText.{IsAffectedText}
 use Rattle.hpr_report.specs.GraphTexts.{IsGraphText}
 use Rattle.hpr_report.proofs.OneText.{one_graph_text, one_affected_text}
-use Rattle.hpr_text.specs.Answers.{IsMisshapen}
-use Rattle.hpr_text.proofs.Texts.{one_tree}
 use Rattle.hpr_app.specs.Complete.{IsRefusedCall}
-use Rattle.hpr_app.specs.Decision.{Decision, Prints, prints, refuses}
+use Rattle.hpr_app.specs.Decision.{Decision, OnRead, Prints, prints, refuses}
 use Rattle.hpr_app.specs.Ends.{Change, Ends, Decided, SaysIfAny, has_text, message_of, status_of}
 use Rattle.hpr_app.specs.GraphFile.{IsShown}
 use Rattle.hpr_app.specs.Graphs.{OnGraph}
@@ -32,42 +27,22 @@ use Rattle.hpr_report.specs.ConflictsText.{conflicts_text}
 use Rattle.hpr_app.specs.Integrate.{OnFile, OnFiles, OnGraphs, report, spent_text, no_program_text, IsReported, Integrated}
 use Rattle.hpr_app.specs.Outcome.{RequestOutcome, Outcome, OutcomeIfTold, HasSearched, AgreeButForBudget}
 use Rattle.hpr_app.specs.Points.{IsFirstStranger, IsNamed, IsPoint, OnPoints, no_such_point}
-use Rattle.hpr_app.specs.Refusals.{IsCause, IsFileOf, IsRefused, refusal_text}
+use Rattle.hpr_edit.specs.declared.command.Command.{Command}
+use Rattle.hpr_refusals.specs.Applied.{applied}
+use Rattle.hpr_refusals.specs.Refusals.{IsFileIn, IsFileOf, IsOne, IsRefused, IsRefusedIn, IsRefusedScript, IsScriptOf}
+use Rattle.hpr_refusals.proofs.Once.{one_file, one_script_file}
+use Rattle.hpr_app.specs.EditFiles.{OnScript, OnUntagged, edit_decision}
 use Rattle.hpr_app.specs.RunFile.{OnState}
 use Rattle.hpr_app.specs.States.{RefusedWord, states_of}
 use Rattle.hpr_app.specs.TrialFiles.{IsTried, Tried}
-use Rattle.hpr_words.specs.Request.{Request, Text, integrate, run, graph, slice, affected, trial}
+use Rattle.hpr_words.specs.Request.{Request, Text, integrate, run, graph, slice, affected, trial, edit, tag}
 use Rattle.hpr_app.specs.declared.answer.Kind.TheVariants.{Done, Interference}
-use Rattle.hpr_app.specs.declared.refusals.Refusal.{Refusal}
-use Rattle.hpr_app.specs.declared.refusals.Refusal.TheVariants as refusal
 use Rattle.hpr_app.specs.declared.status.Status.{Status}
 use Rattle.hpr_app.specs.declared.status.Status.TheVariants as status
 use Rattle.hpr_app.proofs.EndsLemmas.{asked_ends}
-use Rattle.hpr_app.proofs.Completeness.{not_refused, not_stranger}
+use Rattle.hpr_app.proofs.Completeness.{not_stranger}
 use Rattle.hpr_app.proofs.GraphLemmas.{one_shown}
 use Rattle.hpr_app.proofs.TrialLemmas.{one_tried}
-
-one_place : (L : List ℕ → Type 0) (bytes : List ℕ) (m n : ℕ) → IsPlace L bytes m → IsPlace L bytes n → m ≡ n
-one_place L bytes m n h k = omega (arith, h.longest n k.within k.viable, k.longest m h.within h.viable)
-
-one_shape : (bytes : List ℕ) (d e : ShapeError) → IsMisshapen tagged bytes d → IsMisshapen tagged bytes e → d ≡ e
-one_shape bytes d e (t, spelled, is) (u, also, so) =
-    let same : Some d ≡ Some e = sym is ∙ ap shape (one_tree tagged bytes t u spelled also) ∙ so in
-    cc
-
-one_cause : (bytes : List ℕ) (r s : Refusal) → IsCause bytes r → IsCause bytes s → r ≡ s
-one_cause bytes refusal.Longer refusal.Longer h k = refl
-one_cause bytes refusal.Longer (refusal.Syntax n) h k = absurd (omega (arith, h, k.0))
-one_cause bytes refusal.Longer (refusal.Shape e) h k = absurd (omega (arith, h, k.0))
-one_cause bytes (refusal.Syntax m) refusal.Longer h k = absurd (omega (arith, h.0, k))
-one_cause bytes (refusal.Syntax m) (refusal.Syntax n) h k = ap refusal.Syntax (one_place _ bytes m n h.1 k.1)
-one_cause bytes (refusal.Syntax m) (refusal.Shape e) h (_, (t, spelled, _)) = absurd (h.1.unspelled (t, spelled))
-one_cause bytes (refusal.Shape d) refusal.Longer h k = absurd (omega (arith, h.0, k))
-one_cause bytes (refusal.Shape d) (refusal.Syntax n) (_, (t, spelled, _)) k = absurd (k.1.unspelled (t, spelled))
-one_cause bytes (refusal.Shape d) (refusal.Shape e) h k = ap refusal.Shape (one_shape bytes d e h.1 k.1)
-
-one_message : (file bytes m n : List ℕ) → IsRefused file bytes m → IsRefused file bytes n → m ≡ n
-one_message file bytes m n (r, h, is) (s, k, so) = is ∙ ap (refusal_text file) (one_cause bytes r s h k) ∙ sym so
 
 -- where one text has P, what prints it is one decision
 one_printed : (P : List ℕ → Type 0) → ((x y : List ℕ) → P x → P y → x ≡ y) → (r s : Decision) → Prints P r → Prints P s → r ≡ s
@@ -120,11 +95,29 @@ one_on_points r s g words next also rest (inr (all, _)) (inl (y, k, _)) = absurd
 one_on_points r s g words next also rest (inr (_, h)) (inr (_, k)) = rest h k
 
 module _ (fs : Files) (r s : Decision) where
+  one_on_read : {A : Type 0} (refused : List ℕ → Type 0) (is : A → Type 0) → IsOne refused is → (next also : A → Type 0)
+      → ((a : A) → is a → next a → also a → AgreeButForBudget r s) → OnRead refused is next r → OnRead refused is also s → AgreeButForBudget r s
+  one_on_read refused is one next also rest (inl (k, h, e)) (inl (l, g, f)) = inl (e ∙ ap refuses (one.message k l h g) ∙ sym f)
+  one_on_read refused is one next also rest (inl (k, h, _)) (inr (a, ha, _)) = absurd (one.apart k a h ha)
+  one_on_read refused is one next also rest (inr (a, ha, _)) (inl (k, h, _)) = absurd (one.apart k a h ha)
+  one_on_read refused is one next also rest (inr (a, ha, h)) (inr (b, hb, k)) = rest a ha h (subst also (one.value b a hb ha) k)
+
   one_on_file : (file : List ℕ) (next also : Tree → Type 0) → ((p : Tree) → IsFileOf (bytes_of fs file) p → next p → also p → AgreeButForBudget r s) → OnFile fs file next r → OnFile fs file also s → AgreeButForBudget r s
-  one_on_file file next also rest (inl (k, h, is)) (inl (l, g, so)) = inl (is ∙ ap refuses (one_message file (bytes_of fs file) k l h g) ∙ sym so)
-  one_on_file file next also rest (inl (_, (why, cause, _), _)) (inr (q, hq, _)) = absurd (not_refused (bytes_of fs file) why q cause hq)
-  one_on_file file next also rest (inr (p, hp, _)) (inl (_, (why, cause, _), _)) = absurd (not_refused (bytes_of fs file) why p cause hp)
-  one_on_file file next also rest (inr (p, hp, h)) (inr (q, hq, k)) = rest p hp h (subst also (one_tree tagged (bytes_of fs file) q p hq.spelled hp.spelled) k)
+  one_on_file file next also rest h k =
+      one_on_read (IsRefused file (bytes_of fs file)) (IsFileOf (bytes_of fs file)) (one_file tagged (bytes_of fs file) file) next also rest h k
+
+  one_on_script : (script : List ℕ) (next also : List Command → Type 0) → ((cs : List Command) → next cs → also cs → AgreeButForBudget r s)
+      → OnScript fs script next r → OnScript fs script also s → AgreeButForBudget r s
+  one_on_script script next also rest h k =
+      let bytes = bytes_of fs script in
+      one_on_read (IsRefusedScript script bytes) (IsScriptOf bytes) (one_script_file script bytes) next also (λ cs hc h k. rest cs h k) h k
+
+  one_on_untagged : (file : List ℕ) (author : ℕ) (next also : Tree → Type 0) → ((p : Tree) → next p → also p → AgreeButForBudget r s)
+      → OnUntagged fs file author next r → OnUntagged fs file author also s → AgreeButForBudget r s
+  one_on_untagged file author next also rest h k =
+      let form = untagged author in
+      let bytes = bytes_of fs file in
+      one_on_read (IsRefusedIn form file bytes) (IsFileIn form bytes) (one_file form bytes file) next also (λ p hp h k. rest p h k) h k
 
   one_on_state : (told : Result Values RefusedWord) (next also : Values → Type 0) → ((state : Values) → next state → also state → AgreeButForBudget r s) → OnState told next r → OnState told also s → AgreeButForBudget r s
   one_on_state (Ok state) next also rest h k = rest state h k
@@ -158,6 +151,12 @@ module _ (fs : Files) (r s : Decision) where
       (λ state h k. one_on_files base a b (λ p q o. Tried base p a q b o state steps r) (λ p q o. Tried base p a q b o state steps s)
       (λ p q o is_q is_o h k. one_on_graphs r s base p a q b o (IsTried p q o state steps r) (IsTried p q o state steps s)
       (λ h k. one_tried p q o state steps r s is_q is_o h k) h k) h k) h k
+  one_outcome (edit file script author) h k =
+      one_on_file file (λ p. OnScript fs script (λ cs. r ≡ edit_decision script (applied p cs author)) r) (λ p. OnScript fs script (λ cs. s ≡ edit_decision script (applied p cs author)) s)
+      (λ p hp h k. one_on_script script (λ cs. r ≡ edit_decision script (applied p cs author)) (λ cs. s ≡ edit_decision script (applied p cs author))
+      (λ cs h k. inl (h ∙ sym k)) h k) h k
+  one_outcome (tag file author) h k =
+      one_on_untagged file author (λ p. r ≡ prints Done (text p)) (λ p. s ≡ prints Done (text p)) (λ p h k. inl (h ∙ sym k)) h k
 
 pub one_decision : (request : Option Request) (fs : Files) (r s : Decision) → Outcome request fs r → Outcome request fs s → AgreeButForBudget r s
 one_decision None fs r s h k = inl (h ∙ sym k)

@@ -3,6 +3,8 @@ use Rattle.std.proofs.Common.{◌≡◌, ℕ, Bool, true, false, List, refl, ap,
 use Rattle.hpr_io.specs.Counts.{Rose}
 use Rattle.hpr_io.specs.Files.{Files, bytes_of}
 use Rattle.hpr_io.specs.Taken.{taken_then}
+use Rattle.hpr_syntax.specs.Grammar.{untagged}
+use Rattle.hpr_syntax.specs.Print.{text}
 use Rattle.hpr_syntax.specs.Run.{Outcome, ends, faults, more}
 use Rattle.hpr_syntax.specs.Run as means
 use Rattle.hpr_syntax.specs.Tree.{Tree}
@@ -13,14 +15,16 @@ use Rattle.hpr_graph.specs.Graphs.{Graph}
 use Rattle.hpr_graph.specs.ProgramGraph.{graph_of}
 use Rattle.hpr_engine.specs.Limit.{AreInLimit, HasTooManyEdges}
 use Rattle.hpr_report.specs.ConflictsText.{conflicts_text}
-use Rattle.hpr_words.specs.Request.{Request, Text, integrate, run, graph, slice, affected, trial}
-use Rattle.hpr_app.specs.Decision.{Decision, Prints, prints, refuses}
+use Rattle.hpr_words.specs.Request.{Request, Text, integrate, run, graph, slice, affected, trial, edit, tag}
+use Rattle.hpr_app.specs.Decision.{Decision, OnRead, Prints, prints, refuses}
 use Rattle.hpr_app.specs.Ends.{Change, Ends, Decided, status_of, text_of}
 use Rattle.hpr_app.specs.Graphs.{OnGraph}
 use Rattle.hpr_app.specs.Integrate.{OnFile, OnFiles, OnGraphs, report}
 use Rattle.hpr_app.specs.Outcome.{RequestOutcome, OutcomeIfTold}
 use Rattle.hpr_app.specs.Points.{OnPoints}
-use Rattle.hpr_app.specs.Refusals.{IsFileOf}
+use Rattle.hpr_refusals.specs.Applied as made
+use Rattle.hpr_refusals.specs.Refusals.{IsFileIn, IsFileOf, IsRefused, IsRefusedIn, IsRefusedScript, IsScriptOf}
+use Rattle.hpr_app.specs.EditFiles.{edit_decision}
 use Rattle.hpr_app.specs.Reports.{HasAnswer, IsInterference}
 use Rattle.hpr_app.specs.RunFile.{OnState, kind_of}
 use Rattle.hpr_app.specs.States.{RefusedWord, states_of}
@@ -41,6 +45,8 @@ answer_outcome (run file words steps trace) fs cs h = absurd h
 answer_outcome (graph file json) fs cs h = absurd h
 answer_outcome (slice file points) fs cs h = absurd h
 answer_outcome (affected base a) fs cs h = absurd h
+answer_outcome (edit file script author) fs cs h = absurd h
+answer_outcome (tag file author) fs cs h = absurd h
 answer_outcome (trial base a b words steps) fs cs (state, told, h) =
     let d = prints kind.Interference (conflicts_text cs) in
     on_state (states_of words) state told (λ t d. OnFiles fs base a b (λ p q r. Tried base p a q b r t steps d) d) d
@@ -63,12 +69,19 @@ module _ (fs : Files) (d : Decision) (is : IsReport (status_of d)) where
 
   not_run : (o : Outcome) (text : List ℕ) → d ≡ prints (kind_of o) text → ⊥
   not_run (ends finals steps) text e = subst (λ (r : Decision). IsReport (status_of r)) e is
-  not_run (faults tag fault steps) text e = subst (λ (r : Decision). IsReport (status_of r)) e is
+  not_run (faults part fault steps) text e = subst (λ (r : Decision). IsReport (status_of r)) e is
   not_run (more steps) text e = subst (λ (r : Decision). IsReport (status_of r)) e is
 
+  not_edited : (script : Text) (x : made.Applied) → d ≡ edit_decision script x → ⊥
+  not_edited script (made.becomes p) e = subst (λ (r : Decision). IsReport (status_of r)) e is
+  not_edited script (made.refused k why) e = no_refusal _ e
+
+  past_read : {A : Type 0} (refused : List ℕ → Type 0) (is : A → Type 0) (next : A → Type 0) → OnRead refused is next d → (a : A) × is a × next a
+  past_read refused is next (inl (message, h, e)) = absurd (no_refusal message e)
+  past_read refused is next (inr h) = h
+
   past_file : (file : List ℕ) (next : Tree → Type 0) → OnFile fs file next d → (p : Tree) × IsFileOf (bytes_of fs file) p × next p
-  past_file file next (inl (message, refused, e)) = absurd (no_refusal message e)
-  past_file file next (inr h) = h
+  past_file file next o = past_read (IsRefused file (bytes_of fs file)) (IsFileOf (bytes_of fs file)) next o
 
   past_graph : (file : Text) (p : Tree) (next : Type 0) → OnGraph file p next d → (HasTooManyEdges p → ⊥) × next
   past_graph file p next (inl (many, e)) = absurd (no_refusal _ e)
@@ -117,6 +130,8 @@ module _ (fs : Files) (d : Decision) (is : IsReport (status_of d)) where
   Reports (graph file json) = ⊥
   Reports (slice file points) = ⊥
   Reports (affected base a) = ⊥
+  Reports (edit file script author) = ⊥
+  Reports (tag file author) = ⊥
   Reports (trial base a b words steps) = (x : Answer) × HasAnswer (trial base a b words steps) fs x × (d ≡ report trial_tries x)
 
   reports : (request : Request) → RequestOutcome request fs d → Reports request
@@ -143,6 +158,14 @@ module _ (fs : Files) (d : Decision) (is : IsReport (status_of d)) where
       let (p, q, r, base_is, a_is, b_is, on_graphs) = past_files base a b _ on_files in
       let (few, (x, answer, by)) = past_graphs base p a q b r _ on_graphs in
       (x, (state, told, record { p = p; q = q; r = r; base_is = base_is; a_is = a_is; b_is = b_is; within = few; answer = answer }), past_trial p q r state steps x by)
+  reports (edit file script author) o =
+      let (p, file_is, on_script) = past_file file _ o in
+      let (cs, script_is, shown) = past_read (IsRefusedScript script (bytes_of fs script)) (IsScriptOf (bytes_of fs script)) (λ cs. d ≡ edit_decision script (made.applied p cs author)) on_script in
+      absurd (not_edited script (made.applied p cs author) shown)
+  reports (tag file author) o =
+      let bytes = bytes_of fs file in
+      let (p, file_is, shown) = past_read (IsRefusedIn (untagged author) file bytes) (IsFileIn (untagged author) bytes) (λ p. d ≡ prints kind.Done (text p)) o in
+      absurd (not_done (λ bytes. bytes ≡ text p) (text p, refl, shown))
 
 -- which answer it is, its status tells
 interference_of : (tries : ℕ) (x : Answer) → status.Interference ≡ status_of (report tries x) → (cs : List Conflict) × (x ≡ interference cs)
@@ -177,6 +200,8 @@ module _ (request : Request) (fs : Files) (d : Decision) where
       by_request (graph file json) h = absurd h
       by_request (slice file points) h = absurd h
       by_request (affected base a) h = absurd h
+      by_request (edit file script author) h = absurd h
+      by_request (tag file author) h = absurd h
       by_request (trial base a b words steps) (x, has, shown) =
           let (cs, e) = interference_of trial_tries x (is ∙ ap status_of shown) in
           (cs, subst (λ (y : Answer). HasAnswer (trial base a b words steps) fs y) e has, shown ∙ ap (report trial_tries) e)
@@ -192,6 +217,8 @@ module _ (request : Request) (fs : Files) (d : Decision) where
       by_request (graph file json) h = absurd h
       by_request (slice file points) h = absurd h
       by_request (affected base a) h = absurd h
+      by_request (edit file script author) h = absurd h
+      by_request (tag file author) h = absurd h
       by_request (trial base a b words steps) (x, has, shown) =
           let (n, e) = no_program_of trial_tries x (is ∙ ap status_of shown) in
           (n, subst (λ (y : Answer). HasAnswer (trial base a b words steps) fs y) e has)
@@ -206,6 +233,8 @@ module _ (request : Request) (fs : Files) (d : Decision) where
       by_request (graph file json) h = absurd h
       by_request (slice file points) h = absurd h
       by_request (affected base a) h = absurd h
+      by_request (edit file script author) h = absurd h
+      by_request (tag file author) h = absurd h
       by_request (trial base a b words steps) (x, has, shown) =
           subst (λ (y : Answer). HasAnswer (trial base a b words steps) fs y) (spent_of trial_tries x (is ∙ ap status_of shown)) has
 

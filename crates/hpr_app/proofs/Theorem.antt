@@ -12,11 +12,11 @@ use Rattle.hpr_text.proofs.Texts.{one_tree}
 use Rattle.hpr_graph.specs.Answer.{interference, printed, no_program, spent, Fits, IsAnswer, merged_of}
 use Rattle.hpr_engine.proofs.OneAnswer.{printed_fits}
 use Rattle.hpr_engine.proofs.PrintedKeeps.{printed_keeps}
-use Rattle.hpr_words.specs.Request.{Request, integrate, run, graph, slice, affected, trial}
+use Rattle.hpr_words.specs.Request.{Request, integrate, run, graph, slice, affected, trial, edit, tag}
 use Rattle.hpr_app.specs.Decision.{Decision, prints, refuses, usage}
 use Rattle.hpr_app.specs.Graphs.{OnGraph}
 use Rattle.hpr_app.specs.Integrate.{IsReported, Integrated, IntegrateOutcome}
-use Rattle.hpr_app.specs.Refusals.{IsFileOf}
+use Rattle.hpr_refusals.specs.Refusals.{IsFileOf}
 use Rattle.hpr_app.specs.Outcome.{RequestOutcome, OutcomeIfTold}
 use Rattle.hpr_app.specs.Ends.{Change, Ends, Decided, status_of, text_of}
 use Rattle.hpr_app.specs.Theorem.{IsMergedText, KeepsMeaning}
@@ -74,6 +74,8 @@ request_keeps (graph file json) fs bytes h = tt
 request_keeps (slice file points) fs bytes h = tt
 request_keeps (affected base a) fs bytes h = tt
 request_keeps (trial base a b words steps) fs bytes h = tt
+request_keeps (edit file script author) fs bytes h = tt
+request_keeps (tag file author) fs bytes h = tt
 
 abbrev pub Kept : Request → Files → List ℕ → Option (List ℕ) → Type 0
 Kept request fs old new = (bytes : List ℕ) × (new ≡ Some (old ++ bytes)) × KeepsMeaning request fs bytes

@@ -15,13 +15,13 @@ use Rattle.hpr_engine.proofs.PrintedKeeps.{printed_keeps}
 use Rattle.hpr_report.specs.GraphTexts.{on_lines}
 use Rattle.hpr_report.specs.TableText.{Row, AreRows, table_line}
 use Rattle.hpr_report.proofs.OneTable.{kept_in_rows}
-use Rattle.hpr_words.specs.Request.{Request, Text, integrate, run, graph, slice, affected, trial}
+use Rattle.hpr_words.specs.Request.{Request, Text, integrate, run, graph, slice, affected, trial, edit, tag}
 use Rattle.hpr_app.specs.Decision.{Decision, prints, refuses, usage}
 use Rattle.hpr_app.specs.Ends as call
 use Rattle.hpr_app.specs.Graphs.{OnGraph}
 use Rattle.hpr_app.specs.Integrate.{OnFile, OnFiles}
 use Rattle.hpr_app.specs.Outcome.{RequestOutcome, OutcomeIfTold}
-use Rattle.hpr_app.specs.Refusals.{IsFileOf}
+use Rattle.hpr_refusals.specs.Refusals.{IsFileOf}
 use Rattle.hpr_app.specs.States.{states_of}
 use Rattle.hpr_app.specs.TrialFiles.{IsTried, ShowsIf, ShowsTrial, Tried, TrialOutcome, finals_of, has_ended, have_ended, steps_together, three_lines, trial_line, trial_tries}
 use Rattle.hpr_app.specs.TrialKeeps.{EndsTrial, IsKeptTrial, KeepsTrial}
@@ -85,11 +85,11 @@ module _ (p q r : Tree) (state : Values) (steps : ℕ) where
         → ShowsTrial o o1 o2 (means.run m state (steps_together o o1 o2)) (prints kind.Done bytes) → Kept bytes
     by_runs m answer (ends f0 n0) (ends f1 n1) (ends f2 n2) e e1 e2 (text, (table, (rows, are, table_is), is), shown) =
         kept_text m answer f0 f1 f2 n0 n1 n2 e e1 e2 text table rows (same_text bytes text shown) is table_is are
-    by_runs m answer (ends f0 n0) (ends f1 n1) (faults tag fault n2) e e1 e2 h = absurd (not_ended_done _ bytes h)
+    by_runs m answer (ends f0 n0) (ends f1 n1) (faults part fault n2) e e1 e2 h = absurd (not_ended_done _ bytes h)
     by_runs m answer (ends f0 n0) (ends f1 n1) (more n2) e e1 e2 h = absurd (not_ended_done _ bytes h)
-    by_runs m answer (ends f0 n0) (faults tag fault n1) o2 e e1 e2 h = absurd (not_ended_done _ bytes h)
+    by_runs m answer (ends f0 n0) (faults part fault n1) o2 e e1 e2 h = absurd (not_ended_done _ bytes h)
     by_runs m answer (ends f0 n0) (more n1) o2 e e1 e2 h = absurd (not_ended_done _ bytes h)
-    by_runs m answer (faults tag fault n0) o1 o2 e e1 e2 h = absurd (not_ended_done _ bytes h)
+    by_runs m answer (faults part fault n0) o1 o2 e e1 e2 h = absurd (not_ended_done _ bytes h)
     by_runs m answer (more n0) o1 o2 e e1 e2 h = absurd (not_ended_done _ bytes h)
 
     tried_kept : IsTried p q r state steps (prints kind.Done bytes) → Kept bytes
@@ -153,6 +153,8 @@ request_keeps (run file words steps trace) fs bytes o = tt
 request_keeps (graph file json) fs bytes o = tt
 request_keeps (slice file points) fs bytes o = tt
 request_keeps (affected base a) fs bytes o = tt
+request_keeps (edit file script author) fs bytes o = tt
+request_keeps (tag file author) fs bytes o = tt
 request_keeps (trial base a b words steps) fs bytes o = λ state p q r told sp sq sr.
     of_programs fs (prints kind.Done bytes) (done_is_taken bytes) base a b words steps state told o (λ p q r. IsKeptTrial p q r state steps bytes)
     (λ p q r is_p is_q is_r tried. tried_kept p q r state steps is_p is_q is_r bytes tried) p q r sp sq sr
@@ -163,6 +165,8 @@ request_ends (run file words steps trace) fs d is o s e = tt
 request_ends (graph file json) fs d is o s e = tt
 request_ends (slice file points) fs d is o s e = tt
 request_ends (affected base a) fs d is o s e = tt
+request_ends (edit file script author) fs d is o s e = tt
+request_ends (tag file author) fs d is o s e = tt
 request_ends (trial base a b words steps) fs d is o s e = λ state p q r f0 f1 f2 told sp sq sr base_ends a_ends b_ends not_ended.
     of_programs fs d (λ message same. (let no : status.NotEnded ≡ status.Refused = is ∙ ap call.status_of same in cc)) base a b words steps state told o
     (λ p q r. AllEnd p q r state steps f0 f1 f2 → ⊥)
@@ -175,6 +179,8 @@ other_ends (run file words steps trace) fs s other = tt
 other_ends (graph file json) fs s other = tt
 other_ends (slice file points) fs s other = tt
 other_ends (affected base a) fs s other = tt
+other_ends (edit file script author) fs s other = tt
+other_ends (tag file author) fs s other = tt
 other_ends (trial base a b words steps) fs s other = λ state p q r f0 f1 f2 told sp sq sr base_ends a_ends b_ends. other
 
 abbrev pub KeptTrial : Request → Files → List ℕ → Option (List ℕ) → Type 0

@@ -6,13 +6,15 @@
 -- IsOtherText base a b other bytes  == the text of the variant `other` with its finals ascending and, for each author, the greatest issued number of the three
 -- Runs p state steps trace old new s == the status is that of how the run went, and `out` took its text in full
 -- Tries base a b state steps old new s == the status and the text are those of a decision on the trial of the three programs
--- RequestCompletes request files .. == that, where no state word is refused, each file of the request is of an accepted length and spells a program, no graph
---                                      that the request needs has too many edges, the variants don't interfere, and each point is named
+-- RequestCompletes request files .. == that, where no state word is refused, each file of the request is of an accepted length and spells a program, or a
+--                                      script that is one of which no command is refused, no graph that the request needs has too many edges, the variants
+--                                      don't interfere, and each point is named
 -- PrintsOther request files ..      == where one variant of an integration is the base and no graph has too many edges, the other one is printed so
 -- IsRefusedCall message s err       == the status is Refused, and `err` got the message; or memory ran out
 use Rattle.std.specs.Prelude.{◌≡◌, ◌≢◌, ◌≤◌, ◌⊎◌, ℕ, Bool, List, All, Option, Ok, length, take}
 use Rattle.hpr_io.specs.Files.{Files, bytes_of}
 use Rattle.hpr_io.specs.Taken.{taken_then}
+use Rattle.hpr_syntax.specs.Grammar.{untagged}
 use Rattle.hpr_syntax.specs.Run as means
 use Rattle.hpr_syntax.specs.Tree.{Tree}
 use Rattle.hpr_syntax.specs.Values.{Values}
@@ -31,12 +33,14 @@ use Rattle.hpr_engine.specs.Budget.{AreTried}
 use Rattle.hpr_rebuild.specs.Settled.{IsSettled}
 use Rattle.hpr_app.specs.Integrate.{report}
 use Rattle.hpr_app.specs.Points.{IsNamed, IsPoint}
-use Rattle.hpr_app.specs.Refusals.{IsFileOf}
+use Rattle.hpr_edit.specs.declared.command.Command.{Command}
+use Rattle.hpr_refusals.specs.Applied.{applied, becomes}
+use Rattle.hpr_refusals.specs.Refusals.{IsFileIn, IsFileOf, IsScriptOf}
 use Rattle.hpr_app.specs.RunFile.{kind_of}
 use Rattle.hpr_app.specs.States.{states_of}
 use Rattle.hpr_app.specs.TraceText.{run_text}
 use Rattle.hpr_app.specs.TrialFiles.{IsTried}
-use Rattle.hpr_words.specs.Request.{Request, integrate, run, graph, slice, affected, trial}
+use Rattle.hpr_words.specs.Request.{Request, integrate, run, graph, slice, affected, trial, edit, tag}
 use Rattle.hpr_app.specs.declared.status.Status.{Status}
 use Rattle.hpr_app.specs.declared.status.Status.TheVariants.{Done, Refused, Spent, Memory}
 
@@ -75,6 +79,11 @@ RequestCompletes (affected base a) files old new s =
 RequestCompletes (trial base a b states steps) files old new s =
     (state : Values) (p q r : Tree) → states_of states ≡ Ok state → IsFileOf (bytes_of files base) p → IsFileOf (bytes_of files a) q → IsFileOf (bytes_of files b) r
     → AreInLimit p q r → Tries p q r state steps old new s
+RequestCompletes (edit file script author) files old new s =
+    (p q : Tree) (cs : List Command) → IsFileOf (bytes_of files file) p → IsScriptOf (bytes_of files script) cs → applied p cs author ≡ becomes q
+    → DonePrinting (λ bytes. bytes ≡ text q) old new s
+RequestCompletes (tag file author) files old new s =
+    (p : Tree) → IsFileIn (untagged author) (bytes_of files file) p → DonePrinting (λ bytes. bytes ≡ text p) old new s
 
 abbrev pub PrintsOther : Request → Files → Option (List ℕ) → Option (List ℕ) → Status → Type 0
 PrintsOther (integrate base a b tries) files old new s =
@@ -85,6 +94,8 @@ PrintsOther (graph file json) files old new s = Unit {0}
 PrintsOther (slice file points) files old new s = Unit {0}
 PrintsOther (affected base a) files old new s = Unit {0}
 PrintsOther (trial base a b states steps) files old new s = Unit {0}
+PrintsOther (edit file script author) files old new s = Unit {0}
+PrintsOther (tag file author) files old new s = Unit {0}
 
 abbrev pub IsRefusedCall : List ℕ → Status → Change → Type 0
 IsRefusedCall message s err = (s ≡ Memory) ⊎ ((s ≡ Refused) × Says message err)

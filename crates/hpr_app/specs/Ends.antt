@@ -20,7 +20,7 @@ use Rattle.hpr_app.specs.declared.status.Status.TheVariants as status
 use Rattle.hpr_app.specs.Decision.{Decision, prints, refuses, usage}
 
 abbrev pub usage_text : List ℕ
-usage_text = codes "usage: hpr integrate BASE A B [--tries N]\n       hpr run FILE [STATE..] [--steps N] [--trace]\n       hpr graph FILE [--json]\n       hpr slice FILE POINT..\n       hpr affected BASE A\n       hpr trial BASE A B [STATE..] [--steps N]\n"
+usage_text = codes "usage: hpr integrate BASE A B [--tries N]\n       hpr run FILE [STATE..] [--steps N] [--trace]\n       hpr graph FILE [--json]\n       hpr slice FILE POINT..\n       hpr affected BASE A\n       hpr trial BASE A B [STATE..] [--steps N]\n       hpr edit FILE SCRIPT --author N\n       hpr tag FILE --author N\n"
 
 abbrev pub cannot_write : List ℕ
 cannot_write = codes "hpr: cannot write output\n"

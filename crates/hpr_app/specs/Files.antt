@@ -1,35 +1,54 @@
 -- What reading a file comes to.
 --
--- IfTold files P                            == P of the files, for whatever files the shelf tells
--- Refuses files file message                == the file is refused with this message
--- Fails files file before now stop          == the file is refused; or the read failed, and the message names the file; or memory ran out
--- Fetches files file before now result      == the whole file, of an accepted length; or as above
--- ReadsProgram files file before now result == the program that the file spells; or as above
-use Rattle.std.specs.Prelude.{◌≡◌, ℕ, ◌≤◌, List, length, Option, Some, Result, Ok, Err, Vec, string_bytes}
+-- IfTold files P                              == P of the files, for whatever files the shelf tells
+-- FailsBy refused files file before now stop  == the file is refused so; or the read failed, and the message names the file; or memory ran out
+-- ReadsBy refused is files file before now result == what is so of the file's bytes; or as above
+-- IsTooLong file bytes message                == a file with this name and these bytes is refused with this message, for its length
+-- Fetches files file before now result        == the whole file, of an accepted length; or as above, for its length
+-- ReadsIn form files file before now result   == the program that the file spells in this form; or as above
+-- Fails files file before now stop            == the file spells no program, and is refused so; or as above
+-- ReadsProgram files file before now result   == the program that it spells, with the tag of each part; or as above
+-- ReadsScript files file before now result    == the commands of the script that it spells; or as above
+use Rattle.std.specs.Prelude.{◌≡◌, ℕ, ◌≤◌, ◌<◌, List, length, Option, Some, Result, Ok, Err, Vec, string_bytes}
 use Rattle.std.specs.Global.{Global}
 use Rattle.hpr_io.specs.Counts.{Rose}
 use Rattle.hpr_io.specs.Files as io
+use Rattle.hpr_syntax.specs.Grammar.{Form, tagged}
 use Rattle.hpr_syntax.specs.Tree.{Tree}
+use Rattle.hpr_edit.specs.declared.command.Command.{Command}
+use Rattle.hpr_refusals.specs.Reasons.{refusal_text}
+use Rattle.hpr_refusals.specs.Refusals.{IsFileIn, IsRefusedIn, IsRefusedScript, IsScriptOf, max_file}
+use Rattle.hpr_refusals.specs.declared.files.Refusal.TheVariants.{Longer}
 use Rattle.hpr_app.specs.Ends.{cannot_read}
-use Rattle.hpr_app.specs.Refusals.{max_file, IsFileOf, IsRefused}
 use Rattle.hpr_app.specs.declared.answer.Stop.{Stop}
 use Rattle.hpr_app.specs.declared.answer.Stop.TheVariants as stop
 
 abbrev pub IfTold : Option io.Files → (io.Files → Type 0) → Type 0
 IfTold files P = (fs : io.Files) → files ≡ Some fs → P fs
 
-abbrev pub Refuses : Option io.Files → List ℕ → List ℕ → Type 0
-Refuses files file message = IfTold files (λ fs. IsRefused file (io.bytes_of fs file) message)
+abbrev pub FailsBy : (List ℕ → List ℕ → Type 0) → Option io.Files → List ℕ → ℕ → ℕ → Stop → Type 0
+FailsBy refused files file before now (stop.Refused message) = IfTold files (λ fs. refused (io.bytes_of fs file) (string_bytes message)) × (now ≡ before)
+FailsBy refused files file before now (stop.ReadFault message) = Rose before now × (string_bytes message ≡ cannot_read file)
+FailsBy refused files file before now stop.Memory = before ≤ now
 
-abbrev pub Fails : Option io.Files → List ℕ → ℕ → ℕ → Stop → Type 0
-Fails files file before now (stop.Refused message) = Refuses files file (string_bytes message) × (now ≡ before)
-Fails files file before now (stop.ReadFault message) = Rose before now × (string_bytes message ≡ cannot_read file)
-Fails files file before now stop.Memory = before ≤ now
+abbrev pub ReadsBy : {A : Type 0} → (List ℕ → List ℕ → Type 0) → (List ℕ → A → Type 0) → Option io.Files → List ℕ → ℕ → ℕ → Result A Stop → Type 0
+ReadsBy refused is files file before now (Ok a) = IfTold files (λ fs. is (io.bytes_of fs file) a) × (now ≡ before)
+ReadsBy refused is files file before now (Err s) = FailsBy refused files file before now s
+
+abbrev pub IsTooLong : List ℕ → List ℕ → List ℕ → Type 0
+IsTooLong file bytes message = (max_file < length bytes) × (message ≡ refusal_text file Longer)
 
 abbrev pub Fetches : Option io.Files → List ℕ → ℕ → ℕ → Result (Vec ℕ Global) Stop → Type 0
-Fetches files file before now (Ok v) = IfTold files (λ fs. (v.items ≡ io.bytes_of fs file) × (length v.items ≤ max_file)) × (now ≡ before)
-Fetches files file before now (Err s) = Fails files file before now s
+Fetches files file = ReadsBy (IsTooLong file) (λ bytes v. (v.items ≡ bytes) × (length v.items ≤ max_file)) files file
+
+abbrev pub ReadsIn : Form → Option io.Files → List ℕ → ℕ → ℕ → Result Tree Stop → Type 0
+ReadsIn form files file = ReadsBy (IsRefusedIn form file) (IsFileIn form) files file
+
+abbrev pub Fails : Option io.Files → List ℕ → ℕ → ℕ → Stop → Type 0
+Fails files file = FailsBy (IsRefusedIn tagged file) files file
 
 abbrev pub ReadsProgram : Option io.Files → List ℕ → ℕ → ℕ → Result Tree Stop → Type 0
-ReadsProgram files file before now (Ok p) = IfTold files (λ fs. IsFileOf (io.bytes_of fs file) p) × (now ≡ before)
-ReadsProgram files file before now (Err s) = Fails files file before now s
+ReadsProgram = ReadsIn tagged
+
+abbrev pub ReadsScript : Option io.Files → List ℕ → ℕ → ℕ → Result (Vec Command Global) Stop → Type 0
+ReadsScript files file = ReadsBy (IsRefusedScript file) (λ bytes v. IsScriptOf bytes v.items) files file

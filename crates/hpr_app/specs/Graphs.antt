@@ -11,7 +11,7 @@ use Rattle.hpr_graph.specs.Numbered.{Numbered, graph_in}
 use Rattle.hpr_graph.specs.ProgramGraph.{graph_of}
 use Rattle.hpr_engine.specs.Limit.{HasTooManyEdges}
 use Rattle.hpr_app.specs.Decision.{Decision, refuses}
-use Rattle.hpr_app.specs.Refusals.{about}
+use Rattle.hpr_refusals.specs.Reasons.{about}
 use Rattle.hpr_app.specs.declared.answer.Stop.{Stop}
 use Rattle.hpr_app.specs.declared.answer.Stop.TheVariants as stop
 

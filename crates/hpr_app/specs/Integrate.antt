@@ -12,7 +12,7 @@
 -- file_of which base a b             == the name of the file of this program
 -- IsStopped base a b tries stop r    == r is what is decided of an integration that stops so: the refusal of a file, or the report of an answer
 -- IntegrateOutcome files base a b tries r == what is so decided of the programs that three files spell
-use Rattle.std.specs.Prelude.{◌≡◌, ℕ, ◌⊎◌, List, ◌++◌, codes}
+use Rattle.std.specs.Prelude.{◌≡◌, ℕ, List, ◌++◌, codes}
 use Rattle.std.specs.Fmt.{decimal}
 use Rattle.hpr_io.specs.Files.{Files, bytes_of}
 use Rattle.hpr_syntax.specs.Tree.{Tree}
@@ -23,15 +23,13 @@ use Rattle.hpr_engine.specs.declared.stop.Stop.TheVariants.{TooManyEdges, Interf
 use Rattle.hpr_engine.specs.declared.stop.Which.{Which}
 use Rattle.hpr_engine.specs.declared.stop.Which.TheVariants.{Base, A, B}
 use Rattle.hpr_report.specs.ConflictsText.{conflicts_text}
-use Rattle.hpr_app.specs.Decision.{Decision, prints, refuses}
+use Rattle.hpr_app.specs.Decision.{Decision, OnRead, prints, refuses}
 use Rattle.hpr_app.specs.Graphs.{OnGraph, too_many_edges}
-use Rattle.hpr_app.specs.Refusals.{IsFileOf, IsRefused}
+use Rattle.hpr_refusals.specs.Refusals.{IsFileOf, IsRefused}
 use Rattle.hpr_app.specs.declared.answer.Kind.TheVariants as kind
 
 abbrev pub OnFile : Files → List ℕ → (Tree → Type 0) → Decision → Type 0
-OnFile files file next r =
-    ((message : List ℕ) × IsRefused file (bytes_of files file) message × (r ≡ refuses message))
-    ⊎ ((p : Tree) × IsFileOf (bytes_of files file) p × next p)
+OnFile files file next r = OnRead (IsRefused file (bytes_of files file)) (IsFileOf (bytes_of files file)) next r
 
 abbrev pub OnFiles : Files → List ℕ → List ℕ → List ℕ → (Tree → Tree → Tree → Type 0) → Decision → Type 0
 OnFiles files base a b next r = OnFile files base (λ p. OnFile files a (λ q. OnFile files b (λ s. next p q s) r) r) r

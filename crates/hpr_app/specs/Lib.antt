@@ -1,5 +1,4 @@
 pub mod Decision
-pub mod Refusals
 pub mod States
 pub mod Reads
 pub mod Integrate
@@ -13,6 +12,7 @@ pub mod Points
 pub mod ReadsPoints
 pub mod SliceFile
 pub mod AffectedFiles
+pub mod EditFiles
 pub mod TrialFiles
 pub mod Outcome
 pub mod Ends

@@ -6,9 +6,10 @@
 -- IsSpent r, HasSearched r       == r prints that the budget of tries is spent; r prints a program or what it does, or that there is none
 -- AgreeButForBudget r s          == they are the same; or one is that the budget is spent, and the other comes of a search that went on
 -- OneDecision                    == the words and the files make one decision, but that a search may go on past its budget or not
-use Rattle.std.specs.Prelude.{◌≡◌, ◌⊎◌, ℕ, List, Option, Some, None}
+-- HasDecision                    == it can't be refuted that the words and the files make a decision, where a request is in range
+use Rattle.std.specs.Prelude.{◌≡◌, ◌⊎◌, ℕ, List, Option, Some, None, IfSome}
 use Rattle.hpr_io.specs.Files.{Files}
-use Rattle.hpr_words.specs.Request.{Request, integrate, run, graph, slice, affected, trial}
+use Rattle.hpr_words.specs.Request.{Request, integrate, run, graph, slice, affected, trial, edit, tag, IsInRange}
 use Rattle.hpr_app.specs.Decision.{Decision, prints, usage}
 use Rattle.hpr_app.specs.Integrate.{IntegrateOutcome}
 use Rattle.hpr_app.specs.RunFile.{RunOutcome}
@@ -16,6 +17,7 @@ use Rattle.hpr_app.specs.GraphFile.{GraphOutcome}
 use Rattle.hpr_app.specs.SliceFile.{SliceOutcome}
 use Rattle.hpr_app.specs.AffectedFiles.{AffectedOutcome}
 use Rattle.hpr_app.specs.TrialFiles.{TrialOutcome}
+use Rattle.hpr_app.specs.EditFiles.{EditOutcome, TagOutcome}
 use Rattle.hpr_app.specs.declared.answer.Kind.TheVariants.{Done, NoProgram, Spent, NotEnded}
 
 abbrev pub RequestOutcome : Request → Files → Decision → Type 0
@@ -25,6 +27,8 @@ RequestOutcome (graph file json) files r = GraphOutcome files file json r
 RequestOutcome (slice file points) files r = SliceOutcome files file points r
 RequestOutcome (affected base a) files r = AffectedOutcome files base a r
 RequestOutcome (trial base a b states steps) files r = TrialOutcome files base a b states steps r
+RequestOutcome (edit file script author) files r = EditOutcome files file script author r
+RequestOutcome (tag file author) files r = TagOutcome files file author r
 
 abbrev pub Outcome : Option Request → Files → Decision → Type 0
 Outcome None files r = r ≡ usage
@@ -44,3 +48,6 @@ AgreeButForBudget r s = (r ≡ s) ⊎ ((IsSpent r × HasSearched s) ⊎ (HasSear
 
 abbrev pub OneDecision : Type 0
 OneDecision = (request : Option Request) (files : Files) (r s : Decision) → Outcome request files r → Outcome request files s → AgreeButForBudget r s
+
+abbrev pub HasDecision : Type 0
+HasDecision = (request : Option Request) (files : Files) → IfSome request IsInRange → ¬ (¬ ((r : Decision) × Outcome request files r))

@@ -4,7 +4,7 @@
 -- files_of_taken request == the same; none where the words are no call
 -- MayRead request file   == the request comes to read this file: it names it, and none of its state words is refused
 use Rattle.std.specs.Prelude.{◌≡◌, List, [], ◌∷◌, Option, Some, None, Contains, IsOk}
-use Rattle.hpr_words.specs.Request.{Request, Text, integrate, run, graph, slice, affected, trial}
+use Rattle.hpr_words.specs.Request.{Request, Text, integrate, run, graph, slice, affected, trial, edit, tag}
 use Rattle.hpr_app.specs.States.{states_of}
 
 abbrev pub files_of : Request → List Text
@@ -14,6 +14,8 @@ files_of (graph file json) = file ∷ []
 files_of (slice file points) = file ∷ []
 files_of (affected base a) = base ∷ a ∷ []
 files_of (trial base a b states steps) = base ∷ a ∷ b ∷ []
+files_of (edit file script author) = file ∷ script ∷ []
+files_of (tag file author) = file ∷ []
 
 abbrev pub files_of_taken : Option Request → List Text
 files_of_taken None = []
@@ -26,6 +28,8 @@ MayRead (graph named json) file = file ≡ named
 MayRead (slice named points) file = file ≡ named
 MayRead (affected base a) file = Contains (base ∷ a ∷ []) file
 MayRead (trial base a b states steps) file = Contains (base ∷ a ∷ b ∷ []) file × IsOk (states_of states)
+MayRead (edit named script author) file = Contains (named ∷ script ∷ []) file
+MayRead (tag named author) file = file ≡ named
 
 abbrev pub MayReadIfTaken : Option Request → Text → Type 0
 MayReadIfTaken None file = ⊥

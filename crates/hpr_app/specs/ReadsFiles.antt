@@ -9,7 +9,7 @@ use Rattle.hpr_app.specs.Answer.{StopIs}
 use Rattle.hpr_app.specs.Decision.{Decision}
 use Rattle.hpr_app.specs.Files.{IfTold}
 use Rattle.hpr_app.specs.Integrate.{OnFiles}
-use Rattle.hpr_app.specs.Refusals.{IsFileOf}
+use Rattle.hpr_refusals.specs.Refusals.{IsFileOf}
 use Rattle.hpr_app.specs.declared.answer.Stop.{Stop}
 use Rattle.hpr_app.specs.declared.versions.Versions.{Versions}
 

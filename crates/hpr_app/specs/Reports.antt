@@ -12,8 +12,8 @@ use Rattle.hpr_graph.specs.declared.conflict.Conflict.{Conflict}
 use Rattle.hpr_graph.specs.Answer.{Answer, IsAnswer}
 use Rattle.hpr_engine.specs.Limit.{AreInLimit}
 use Rattle.hpr_report.specs.ConflictsText.{conflicts_text}
-use Rattle.hpr_words.specs.Request.{Request, integrate, run, graph, slice, affected, trial}
-use Rattle.hpr_app.specs.Refusals.{IsFileOf}
+use Rattle.hpr_words.specs.Request.{Request, integrate, run, graph, slice, affected, trial, edit, tag}
+use Rattle.hpr_refusals.specs.Refusals.{IsFileOf}
 use Rattle.hpr_app.specs.States.{states_of}
 use Rattle.hpr_app.specs.TrialFiles.{trial_tries}
 use Rattle.hpr_app.specs.declared.status.Status.{Status}
@@ -37,6 +37,8 @@ HasAnswer (slice file points) files x = ⊥
 HasAnswer (affected base a) files x = ⊥
 HasAnswer (trial base a b states steps) files x =
     (state : Values) × (states_of states ≡ Ok state) × AnswersFiles (bytes_of files base) (bytes_of files a) (bytes_of files b) trial_tries x
+HasAnswer (edit file script author) files x = ⊥
+HasAnswer (tag file author) files x = ⊥
 
 abbrev pub IsInterference : List Conflict → Option (List ℕ) → Option (List ℕ) → Status → Type 0
 IsInterference cs old new s = (s ≡ Interference) × (new ≡ taken_then old (conflicts_text cs))

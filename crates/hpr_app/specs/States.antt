@@ -17,7 +17,7 @@ use Rattle.hpr_terms.specs.Names.{is_name}
 use Rattle.hpr_syntax.specs.Value.{in_range}
 use Rattle.hpr_syntax.specs.Values.{Values}
 use Rattle.hpr_words.specs.Request.{Text}
-use Rattle.hpr_app.specs.Refusals.{about}
+use Rattle.hpr_refusals.specs.Reasons.{about}
 use Rattle.hpr_app.specs.declared.states.WordRefusal.{WordRefusal}
 use Rattle.hpr_app.specs.declared.states.WordRefusal.TheVariants.{Malformed, GivenTwice}
 

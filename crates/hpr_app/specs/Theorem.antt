@@ -11,7 +11,7 @@ use Rattle.hpr_syntax.specs.Grammar.{tagged}
 use Rattle.hpr_syntax.specs.Spelling.{Spells}
 use Rattle.hpr_syntax.specs.Meaning.{Keeps}
 use Rattle.hpr_graph.specs.Answer.{Fits, merged_of}
-use Rattle.hpr_words.specs.Request.{Request, integrate, run, graph, slice, affected, trial}
+use Rattle.hpr_words.specs.Request.{Request, integrate, run, graph, slice, affected, trial, edit, tag}
 
 pub record IsMergedText (base a b bytes : List ℕ) : Type 0 where
   pub printed : Tree
@@ -27,3 +27,5 @@ KeepsMeaning (graph file json) files bytes = Unit {0}
 KeepsMeaning (slice file points) files bytes = Unit {0}
 KeepsMeaning (affected base a) files bytes = Unit {0}
 KeepsMeaning (trial base a b states steps) files bytes = Unit {0}
+KeepsMeaning (edit file script author) files bytes = Unit {0}
+KeepsMeaning (tag file author) files bytes = Unit {0}

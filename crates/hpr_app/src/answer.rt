@@ -10,7 +10,7 @@ use std::alloc::AllocError;
 
 /// The text for words that are no call.
 pub const USAGE: &[u8] =
-    b"usage: hpr integrate BASE A B [--tries N]\n       hpr run FILE [STATE..] [--steps N] [--trace]\n       hpr graph FILE [--json]\n       hpr slice FILE POINT..\n       hpr affected BASE A\n       hpr trial BASE A B [STATE..] [--steps N]\n";
+    b"usage: hpr integrate BASE A B [--tries N]\n       hpr run FILE [STATE..] [--steps N] [--trace]\n       hpr graph FILE [--json]\n       hpr slice FILE POINT..\n       hpr affected BASE A\n       hpr trial BASE A B [STATE..] [--steps N]\n       hpr edit FILE SCRIPT --author N\n       hpr tag FILE --author N\n";
 
 /// The kinds of answers that have a text for `out`.
 #[derive(Clone, Copy)]

@@ -8,10 +8,12 @@ ghost use Rattle.hpr_app.specs.Answer.{Decides};
 
 use crate::affected::affected_files;
 use crate::answer::{Report, Stop};
+use crate::edit::edit_file;
 use crate::graph::graph_file;
 use crate::integrate::integrate_files;
 use crate::run::run_file;
 use crate::slice::slice_file;
+use crate::tag::tag_file;
 use crate::trial::trial_files;
 use hpr_io::Shelf;
 use hpr_words::Asked;
@@ -43,5 +45,11 @@ pub fn decide<S: Shelf>(alloc: Global, asked: Asked<'_>, shelf: &mut S) -> Resul
             states,
             steps,
         } => trial_files(alloc, base, a, b, states.as_slice(), steps, shelf),
+        Asked::Edit {
+            file,
+            script,
+            author,
+        } => edit_file(alloc, file, script, author, shelf),
+        Asked::Tag { file, author } => tag_file(alloc, file, author, shelf),
     }
 }

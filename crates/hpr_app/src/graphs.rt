@@ -2,10 +2,10 @@
 ghost use Rattle.hpr_app.specs.Graphs.{MakesGraph, RefusesGraph};
 
 use crate::answer::Stop;
-use crate::refusals::about;
 use hpr_build::{BuildError, graph_of};
 use hpr_engine::MOST_EDGES;
 use hpr_graph::Graph;
+use hpr_refusals::about;
 use hpr_syntax::Program;
 use std::alloc::Global;
 

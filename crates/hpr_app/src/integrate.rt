@@ -1,6 +1,5 @@
 //! The command `integrate`.
 ghost use Rattle.std.specs.Prelude.{◌≡◌, ◌≤◌, [], ◌∷◌, Contains, IsTrue};
-ghost use Rattle.hpr_syntax.specs.Print.{text};
 ghost use Rattle.hpr_report.specs.ConflictsText.{conflicts_text};
 ghost use Rattle.hpr_app.specs.Files.{IfTold};
 ghost use Rattle.hpr_app.specs.Decision.{prints};
@@ -9,13 +8,12 @@ ghost use Rattle.hpr_app.specs.Answer.{Decides, Merges};
 
 use crate::answer::{Kind, Report, Stop};
 use crate::graphs::refuse_graph;
+use crate::programs::print_program;
 use crate::versions::{Versions, read_versions};
 use hpr_engine::{Which, integrate};
 use hpr_graph::Conflict;
 use hpr_io::Shelf;
-use hpr_print::text_of;
 use hpr_report::conflicts_text;
-use hpr_syntax::Program;
 use std::alloc::Global;
 
 /// Integrates two variants with their base, trying as many arrangements as `tries` allows: prints the
@@ -52,7 +50,7 @@ fn integrate_versions(
     ensures { Merges (Integrated base.now versions.now.base a.now versions.now.a b.now versions.now.b tries) result }
 {
     match integrate(alloc, &versions.base, &versions.a, &versions.b, tries) {
-        Ok(merged) => merged_program(alloc, &merged),
+        Ok(merged) => print_program(alloc, &merged),
         Err(stop) => stopped(alloc, base, a, b, tries, &stop),
     }
 }
@@ -89,17 +87,6 @@ fn named<'a>(which: Which, base: &'a str, a: &'a str, b: &'a str) -> &'a str
         Which::A => a,
         Which::B => b,
     }
-}
-
-/// The report where a program is found.
-fn merged_program(alloc: Global, merged: &Program) -> Result<Report, Stop>
-    ensures { Merges (λ r. r ≡ prints Kind.Done (text merged.now)) result }
-{
-    let text = text_of(alloc, merged)?;
-    Ok(Report {
-        kind: Kind::Done,
-        text,
-    })
 }
 
 /// The report where the variants interfere.

@@ -5,17 +5,19 @@
 mod affected;
 mod answer;
 mod commands;
+mod edit;
 mod files;
 mod graph;
 mod graphs;
 mod integrate;
 pub mod laws;
 mod points;
-mod refusals;
+mod programs;
 mod run;
 mod slice;
 mod states;
 mod status;
+mod tag;
 mod trace_text;
 mod trial;
 mod versions;
@@ -53,7 +55,9 @@ use std::alloc::Global;
 /// 1,000,000 edges, where the command needs it; then the first word for a point that names no vertex
 /// is refused. Variants that interfere are reported with all their conflicts; else the merged program
 /// is printed, or it is said that there is none, or that the budget of tries is spent. A trial runs
-/// where a program would be printed. All text of `out` is made before its first byte is put. Faults of `err` change no status.
+/// where a program would be printed. A script is read after the program that it edits; its first
+/// command that is refused is named with its number, and nothing is printed then. All text of `out`
+/// is made before its first byte is put. Faults of `err` change no status.
 pub fn hpr<S: Shelf, O: Sink, E: Sink>(
     alloc: Global,
     words: &[String],

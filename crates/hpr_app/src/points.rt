@@ -4,8 +4,8 @@ ghost use Rattle.hpr_app.specs.Points.{point_text};
 ghost use Rattle.hpr_app.specs.ReadsPoints.{AreNumbersIn, JudgesPoints, ReadsPoints, TakesText};
 
 use crate::answer::Stop;
-use crate::refusals::{about, tag_name};
 use hpr_graph::{Graph, Vertex};
+use hpr_refusals::{about, tag_name};
 use hpr_syntax::NoMemory;
 use std::alloc::{AllocError, Global};
 

@@ -4,7 +4,7 @@ ghost use Rattle.hpr_app.specs.States as spec;
 ghost use Rattle.hpr_app.specs.ReadsState.{ReadsState, TakesWord};
 
 use crate::answer::Stop;
-use crate::refusals::about;
+use hpr_refusals::about;
 use hpr_run::State;
 use hpr_syntax::{Name, NameError, NoMemory};
 use std::alloc::{AllocError, Global};

@@ -5,8 +5,8 @@ ghost use Rattle.hpr_meaning.specs.Items.{item_in};
 ghost use Rattle.hpr_app.specs.TraceText.{comma_turn, turns_text};
 ghost use Rattle.hpr_app.specs.ItemLine.{item_line};
 
-use crate::refusals::tag_name;
 use hpr_meaning::Instance;
+use hpr_refusals::tag_name;
 use hpr_syntax::NoMemory;
 use std::alloc::{AllocError, Global};
 

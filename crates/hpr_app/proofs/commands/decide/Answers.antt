@@ -17,3 +17,9 @@ returns-in-Affected g c = rw c.in-Affected.is c.affected_files.ensures
 
 pub returns-in-Trial : goal.returns-in-Trial
 returns-in-Trial g c = rw c.in-Trial.is (rw c.as_slice-in-Trial.ensures.value at c.trial_files.ensures)
+
+pub returns-in-Edit : goal.returns-in-Edit
+returns-in-Edit g c = rw c.in-Edit.is c.edit_file.ensures
+
+pub returns-in-Tag : goal.returns-in-Tag
+returns-in-Tag g c = rw c.in-Tag.is c.tag_file.ensures

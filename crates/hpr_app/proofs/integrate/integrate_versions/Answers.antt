@@ -12,7 +12,7 @@ returns-in-Ok c =
     let v = c.args.versions.now in
     let e = c.in-Ok.ensures in
     program_merges c.args.base.now c.args.a.now c.args.b.now v.base v.a v.b c.args.tries (λ d. IsReported v.base v.a v.b c.args.tries d) (λ x d none answer is. (x, answer, is))
-    (λ d. d ≡ prints kind.Done (text c.in-Ok.merged)) c.merged_program.result e.within (λ d is. (printed c.in-Ok.merged, e.printed, is)) c.merged_program.ensures
+    (λ d. d ≡ prints kind.Done (text c.in-Ok.merged)) c.print_program.result e.within (λ d is. (printed c.in-Ok.merged, e.printed, is)) c.print_program.ensures
 
 pub returns-in-Err : goal.returns-in-Err
 returns-in-Err c =

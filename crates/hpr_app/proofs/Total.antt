@@ -1,0 +1,58 @@
+-- For each request and all files there is a decision.
+use Rattle.std.proofs.Common.{◌≡◌, ℕ, Option, Some, None, IfSome, Result, Ok, Err, refl, arith}
+use Rattle.hpr_io.specs.Files.{Files}
+use Rattle.hpr_syntax.specs.Print.{text}
+use Rattle.hpr_syntax.specs.Tree.{Tree}
+use Rattle.hpr_syntax.specs.Values.{Values}
+use Rattle.hpr_graph.specs.Answer.{Answer, IsAnswer}
+use Rattle.hpr_refusals.specs.Applied.{applied}
+use Rattle.hpr_words.specs.Request.{Request, integrate, run, graph, slice, affected, trial, edit, tag, IsInRange}
+use Rattle.hpr_app.specs.AffectedFiles.{AffectedPoints}
+use Rattle.hpr_app.specs.Decision.{Decision, prints, refuses, usage}
+use Rattle.hpr_app.specs.GraphFile.{Graphed}
+use Rattle.hpr_app.specs.EditFiles.{OnScript, edit_decision}
+use Rattle.hpr_app.specs.Integrate.{OnFile, OnFiles, IsReported, Integrated, report}
+use Rattle.hpr_app.specs.Outcome.{RequestOutcome, Outcome}
+use Rattle.hpr_app.specs.RunFile.{OnState, Ran}
+use Rattle.hpr_app.specs.SliceFile.{Sliced}
+use Rattle.hpr_app.specs.States.{RefusedWord, refused_word_text, states_of}
+use Rattle.hpr_app.specs.TrialFiles.{IsTried, Tried, trial_tries}
+use Rattle.hpr_app.specs.declared.answer.Kind.TheVariants.{Done}
+use Rattle.hpr_app.proofs.TotalAnswers.{some_answer}
+use Rattle.hpr_app.proofs.TotalFiles.{HasOne, on_file, on_files, on_script, on_untagged}
+use Rattle.hpr_app.proofs.TotalGraphs.{on_graphs, graphed, sliced, affected_points}
+use Rattle.hpr_app.proofs.TotalTables.{tried}
+
+reported : (p q s : Tree) (tries : ℕ) → ¬ (¬ ((x : Answer) × IsAnswer p q s tries x)) → HasOne (IsReported p q s tries)
+reported p q s tries some n = some (λ x. n (report tries x.0, (x.0, x.1, refl)))
+
+on_state : (told : Result Values RefusedWord) (next : Values → Decision → Type 0) → ((state : Values) → HasOne (next state)) → HasOne (λ r. OnState told (λ state. next state r) r)
+on_state (Ok state) next decides n = decides state n
+on_state (Err refused) next decides n = n (refuses (refused_word_text refused), refl)
+
+module _ (fs : Files) where
+  request_decided : (request : Request) → IsInRange request → HasOne (RequestOutcome request fs)
+  request_decided (integrate base a b tries) range =
+      on_files fs base a b (λ p q s r. Integrated base p a q b s tries r) (λ p q s is_p is_q is_s.
+      on_graphs base p a q b s (IsReported p q s tries) (reported p q s tries (some_answer p q s is_p is_q is_s tries)))
+  request_decided (run file words steps trace) range =
+      on_state (states_of words) (λ state r. OnFile fs file (λ p. Ran p state steps trace r) r) (λ state.
+      on_file fs file (λ p r. Ran p state steps trace r) (λ p _ n. n (_, refl)))
+  request_decided (graph file json) range = on_file fs file (λ p r. Graphed file p json r) (λ p _. graphed file p json)
+  request_decided (slice file points) range = on_file fs file (λ p r. Sliced file p points r) (λ p _. sliced file p points)
+  request_decided (affected base a) range =
+      on_file fs base (λ p r. OnFile fs a (λ q. AffectedPoints base p a q r) r) (λ p _.
+      on_file fs a (λ q r. AffectedPoints base p a q r) (λ q _. affected_points base p a q))
+  request_decided (trial base a b words steps) range =
+      on_state (states_of words) (λ state r. OnFiles fs base a b (λ p q s. Tried base p a q b s state steps r) r) (λ state.
+      on_files fs base a b (λ p q s r. Tried base p a q b s state steps r) (λ p q s is_p is_q is_s.
+      on_graphs base p a q b s (IsTried p q s state steps) (tried p q s state steps (some_answer p q s is_p is_q is_s trial_tries))))
+  request_decided (edit file words author) range =
+      on_file fs file (λ p r. OnScript fs words (λ cs. r ≡ edit_decision words (applied p cs author)) r) (λ p _.
+      on_script fs words (λ cs r. r ≡ edit_decision words (applied p cs author)) (λ cs n. n (edit_decision words (applied p cs author), refl)))
+  request_decided (tag file author) range =
+      on_untagged fs file author (λ p r. r ≡ prints Done (text p)) (omega (arith, range.1)) (λ p _ n. n (prints Done (text p), refl))
+
+pub has_decision : (request : Option Request) (fs : Files) → IfSome request IsInRange → ¬ (¬ ((r : Decision) × Outcome request fs r))
+has_decision None fs range n = n (usage, refl)
+has_decision (Some request) fs range n = request_decided fs request range n

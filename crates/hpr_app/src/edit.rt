@@ -1,0 +1,56 @@
+//! The command `edit`.
+ghost use Rattle.std.specs.Prelude.{◌≡◌, ◌≤◌, IsTrue, Some};
+ghost use Rattle.hpr_words.specs.Request.{edit};
+ghost use Rattle.hpr_refusals.specs.Applied.{applied};
+ghost use Rattle.hpr_app.specs.EditFiles.{edit_decision};
+ghost use Rattle.hpr_app.specs.Outcome.{OutcomeIfTold};
+ghost use Rattle.hpr_app.specs.Reads.{MayRead};
+ghost use Rattle.hpr_app.specs.Answer.{Decides, Merges};
+
+use crate::answer::{Report, Stop};
+use crate::files::{read_commands, read_program};
+use crate::programs::print_program;
+use hpr_io::Shelf;
+use hpr_refusals::{Command, apply_script};
+use hpr_syntax::Program;
+use std::alloc::Global;
+
+/// Prints the program that the commands of a script make of the program of a file; new parts are this
+/// author's. The program is read and judged before the script, and all of the script before its first
+/// command is carried out.
+pub fn edit_file<S: Shelf>(
+    alloc: Global,
+    file: &str,
+    script: &str,
+    author: u32,
+    shelf: &mut S,
+) -> Result<Report, Stop>
+    requires file { IsTrue (S.serves shelf.old file.now) }
+    requires script { IsTrue (S.serves shelf.old script.now) }
+    requires author { 1 ≤ author }
+    ensures { Decides (OutcomeIfTold (Some (edit file.now script.now author)) (S.files shelf.old)) (MayRead (edit file.now script.now author)) (S.faults shelf.old) (S.faults shelf.new) result }
+{
+    let program = read_program(alloc, file, shelf)?;
+    let commands = read_commands(alloc, script, shelf)?;
+    show_edited(alloc, script, program, &commands, author)
+}
+
+/// The answer for a program and the commands of a script with this name.
+fn show_edited(
+    alloc: Global,
+    script: &str,
+    program: Program,
+    commands: &[Command],
+    author: u32,
+) -> Result<Report, Stop>
+    requires { 1 ≤ author }
+    ensures { Merges (λ r. r ≡ edit_decision script.now (applied program commands.now author)) result }
+{
+    match apply_script(alloc, program, commands, author) {
+        Ok(edited) => print_program(alloc, &edited),
+        Err(refusal) => {
+            let message = refusal.message(alloc, script)?;
+            Err(Stop::Refused(message))
+        }
+    }
+}

@@ -1,0 +1,28 @@
+//! The command `tag`.
+ghost use Rattle.std.specs.Prelude.{◌≤◌, IsTrue, Some};
+ghost use Rattle.hpr_words.specs.Request.{tag};
+ghost use Rattle.hpr_app.specs.Outcome.{OutcomeIfTold};
+ghost use Rattle.hpr_app.specs.Reads.{MayRead};
+ghost use Rattle.hpr_app.specs.Answer.{Decides};
+
+use crate::answer::{Report, Stop};
+use crate::files::read_text;
+use crate::programs::print_program;
+use hpr_io::Shelf;
+use hpr_text::Mode;
+use std::alloc::Global;
+
+/// Prints the program that an untagged file spells, in which this author's tags stand.
+pub fn tag_file<S: Shelf>(
+    alloc: Global,
+    file: &str,
+    author: u32,
+    shelf: &mut S,
+) -> Result<Report, Stop>
+    requires serves { IsTrue (S.serves shelf.old file.now) }
+    requires author { 1 ≤ author }
+    ensures { Decides (OutcomeIfTold (Some (tag file.now author)) (S.files shelf.old)) (MayRead (tag file.now author)) (S.faults shelf.old) (S.faults shelf.new) result }
+{
+    let program = read_text(alloc, file, Mode::Untagged(author), shelf)?;
+    print_program(alloc, &program)
+}
