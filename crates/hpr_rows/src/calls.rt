@@ -25,7 +25,7 @@ pub struct Ending {
 
 /// The text for words that are no call.
 pub(crate) const USAGE: &[u8] =
-    b"usage: hpr integrate BASE A B [--tries N]\n       hpr run FILE [STATE..] [--steps N] [--trace]\n       hpr graph FILE [--json]\n       hpr slice FILE POINT..\n       hpr affected BASE A\n       hpr trial BASE A B [STATE..] [--steps N]\n";
+    b"usage: hpr integrate BASE A B [--tries N]\n       hpr run FILE [STATE..] [--steps N] [--trace]\n       hpr graph FILE [--json]\n       hpr slice FILE POINT..\n       hpr affected BASE A\n       hpr trial BASE A B [STATE..] [--steps N]\n       hpr edit FILE SCRIPT --author N\n       hpr tag FILE --author N\n";
 
 /// A call where the file F has this text, and what comes of it.
 pub(crate) struct Row {

@@ -7,6 +7,12 @@ mod affected;
 #[cfg(test)]
 mod calls;
 #[cfg(test)]
+mod edit_faults;
+#[cfg(test)]
+mod edit_limits;
+#[cfg(test)]
+mod editing;
+#[cfg(test)]
 mod graph;
 #[cfg(test)]
 mod integrate;
@@ -28,5 +34,9 @@ mod run_texts;
 mod slice;
 #[cfg(test)]
 mod steady;
+#[cfg(test)]
+mod tagging;
+#[cfg(test)]
+mod taken_back;
 #[cfg(test)]
 mod trial;

@@ -1,10 +1,8 @@
-//! Calls over a shelf that never fails, and untagged texts, which no command reads yet.
+//! Calls over a shelf that never fails.
 use crate::calls::words_of;
 use crate::merges::{MEAN_AND_PRODUCT, MEAN_AND_PRODUCT_MERGED};
 use hpr_app::{Status, hpr};
 use hpr_io::{MemorySink, SteadyShelf, SteadySink};
-use hpr_print::text_of;
-use hpr_text::{Mode, parse};
 use std::alloc::Global;
 use std::test::Fail;
 
@@ -62,23 +60,5 @@ fn output_that_is_not_kept(rt: HostRuntime) -> Result<(), Fail> {
         &mut SteadySink::new(),
     );
     assert_eq!(rt; status, Status::Done);
-    Ok(())
-}
-
-/// The canonical text of the program that an untagged text spells, with the tags of author 4.
-fn printed(alloc: Global, text: &str) -> Option<Vec<u8>> {
-    match parse(alloc, text.as_bytes(), Mode::Untagged(4)) {
-        Ok(program) => text_of(alloc, &program).ok(),
-        Err(_) => None,
-    }
-}
-
-#[test]
-fn untagged_text_read_and_printed(rt: HostRuntime) -> Result<(), Fail> {
-    let text = "program if a then b := 1; else fi while a do od end(b)";
-    let bytes = printed(rt.alloc(), text).ok_or("not printed")?;
-    let want =
-        "program\nissued 4:3\n4.1: if a then\n  4.2: b := 1;\nfi\n4.3: while a do\nod\nend(b)\n";
-    assert_eq!(rt; bytes.as_slice(), want.as_bytes());
     Ok(())
 }
