@@ -34,17 +34,17 @@ token_text (Number n) h = (decimal n, refl)
 token_text (Mark s) h = (sign_text s, refl)
 
 -- bytes that lead s to an end, and that end whatever token stands before them
-record Way {S : Type 0} (next : S → Token → Option S) (may_end : S → Bool) (w : Bool) (s : S) : Type 0 where
-  bytes : List ℕ
-  tokens : List Token
-  last : S
-  text : Text w bytes tokens
-  run : runs next s tokens ≡ Some last
-  ends : may_end last ≡ true
-  no_word : NoWord bytes
-  follows : (sign : Sign) → Follows sign bytes
+pub record Way {S : Type 0} (next : S → Token → Option S) (may_end : S → Bool) (w : Bool) (s : S) : Type 0 where
+  pub bytes : List ℕ
+  pub tokens : List Token
+  pub last : S
+  pub text : Text w bytes tokens
+  pub run : runs next s tokens ≡ Some last
+  pub ends : may_end last ≡ true
+  pub no_word : NoWord bytes
+  pub follows : (sign : Sign) → Follows sign bytes
 
-way : {S : Type 0} (next : S → Token → Option S) (may_end : S → Bool) (w : Bool) {s : S} → Live next may_end s → Way next may_end w s
+pub way : {S : Type 0} (next : S → Token → Option S) (may_end : S → Bool) (w : Bool) {s : S} → Live next may_end s → Way next may_end w s
 unfolding is_blank is_name_byte
 way next may_end w (ends {s = s} e) = record { bytes = []; tokens = []; last = s; text = ending (blanks nothing); run = refl; ends = e; no_word = tt; follows = λ sign. tt }
 way next may_end w (goes {s = s} t n h e k) =
@@ -63,22 +63,22 @@ way next may_end w (goes {s = s} t n h e k) =
 
 -- ---- words that have begun
 
-or_of : (a b : Bool) → (a || b) ≡ true → (a ≡ true) ⊎ (b ≡ true)
+pub or_of : (a b : Bool) → (a || b) ≡ true → (a ≡ true) ⊎ (b ≡ true)
 or_of true b e = inl refl
 or_of false b e = inr e
 
-taken : {A : Type 0} (o : Option A) → is_some o ≡ true → (x : A) × (o ≡ Some x)
+pub taken : {A : Type 0} (o : Option A) → is_some o ≡ true → (x : A) × (o ≡ Some x)
 taken None e = absurd cc
 taken (Some x) e = (x, refl)
 
-all_behind : (p : ℕ → Bool) (u v : List ℕ) → list_all p (u ++ v) ≡ true → list_all p v ≡ true
+pub all_behind : (p : ℕ → Bool) (u v : List ℕ) → list_all p (u ++ v) ≡ true → list_all p v ≡ true
 all_behind p [] v e = e
 all_behind p (b ∷ u) v e = all_behind p u v (and_parts (p b) (list_all p (u ++ v)) e).1
 
 same_more : (b c : ℕ) (text rest : List ℕ) → b ≡ c → text ≡ rest → c ∷ text ≡ b ∷ rest
 same_more b c text rest e f = rw (e, f) refl
 
-front_of : (text w : List ℕ) → starts_with eqb text w ≡ true → (more : List ℕ) × (text ≡ w ++ more)
+pub front_of : (text w : List ℕ) → starts_with eqb text w ≡ true → (more : List ℕ) × (text ≡ w ++ more)
 front_of text [] e = (text, refl)
 front_of [] (b ∷ w) e = absurd cc
 front_of (c ∷ text) (b ∷ w) e =
@@ -120,7 +120,7 @@ some_keyword_completes next s w (k ∷ ks) e =
     ]
 
 -- a keyword and `_` are a name
-name_behind : (k : Keyword) → is_name (keyword_text k ++ (95 ∷ [])) ≡ true
+pub name_behind : (k : Keyword) → is_name (keyword_text k ++ (95 ∷ [])) ≡ true
 unfolding is_name is_name_like is_name_byte keyword_of
 name_behind Program = refl
 name_behind Issued = refl
@@ -138,11 +138,11 @@ name_behind Not = refl
 name_behind Write = refl
 name_behind Out = refl
 
-underscore : list_all is_name_byte (95 ∷ []) ≡ true
+pub underscore : list_all is_name_byte (95 ∷ []) ≡ true
 unfolding is_name_byte
 underscore = refl
 
-name_of_like : (w : List ℕ) → keyword_of w ≡ None → is_name_like w ≡ true → is_name w ≡ true
+pub name_of_like : (w : List ℕ) → keyword_of w ≡ None → is_name_like w ≡ true → is_name w ≡ true
 unfolding is_name is_name_like
 name_of_like w h e = rw (h, e) refl
 

@@ -200,7 +200,7 @@ number_text w e h = sym (decimal-digits_value own w (numeral_digits w e) (numera
 
 -- ---- keywords
 
-find_passes : {A : Type 0} (p : A → Bool) (xs : List A) (x : A) → find p xs ≡ Some x → p x ≡ true
+pub find_passes : {A : Type 0} (p : A → Bool) (xs : List A) (x : A) → find p xs ≡ Some x → p x ≡ true
 find_passes p [] x e = absurd cc
 find_passes p (y ∷ xs) x e = at_test (p y) refl e (find_passes p xs x)
   where

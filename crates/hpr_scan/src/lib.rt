@@ -13,7 +13,7 @@ mod scanner;
 mod tests;
 #[cfg(test)]
 mod toys;
-mod word;
+pub mod word;
 
 pub use machine::{Fault, FrontMachine, TokenMachine};
 pub use reader::{Refusal, read, read_front};

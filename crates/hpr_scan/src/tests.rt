@@ -2,6 +2,8 @@
 use crate::machine::Fault;
 use crate::reader::{Refusal, read, read_front};
 use crate::toys::{no_count, no_lines};
+use crate::word::{Letters, is_numeral, value};
+use std::test::Fail;
 
 #[test]
 fn counts_tokens(rt: HostRuntime) {
@@ -185,4 +187,22 @@ fn bounds_names(rt: HostRuntime) -> Result<(), Fault> {
         Some(64)
     );
     Ok(())
+}
+
+#[test]
+#[tactic(auto, unfolding(hpr_terms::specs::Names::is_name_byte))]
+fn letters_make_a_word(rt: HostRuntime) -> Result<(), Fail> {
+    let mut letters = Letters::new(rt.alloc());
+    letters.push(b'4')?;
+    letters.push(b'2')?;
+    assert_eq!(rt; letters.text(), "42");
+    Ok(())
+}
+
+#[test]
+fn numerals_below_the_greatest(rt: HostRuntime) {
+    assert!(rt; is_numeral(b"42") && is_numeral(b"0"));
+    assert!(rt; !is_numeral(b"042") && !is_numeral(b"4x") && !is_numeral(b""));
+    assert_eq!(rt; value(b"18446744073709551615"), Some(u64::MAX));
+    assert_eq!(rt; value(b"18446744073709551616"), None);
 }

@@ -1,5 +1,5 @@
 //! Words: names, keywords and numbers.
-ghost use Rattle.std.specs.Prelude.{◌≡◌, ◌^◌, ◌+◌, ◌*◌, ◌-◌, ◌<◌, ◌≤◌, ◌++◌, ◌∷◌, [], IfOk, IsTrue, MatchOption, Some, is_some};
+ghost use Rattle.std.specs.Prelude.{◌≡◌, ◌^◌, ◌+◌, ◌*◌, ◌-◌, ◌<◌, ◌≤◌, ◌++◌, ◌∷◌, [], IfOk, OnErr, IsTrue, MatchOption, Some, is_some};
 ghost use Rattle.std.specs.List.{list_all, list_any};
 ghost use Rattle.hpr_terms.specs.declared.token.Token.TheVariants as tokens;
 ghost use Rattle.hpr_terms.specs.Keywords.{keywords};
@@ -35,16 +35,18 @@ impl Letters {
         }
     }
 
-    /// One letter more.
+    /// One letter more. After want of memory the letters are as they were.
     #[tactic(auto, unfolding(hpr_terms::specs::Names::is_name_byte))]
     pub fn push(&mut self, byte: u8) -> Result<(), AllocError>
         requires { IsTrue (is_name_byte byte) }
-        ensures { IfOk result (λ _. self.new ≡ self.old ++ byte ∷ []) }
+        ensures pushed { IfOk result (λ _. self.new ≡ self.old ++ byte ∷ []) }
+        ensures unchanged { OnErr result (self.new ≡ self.old) }
     {
         self.text.push(char::from(byte))
     }
 
-    fn text(&self) -> &str
+    /// The letters as a text.
+    pub fn text(&self) -> &str
         ensures { result.now ≡ self.now }
     {
         self.text.as_str()
@@ -64,7 +66,8 @@ fn has_digits(bytes: &[u8]) -> bool
     bytes.iter().all(|byte| is_digit(*byte))
 }
 
-fn is_numeral(word: &[u8]) -> bool
+/// Whether the word is `0`, or a digit 1 to 9 followed by digits.
+pub fn is_numeral(word: &[u8]) -> bool
     ensures { result ≡ is_numeral word.now }
 {
     match word {
@@ -75,7 +78,7 @@ fn is_numeral(word: &[u8]) -> bool
 }
 
 /// The number that the digits write, where it is below 2 ^ 64.
-fn value(word: &[u8]) -> Option<u64>
+pub fn value(word: &[u8]) -> Option<u64>
     ensures { let number = value_after 0 word.now in
         MatchOption result (2 ^ 64 ≤ number) (λ n. n ≡ number) }
 {
@@ -117,7 +120,7 @@ fn other_token(alloc: Global, word: &str) -> Result<Token, Fault>
 ///
 /// `Refused` comes where there is none, or a number from 2 ^ 64 on.
 #[tactic(auto, unfolding(crate::specs::Words::word_token))]
-pub fn word_token(alloc: Global, letters: &Letters) -> Result<Token, Fault>
+pub(crate) fn word_token(alloc: Global, letters: &Letters) -> Result<Token, Fault>
     ensures { ReadsWord (word_token letters.now) result }
 {
     let word = letters.text();
@@ -167,7 +170,7 @@ fn begins_number<M: TokenMachine>(machine: &M, word: &[u8]) -> bool
 
 /// Whether the letters are the front of a word that can stand next.
 #[tactic(auto, unfolding(crate::specs::Words::begins))]
-pub fn begins<M: TokenMachine>(machine: &M, letters: &Letters) -> bool
+pub(crate) fn begins<M: TokenMachine>(machine: &M, letters: &Letters) -> bool
     ensures { result ≡ begins M.next machine.now letters.now }
 {
     let word = letters.text().as_bytes();

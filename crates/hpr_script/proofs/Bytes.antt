@@ -3,7 +3,7 @@ use Rattle.std.proofs.Common.{◌≡◌, ℕ, ◌<◌, ◌^◌, List, [], ◌∷
 use Rattle.std.specs.List.{list_all, list_any, starts_with}
 use Rattle.std.specs.Str.{bytes_eq}
 use Rattle.std.specs.List.{find}
-use Rattle.std.proofs.lemmas.Bool.{and_parts, and_from, eqb-true, eq-eqb, not-true}
+use Rattle.std.proofs.lemmas.Bool.{and_parts, and_from, eq-eqb, not-true}
 use Rattle.std.proofs.lemmas.List.Folds.{list_any_at}
 use Rattle.std.proofs.lemmas.Slice.Eq.{bytes_eq-Decides}
 use Rattle.std.proofs.lemmas.Fmt.{digits_decimal}
@@ -20,9 +20,10 @@ use Rattle.hpr_scan.specs.declared.scanner.Lex.TheVariants as lex
 use Rattle.hpr_scan.specs.declared.scanner.Scanner.{Scanner}
 use Rattle.hpr_scan.specs.Steps.{and_then, runs}
 use Rattle.hpr_scan.specs.Words as words
-use Rattle.hpr_scan.specs.Words.{is_digit, is_numeral, value_after, number_token, keyword_or, begins_keyword, word_token}
+use Rattle.hpr_scan.specs.Words.{is_digit, is_numeral, value_after, keyword_or, begins_keyword, word_token}
 use Rattle.hpr_scan.specs.Scanner.{at, sign_of, after_sign, feed_sign, feed_gap, finish, feed, scan, feeds}
-use Rattle.hpr_scan.proofs.Words.{some_is, none_some, true_false, small, own, fronts_begin}
+use Rattle.hpr_scan.proofs.Words.{some_is, none_some, some_takes, true_false, small, own, find_passes, fronts_begin}
+use Rattle.hpr_scan.proofs.Live.{or_of, taken, front_of}
 use Rattle.hpr_scan.proofs.WholeText.{run_parts}
 use Rattle.hpr_scan.proofs.SoundText.{guard_of, guard_is, scan_from}
 use Rattle.hpr_script.specs.declared.found.Found.{Found}
@@ -43,10 +44,6 @@ use Rattle.hpr_script.proofs.MachineLaws.{lost_some, number_some, script_is_toke
 
 -- ---- Booleans
 
-pub or_of : (a b : Bool) → (a || b) ≡ true → (a ≡ true) ⊎ (b ≡ true)
-or_of true b e = inl refl
-or_of false b e = inr e
-
 or_l : (a b : Bool) → a ≡ true → (a || b) ≡ true
 or_l true b e = refl
 or_l false b e = absurd cc
@@ -54,13 +51,6 @@ or_l false b e = absurd cc
 or_r : (a b : Bool) → b ≡ true → (a || b) ≡ true
 or_r true b e = refl
 or_r false b e = e
-
-pub taken : {A : Type 0} (o : Option A) → is_some o ≡ true → (x : A) × (o ≡ Some x)
-taken None e = absurd cc
-taken (Some x) e = (x, refl)
-
-takes : {A : Type 0} (o : Option A) (x : A) → o ≡ Some x → is_some o ≡ true
-takes o x e = rw e refl
 
 guard_none : {A : Type 0} (b : Bool) (x : A) (o : Option A) → cond b (Some x) o ≡ None → (b ≡ false) × (o ≡ None)
 guard_none true x o e = absurd cc
@@ -99,14 +89,6 @@ word_found script.Top = refl
 word_found script.True = refl
 word_found script.False = refl
 
-find_passes : {A : Type 0} (p : A → Bool) (xs : List A) (x : A) → find p xs ≡ Some x → p x ≡ true
-find_passes p [] x e = absurd cc
-find_passes p (y ∷ xs) x e = at_test (p y) refl e (find_passes p xs x)
-  where
-    at_test : (v : Bool) → p y ≡ v → cond v (Some y) (find p xs) ≡ Some x → (find p xs ≡ Some x → p x ≡ true) → p x ≡ true
-    at_test true h e later = subst (λ z. p z ≡ true) (some_is y x e) h
-    at_test false h e later = later e
-
 pub word_is : (w : List ℕ) (k : ScriptWord) → script_word w ≡ Some k → w ≡ script_text k
 unfolding script_word
 word_is w k e = sym ((bytes_eq-Decides (script_text k) w).0 (find_passes (λ k. bytes_eq (script_text k) w) script_words k e))
@@ -131,17 +113,6 @@ some_word p (k ∷ ks) e =
       | inl h ↦ (k, h)
       | inr h ↦ some_word p ks h
     ]
-
-same_more : (b c : ℕ) (text rest : List ℕ) → b ≡ c → text ≡ rest → c ∷ text ≡ b ∷ rest
-same_more b c text rest e f = rw (e, f) refl
-
-pub front_of : (text w : List ℕ) → starts_with eqb text w ≡ true → (more : List ℕ) × (text ≡ w ++ more)
-front_of text [] e = (text, refl)
-front_of [] (b ∷ w) e = absurd cc
-front_of (c ∷ text) (b ∷ w) e =
-    let p = and_parts (eqb b c) (starts_with eqb text w) e in
-    let r = front_of text w p.1 in
-    (r.0, same_more b c text (w ++ r.0) (eqb-true b c p.0) r.1)
 
 starts_front : (w v : List ℕ) → starts_with eqb (w ++ v) w ≡ true
 starts_front [] v = refl
@@ -420,7 +391,7 @@ script_goes : (s : Stage) (w v x : List ℕ) (o : Option ScriptWord) (q : Stage)
 script_goes s w v x None q h e same stop = none_some e
 script_goes s w v x (Some k) q h e same stop =
     let text : script_text k ≡ w ++ v = sym (word_is x k h) ∙ same in
-    by_word s w k (and_from (is_some (word_stage s k)) (starts_with eqb (script_text k) w) (takes _ q e) (ap (λ (y : List ℕ). starts_with eqb y w) text ∙ starts_front w v)) stop
+    by_word s w k (and_from (is_some (word_stage s k)) (starts_with eqb (script_text k) w) (some_takes _ q e) (ap (λ (y : List ℕ). starts_with eqb y w) text ∙ starts_front w v)) stop
 
 lost_or : (f : Found) (s : Stage) (x : List ℕ) (o : Option Stage) (n : State) (others : List Token) (g : Found) → or_lost (at_turn (turns_to f o)) ≡ Some n → runs next n others ≡ Some (head g AtCommand) → (q : Stage) × (o ≡ Some q)
 lost_or f s x None n others g e r = absurd (lost_runs others g (subst (λ (m : State). runs next m others ≡ Some (head g AtCommand)) (sym (some_is lost n e)) r))

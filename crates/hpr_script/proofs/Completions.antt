@@ -1,28 +1,26 @@
 -- Each place of a script can be completed to a script.
 use Rattle.std.proofs.Common.{◌≡◌, ℕ, List, [], ◌∷◌, ◌++◌, Bool, true, false, eqb, ◌||◌, ◌&&◌, Option, Some, None, is_some, refl, sym, ap, subst, ◌∙◌, inl, inr, lit<}
 use Rattle.std.specs.List.{list_all, list_any, starts_with}
-use Rattle.std.specs.Fmt.{decimal}
 use Rattle.std.proofs.lemmas.Bool.{and_parts}
 use Rattle.std.proofs.lemmas.List.{append-nil}
 use Rattle.hpr_terms.specs.declared.expr.Expr.TheVariants.{Num}
 use Rattle.hpr_terms.specs.declared.tag.Tag.{Tag}
 use Rattle.hpr_terms.specs.declared.keyword.Keyword.{Keyword}
-use Rattle.hpr_terms.specs.declared.keyword.Keyword.TheVariants.{Program, Issued, If, Then, Else, Fi, While, Do, Od, End, And, Or, Not, Write, Out}
+use Rattle.hpr_terms.specs.declared.keyword.Keyword.TheVariants.{Fi, Do, End}
 use Rattle.hpr_terms.specs.declared.token.Sign.TheVariants.{Becomes, Dot, Semicolon, Open, Close}
 use Rattle.hpr_terms.specs.declared.token.Token.{Token}
 use Rattle.hpr_terms.specs.declared.token.Token.TheVariants.{Word, Name, Number, Mark}
 use Rattle.hpr_terms.specs.Keywords.{keyword_text, keyword_of}
-use Rattle.hpr_terms.specs.Names.{is_name_byte, is_name_like, is_name}
-use Rattle.hpr_terms.specs.Tokens.{sign_text, IsToken, is_word, is_blank, nothing, blank, blanks, Text, ending, token}
+use Rattle.hpr_terms.specs.Names.{is_name_byte, is_name_like}
+use Rattle.hpr_terms.specs.Tokens.{IsToken, is_word, token}
 use Rattle.hpr_scan.specs.declared.scanner.Lex.{Lex}
 use Rattle.hpr_scan.specs.declared.scanner.Lex.TheVariants as lex
-use Rattle.hpr_scan.specs.Machine.{HasText, Live, ends, goes}
-use Rattle.hpr_scan.specs.Steps.{runs}
+use Rattle.hpr_scan.specs.Machine.{Live, ends, goes}
 use Rattle.hpr_scan.specs.Words.{is_numeral, value_after}
 use Rattle.hpr_scan.specs.Scanner.{feed, scan}
 use Rattle.hpr_scan.proofs.Words.{small, keyword_is, number_text}
-use Rattle.hpr_scan.proofs.WholeText.{NoWord, word_scan, text_scan}
-use Rattle.hpr_scan.proofs.SoundText.{apart_cons, run_first}
+use Rattle.hpr_scan.proofs.WholeText.{word_scan, text_scan}
+use Rattle.hpr_scan.proofs.Live.{Way, way, or_of, taken, front_of, all_behind, name_behind, underscore, name_of_like}
 use Rattle.hpr_expressions.specs.declared.expression.Context.{Context}
 use Rattle.hpr_expressions.specs.declared.expression.Reading.TheVariants.{After}
 use Rattle.hpr_expressions.specs.Expression as expression
@@ -55,7 +53,7 @@ use Rattle.hpr_script.specs.Machine.{State, head, inside, lost, turned, at_turn,
 use Rattle.hpr_script.specs.Answers.{Ends}
 use Rattle.hpr_script.specs.Reading.{begins_word, begins_number, begins, lex_of, IsSoundAt}
 use Rattle.hpr_script.proofs.MachineLaws.{script_is_token_machine}
-use Rattle.hpr_script.proofs.Bytes.{or_of, taken, word_is_name, word_found, some_word, front_of, wants_some, takes_only}
+use Rattle.hpr_script.proofs.Bytes.{word_is_name, word_found, some_word, wants_some, takes_only}
 
 -- ---- tokens to an end
 
@@ -174,48 +172,16 @@ end_is (head f (AtEnd p)) e = absurd cc
 end_is (inside f h c) e = absurd cc
 end_is lost e = absurd cc
 
-token_text : (t : Token) → HasText t → (text : List ℕ) × IsToken text t
-token_text (Word k) h = (keyword_text k, refl)
-token_text (Name x) h = (x, (refl, h))
-token_text (Number n) h = (decimal n, refl)
-token_text (Mark s) h = (sign_text s, refl)
-
--- bytes that lead s to an end, and that end whatever token stands before them
-record Way (w : Bool) (s : State) : Type 0 where
-  bytes : List ℕ
-  tokens : List Token
-  last : State
-  text : Text w bytes tokens
-  run : runs next s tokens ≡ Some last
-  ends : is_end last ≡ true
-  no_word : NoWord bytes
-
-way : (w : Bool) {s : State} → IsLive s → Way w s
-unfolding is_blank is_name_byte
-way w (ends {s = s} e) = record { bytes = []; tokens = []; last = s; text = ending (blanks nothing); run = refl; ends = e; no_word = tt }
-way w (goes {s = s} t n h e k) =
-    let r = way (is_word t) k in
-    let u = token_text t h in
-    record {
-      bytes = 32 ∷ (u.0 ++ r.bytes);
-      tokens = t ∷ r.tokens;
-      last = r.last;
-      text = token (32 ∷ []) u.0 (blank refl nothing) u.1 (apart_cons w 32 [] (is_word t)) r.text;
-      run = run_first next s n r.last t r.tokens e r.run;
-      ends = r.ends;
-      no_word = refl;
-    }
-
 abbrev pub CanEnd : Lex → State → Type 0
 CanEnd l s = (more : List ℕ) × Ends l s more
 
-way_ends : {s : State} (k : Way false s) → Ends lex.Gap s k.bytes
+way_ends : {s : State} (k : Way next is_end false s) → Ends lex.Gap s k.bytes
 way_ends {s} k =
     let q = end_is k.last k.ends in
     (q.0, text_scan next script_is_token_machine k.text s k.last k.run ∙ ap Some q.1)
 
 pub turn_can_end : (f : Found) (t : Turn) → CanEnd lex.Gap (turned f t)
-turn_can_end f t = let k = way false (live_turn f t) in (k.bytes, way_ends k)
+turn_can_end f t = let k = way next is_end false (live_turn f t) in (k.bytes, way_ends k)
 
 -- ---- words that have begun
 
@@ -229,33 +195,6 @@ record Completes (f : Found) (s : Stage) (w : List ℕ) : Type 0 where
   is_word : is_word token ≡ true
   takes : next (head f s) token ≡ Some (turned found turn)
   letters : list_all is_name_byte more ≡ true
-
--- a keyword and `_` are a name
-name_behind : (k : Keyword) → is_name (keyword_text k ++ (95 ∷ [])) ≡ true
-unfolding is_name is_name_like is_name_byte keyword_of
-name_behind Program = refl
-name_behind Issued = refl
-name_behind If = refl
-name_behind Then = refl
-name_behind Else = refl
-name_behind Fi = refl
-name_behind While = refl
-name_behind Do = refl
-name_behind Od = refl
-name_behind End = refl
-name_behind And = refl
-name_behind Or = refl
-name_behind Not = refl
-name_behind Write = refl
-name_behind Out = refl
-
-underscore : list_all is_name_byte (95 ∷ []) ≡ true
-unfolding is_name_byte
-underscore = refl
-
-name_of_like : (w : List ℕ) → keyword_of w ≡ None → is_name_like w ≡ true → is_name w ≡ true
-unfolding is_name is_name_like
-name_of_like w h e = rw (h, e) refl
 
 takes_any : (f : Found) (s : Stage) (x : List ℕ) → takes_name s ≡ true → next (head f s) (Name x) ≡ Some (turned (with_name x f) (turn.Head AfterName))
 unfolding next name_turn
@@ -314,10 +253,6 @@ word_letters words.Top = refl
 word_letters words.True = refl
 word_letters words.False = refl
 
-all_behind : (p : ℕ → Bool) (u v : List ℕ) → list_all p (u ++ v) ≡ true → list_all p v ≡ true
-all_behind p [] v e = e
-all_behind p (b ∷ u) v e = all_behind p u v (and_parts (p b) (list_all p (u ++ v)) e).1
-
 word_completes : (f : Found) (s : Stage) (w : List ℕ) (k : ScriptWord) → begins_word s w k ≡ true → Completes f s w
 word_completes f s w k e =
     let p = and_parts (is_some (word_stage s k)) (starts_with eqb (script_text k) w) e in
@@ -354,7 +289,7 @@ comment_can_end s k = (10 ∷ k.0, k.1)
 word_can_end : (f : Found) (s : Stage) (w : List ℕ) → begins s w ≡ true → CanEnd (lex.InWord w) (head f s)
 word_can_end f s w e =
     let c = completes f s w e in
-    let k = way false (live_turn c.found c.turn) in
+    let k = way next is_end false (live_turn c.found c.turn) in
     let q = way_ends k in
     (c.more ++ k.bytes, (q.0, word_scan next script_is_token_machine (head f s) (turned c.found c.turn) c.token w c.more k.bytes c.is c.is_word c.letters c.takes k.no_word ∙ q.1))
 

@@ -12,6 +12,7 @@ use Rattle.hpr_syntax.specs.Grammar.{IsAuthor, IsTag, SpellsNames}
 use Rattle.hpr_syntax.specs.Grammar as grammar
 use Rattle.hpr_scan.specs.Steps.{and_then, runs}
 use Rattle.hpr_scan.proofs.Words.{some_is, none_some}
+use Rattle.hpr_scan.proofs.SoundText.{guard_is}
 use Rattle.hpr_text.specs.declared.content.ContentState.{ContentState}
 use Rattle.hpr_text.specs.declared.content.ContentState.TheVariants.{Start, AfterTarget, InExpression, Ended}
 use Rattle.hpr_text.specs.ContentMachine.{content_next}
@@ -19,6 +20,7 @@ use Rattle.hpr_text.specs.Contents.{SpellsContent}
 use Rattle.hpr_edit.specs.declared.command.Place.{Place}
 use Rattle.hpr_edit.specs.declared.command.Command.{Command}
 use Rattle.hpr_edit.specs.declared.command.Command.TheVariants as command
+use Rattle.hpr_text.proofs.Contents.{ContentIs, content_step}
 use Rattle.hpr_script.specs.declared.found.Found.{Found}
 use Rattle.hpr_script.specs.declared.stage.Placed.{Placed}
 use Rattle.hpr_script.specs.declared.stage.Placed.TheVariants as placed
@@ -39,7 +41,6 @@ use Rattle.hpr_script.specs.ScriptWords.{script_word}
 use Rattle.hpr_script.specs.Stages.{is_count, is_serial, tagged, at_place, command_stage, block_stage, word_stage, wants_word, takes_name, number_turn}
 use Rattle.hpr_script.specs.Machine.{State, head, inside, lost, turned, at_head, at_turn, found_at, turns_at, turns_to, with_command, with_plain, without_names, with_name, filled, word_turn, any_name_turn, name_turn, number_after, dot_stage, comma_stage, close_stage, opened, ended, sign_after, or_lost, name_next, content_goes, next, start}
 use Rattle.hpr_script.proofs.Bytes.{word_is}
-use Rattle.hpr_script.proofs.Contents.{ContentIs, content_step}
 
 -- ---- lists of commands and of names, at their end
 
@@ -195,26 +196,22 @@ word_step xs AfterName k q hs h e = absurd cc
 word_step xs AfterComma k q hs h e = absurd cc
 word_step xs (AtEnd p) k q hs h e = absurd cc
 
-guarded_is : {A : Type 0} (b : Bool) (x y : A) → cond b (Some x) None ≡ Some y → (b ≡ true) × (x ≡ y)
-guarded_is true x y e = (refl, some_is x y e)
-guarded_is false x y e = absurd (none_some e)
-
 number_step : (xs : List (List ℕ)) (s : Stage) (n : ℕ) (q : Turn) (hs : List Token) → HeadIs xs s hs → number_turn s n ≡ Some q → TurnIs xs q (hs ++ (Number n ∷ []))
 unfolding number_turn
 number_step xs (AtTag a) n q hs h e =
-    let g = guarded_is (is_count n) _ q e in
+    let g = guard_is (is_count n) _ q e in
     subst (λ (t : Turn). TurnIs xs t (hs ++ (Number n ∷ []))) g.1 (h.0, ltb-true n (2 ^ 32) g.0, behind hs _ _ (Number n) h.1 refl)
 number_step xs (AfterAt p) n q hs h e =
-    let g = guarded_is (is_count n) _ q e in
+    let g = guard_is (is_count n) _ q e in
     subst (λ (t : Turn). TurnIs xs t (hs ++ (Number n ∷ []))) g.1 (h.0, ltb-true n (2 ^ 32) g.0, behind hs _ _ (Number n) h.1 refl)
 number_step xs (AfterDot a m) n q hs h e =
-    let g = guarded_is (is_serial n) _ q e in
+    let g = guard_is (is_serial n) _ q e in
     let b = and_parts (nat_le 1 n) (nat_lt n (2 ^ 32)) g.0 in
     subst (λ (t : Turn). TurnIs xs t (hs ++ (Number n ∷ []))) g.1
     (tagged_is xs a (record { author = m; serial = n }) (hs ++ (Number n ∷ [])) h.0 (h.1, (leb-true 1 n b.0, ltb-true n (2 ^ 32) b.1))
     (behind hs _ _ (Number n) h.2 (append_assoc (asked_tokens a) (Number m ∷ Mark Dot ∷ []) (Number n ∷ []))))
 number_step xs (AtCount p parent) n q hs h e =
-    let g = guarded_is (is_count n) _ q e in
+    let g = guard_is (is_count n) _ q e in
     subst (λ (t : Turn). TurnIs xs t (hs ++ (Number n ∷ []))) g.1
     (placed_is xs p (place_at parent n) (parent_tokens parent ++ (Number n ∷ [])) (hs ++ (Number n ∷ [])) h.0 (place_is parent n h.1 (ltb-true n (2 ^ 32) g.0))
     (behind hs _ _ (Number n) h.2 (append_assoc (placed_tokens p) (parent_tokens parent) (Number n ∷ []))))

@@ -7,7 +7,6 @@
 
 mod found;
 pub mod laws;
-mod letters;
 mod reader;
 mod scanner;
 mod stage;

@@ -11,11 +11,11 @@ ghost use Rattle.hpr_script.specs.Reading as reading;
 ghost use Rattle.hpr_script.specs.ScriptGrammar.{IsScript, HasScript};
 
 use crate::found::Found;
-use crate::letters::Letters;
 use crate::scanner::{Begun, Reader, feed_gap, feed_inner, finish};
 use crate::stage::{Holder, Stage, Turn};
 use hpr_edit::Command;
 use hpr_scan::Fault;
+use hpr_scan::word::Letters;
 use hpr_terms::{NoMemory, is_name_byte};
 use hpr_text::{TextError, read_content};
 use std::alloc::Global;

@@ -11,10 +11,10 @@ ghost use Rattle.hpr_script.specs.Stages as stages;
 ghost use Rattle.hpr_script.specs.declared.scanner.Begun.TheVariants as begun;
 
 use crate::found::Found;
-use crate::letters::{Letters, is_numeral, value};
 use crate::stage::{Plain, Stage, Turn};
 use crate::word::{SCRIPT_WORDS, ScriptWord};
 use hpr_scan::Fault;
+use hpr_scan::word::{Letters, is_numeral, value};
 use hpr_terms::{Keyword, Name, NameError, is_name, is_name_byte, is_name_like};
 use std::alloc::Global;
 

@@ -30,55 +30,55 @@ use Rattle.hpr_expressions.proofs.WholeExpression.{expression_read}
 
 -- ---- what was read, said of each state
 
-abbrev begins : Aim → List Token
+abbrev pub begins : Aim → List Token
 begins (Assign x) = Name x ∷ Mark Becomes ∷ []
 begins Test = Word keyword.If ∷ []
 begins Guard = Word keyword.While ∷ []
 
-abbrev StateIs : ContentState → List Token → Type 0
-StateIs Start ts = ts ≡ []
-StateIs (AfterTarget x) ts = ts ≡ Name x ∷ []
-StateIs (InExpression aim r) ts = (e : List Token) × ReadingIs r e × (ts ≡ begins aim ++ e)
-StateIs (Ended c) ts = (e : List Token) × SpellsContent e c × (ts ≡ e ++ (Mark Semicolon ∷ []))
+abbrev pub ContentIs : ContentState → List Token → Type 0
+ContentIs Start ts = ts ≡ []
+ContentIs (AfterTarget x) ts = ts ≡ Name x ∷ []
+ContentIs (InExpression aim r) ts = (e : List Token) × ReadingIs r e × (ts ≡ begins aim ++ e)
+ContentIs (Ended c) ts = (e : List Token) × SpellsContent e c × (ts ≡ e ++ (Mark Semicolon ∷ []))
 
-to_state : (m n : ContentState) (ts : List Token) → Some m ≡ Some n → StateIs m ts → StateIs n ts
-to_state m n ts e h = subst (λ (s : ContentState). StateIs s ts) (some_is m n e) h
+to_content : (m n : ContentState) (ts : List Token) → Some m ≡ Some n → ContentIs m ts → ContentIs n ts
+to_content m n ts e h = subst (λ (s : ContentState). ContentIs s ts) (some_is m n e) h
 
 spelled : (aim : Aim) (e : Expr) (ts : List Token) → SpellsExpr ts e → SpellsContent (begins aim ++ ts) (content_of aim e)
 spelled (Assign x) e ts s = contents.assignment s
 spelled Test e ts s = contents.conditional s
 spelled Guard e ts s = contents.while_loop s
 
-goes_on_is : (aim : Aim) (r : Reading) (t : Token) (o : Option Reading) (n : ContentState) (ts : List Token) → StateIs (InExpression aim r) ts → read r t ≡ o → content_goes_on aim o ≡ Some n → StateIs n (ts ++ (t ∷ []))
+goes_on_is : (aim : Aim) (r : Reading) (t : Token) (o : Option Reading) (n : ContentState) (ts : List Token) → ContentIs (InExpression aim r) ts → read r t ≡ o → content_goes_on aim o ≡ Some n → ContentIs n (ts ++ (t ∷ []))
 goes_on_is aim r t None n ts h q e = absurd cc
 goes_on_is aim r t (Some m) n ts h q e =
-    to_state (InExpression aim m) n (ts ++ (t ∷ [])) e (h.0 ++ (t ∷ []), read_is r t m h.0 h.1 q, ap (λ x. x ++ (t ∷ [])) h.2 ∙ append_assoc (begins aim) h.0 (t ∷ []))
+    to_content (InExpression aim m) n (ts ++ (t ∷ [])) e (h.0 ++ (t ∷ []), read_is r t m h.0 h.1 q, ap (λ x. x ++ (t ∷ [])) h.2 ∙ append_assoc (begins aim) h.0 (t ∷ []))
 
-ends_is : (aim : Aim) (r : Reading) (o : Option Expr) (n : ContentState) (ts : List Token) → StateIs (InExpression aim r) ts → ended r ≡ o → content_ends aim o ≡ Some n → StateIs n (ts ++ (Mark Semicolon ∷ []))
+ends_is : (aim : Aim) (r : Reading) (o : Option Expr) (n : ContentState) (ts : List Token) → ContentIs (InExpression aim r) ts → ended r ≡ o → content_ends aim o ≡ Some n → ContentIs n (ts ++ (Mark Semicolon ∷ []))
 ends_is aim r None n ts h q e = absurd cc
 ends_is aim r (Some v) n ts h q e =
-    to_state (Ended (content_of aim v)) n (ts ++ (Mark Semicolon ∷ [])) e (begins aim ++ h.0, spelled aim v h.0 (ended_is r v h.0 h.1 q), ap (λ x. x ++ (Mark Semicolon ∷ [])) h.2)
+    to_content (Ended (content_of aim v)) n (ts ++ (Mark Semicolon ∷ [])) e (begins aim ++ h.0, spelled aim v h.0 (ended_is r v h.0 h.1 q), ap (λ x. x ++ (Mark Semicolon ∷ [])) h.2)
 
-step_is : (s : ContentState) (t : Token) (n : ContentState) (ts : List Token) → StateIs s ts → content_next s t ≡ Some n → StateIs n (ts ++ (t ∷ []))
+pub content_step : (s : ContentState) (t : Token) (n : ContentState) (ts : List Token) → ContentIs s ts → content_next s t ≡ Some n → ContentIs n (ts ++ (t ∷ []))
 unfolding content_next
-step_is Start (Name x) n ts h e = to_state (AfterTarget x) n (ts ++ (Name x ∷ [])) e (rw h refl)
-step_is Start (Word keyword.If) n ts h e = to_state (InExpression Test start) n (ts ++ (Word keyword.If ∷ [])) e ([], start_is, rw h refl)
-step_is Start (Word keyword.While) n ts h e = to_state (InExpression Guard start) n (ts ++ (Word keyword.While ∷ [])) e ([], start_is, rw h refl)
-step_is Start t n ts h e = absurd cc
-step_is (AfterTarget x) (Mark Becomes) n ts h e = to_state (InExpression (Assign x) start) n (ts ++ (Mark Becomes ∷ [])) e ([], start_is, rw h refl)
-step_is (AfterTarget x) t n ts h e = absurd cc
-step_is (InExpression aim r) (Mark Semicolon) n ts h e = ends_is aim r (ended r) n ts h refl e
-step_is (InExpression aim r) t n ts h e = goes_on_is aim r t (read r t) n ts h refl e
-step_is (Ended c) t n ts h e = absurd cc
+content_step Start (Name x) n ts h e = to_content (AfterTarget x) n (ts ++ (Name x ∷ [])) e (rw h refl)
+content_step Start (Word keyword.If) n ts h e = to_content (InExpression Test start) n (ts ++ (Word keyword.If ∷ [])) e ([], start_is, rw h refl)
+content_step Start (Word keyword.While) n ts h e = to_content (InExpression Guard start) n (ts ++ (Word keyword.While ∷ [])) e ([], start_is, rw h refl)
+content_step Start t n ts h e = absurd cc
+content_step (AfterTarget x) (Mark Becomes) n ts h e = to_content (InExpression (Assign x) start) n (ts ++ (Mark Becomes ∷ [])) e ([], start_is, rw h refl)
+content_step (AfterTarget x) t n ts h e = absurd cc
+content_step (InExpression aim r) (Mark Semicolon) n ts h e = ends_is aim r (ended r) n ts h refl e
+content_step (InExpression aim r) t n ts h e = goes_on_is aim r t (read r t) n ts h refl e
+content_step (Ended c) t n ts h e = absurd cc
 
-runs_at : (s : ContentState) (t : Token) (past ts : List Token) (o : Option ContentState) (n : ContentState) → StateIs s past → content_next s t ≡ o → and_then o (λ m. runs content_next m ts) ≡ Some n
-    → ((m : ContentState) → StateIs m (past ++ (t ∷ [])) → runs content_next m ts ≡ Some n → StateIs n ((past ++ (t ∷ [])) ++ ts)) → StateIs n (past ++ (t ∷ ts))
-runs_at s t past ts None n h e q go = absurd cc
-runs_at s t past ts (Some m) n h e q go = rw append_assoc at (go m (step_is s t m past h e) q)
+content_at : (s : ContentState) (t : Token) (past ts : List Token) (o : Option ContentState) (n : ContentState) → ContentIs s past → content_next s t ≡ o → and_then o (λ m. runs content_next m ts) ≡ Some n
+    → ((m : ContentState) → ContentIs m (past ++ (t ∷ [])) → runs content_next m ts ≡ Some n → ContentIs n ((past ++ (t ∷ [])) ++ ts)) → ContentIs n (past ++ (t ∷ ts))
+content_at s t past ts None n h e q go = absurd cc
+content_at s t past ts (Some m) n h e q go = rw append_assoc at (go m (content_step s t m past h e) q)
 
-runs_is : (s : ContentState) (past ts : List Token) (n : ContentState) → StateIs s past → runs content_next s ts ≡ Some n → StateIs n (past ++ ts)
-runs_is s past [] n h e = rw append-nil (to_state s n past e h)
-runs_is s past (t ∷ ts) n h e = runs_at s t past ts (content_next s t) n h refl e (λ m k q. runs_is m (past ++ (t ∷ [])) ts n k q)
+pub content_is : (s : ContentState) (past ts : List Token) (n : ContentState) → ContentIs s past → runs content_next s ts ≡ Some n → ContentIs n (past ++ ts)
+content_is s past [] n h e = rw append-nil (to_content s n past e h)
+content_is s past (t ∷ ts) n h e = content_at s t past ts (content_next s t) n h refl e (λ m k q. content_is m (past ++ (t ∷ [])) ts n k q)
 
 -- ---- what is spelled is read
 
@@ -86,7 +86,7 @@ end_step : (aim : Aim) (r : Reading) (v : Expr) → ended r ≡ Some v → conte
 unfolding content_next
 end_step aim r v e = ap (content_ends aim) e
 
-run_one : (s n : ContentState) (t : Token) (ts : List Token) → content_next s t ≡ Some n → runs content_next s (t ∷ ts) ≡ runs content_next n ts
+pub run_one : (s n : ContentState) (t : Token) (ts : List Token) → content_next s t ≡ Some n → runs content_next s (t ∷ ts) ≡ runs content_next n ts
 run_one s n t ts e = ap (λ (o : Option ContentState). and_then o (λ m. runs content_next m ts)) e
 
 reads_at : (aim : Aim) (r n : Reading) (t : Token) (ts rest : List Token) (o : Option Reading) → read r t ≡ o → and_then o (λ m. runs read m ts) ≡ Some n
@@ -103,17 +103,17 @@ inside_runs aim ts e s =
     let n = expression_read ts e s in
     lift aim start n.0 ts (Mark Semicolon ∷ []) n.1 ∙ run_one _ (Ended (content_of aim e)) (Mark Semicolon) [] (end_step aim n.0 e n.2)
 
-spelled_runs : (ts : List Token) (c : Content) → SpellsContent ts c → runs content_next Start (ts ++ (Mark Semicolon ∷ [])) ≡ Some (Ended c)
+pub content_runs : (ts : List Token) (c : Content) → SpellsContent ts c → runs content_next Start (ts ++ (Mark Semicolon ∷ [])) ≡ Some (Ended c)
 unfolding content_next
-spelled_runs _ _ (contents.assignment {x = x} {e = e} {value = value} s) = inside_runs (Assign x) value e s
-spelled_runs _ _ (contents.conditional {e = e} {test = test} s) = inside_runs Test test e s
-spelled_runs _ _ (contents.while_loop {e = e} {test = test} s) = inside_runs Guard test e s
+content_runs _ _ (contents.assignment {x = x} {e = e} {value = value} s) = inside_runs (Assign x) value e s
+content_runs _ _ (contents.conditional {e = e} {test = test} s) = inside_runs Test test e s
+content_runs _ _ (contents.while_loop {e = e} {test = test} s) = inside_runs Guard test e s
 
 -- ---- texts
 
 content_text : (bytes : List ℕ) (ts : List Token) (s : ContentState) (c : Content) → Text false bytes ts → runs content_next Start ts ≡ Some s → content_read s ≡ Some c → IsContentText bytes c
 content_text bytes ts (Ended d) c x r e =
-    let h = runs_is Start [] ts (Ended d) refl r in
+    let h = content_is Start [] ts (Ended d) refl r in
     record { tokens = h.0; spelled = subst (SpellsContent h.0) (some_is d c e) h.1; text = subst (Text false bytes) h.2 x }
 content_text bytes ts Start c x r e = absurd cc
 content_text bytes ts (AfterTarget y) c x r e = absurd cc
@@ -132,7 +132,7 @@ accepts_content : (bytes : List ℕ) → Accepts content_next content_may_end St
 accepts_content bytes a = let k = read_at_end a.last a.ends in (k.0, content_text bytes a.tokens a.last k.0 a.text a.leads k.1)
 
 content_accepts : (bytes : List ℕ) → HasContent bytes → Accepts content_next content_may_end Start bytes
-content_accepts bytes (c, h) = record { tokens = h.tokens ++ (Mark Semicolon ∷ []); last = Ended c; text = h.text; leads = spelled_runs h.tokens c h.spelled; ends = refl }
+content_accepts bytes (c, h) = record { tokens = h.tokens ++ (Mark Semicolon ∷ []); last = Ended c; text = h.text; leads = content_runs h.tokens c h.spelled; ends = refl }
 
 place_of_content : (bytes : List ℕ) (n : ℕ) → IsPlace (BeginsWith (Accepts content_next content_may_end Start)) bytes n → IsPlace (BeginsWith HasContent) bytes n
 place_of_content bytes n h =
@@ -173,5 +173,5 @@ pub one_content : OneContent
 one_content bytes c d h k =
     let behind : List Token = Mark Semicolon ∷ [] in
     let same : Ended c ≡ Ended d =
-    text_once content_next content_is_token_machine Start bytes (h.tokens ++ behind) (k.tokens ++ behind) (Ended c) (Ended d) h.text (spelled_runs h.tokens c h.spelled) k.text (spelled_runs k.tokens d k.spelled) in
+    text_once content_next content_is_token_machine Start bytes (h.tokens ++ behind) (k.tokens ++ behind) (Ended c) (Ended d) h.text (content_runs h.tokens c h.spelled) k.text (content_runs k.tokens d k.spelled) in
     some_is c d (ap content_read same)
