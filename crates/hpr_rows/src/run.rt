@@ -208,7 +208,7 @@ static COUNTDOWN: [Row; 12] = [
     },
     Row {
         shows: "no such option",
-        words: &["run", "F", "--trace=true"],
+        words: &["run", "F", "--quiet"],
         text: b"program 1.1: x := 2; 1.2: while x do 1.3: x := x - 1; od end(x)",
         status: Status::Words,
         out: b"",
