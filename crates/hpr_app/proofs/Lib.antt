@@ -19,7 +19,6 @@ pub mod PointLemmas
 pub mod SliceLemmas
 pub mod AffectedLemmas
 mod TotalLists
-mod TotalEdges
 mod TotalPlaces
 mod TotalTrees
 mod TotalFiles

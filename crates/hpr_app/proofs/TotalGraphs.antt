@@ -18,6 +18,7 @@ use Rattle.hpr_report.specs.AffectedText.{IsAffectedText, affected_text}
 use Rattle.hpr_report.specs.GraphJson.{IsGraphJson}
 use Rattle.hpr_report.specs.GraphTexts.{IsGraphText, graph_text}
 use Rattle.hpr_words.specs.Request.{Text}
+use Rattle.hpr_merge.proofs.EdgeOrder.{edge_tied}
 use Rattle.hpr_app.specs.AffectedFiles.{AffectedPoints}
 use Rattle.hpr_app.specs.Decision.{Decision, Prints, prints, refuses}
 use Rattle.hpr_app.specs.GraphFile.{IsShown, Graphed}
@@ -26,7 +27,6 @@ use Rattle.hpr_app.specs.Integrate.{OnGraphs}
 use Rattle.hpr_app.specs.Points.{IsFirstStranger, IsNamed, IsPoint, OnPoints, no_such_point}
 use Rattle.hpr_app.specs.SliceFile.{Sliced}
 use Rattle.hpr_app.specs.declared.answer.Kind.TheVariants.{Done}
-use Rattle.hpr_app.proofs.TotalEdges.{edge_tied}
 use Rattle.hpr_app.proofs.TotalFiles.{HasOne}
 use Rattle.hpr_app.proofs.TotalLists.{ascending}
 

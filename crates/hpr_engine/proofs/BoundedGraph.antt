@@ -1,13 +1,12 @@
 -- The graph of a program lies within bounds.
-use Rattle.std.proofs.Common.{◌≡◌, ℕ, Bool, true, false, inl, inr, ◌⊎◌, Some, None, List, [], ◌∷◌, ◌++◌, Contains, refl, sym, ap, subst}
-use Rattle.hpr_terms.specs.declared.tag.Tag.{Tag}
+use Rattle.std.proofs.Common.{◌≡◌, ℕ, Bool, true, false, inl, inr, ◌⊎◌, None, List, [], Contains, refl, sym, ap, subst}
 use Rattle.hpr_terms.specs.TermOf.{term_of}
 use Rattle.hpr_terms.specs.Uses.{Uses}
 use Rattle.hpr_syntax.specs.declared.rows.Content.{Content}
 use Rattle.hpr_syntax.specs.Initial.{UsedBy}
-use Rattle.hpr_syntax.specs.Body.{Body, done, assign, branch, loop}
-use Rattle.hpr_syntax.specs.Nests.{Standing, StandsAs, Says}
-use Rattle.hpr_syntax.specs.Rows.{Parent, expr_in}
+use Rattle.hpr_syntax.specs.Body.{loop}
+use Rattle.hpr_syntax.specs.Nests.{Says}
+use Rattle.hpr_syntax.specs.Rows.{expr_in}
 use Rattle.hpr_syntax.specs.Skeleton.{Point, enter, at, exit}
 use Rattle.hpr_syntax.specs.Tree.{Tree}
 use Rattle.hpr_graph.specs.declared.vertex.Vertex.{Vertex}
@@ -17,21 +16,9 @@ use Rattle.hpr_graph.specs.declared.edge.Kind.TheVariants.{Control, Independent,
 use Rattle.hpr_graph.specs.declared.edge.Edge.{Edge}
 use Rattle.hpr_graph.specs.ProgramGraph.{Defines, Reads, IsTop, HasFlow, IsVertexOf, IsEdgeBy, IsEdgeOf}
 use Rattle.hpr_graph.specs.Rank.{parts_of}
+use Rattle.hpr_skeleton.proofs.Says.{says_of_standing}
 use Rattle.hpr_rebuild.proofs.Parts.{says_part}
 use Rattle.hpr_engine.proofs.Bounded.{Bounded, of_none, of_one, of_within, of_either, of_list, of_each, of_term}
-
--- what stands so says so
-stands_says : (b : Body) (nest : List Tag) (up : Parent) (v : Tag) (s : Standing) → StandsAs nest up b v s → Says b v s.content
-stands_says done nest up v s h = absurd h
-stands_says (assign t x e rest) nest up v s (inl (tag, is)) = inl (tag, ap (λ (r : Standing). r.content) is)
-stands_says (assign t x e rest) nest up v s (inr later) = inr (stands_says rest nest up v s later)
-stands_says (branch t e a b rest) nest up v s (inl (tag, is)) = inl (tag, ap (λ (r : Standing). r.content) is)
-stands_says (branch t e a b rest) nest up v s (inr (inl in_a)) = inr (inl (stands_says a nest (Some (t, true)) v s in_a))
-stands_says (branch t e a b rest) nest up v s (inr (inr (inl in_b))) = inr (inr (inl (stands_says b nest (Some (t, false)) v s in_b)))
-stands_says (branch t e a b rest) nest up v s (inr (inr (inr later))) = inr (inr (inr (stands_says rest nest up v s later)))
-stands_says (loop t e b rest) nest up v s (inl (tag, is)) = inl (tag, ap (λ (r : Standing). r.content) is)
-stands_says (loop t e b rest) nest up v s (inr (inl in_b)) = inr (inl (stands_says b (nest ++ (t ∷ [])) (Some (t, true)) v s in_b))
-stands_says (loop t e b rest) nest up v s (inr (inr later)) = inr (inr (stands_says rest nest up v s later))
 
 -- a part uses the names of its expression
 abbrev UsesAt : Vertex → List ℕ → Type 0
@@ -116,12 +103,12 @@ module _ (t : Tree) where
   top_is : (v : Vertex) → IsTop t v → IsVertexOf t v
   top_is Entry h = absurd h
   top_is (Init x) h = h
-  top_is (Part v c) (s, stands, content, up) = subst (λ (k : Content). Says t.body v k) content (stands_says t.body [] None v s stands)
+  top_is (Part v c) (s, stands, content, up) = subst (λ (k : Content). Says t.body v k) content (says_of_standing t.body [] None v s stands)
   top_is (Final x) h = h
 
   pub control_to : (label : Bool) (from to : Vertex) → IsEdgeBy t (Control label) from to → IsVertexOf t to
   control_to label from to (inl (is, truth, top)) = top_is to top
-  control_to label from to (inr (p, c, is, says, (v, s, stands, under, up))) = subst (IsVertexOf t) (sym under) (stands_says t.body [] None v s stands)
+  control_to label from to (inr (p, c, is, says, (v, s, stands, under, up))) = subst (IsVertexOf t) (sym under) (says_of_standing t.body [] None v s stands)
 
   -- kinds
   abbrev IsIndependentOf : Kind → Type 0
@@ -176,7 +163,7 @@ module _ (t : Tree) where
   ends : (k : Kind) (from to : Vertex) → IsEdgeBy t k from to → Ends k from to
   ends (Control label) from to (inl (is, truth, top)) = (inl is, may_be to (top_is to top), control_kind label)
   ends (Control label) from to (inr (p, c, is, says, (v, s, stands, under, up))) =
-      let says_v : Says t.body v s.content = stands_says t.body [] None v s stands in (
+      let says_v : Says t.body v s.content = says_of_standing t.body [] None v s stands in (
         inr (inl (subst (λ (x : Vertex). Contains (parts_of t) x) (sym is) (says_part t p c says))),
         inr (inl (subst (λ (x : Vertex). Contains (parts_of t) x) (sym under) (says_part t v s.content says_v))),
         control_kind label,

@@ -6,8 +6,9 @@ use Rattle.hpr_graph.specs.declared.vertex.Vertex.{Vertex}
 use Rattle.hpr_graph.specs.Graphs.{Graph, IsOnce}
 use Rattle.hpr_graph.specs.Rank.{parts_of, StandsBefore, IsAddedAt, IsPutIn, IsJoined, IsRankOf, IsRank}
 use Rattle.hpr_graph.specs.Arrangements.{IsArrangement, IsEarlier, AreArrangements}
-use Rattle.hpr_graph.proofs.Lists.{contains_at, place_of, in_none, get_longer}
+use Rattle.hpr_graph.proofs.Lists.{contains_at, place_of, get_longer}
 use Rattle.hpr_order.proofs.Ranks.{parts_once}
+use Rattle.hpr_rebuild.proofs.First.{at_middle, first_listed, in_front}
 use Rattle.hpr_rebuild.proofs.Parts.{part_says, says_part}
 
 -- what stands so in one list stands so in the other
@@ -15,15 +16,6 @@ abbrev pub KeepsOrder : List Vertex → List Vertex → Type 0
 KeepsOrder xs ys = (v w : Vertex) → StandsBefore xs v w → StandsBefore ys v w
 
 module _ {X : Type 0} where
-  pub in_front : (front back back' : List X) (i : ℕ) (x : X) → i < length front → slice_get (front ++ back) i ≡ Some x → slice_get (front ++ back') i ≡ Some x
-  in_front [] back back' i x l h = absurd (omega (arith, l))
-  in_front (y ∷ front) back back' zero x l h = h
-  in_front (y ∷ front) back back' (suc i) x l h = in_front front back back' i x (omega (arith, l)) h
-
-  pub at_middle : (front : List X) (x : X) (back : List X) → slice_get (front ++ x ∷ back) (length front) ≡ Some x
-  at_middle [] x back = refl
-  at_middle (y ∷ front) x back = at_middle front x back
-
   -- where an item goes when another is put in
   pub moved : (front back : List X) (y : X) (i : ℕ) (x : X) → slice_get (front ++ back) i ≡ Some x
       → ((i < length front) × (slice_get (front ++ y ∷ back) i ≡ Some x)) ⊎ ((length front < suc i) × (slice_get (front ++ y ∷ back) (suc i) ≡ Some x))
@@ -103,10 +95,4 @@ module _ (g : Graph) (rank : List Vertex) (issued : Issued) (q : Tree) (once : I
       ]
 
   pub first_in_rank : (ps : List Tree) → AreArrangements g rank issued ps → (qs : List Tree) × (ps ≡ q ∷ qs)
-  first_in_rank [] are = absurd (in_none q ((are.0 q).1 is))
-  first_in_rank (r ∷ rs) are = let (k, there) = place_of (r ∷ rs) q ((are.0 q).1 is) in at k there
-    where
-      at : (k : ℕ) → slice_get (r ∷ rs) k ≡ Some q → (qs : List Tree) × (r ∷ rs ≡ q ∷ qs)
-      at zero there = (rs, let e : r ≡ q = cc in ap (λ (t : Tree). t ∷ rs) e)
-      at (suc k) there =
-          absurd (never_earlier r ((are.0 r).0 (contains_at (r ∷ rs) 0 r refl)) (are.1 0 (suc k) r q (omega arith) refl there))
+  first_in_rank ps are = first_listed g rank issued ps q are is never_earlier

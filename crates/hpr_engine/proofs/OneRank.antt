@@ -12,7 +12,8 @@ use Rattle.hpr_graph.specs.Arrangements.{IsEarlier, AreArrangements}
 use Rattle.hpr_graph.proofs.Lists.{contains_at, once_tail, once_head, some_inj}
 use Rattle.hpr_order.proofs.Ranks.{rank_once}
 use Rattle.hpr_engine.specs.Budget.{AreTried}
-use Rattle.hpr_engine.proofs.FirstInRank.{moved, at_middle, compared, never_both, never_itself}
+use Rattle.hpr_rebuild.proofs.First.{at_middle}
+use Rattle.hpr_engine.proofs.FirstInRank.{moved, compared, never_both, never_itself}
 use Rattle.hpr_engine.proofs.OneList.{one_list}
 
 module _ {X : Type 0} where

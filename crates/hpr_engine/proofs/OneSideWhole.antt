@@ -3,9 +3,8 @@ use Rattle.std.proofs.Common.{◌≡◌, ℕ, inl, inr, Option, List, [], ◌∷
 use Rattle.hpr_terms.specs.declared.tag.Tag.{Tag}
 use Rattle.hpr_syntax.specs.Initial.{UsedBy}
 use Rattle.hpr_syntax.specs.Paths.{IsUndisturbed}
-use Rattle.hpr_syntax.specs.Places.{EnclosesBoth}
 use Rattle.hpr_syntax.specs.Shape.{IsProgram}
-use Rattle.hpr_syntax.specs.Skeleton.{Skeleton, nil, act, fork, round, Point, enter, at, exit, StandsIn, skeleton}
+use Rattle.hpr_syntax.specs.Skeleton.{Point, enter, at, exit, skeleton}
 use Rattle.hpr_syntax.specs.Tree.{Tree}
 use Rattle.hpr_graph.specs.declared.vertex.Vertex.{Vertex}
 use Rattle.hpr_graph.specs.declared.vertex.Vertex.TheVariants.{Entry, Init, Part, Final}
@@ -17,36 +16,14 @@ use Rattle.hpr_graph.specs.Points.{IsInit, IsShared, IsAffected, IsPreserved, me
 use Rattle.hpr_graph.specs.ProgramGraph.{Reads, IsEdgeBy, IsIndependent, graph_of}
 use Rattle.hpr_graph.specs.Slices.{Leads, ReachesOne, slice_of, slice_at}
 use Rattle.hpr_graph.proofs.Laws.{same_itself, same_turned, same_from_within, within_from_same, within_then, reaches_within, vertices_map}
+use Rattle.hpr_skeleton.proofs.DirectWays.{encloses_in}
+use Rattle.hpr_skeleton.proofs.Programs.{enter_outside}
 use Rattle.hpr_merge.specs.Loops.{HasLoops}
 use Rattle.hpr_merge.proofs.EdgeStands.{edge_inside}
 use Rattle.hpr_engine.proofs.Bounded.{all_of}
 use Rattle.hpr_engine.proofs.BoundedGraph.{vertices_bounded, edges_bounded, read_is, flow_at, control_to}
 use Rattle.hpr_meaning.proofs.Unions.{program_uses}
 use Rattle.hpr_engine.proofs.OneSide.{other_loops, a_within, b_within}
-
--- nothing encloses Enter
-no_enter : (sk : Skeleton) → ¬ StandsIn sk enter
-no_enter nil h = h
-no_enter (act t k) (inl e) = absurd cc
-no_enter (act t k) (inr h) = no_enter k h
-no_enter (fork t b c k) (inl e) = absurd cc
-no_enter (fork t b c k) (inr (inl h)) = no_enter b h
-no_enter (fork t b c k) (inr (inr (inl h))) = no_enter c h
-no_enter (fork t b c k) (inr (inr (inr h))) = no_enter k h
-no_enter (round t b k) (inl e) = absurd cc
-no_enter (round t b k) (inr (inl h)) = no_enter b h
-no_enter (round t b k) (inr (inr h)) = no_enter k h
-
-none_encloses_enter : (sk : Skeleton) (z : Point) (w : Tag) → ¬ EnclosesBoth sk enter z w
-none_encloses_enter nil z w h = h
-none_encloses_enter (act t k) z w h = none_encloses_enter k z w h
-none_encloses_enter (fork t b c k) z w (inl h) = none_encloses_enter b z w h
-none_encloses_enter (fork t b c k) z w (inr (inl h)) = none_encloses_enter c z w h
-none_encloses_enter (fork t b c k) z w (inr (inr h)) = none_encloses_enter k z w h
-none_encloses_enter (round t b k) z w (inl (is, inl e, last)) = absurd cc
-none_encloses_enter (round t b k) z w (inl (is, inr h, last)) = no_enter b h
-none_encloses_enter (round t b k) z w (inr (inl h)) = none_encloses_enter b z w h
-none_encloses_enter (round t b k) z w (inr (inr h)) = none_encloses_enter k z w h
 
 -- each vertex leads to one that is no Init vertex
 abbrev IsReader : Tree → Vertex → Vertex → Type 0
@@ -60,7 +37,7 @@ reads_not_init t x v z reads (y, is) = subst (λ (w : Vertex). Reads t x w z) is
 
 reader_at : (t : Tree) (x : List ℕ) (v : Vertex) (z : Point) (marks : List (Option Tag)) → IsUndisturbed t.body x enter z marks → Reads t x v z → (s : Vertex) × IsReader t (Init x) s
 reader_at t x v z marks path reads =
-    let flow : IsIndependent t x (Init x) v = (enter, z, marks, ((refl, refl), reads, path), λ w around. absurd (none_encloses_enter (skeleton t.body) z w around)) in
+    let flow : IsIndependent t x (Init x) v = (enter, z, marks, ((refl, refl), reads, path), λ w around. absurd (enter_outside (skeleton t.body) (encloses_in (skeleton t.body) enter z w around).0)) in
     let e : Edge = record { to = v; from = Init x; kind = kind.Independent x } in
     (v, (read_is t x v z reads, reads_not_init t x v z reads, (v, e ∷ [], refl, (flow, tt, refl, refl))))
 

@@ -1,4 +1,3 @@
-pub mod NumberMaps
 pub mod NamesInOrder
 pub mod Walks
 pub mod TraceRun

@@ -7,7 +7,6 @@ use Rattle.hpr_syntax.specs.Skeleton.{Point}
 use Rattle.hpr_syntax.specs.Shape.{IsProgram}
 use Rattle.hpr_syntax.specs.Paths.{IsUndisturbed}
 use Rattle.hpr_syntax.specs.Initial.{IsInitial, UsedBy}
-use Rattle.hpr_graph.specs.declared.conflict.Side.{Side}
 use Rattle.hpr_graph.specs.declared.conflict.Side.TheVariants.{A, B}
 use Rattle.hpr_graph.specs.declared.vertex.Vertex.{Vertex}
 use Rattle.hpr_graph.specs.declared.vertex.Vertex.TheVariants.{Entry, Init, Part, Final}
@@ -22,7 +21,7 @@ use Rattle.hpr_graph.specs.ProgramGraph.{Defines, Reads, IsVertexOf, IsEdgeBy, H
 use Rattle.hpr_graph.specs.Slices.{Leads, LeadsTo, ReachesOne, slice_of, slice_at}
 use Rattle.hpr_graph.proofs.Laws.{same_turned, same_from_within, vertices_map}
 use Rattle.hpr_merge.specs.Loops.{HasLoops}
-use Rattle.hpr_merge.proofs.EdgeStands.{edge_inside, merged_loops, point_within}
+use Rattle.hpr_merge.proofs.EdgeStands.{edge_inside, merged_loops, on_either, point_within}
 use Rattle.hpr_merge.proofs.ProgramLoops.{program_loops}
 use Rattle.hpr_skeleton.proofs.Different.{distinct_program}
 use Rattle.hpr_skeleton.proofs.Says.{says_one}
@@ -198,15 +197,11 @@ keeps_preserved base a b is is_a is_b v (other, there, (in_a, same_a), (in_b, sa
     preserved_kept (graph_of base) (graph_of a) (graph_of b) (loops_of base is) (loops_of a is_a) (loops_of b is_b) (program_sources base) v there same_a same_b
     (other, there, (in_a, same_a), (in_b, same_b))
 
-on_side : (P : Graph → Type 0) (a b : Graph) (side : Side) → P a → P b → P (graph_on side a b)
-on_side P a b A h k = h
-on_side P a b B h k = k
-
 pub union_is_kept : (base a b : Tree) → IsProgram base → IsProgram a → IsProgram b → IsUnionKept base a b
 union_is_kept base a b is is_a is_b = record {
   preserved = keeps_preserved base a b is is_a is_b;
-  affected = λ keeps side. points_same (merged_of base a b) (graph_on side (graph_of a) (graph_of b)) loops (on_side HasLoops (graph_of a) (graph_of b) side (loops_of a is_a) (loops_of b is_b))
-      uses (on_side HasUses (graph_of a) (graph_of b) side (program_uses a) (program_uses b)) (affected_on side base a b) (keeps side);
+  affected = λ keeps side. points_same (merged_of base a b) (graph_on side (graph_of a) (graph_of b)) loops (on_either HasLoops (graph_of a) (graph_of b) side (loops_of a is_a) (loops_of b is_b))
+      uses (on_either HasUses (graph_of a) (graph_of b) side (program_uses a) (program_uses b)) (affected_on side base a b) (keeps side);
   covered = λ v h. h;
 }
   where

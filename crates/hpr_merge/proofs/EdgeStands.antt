@@ -125,7 +125,7 @@ side_within : (base ga gb : Graph) (side : Side) → IsWithin (slice_of (graph_o
 side_within base ga gb A = (λ v h. inl (inl h), λ e h. inl (inl h))
 side_within base ga gb B = (λ v h. inl (inr h), λ e h. inl (inr h))
 
-on_either : (P : Graph → Type 0) (ga gb : Graph) (side : Side) → P ga → P gb → P (graph_on side ga gb)
+pub on_either : (P : Graph → Type 0) (ga gb : Graph) (side : Side) → P ga → P gb → P (graph_on side ga gb)
 on_either P ga gb A a b = a
 on_either P ga gb B a b = b
 

@@ -1,6 +1,6 @@
 mod Searches
 mod FirstLinks
-mod EdgeOrder
+pub mod EdgeOrder
 mod Decided
 mod AddedLinks
 mod Widened

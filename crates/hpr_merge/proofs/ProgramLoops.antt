@@ -6,7 +6,7 @@ use Rattle.hpr_syntax.specs.declared.rows.Content.TheVariants.{Assign, If, While
 use Rattle.hpr_syntax.specs.Body.{Body, done, assign, branch, loop}
 use Rattle.hpr_syntax.specs.Rows.{Parent}
 use Rattle.hpr_syntax.specs.Tree.{Tree}
-use Rattle.hpr_syntax.specs.Skeleton.{Skeleton, nil, act, fork, round, Point, at, exit, StandsIn, skeleton}
+use Rattle.hpr_syntax.specs.Skeleton.{Point, at, exit, StandsIn, skeleton}
 use Rattle.hpr_syntax.specs.Nests.{Standing, StandsAs, StandsAsIn, Says}
 use Rattle.hpr_syntax.specs.Places.{EnclosesBoth}
 use Rattle.hpr_graph.specs.declared.vertex.Vertex.{Vertex}
@@ -16,46 +16,13 @@ use Rattle.hpr_graph.specs.declared.edge.Kind.TheVariants.{Control}
 use Rattle.hpr_graph.specs.declared.edge.Edge.{Edge}
 use Rattle.hpr_graph.specs.ProgramGraph.{Reads, IsEdgeBy, graph_of}
 use Rattle.hpr_graph.specs.Slices.{LeadsTo}
+use Rattle.hpr_skeleton.proofs.DirectWays.{encloses_in}
+use Rattle.hpr_skeleton.proofs.Programs.{end_outside}
+use Rattle.hpr_skeleton.proofs.Says.{says_of_standing}
 use Rattle.hpr_merge.specs.Loops.{HasLoops, SaysOnce}
-
--- what stands so says so
-stands_says : (b : Body) (nest : List Tag) (up : Parent) (v : Tag) (s : Standing) → StandsAs nest up b v s → Says b v s.content
-stands_says done nest up v s h = absurd h
-stands_says (assign t x e rest) nest up v s (inl (tag, is)) = inl (tag, ap (λ (r : Standing). r.content) is)
-stands_says (assign t x e rest) nest up v s (inr later) = inr (stands_says rest nest up v s later)
-stands_says (branch t e a b rest) nest up v s (inl (tag, is)) = inl (tag, ap (λ (r : Standing). r.content) is)
-stands_says (branch t e a b rest) nest up v s (inr (inl in_a)) = inr (inl (stands_says a nest (Some (t, true)) v s in_a))
-stands_says (branch t e a b rest) nest up v s (inr (inr (inl in_b))) = inr (inr (inl (stands_says b nest (Some (t, false)) v s in_b)))
-stands_says (branch t e a b rest) nest up v s (inr (inr (inr later))) = inr (inr (inr (stands_says rest nest up v s later)))
-stands_says (loop t e b rest) nest up v s (inl (tag, is)) = inl (tag, ap (λ (r : Standing). r.content) is)
-stands_says (loop t e b rest) nest up v s (inr (inl in_b)) = inr (inl (stands_says b (nest ++ (t ∷ [])) (Some (t, true)) v s in_b))
-stands_says (loop t e b rest) nest up v s (inr (inr later)) = inr (inr (stands_says rest nest up v s later))
 
 tag_of : (v w : Tag) → at v ≡ at w → v ≡ w
 tag_of v w e = cc
-
-no_exit : (sk : Skeleton) → ¬ StandsIn sk exit
-no_exit nil h = h
-no_exit (act t k) (inl e) = absurd cc
-no_exit (act t k) (inr h) = no_exit k h
-no_exit (fork t b c k) (inl e) = absurd cc
-no_exit (fork t b c k) (inr (inl h)) = no_exit b h
-no_exit (fork t b c k) (inr (inr (inl h))) = no_exit c h
-no_exit (fork t b c k) (inr (inr (inr h))) = no_exit k h
-no_exit (round t b k) (inl e) = absurd cc
-no_exit (round t b k) (inr (inl h)) = no_exit b h
-no_exit (round t b k) (inr (inr h)) = no_exit k h
-
-none_encloses_exit : (sk : Skeleton) (a : Point) (w : Tag) → ¬ EnclosesBoth sk a exit w
-none_encloses_exit nil a w h = h
-none_encloses_exit (act t k) a w h = none_encloses_exit k a w h
-none_encloses_exit (fork t b c k) a w (inl h) = none_encloses_exit b a w h
-none_encloses_exit (fork t b c k) a w (inr (inl h)) = none_encloses_exit c a w h
-none_encloses_exit (fork t b c k) a w (inr (inr h)) = none_encloses_exit k a w h
-none_encloses_exit (round t b k) a w (inl (is, first, inl e)) = absurd cc
-none_encloses_exit (round t b k) a w (inl (is, first, inr h)) = no_exit b h
-none_encloses_exit (round t b k) a w (inr (inl h)) = none_encloses_exit b a w h
-none_encloses_exit (round t b k) a w (inr (inr h)) = none_encloses_exit k a w h
 
 module _ (t : Tree) where
   -- what stands so in a block stands so in the program
@@ -78,7 +45,7 @@ module _ (t : Tree) where
   here : (p : Tag) (c : Content) (label : Bool) (v w : Tag) (d : Content) (nest : List Tag) → Says t.body p c → StandsAsIn t.body v (standing d nest (Some (p, label))) → w ≡ v → Leads p c w
   here p c label v w d nest says stands same =
       subst (Leads p c) (sym same)
-      (d, stands_says t.body [] None v (standing d nest (Some (p, label))) stands, control p c label v d ∷ [], (right_under p c label v d nest says stands, tt, refl, refl))
+      (d, says_of_standing t.body [] None v (standing d nest (Some (p, label))) stands, control p c label v d ∷ [], (right_under p c label v d nest says stands, tt, refl, refl))
 
   below : (p : Tag) (c : Content) (label : Bool) (v : Tag) (d : Content) (nest : List Tag) (w : Tag) → Says t.body p c → StandsAsIn t.body v (standing d nest (Some (p, label))) → Leads v d w → Leads p c w
   below p c label v d nest w says stands (f, says_w, es, leads) = (f, says_w, control p c label v d ∷ es, (right_under p c label v d nest says stands, tt, refl, leads))
@@ -91,17 +58,17 @@ module _ (t : Tree) where
   under (branch v e a b rest) nest p label c says inside w (inl is) = here p c label v w (If e) nest says (inside v (standing (If e) nest (Some (p, label))) (inl (refl, refl))) (tag_of w v is)
   under (branch v e a b rest) nest p label c says inside w (inr (inl h)) =
       let stands = inside v (standing (If e) nest (Some (p, label))) (inl (refl, refl)) in
-      below p c label v (If e) nest w says stands (under a nest v true (If e) (stands_says t.body [] None v (standing (If e) nest (Some (p, label))) stands) (λ u s g. inside u s (inr (inl g))) w h)
+      below p c label v (If e) nest w says stands (under a nest v true (If e) (says_of_standing t.body [] None v (standing (If e) nest (Some (p, label))) stands) (λ u s g. inside u s (inr (inl g))) w h)
   under (branch v e a b rest) nest p label c says inside w (inr (inr (inl h))) =
       let stands = inside v (standing (If e) nest (Some (p, label))) (inl (refl, refl)) in
-      below p c label v (If e) nest w says stands (under b nest v false (If e) (stands_says t.body [] None v (standing (If e) nest (Some (p, label))) stands) (λ u s g. inside u s (inr (inr (inl g)))) w h)
+      below p c label v (If e) nest w says stands (under b nest v false (If e) (says_of_standing t.body [] None v (standing (If e) nest (Some (p, label))) stands) (λ u s g. inside u s (inr (inr (inl g)))) w h)
   under (branch v e a b rest) nest p label c says inside w (inr (inr (inr h))) = under rest nest p label c says (λ u s g. inside u s (inr (inr (inr g)))) w h
   under (loop v e b rest) nest p label c says inside w (inl is) =
       here p c label v w (While e) (nest ++ (v ∷ [])) says (inside v (standing (While e) (nest ++ (v ∷ [])) (Some (p, label))) (inl (refl, refl))) (tag_of w v is)
   under (loop v e b rest) nest p label c says inside w (inr (inl h)) =
       let stands = inside v (standing (While e) (nest ++ (v ∷ [])) (Some (p, label))) (inl (refl, refl)) in
       below p c label v (While e) (nest ++ (v ∷ [])) w says stands
-      (under b (nest ++ (v ∷ [])) v true (While e) (stands_says t.body [] None v (standing (While e) (nest ++ (v ∷ [])) (Some (p, label))) stands) (λ u s g. inside u s (inr (inl g))) w h)
+      (under b (nest ++ (v ∷ [])) v true (While e) (says_of_standing t.body [] None v (standing (While e) (nest ++ (v ∷ [])) (Some (p, label))) stands) (λ u s g. inside u s (inr (inl g))) w h)
   under (loop v e b rest) nest p label c says inside w (inr (inr h)) = under rest nest p label c says (λ u s g. inside u s (inr (inr g))) w h
 
   abbrev LoopLeads : Tag → Tag → Type 0
@@ -116,7 +83,7 @@ module _ (t : Tree) where
   enclosed (branch v e b c rest) nest up inside a w l (inr (inr h)) = enclosed rest nest up (λ u s g. inside u s (inr (inr (inr g)))) a w l h
   enclosed (loop v e b rest) nest up inside a w l (inl (is, first, last)) =
       let says : Says t.body v (While e) =
-      stands_says t.body [] None v (standing (While e) (nest ++ (v ∷ [])) up) (inside v (standing (While e) (nest ++ (v ∷ [])) up) (inl (refl, refl))) in
+      says_of_standing t.body [] None v (standing (While e) (nest ++ (v ∷ [])) up) (inside v (standing (While e) (nest ++ (v ∷ [])) up) (inl (refl, refl))) in
       subst (λ (m : Tag). LoopLeads m w) (sym is) (
         While e,
         says,
@@ -135,7 +102,7 @@ module _ (t : Tree) where
   lands x Entry a z l reads h = absurd reads
   lands x (Init y) a z l reads h = absurd reads
   lands x (Part w d) a z l (uses, says, is) h = (w, d, refl, says, is)
-  lands x (Final y) a z l (same, named, is) h = absurd (none_encloses_exit (skeleton t.body) a l (subst (λ (p : Point). EnclosesBoth (skeleton t.body) a p l) is h))
+  lands x (Final y) a z l (same, named, is) h = absurd (end_outside (skeleton t.body) (encloses_in (skeleton t.body) a exit l (subst (λ (p : Point). EnclosesBoth (skeleton t.body) a p l) is h)).1)
 
   loop_leads : SaysOnce t → (l w : Tag) (c d : Content) → Says t.body l c → Says t.body w d → LoopLeads l w → (es : List Edge) × LeadsTo (graph_of t) (Part l c) es (Part w d)
   loop_leads once l w c d says_l says_w (c', says_l', (d', says_w', es, leads)) =

@@ -1,5 +1,5 @@
 -- The program in whose order the rank begins is the first of the arrangements.
-use Rattle.std.proofs.Common.{◌≡◌, ℕ, zero, suc, ◌<◌, Some, List, [], ◌∷◌, ◌++◌, length, Contains, slice_get, refl, sym, ap, ◌∙◌, arith, append_assoc}
+use Rattle.std.proofs.Common.{◌≡◌, ℕ, zero, suc, ◌<◌, Some, List, [], ◌∷◌, ◌++◌, length, slice_get, refl, sym, ap, ◌∙◌, arith, append_assoc}
 use Rattle.hpr_syntax.specs.Body.{Body}
 use Rattle.hpr_syntax.specs.Issued.{Issued}
 use Rattle.hpr_syntax.specs.Tree.{Tree}
@@ -13,11 +13,11 @@ use Rattle.hpr_rebuild.specs.Settled.{IsSettled}
 
 module _ {X : Type 0} where
   -- the item behind a front, and those of the front
-  at_middle : (front : List X) (x : X) (back : List X) → slice_get (front ++ x ∷ back) (length front) ≡ Some x
+  pub at_middle : (front : List X) (x : X) (back : List X) → slice_get (front ++ x ∷ back) (length front) ≡ Some x
   at_middle [] x back = refl
   at_middle (y ∷ front) x back = at_middle front x back
 
-  in_front : (front back back' : List X) (i : ℕ) (x : X) → i < length front → slice_get (front ++ back) i ≡ Some x → slice_get (front ++ back') i ≡ Some x
+  pub in_front : (front back back' : List X) (i : ℕ) (x : X) → i < length front → slice_get (front ++ back) i ≡ Some x → slice_get (front ++ back') i ≡ Some x
   in_front [] back back' i x l h = absurd (omega (arith, l))
   in_front (y ∷ front) back back' zero x l h = h
   in_front (y ∷ front) back back' (suc i) x l h = in_front front back back' i x (omega (arith, l)) h
@@ -39,21 +39,20 @@ never_earlier rank r q rest once begins once_r (front, ps, qs, v, w, is_r, is_q,
 parts_by_body : (p q : Tree) → p.body ≡ q.body → parts_of p ≡ parts_of q
 parts_by_body p q e = ap (λ (b : Body). parts_of (record { issued = p.issued; body = b; finals = p.finals })) e
 
+-- an arrangement that no other is earlier than comes first
+pub first_listed : (g : Graph) (rank : List Vertex) (issued : Issued) (ps : List Tree) (q : Tree) → AreArrangements g rank issued ps → IsArrangement g issued q
+    → ((r : Tree) → IsArrangement g issued r → ¬ IsEarlier rank r q) → (qs : List Tree) × (ps ≡ q ∷ qs)
+first_listed g rank issued [] q are is never = absurd (in_none q ((are.0 q).1 is))
+first_listed g rank issued (r ∷ rs) q are is never = let (k, there) = place_of (r ∷ rs) q ((are.0 q).1 is) in at k there
+  where
+    at : (k : ℕ) → slice_get (r ∷ rs) k ≡ Some q → (qs : List Tree) × (r ∷ rs ≡ q ∷ qs)
+    at zero there = (rs, let e : r ≡ q = cc in ap (λ (t : Tree). t ∷ rs) e)
+    at (suc k) there = absurd (never r ((are.0 r).0 (contains_at (r ∷ rs) 0 r refl)) (are.1 0 (suc k) r q (omega arith) refl there))
+
 pub first_of : (g : Graph) (rank : List Vertex) (issued : Issued) (ps : List Tree) (q : Tree) (rest : List Vertex) → AreArrangements g rank issued ps → IsOnce rank
     → IsArrangement g issued q → rank ≡ parts_of q ++ rest → (qs : List Tree) × (ps ≡ q ∷ qs)
-first_of g rank issued ps q rest are once is begins = at ps are ((are.0 q).1 is)
-  where
-    at : (ps : List Tree) → AreArrangements g rank issued ps → Contains ps q → (qs : List Tree) × (ps ≡ q ∷ qs)
-    at [] are h = absurd (in_none q h)
-    at (r ∷ rs) are h =
-        let (k, there) = place_of (r ∷ rs) q h in
-        by k there
-      where
-        by : (k : ℕ) → slice_get (r ∷ rs) k ≡ Some q → (qs : List Tree) × (r ∷ rs ≡ q ∷ qs)
-        by zero there = (rs, let e : r ≡ q = cc in ap (λ (t : Tree). t ∷ rs) e)
-        by (suc k) there =
-            let r_is : IsArrangement g issued r = (are.0 r).0 (contains_at (r ∷ rs) 0 r refl) in
-            absurd (never_earlier rank r q rest once begins (parts_once r r_is.program) (are.1 0 (suc k) r q (omega arith) refl there))
+first_of g rank issued ps q rest are once is begins =
+    first_listed g rank issued ps q are is (λ r r_is. never_earlier rank r q rest once begins (parts_once r r_is.program))
 
 -- where the rank begins with a program's parts in preorder
 pub settled_first : (g : Graph) (rank : List Vertex) (issued : Issued) (ps : List Tree) (p q : Tree) (rest : List Vertex) → AreArrangements g rank issued ps → IsOnce rank

@@ -13,7 +13,7 @@ use Rattle.hpr_syntax.specs.Tree.{Tree}
 use Rattle.hpr_paths.specs.Spots.{Spot}
 use Rattle.hpr_paths.specs.Successors.{spots}
 use Rattle.hpr_paths.specs.Numbers.{IsNumberOf}
-use Rattle.hpr_paths.proofs.Nested.{number_of_says, says_of_number, nest_of_number}
+use Rattle.hpr_paths.proofs.Nested.{number_of_says, nest_of_number}
 use Rattle.hpr_paths.proofs.Tags.{number_once}
 use Rattle.hpr_graph.specs.declared.vertex.Vertex.{Vertex}
 use Rattle.hpr_graph.specs.declared.vertex.Vertex.TheVariants.{Entry, Init, Part, Final}
@@ -23,9 +23,10 @@ use Rattle.hpr_graph.specs.Graphs.{Graph, Same}
 use Rattle.hpr_graph.specs.ProgramGraph.{IsTop, IsVertexOf, graph_of}
 use Rattle.hpr_graph.specs.Arrangements.{edge_into}
 use Rattle.hpr_graph.specs.Answer.{IsPart, Fits, HasNoProgram}
+use Rattle.hpr_skeleton.proofs.Says.{says_of_standing}
 use Rattle.hpr_build.specs.Places.{Place, places, place_at, IsParentOf}
 use Rattle.hpr_build.proofs.PlaceIn.{place_of_part}
-use Rattle.hpr_build.proofs.PlaceLaws.{number_of_part, role_of_part, part_of_standing}
+use Rattle.hpr_build.proofs.PlaceLaws.{number_of_part, part_of_standing}
 use Rattle.hpr_order.specs.declared.tree.OrderError.{OrderError}
 use Rattle.hpr_order.specs.declared.tree.OrderError.TheVariants.{TwoContents, Impossible, Memory}
 use Rattle.hpr_order.specs.Regions.{AllowsIn, Allows, Controls, IsControlKind, LeadsDown, IsUnderEntry, IsPossible, IsImpossible, HasTwoContents, IsRefusal}
@@ -129,16 +130,11 @@ module _ (t : Tree) (prog : IsProgram t) where
   abbrev standing : Content → List Tag → Parent → Standing
   standing c nest up = record { content = c; nest = nest; parent = up }
 
-  stands_says : (v : Tag) (s : Standing) → StandsAsIn t.body v s → Says t.body v s.content
-  stands_says v s h =
-      let (n, p, at_n, tag, content, up) = part_of_standing t v s h in
-      subst (λ (c : Content). Says t.body v c) content (subst (λ (u : Tag). Says t.body u p.content) tag (says_of_number t n p.tag p.content (role_of_part t n p at_n)))
-
   holds : (v : Tag) (c : Content) (nest : List Tag) (up : Parent) (label : Bool) → Held up → StandsAsIn t.body v (standing c nest up) → AllowsIn c label → Held (Some (v, label))
   holds v c nest up label h stands allows = record {
     from = Part v c;
     label = label;
-    holder = (refl, (c, refl, stands_says v (standing c nest up) stands));
+    holder = (refl, (c, refl, says_of_standing t.body [] None v (standing c nest up) stands));
     allows = λ to part. (allows, part);
     reached = reached_more G h.from (Part v c) h.label (controlled up h.from h.label v (standing c nest up) h.holder stands refl) h.reached;
   }

@@ -1,4 +1,4 @@
--- A state's map against the ordered map that keeps it.
+-- A map of names against the ordered map that keeps it.
 use Rattle.std.proofs.Common.{◌≡◌, ℕ, ℤ, List, [], ◌∷◌, ◌++◌, refl, ap, ◌∙◌, cond, Some}
 use Rattle.std.specs.Map.{lookup}
 use Rattle.std.specs.BTreeMap.{is_at}
@@ -8,23 +8,24 @@ use Rattle.std.specs.Cmp.Lexicographic.{slice_cmp, nat_list_cmp_total}
 use Rattle.std.specs.FinMap.{empty, find, get, insert, get-insert, get-from_entries, from_entries, same_map, nat_cmp-IsAntisymmetric, slice_cmp-IsAntisymmetric}
 use Rattle.hpr_syntax.specs.Values.{Values}
 
-find-lookup : (q : List ℕ) (es : List (List ℕ × ℤ)) → find (slice_cmp nat_cmp) q es ≡ lookup (is_at (slice_cmp nat_cmp q)) es
-find-lookup q [] = refl
-find-lookup q (e ∷ es) = ap (λ o. cond (eq_by_cmp (slice_cmp nat_cmp) q e.0) (Some e.1) o) (find-lookup q es)
+module _ {V : Type 0} where
+  find-lookup : (q : List ℕ) (es : List (List ℕ × V)) → find (slice_cmp nat_cmp) q es ≡ lookup (is_at (slice_cmp nat_cmp q)) es
+  find-lookup q [] = refl
+  find-lookup q (e ∷ es) = ap (λ o. cond (eq_by_cmp (slice_cmp nat_cmp) q e.0) (Some e.1) o) (find-lookup q es)
 
-pub get-entries_of : (q : List ℕ) (es : List (List ℕ × ℤ)) → get (from_entries {R = slice_cmp nat_cmp} es) q ≡ lookup (is_at (slice_cmp nat_cmp q)) es
-get-entries_of q es = get-from_entries nat_list_cmp_total es q ∙ find-lookup q es
+  pub get-entries_of : (q : List ℕ) (es : List (List ℕ × V)) → get (from_entries {R = slice_cmp nat_cmp} es) q ≡ lookup (is_at (slice_cmp nat_cmp q)) es
+  get-entries_of q es = get-from_entries nat_list_cmp_total es q ∙ find-lookup q es
 
-pub insert-entries_of : (es fs : List (List ℕ × ℤ)) (k : List ℕ) (v : ℤ) →
-    ((q : List ℕ) → lookup (is_at (slice_cmp nat_cmp q)) fs ≡ cond (is_at (slice_cmp nat_cmp k) q) (Some v) (lookup (is_at (slice_cmp nat_cmp q)) es)) →
-    from_entries {R = slice_cmp nat_cmp} fs ≡ insert (from_entries es) k v
-insert-entries_of es fs k v h =
-    same_map nat_list_cmp_total (slice_cmp-IsAntisymmetric nat_cmp-IsAntisymmetric) _ _ (λ q.
-    let a = get-entries_of q fs in
-    let b = get-entries_of q es in
-    let c = get-insert nat_list_cmp_total (from_entries {R = slice_cmp nat_cmp} es) k v q in
-    let d : eq_by_cmp (slice_cmp nat_cmp) k q ≡ eq_by_cmp (slice_cmp nat_cmp) q k = (eq_by_cmp_equiv nat_list_cmp_total).symm k q in
-    a ∙ h q ∙ rw (c, b, d) refl)
+  pub insert-entries_of : (es fs : List (List ℕ × V)) (k : List ℕ) (v : V) →
+      ((q : List ℕ) → lookup (is_at (slice_cmp nat_cmp q)) fs ≡ cond (is_at (slice_cmp nat_cmp k) q) (Some v) (lookup (is_at (slice_cmp nat_cmp q)) es)) →
+      from_entries {R = slice_cmp nat_cmp} fs ≡ insert (from_entries es) k v
+  insert-entries_of es fs k v h =
+      same_map nat_list_cmp_total (slice_cmp-IsAntisymmetric nat_cmp-IsAntisymmetric) _ _ (λ q.
+      let a = get-entries_of q fs in
+      let b = get-entries_of q es in
+      let c = get-insert nat_list_cmp_total (from_entries {R = slice_cmp nat_cmp} es) k v q in
+      let d : eq_by_cmp (slice_cmp nat_cmp) k q ≡ eq_by_cmp (slice_cmp nat_cmp) q k = (eq_by_cmp_equiv nat_list_cmp_total).symm k q in
+      a ∙ h q ∙ rw (c, b, d) refl)
 
 -- the entries put into a state, the last one first
 abbrev pub onto : List (List ℕ × ℤ) → Values → Values

@@ -1,14 +1,14 @@
 -- No tag stands twice in a program.
-use Rattle.std.proofs.Common.{◌≡◌, Bool, true, false, ◌||◌, if◌then◌else◌, List, [], ◌∷◌, Option, Some, None, refl, ap, sym, subst, inl, inr, eq-eqb}
+use Rattle.std.proofs.Common.{◌≡◌, Bool, true, false, ◌||◌, List, [], ◌∷◌, Option, Some, None, refl, ap, sym, subst, inl, inr, eq-eqb}
 use Rattle.hpr_terms.specs.declared.tag.Tag.{Tag}
 use Rattle.hpr_syntax.specs.Body.{Body, done, assign, branch, loop}
 use Rattle.hpr_syntax.specs.Parts.{same_tag, tags_of}
 use Rattle.std.specs.List.{list_any}
 use Rattle.hpr_syntax.specs.Tree.{Tree}
-use Rattle.hpr_syntax.specs.Shape.{IsProgram, shape, first_repeated, first_repeated_tag}
-use Rattle.hpr_syntax.specs.declared.shape.ShapeError.TheVariants.{DuplicateTag}
-use Rattle.std.specs.Option.{option_or, option_map}
+use Rattle.hpr_syntax.specs.Shape.{IsProgram, shape, first_repeated}
 use Rattle.hpr_syntax.specs.Skeleton.{Skeleton, nil, act, fork, round, Point, at, StandsIn, Apart, Distinct, skeleton}
+use Rattle.hpr_syntax.proofs.NoRefusal.{no_refusal}
+use Rattle.hpr_syntax.proofs.ShownParts.{if_none}
 use Rattle.hpr_skeleton.proofs.Tags.{same_at}
 use Rattle.hpr_skeleton.proofs.Among.{no_both}
 
@@ -36,10 +36,6 @@ is_seen t seen = list_any (same_tag t) seen
 
 abbrev pub IsSeen : List Tag → Tag → Type 0
 IsSeen seen t = is_seen t seen ≡ true
-
-first_is_new : (b : Bool) (t : Tag) (o : Option Tag) → (if b then Some t else o) ≡ None → (b ≡ false) × (o ≡ None)
-first_is_new true t o e = absurd cc
-first_is_new false t o e = (refl, e)
 
 abbrev Rest : Skeleton → List Tag → List Tag → Type 0
 Rest B seen after = (s : List Tag) × (first_repeated same_tag s after ≡ None) × ((t : Tag) → IsSeen seen t → IsSeen s t) × ((t : Tag) → StandsIn B (at t) → IsSeen s t)
@@ -85,7 +81,7 @@ part_at (round t b k) p (inr (inr h)) = part_at k p h
 pub are_new : (B : Body) (seen after : List Tag) → first_repeated same_tag seen (tags_of B after) ≡ None → AreNew (skeleton B) seen after
 are_new done seen after e = (tt, (λ t i. absurd i), (seen, e, (λ t s. s), (λ t i. absurd i)))
 are_new (assign t x e rest) seen after q =
-    let n = first_is_new (is_seen t seen) t (first_repeated same_tag (t ∷ seen) (tags_of rest after)) q in
+    let n = if_none (is_seen t seen) t (first_repeated same_tag (t ∷ seen) (tags_of rest after)) q in
     let r = are_new rest (t ∷ seen) after n.1 in (
       (stays_out (skeleton rest) (t ∷ seen) t r.1 (seen_itself t seen), r.0),
       has n.0 r.1,
@@ -100,7 +96,7 @@ are_new (assign t x e rest) seen after q =
     got s f g u (inl d) = subst (IsSeen s) (sym (same_at d)) (f t (seen_itself t seen))
     got s f g u (inr i) = g u i
 are_new (branch t e a b rest) seen after q =
-    let n = first_is_new (is_seen t seen) t (first_repeated same_tag (t ∷ seen) (tags_of a (tags_of b (tags_of rest after)))) q in
+    let n = if_none (is_seen t seen) t (first_repeated same_tag (t ∷ seen) (tags_of a (tags_of b (tags_of rest after)))) q in
     let x = are_new a (t ∷ seen) (tags_of b (tags_of rest after)) n.1 in
     let y = are_new b x.2.0 (tags_of rest after) x.2.1 in
     let z = are_new rest y.2.0 after y.2.1 in
@@ -135,7 +131,7 @@ are_new (branch t e a b rest) seen after q =
     got s f g h k u (inr (inr (inl i))) = h u i
     got s f g h k u (inr (inr (inr i))) = k u i
 are_new (loop t e b rest) seen after q =
-    let n = first_is_new (is_seen t seen) t (first_repeated same_tag (t ∷ seen) (tags_of b (tags_of rest after))) q in
+    let n = if_none (is_seen t seen) t (first_repeated same_tag (t ∷ seen) (tags_of b (tags_of rest after))) q in
     let x = are_new b (t ∷ seen) (tags_of rest after) n.1 in
     let z = are_new rest x.2.0 after x.2.1 in (
       (
@@ -164,14 +160,5 @@ are_new (loop t e b rest) seen after q =
 pub distinct_of : (B : Body) → first_repeated same_tag [] (tags_of B []) ≡ None → Distinct (skeleton B)
 distinct_of B e = (are_new B [] [] e).0
 
-option_or_none : {X : Type 0} (a b : Option X) → option_or a b ≡ None → (a ≡ None) × (b ≡ None)
-option_or_none None b e = (refl, e)
-option_or_none (Some x) b e = absurd cc
-
-map_none : {X Y : Type 0} (f : X → Y) (o : Option X) → option_map f o ≡ None → o ≡ None
-map_none f None e = refl
-map_none f (Some x) e = absurd cc
-
 pub distinct_program : (t : Tree) → IsProgram t → Distinct (skeleton t.body)
-unfolding shape
-distinct_program t prog = distinct_of t.body (map_none DuplicateTag (first_repeated_tag t.body) (option_or_none _ _ prog.shape).0)
+distinct_program t prog = distinct_of t.body (no_refusal t prog.shape).tags

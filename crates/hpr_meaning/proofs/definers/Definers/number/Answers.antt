@@ -1,4 +1,4 @@
-use Rattle.hpr_meaning.proofs.NumberMaps.{get-entries_of}
+use Rattle.hpr_run.proofs.States.{get-entries_of}
 use Rattle.hpr_meaning.proofs.definers.Definers.number.Goals as goal
 
 pub returns : goal.returns

@@ -1,4 +1,4 @@
-use Rattle.hpr_meaning.proofs.NumberMaps.{insert-entries_of}
+use Rattle.hpr_run.proofs.States.{insert-entries_of}
 use Rattle.hpr_meaning.proofs.definers.Definers.put.Goals as goal
 
 pub returns : goal.returns

@@ -1,5 +1,5 @@
 use Rattle.std.proofs.Common.{rules}
-use Rattle.hpr_meaning.proofs.NumberMaps.{insert-entries_of}
+use Rattle.hpr_run.proofs.States.{insert-entries_of}
 use Rattle.hpr_meaning.proofs.definers.Definers.set.Goals as goal
 
 pub returns-in-Some : goal.returns-in-Some
