@@ -1,5 +1,5 @@
 //! Reads the tokens of an expression.
-ghost use Rattle.std.specs.Prelude.{◌≡◌, ◌∷◌, [], length, is_some, nat_lt, ◌^◌, MatchOption, Some, None, IfOk};
+ghost use Rattle.std.specs.Prelude.{◌≡◌, ◌∷◌, [], length, is_some, nat_lt, ◌^◌, MatchOption, Some, None, IfOk, OnOk, IsTrue, ◌↔◌};
 ghost use Rattle.std.specs.Option.{is_none};
 ghost use Rattle.hpr_scan.specs.Steps.{Steps};
 ghost use Rattle.hpr_terms.specs.declared.token.Token.TheVariants as tokens;
@@ -54,22 +54,22 @@ impl Brackets {
         self.outside.len()
     }
 
-    fn with(self, pending: Pending) -> Result<Brackets, NoMemory>
-        ensures { IfOk result (λ b. b ≡ pending ∷ self) }
+    fn is_empty(&self) -> bool
+        ensures { IsTrue result ↔ (self.now ≡ []) }
     {
-        let Brackets { mut outside } = self;
-        outside.push(pending)?;
-        Ok(Brackets { outside })
+        self.outside.is_empty()
     }
 
-    fn closed(self) -> Option<(Pending, Brackets)>
-        ensures { MatchOption result (self ≡ []) (λ p. self ≡ p.0 ∷ p.1) }
+    fn push(&mut self, pending: Pending) -> Result<(), NoMemory>
+        ensures { OnOk result (self.new ≡ pending ∷ self.old) }
     {
-        let Brackets { mut outside } = self;
-        match outside.pop() {
-            None => None,
-            Some(pending) => Some((pending, Brackets { outside })),
-        }
+        Ok(self.outside.push(pending)?)
+    }
+
+    fn pop(&mut self) -> Option<Pending>
+        ensures { MatchOption result (self.old ≡ []) (λ p. self.old ≡ p ∷ self.new) }
+    {
+        self.outside.pop()
     }
 }
 
@@ -97,49 +97,68 @@ pub enum Reading {
     After(Context, Expr),
 }
 
-fn counted(outer: Brackets, here: Pending, count: usize) -> Result<Reading, Fault>
-    ensures { Steps (expression.counted (record { outer = outer; here = here; count = count }) here) result }
+fn counted(mut context: Context) -> Result<Reading, Fault>
+    ensures { Steps (expression.counted context context.here) result }
 {
-    if count < MAX_OPERATORS {
-        Ok(Reading::Before(Context {
-            outer,
-            here,
-            count: count + 1,
-        }))
-    } else {
-        Err(Fault::Refused)
+    if !context.counts() {
+        return Err(Fault::Refused);
     }
+    context.count += 1;
+    Ok(Reading::Before(context))
 }
 
 fn opened(alloc: Global, context: Context) -> Result<Reading, Fault>
     ensures { Steps (expression.open_next context) result }
 {
-    let Context { outer, here, count } = context;
-    if outer.len() < MAX_BRACKETS {
-        Ok(Reading::Before(Context {
-            outer: outer.with(here)?,
-            here: Pending::new(alloc),
-            count,
-        }))
-    } else {
-        Err(Fault::Refused)
+    if !context.opens() {
+        return Err(Fault::Refused);
     }
+    let Context {
+        mut outer,
+        here,
+        count,
+    } = context;
+    outer.push(here)?;
+    Ok(Reading::Before(Context {
+        outer,
+        here: Pending::new(alloc),
+        count,
+    }))
 }
 
 fn literal(context: Context, number: u64) -> Result<Reading, Fault>
     ensures { Steps (expression.operand_next context (tokens.Number number)) result }
 {
-    match Literal::new(number) {
-        Some(literal) => Ok(Reading::After(context, Expr::Num(literal))),
-        None => Err(Fault::Refused),
-    }
+    let Some(literal) = Literal::new(number) else {
+        return Err(Fault::Refused);
+    };
+    Ok(Reading::After(context, Expr::Num(literal)))
 }
 
-fn prefix(context: Context, op: Unary) -> Result<Reading, Fault>
+fn prefix(mut context: Context, op: Unary) -> Result<Reading, Fault>
     ensures { Steps (expression.counted context (pending.with_prefix context.here op)) result }
 {
-    let Context { outer, here, count } = context;
-    counted(outer, here.with_prefix(op)?, count)
+    context.here.prefix(op)?;
+    counted(context)
+}
+
+fn word_before(context: Context, keyword: Keyword) -> Result<Reading, Fault>
+    ensures { Steps (expression.operand_next context (tokens.Word keyword)) result }
+{
+    if !matches!(keyword, Keyword::Not) {
+        return Err(Fault::Refused);
+    }
+    prefix(context, Unary::Not)
+}
+
+fn sign_before(alloc: Global, context: Context, sign: Sign) -> Result<Reading, Fault>
+    ensures { Steps (expression.operand_next context (tokens.Mark sign)) result }
+{
+    match sign {
+        Sign::Open => opened(alloc, context),
+        Sign::Minus => prefix(context, Unary::Neg),
+        _ => Err(Fault::Refused),
+    }
 }
 
 fn operand_next(alloc: Global, context: Context, token: Token) -> Result<Reading, Fault>
@@ -148,65 +167,58 @@ fn operand_next(alloc: Global, context: Context, token: Token) -> Result<Reading
     match token {
         Token::Number(number) => literal(context, number),
         Token::Name(name) => Ok(Reading::After(context, Expr::Var(name))),
-        Token::Mark(Sign::Open) => opened(alloc, context),
-        Token::Mark(Sign::Minus) => prefix(context, Unary::Neg),
-        Token::Word(Keyword::Not) => prefix(context, Unary::Not),
-        _ => Err(Fault::Refused),
+        Token::Mark(sign) => sign_before(alloc, context, sign),
+        Token::Word(keyword) => word_before(context, keyword),
     }
 }
 
-fn join_or(alloc: Global, context: Context, value: Expr) -> Result<Reading, Fault>
+fn join_or(alloc: Global, mut context: Context, value: Expr) -> Result<Reading, Fault>
     ensures { Steps (expression.counted context (pending.with_or context.here Binary.Or value)) result }
 {
-    let Context { outer, here, count } = context;
-    counted(outer, here.with_or(alloc, Binary::Or, value)?, count)
+    context.here.join_or(alloc, Binary::Or, value)?;
+    counted(context)
 }
 
-fn join_and(alloc: Global, context: Context, value: Expr) -> Result<Reading, Fault>
+fn join_and(alloc: Global, mut context: Context, value: Expr) -> Result<Reading, Fault>
     ensures { Steps (expression.counted context (pending.with_and context.here Binary.And value)) result }
 {
-    let Context { outer, here, count } = context;
-    counted(outer, here.with_and(alloc, Binary::And, value)?, count)
+    context.here.join_and(alloc, Binary::And, value)?;
+    counted(context)
 }
 
-fn compare(alloc: Global, context: Context, op: Binary, value: Expr) -> Result<Reading, Fault>
+fn compare(alloc: Global, mut context: Context, op: Binary, value: Expr) -> Result<Reading, Fault>
     ensures { Steps (expression.compare_next context.here.compared context op value) result }
 {
-    let Context { outer, here, count } = context;
-    if here.compared.is_some() {
+    if context.here.compared.is_some() {
         return Err(Fault::Refused);
     }
-    counted(outer, here.with_comparison(alloc, op, value)?, count)
+    context.here.compare(alloc, op, value)?;
+    counted(context)
 }
 
-fn add(alloc: Global, context: Context, op: Binary, value: Expr) -> Result<Reading, Fault>
+fn add(alloc: Global, mut context: Context, op: Binary, value: Expr) -> Result<Reading, Fault>
     ensures { Steps (expression.counted context (pending.with_sum context.here op value)) result }
 {
-    let Context { outer, here, count } = context;
-    counted(outer, here.with_sum(alloc, op, value)?, count)
+    context.here.add(alloc, op, value)?;
+    counted(context)
 }
 
-fn multiply(alloc: Global, context: Context, op: Binary, value: Expr) -> Result<Reading, Fault>
+fn multiply(alloc: Global, mut context: Context, op: Binary, value: Expr) -> Result<Reading, Fault>
     ensures { Steps (expression.counted context (pending.with_term context.here op value)) result }
 {
-    let Context { outer, here, count } = context;
-    counted(outer, here.with_term(alloc, op, value)?, count)
+    context.here.multiply(alloc, op, value)?;
+    counted(context)
 }
 
-fn close(alloc: Global, context: Context, value: Expr) -> Result<Reading, Fault>
+fn close(alloc: Global, mut context: Context, value: Expr) -> Result<Reading, Fault>
     ensures { Steps (expression.close_next context.outer context.here context.count value) result }
 {
-    let Context { outer, here, count } = context;
-    match outer.closed() {
+    let whole = context.here.whole(alloc, value)?;
+    match context.outer.pop() {
         None => Err(Fault::Refused),
-        Some((pending, outer)) => {
-            let value = here.whole(alloc, value)?;
-            let context = Context {
-                outer,
-                here: pending,
-                count,
-            };
-            Ok(Reading::After(context, value))
+        Some(outside) => {
+            context.here = outside;
+            Ok(Reading::After(context, whole))
         }
     }
 }
@@ -275,6 +287,15 @@ impl Context {
         self.outer.len() < MAX_BRACKETS
     }
 
+    fn ended(mut self, alloc: Global, value: Expr) -> Result<Expr, Fault>
+        ensures { Steps (expression.ended_in self.outer self.here value) result }
+    {
+        if !self.outer.is_empty() {
+            return Err(Fault::Refused);
+        }
+        Ok(self.here.whole(alloc, value)?)
+    }
+
     fn compares(&self) -> bool
         ensures { (op : _) (e : _) → result ≡ is_some (expression.compare_next self.now.here.compared self.now op e) }
     {
@@ -284,7 +305,7 @@ impl Context {
     fn closes(&self) -> bool
         ensures { (e : _) → result ≡ is_some (expression.close_next self.now.outer self.now.here self.now.count e) }
     {
-        self.outer.len() > 0
+        !self.outer.is_empty()
     }
 
     fn operand_sign(&self, sign: Sign) -> bool
@@ -365,7 +386,7 @@ impl TokenMachine for Reading {
     fn can_end(&self) -> bool {
         match self {
             Reading::Before(_) => false,
-            Reading::After(context, _) => context.outer.len() == 0,
+            Reading::After(context, _) => context.outer.is_empty(),
         }
     }
 }
@@ -391,17 +412,7 @@ impl Reading {
     {
         match self {
             Reading::Before(_) => Err(Fault::Refused),
-            Reading::After(context, value) => {
-                let Context {
-                    outer,
-                    here,
-                    count: _,
-                } = context;
-                match outer.closed() {
-                    None => Ok(here.whole(alloc, value)?),
-                    Some(_) => Err(Fault::Refused),
-                }
-            }
+            Reading::After(context, value) => context.ended(alloc, value),
         }
     }
 }

@@ -1,5 +1,5 @@
 //! What waits for an operand, within one bracket of an expression.
-ghost use Rattle.std.specs.Prelude.{◌≡◌, ◌∷◌, [], IfOk};
+ghost use Rattle.std.specs.Prelude.{◌≡◌, ◌∷◌, [], None, IfOk, OnOk};
 ghost use Rattle.hpr_terms.specs.TermOf.{term_of};
 ghost use Rattle.hpr_expressions.specs.Pending as pending;
 
@@ -38,20 +38,17 @@ impl Prefixes {
         }
     }
 
-    fn with(self, op: Unary) -> Result<Prefixes, NoMemory>
-        ensures { IfOk result (λ p. p ≡ op ∷ self) }
+    fn push(&mut self, op: Unary) -> Result<(), NoMemory>
+        ensures { OnOk result (self.new ≡ op ∷ self.old) }
     {
-        let Prefixes { mut ops } = self;
-        ops.push(op)?;
-        Ok(Prefixes { ops })
+        Ok(self.ops.push(op)?)
     }
 
-    fn before(self, alloc: Global, value: Expr) -> Result<Expr, NoMemory>
-        ensures { IfOk result (λ e. e ≡ pending.prefixed self value) }
+    fn before(&mut self, alloc: Global, mut value: Expr) -> Result<Expr, NoMemory>
+        ensures value { IfOk result (λ e. e ≡ pending.prefixed self.old value) }
+        ensures none_left { OnOk result (self.new ≡ []) }
     {
-        let Prefixes { mut ops } = self;
-        let mut value = value;
-        while let Some(op) = ops.pop() {
+        while let Some(op) = self.ops.pop() {
             value = Expr::Prefix(op, Operand::new(alloc, value)?);
         }
         Ok(value)
@@ -59,7 +56,7 @@ impl Prefixes {
 }
 
 /// What waits for an operand: at each level a left operand, if there is one, and the prefixes.
-#[derive(Debug, Drop)]
+#[derive(Debug)]
 pub struct Pending {
     pub ors: Option<Left>,
     pub ands: Option<Left>,
@@ -67,6 +64,20 @@ pub struct Pending {
     pub summed: Option<Left>,
     pub multiplied: Option<Left>,
     pub prefixes: Prefixes,
+}
+
+/// All levels are dropped in one call.
+impl Drop for Pending {
+    fn drop(self) {
+        let Pending {
+            ors: _,
+            ands: _,
+            compared: _,
+            summed: _,
+            multiplied: _,
+            prefixes: _,
+        } = self;
+    }
 }
 
 fn infix(alloc: Global, op: Binary, left: Expr, right: Expr) -> Result<Expr, NoMemory>
@@ -84,45 +95,6 @@ fn joined(alloc: Global, left: Option<Left>, value: Expr) -> Result<Expr, NoMemo
     }
 }
 
-fn last_term(
-    alloc: Global,
-    multiplied: Option<Left>,
-    prefixes: Prefixes,
-    value: Expr,
-) -> Result<Expr, NoMemory>
-    ensures { IfOk result (λ e. e ≡ pending.joined multiplied (pending.prefixed prefixes value)) }
-{
-    let right = prefixes.before(alloc, value)?;
-    joined(alloc, multiplied, right)
-}
-
-fn last_sum(
-    alloc: Global,
-    summed: Option<Left>,
-    multiplied: Option<Left>,
-    prefixes: Prefixes,
-    value: Expr,
-) -> Result<Expr, NoMemory>
-    ensures { IfOk result (λ e. e ≡ pending.joined summed (pending.joined multiplied (pending.prefixed prefixes value))) }
-{
-    let right = last_term(alloc, multiplied, prefixes, value)?;
-    joined(alloc, summed, right)
-}
-
-fn last_comparison(
-    alloc: Global,
-    compared: Option<Left>,
-    summed: Option<Left>,
-    multiplied: Option<Left>,
-    prefixes: Prefixes,
-    value: Expr,
-) -> Result<Expr, NoMemory>
-    ensures { IfOk result (λ e. e ≡ pending.joined compared (pending.joined summed (pending.joined multiplied (pending.prefixed prefixes value)))) }
-{
-    let right = last_sum(alloc, summed, multiplied, prefixes, value)?;
-    joined(alloc, compared, right)
-}
-
 impl Pending {
     /// Nothing waits.
     pub fn new(alloc: Global) -> Pending
@@ -138,156 +110,96 @@ impl Pending {
         }
     }
 
-    /// All that stands in the bracket, where it ends with the value.
-    pub fn whole(self, alloc: Global, value: Expr) -> Result<Expr, NoMemory>
-        ensures { IfOk result (λ e. e ≡ pending.whole self value) }
+    fn last_term(&mut self, alloc: Global, value: Expr) -> Result<Expr, NoMemory>
+        ensures value { IfOk result (λ e. e ≡ pending.last_term self.old value) }
+        ensures rest { OnOk result (self.new ≡ record self.old { multiplied = None; prefixes = [] }) }
     {
-        let Pending {
-            ors,
-            ands,
-            compared,
-            summed,
-            multiplied,
-            prefixes,
-        } = self;
-        let right = last_comparison(alloc, compared, summed, multiplied, prefixes, value)?;
-        let right = joined(alloc, ands, right)?;
-        joined(alloc, ors, right)
+        let right = self.prefixes.before(alloc, value)?;
+        joined(alloc, self.multiplied.take(), right)
     }
 
-    /// What waits behind the value and `or`.
-    pub fn with_or(self, alloc: Global, op: Binary, value: Expr) -> Result<Pending, NoMemory>
-        ensures { IfOk result (λ p. p ≡ pending.with_or self op value) }
+    fn last_sum(&mut self, alloc: Global, value: Expr) -> Result<Expr, NoMemory>
+        ensures value { IfOk result (λ e. e ≡ pending.last_sum self.old value) }
+        ensures rest { OnOk result (self.new ≡ record self.old { summed = None; multiplied = None; prefixes = [] }) }
+    {
+        let right = self.last_term(alloc, value)?;
+        joined(alloc, self.summed.take(), right)
+    }
+
+    fn last_comparison(&mut self, alloc: Global, value: Expr) -> Result<Expr, NoMemory>
+        ensures value { IfOk result (λ e. e ≡ pending.last_comparison self.old value) }
+        ensures rest { OnOk result (self.new ≡ record self.old { compared = None; summed = None; multiplied = None; prefixes = [] }) }
+    {
+        let right = self.last_sum(alloc, value)?;
+        joined(alloc, self.compared.take(), right)
+    }
+
+    fn last_and(&mut self, alloc: Global, value: Expr) -> Result<Expr, NoMemory>
+        ensures value { IfOk result (λ e. e ≡ pending.last_and self.old value) }
+        ensures rest { OnOk result (self.new ≡ record pending.nothing_pending { ors = self.old.ors }) }
+    {
+        let right = self.last_comparison(alloc, value)?;
+        joined(alloc, self.ands.take(), right)
+    }
+
+    /// All that stands in the bracket, where it ends with the value; then nothing waits any more.
+    pub fn whole(&mut self, alloc: Global, value: Expr) -> Result<Expr, NoMemory>
+        ensures value { IfOk result (λ e. e ≡ pending.whole self.old value) }
+        ensures rest { OnOk result (self.new ≡ pending.nothing_pending) }
+    {
+        let right = self.last_and(alloc, value)?;
+        joined(alloc, self.ors.take(), right)
+    }
+
+    /// The value and `or` stand behind what waited.
+    pub fn join_or(&mut self, alloc: Global, op: Binary, value: Expr) -> Result<(), NoMemory>
+        ensures { OnOk result (self.new ≡ pending.with_or self.old op value) }
     {
         let left = self.whole(alloc, value)?;
-        Ok(Pending {
-            ors: Some(Left { op, left }),
-            ands: None,
-            compared: None,
-            summed: None,
-            multiplied: None,
-            prefixes: Prefixes::new(alloc),
-        })
+        self.ors = Some(Left { op, left });
+        Ok(())
     }
 
-    /// What waits behind the value and `and`.
-    pub fn with_and(self, alloc: Global, op: Binary, value: Expr) -> Result<Pending, NoMemory>
-        ensures { IfOk result (λ p. p ≡ pending.with_and self op value) }
+    /// The value and `and` stand behind what waited.
+    pub fn join_and(&mut self, alloc: Global, op: Binary, value: Expr) -> Result<(), NoMemory>
+        ensures { OnOk result (self.new ≡ pending.with_and self.old op value) }
     {
-        let Pending {
-            ors,
-            ands,
-            compared,
-            summed,
-            multiplied,
-            prefixes,
-        } = self;
-        let right = last_comparison(alloc, compared, summed, multiplied, prefixes, value)?;
-        let left = joined(alloc, ands, right)?;
-        Ok(Pending {
-            ors,
-            ands: Some(Left { op, left }),
-            compared: None,
-            summed: None,
-            multiplied: None,
-            prefixes: Prefixes::new(alloc),
-        })
+        let left = self.last_and(alloc, value)?;
+        self.ands = Some(Left { op, left });
+        Ok(())
     }
 
-    /// What waits behind the value and a comparison, where none waits yet.
-    pub fn with_comparison(
-        self,
-        alloc: Global,
-        op: Binary,
-        value: Expr,
-    ) -> Result<Pending, NoMemory>
-        ensures { IfOk result (λ p. p ≡ pending.with_comparison self op value) }
+    /// The value and a comparison stand behind what waited.
+    pub fn compare(&mut self, alloc: Global, op: Binary, value: Expr) -> Result<(), NoMemory>
+        ensures { OnOk result (self.new ≡ pending.with_comparison self.old op value) }
     {
-        let Pending {
-            ors,
-            ands,
-            compared: _,
-            summed,
-            multiplied,
-            prefixes,
-        } = self;
-        let left = last_sum(alloc, summed, multiplied, prefixes, value)?;
-        Ok(Pending {
-            ors,
-            ands,
-            compared: Some(Left { op, left }),
-            summed: None,
-            multiplied: None,
-            prefixes: Prefixes::new(alloc),
-        })
+        let left = self.last_sum(alloc, value)?;
+        self.compared = Some(Left { op, left });
+        Ok(())
     }
 
-    /// What waits behind the value and `+` or `-`.
-    pub fn with_sum(self, alloc: Global, op: Binary, value: Expr) -> Result<Pending, NoMemory>
-        ensures { IfOk result (λ p. p ≡ pending.with_sum self op value) }
+    /// The value and `+` or `-` stand behind what waited.
+    pub fn add(&mut self, alloc: Global, op: Binary, value: Expr) -> Result<(), NoMemory>
+        ensures { OnOk result (self.new ≡ pending.with_sum self.old op value) }
     {
-        let Pending {
-            ors,
-            ands,
-            compared,
-            summed,
-            multiplied,
-            prefixes,
-        } = self;
-        let left = last_sum(alloc, summed, multiplied, prefixes, value)?;
-        Ok(Pending {
-            ors,
-            ands,
-            compared,
-            summed: Some(Left { op, left }),
-            multiplied: None,
-            prefixes: Prefixes::new(alloc),
-        })
+        let left = self.last_sum(alloc, value)?;
+        self.summed = Some(Left { op, left });
+        Ok(())
     }
 
-    /// What waits behind the value and `*`, `/` or `%`.
-    pub fn with_term(self, alloc: Global, op: Binary, value: Expr) -> Result<Pending, NoMemory>
-        ensures { IfOk result (λ p. p ≡ pending.with_term self op value) }
+    /// The value and `*`, `/` or `%` stand behind what waited.
+    pub fn multiply(&mut self, alloc: Global, op: Binary, value: Expr) -> Result<(), NoMemory>
+        ensures { OnOk result (self.new ≡ pending.with_term self.old op value) }
     {
-        let Pending {
-            ors,
-            ands,
-            compared,
-            summed,
-            multiplied,
-            prefixes,
-        } = self;
-        let left = last_term(alloc, multiplied, prefixes, value)?;
-        Ok(Pending {
-            ors,
-            ands,
-            compared,
-            summed,
-            multiplied: Some(Left { op, left }),
-            prefixes: Prefixes::new(alloc),
-        })
+        let left = self.last_term(alloc, value)?;
+        self.multiplied = Some(Left { op, left });
+        Ok(())
     }
 
-    /// What waits behind one more prefix.
-    pub fn with_prefix(self, op: Unary) -> Result<Pending, NoMemory>
-        ensures { IfOk result (λ p. p ≡ pending.with_prefix self op) }
+    /// One more prefix stands behind what waited.
+    pub fn prefix(&mut self, op: Unary) -> Result<(), NoMemory>
+        ensures { OnOk result (self.new ≡ pending.with_prefix self.old op) }
     {
-        let Pending {
-            ors,
-            ands,
-            compared,
-            summed,
-            multiplied,
-            prefixes,
-        } = self;
-        let prefixes = prefixes.with(op)?;
-        Ok(Pending {
-            ors,
-            ands,
-            compared,
-            summed,
-            multiplied,
-            prefixes,
-        })
+        self.prefixes.push(op)
     }
 }
