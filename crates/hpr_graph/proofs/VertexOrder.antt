@@ -1,8 +1,8 @@
 -- The orders of vertices, of edges and of links are total, and what ties is the same.
-use Rattle.std.proofs.Common.{◌≡◌, ℕ, List, [], refl, ap, ap₂}
+use Rattle.std.proofs.Common.{◌≡◌, ◌↔◌, ℕ, Bool, true, IsTrue, List, [], refl, sym, ap, ap₂, ◌∙◌}
 use Rattle.std.specs.Cmp.{IsTotalOrder, tied_itself}
 use Rattle.std.specs.FinMap.{nat_cmp-IsAntisymmetric, slice_cmp-IsAntisymmetric}
-use Rattle.std.specs.Ordering.{nat_cmp, ordering_then}
+use Rattle.std.specs.Ordering.{is_eq, nat_cmp, ordering_then}
 use Rattle.std.specs.declared.cmp.Ordering.{Ordering}
 use Rattle.std.specs.declared.cmp.Ordering.TheVariants.{Less, Equal, Greater}
 use Rattle.hpr_terms.specs.declared.tag.Tag.{Tag}
@@ -14,6 +14,7 @@ use Rattle.hpr_syntax.specs.declared.rows.Content.{Content}
 use Rattle.hpr_syntax.specs.declared.rows.Content.TheVariants.{Assign, If, While}
 use Rattle.hpr_graph.specs.declared.vertex.Vertex.{Vertex}
 use Rattle.hpr_graph.specs.declared.vertex.Vertex.TheVariants.{Entry, Init, Part, Final}
+use Rattle.hpr_graph.specs.contracts.vertex.VertexPartialEq.TheImpl as equals
 use Rattle.hpr_graph.specs.contracts.vertex.VertexOrd.TheImpl as vertices
 use Rattle.hpr_graph.specs.contracts.vertex.VertexOrd.TheImpl.Laws as vertex_laws
 use Rattle.hpr_graph.specs.contracts.edge.EdgeOrd.TheImpl as edges
@@ -71,3 +72,15 @@ vertex_tied (Part s c) (Part t d) h =
     ap₂ (λ (r : Tag) (k : Content). Part r k) (tag_tied s t tag) (content_tied c d content)
 vertex_tied (Final x) (Final y) h = ap (λ (z : List ℕ). Final z) (name_tied x y h)
 vertex_tied _ _ h = absurd cc
+
+-- what `==` answers at vertices
+equal_by : (o : Ordering) → is_eq o ≡ true → o ≡ Equal
+equal_by Equal e = refl
+equal_by Less e = absurd cc
+equal_by Greater e = absurd cc
+
+pub vertex_equal : (v w : Vertex) (r : Bool) → r ≡ (equals.ghosts).eq v w → IsTrue r ↔ (v ≡ w)
+vertex_equal v w r is =
+    let by_order : r ≡ is_eq (vertex_cmp v w) = is ∙ vertex_laws.matches_eq-law v w ∙ ap is_eq (vertex_order v w) in
+    let tie : v ≡ w → r ≡ true = λ same. by_order ∙ ap is_eq (ap (λ (x : Vertex). vertex_cmp x w) same ∙ vertex_itself w) in
+    (λ p. vertex_tied v w (equal_by (vertex_cmp v w) (sym by_order ∙ p)), tie)

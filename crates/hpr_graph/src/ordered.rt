@@ -91,12 +91,10 @@ pub(crate) fn edge_at(
     requires { (e : Edge) × IsEdgeAt vertices.now to link e }
     ensures { IfOk result (λ e. IsEdgeAt vertices.now to link e) }
 {
-    let from = &vertices[link.from];
-    Ok(Edge {
-        to: vertices[to].copy(alloc)?,
-        from: from.copy(alloc)?,
-        kind: kind_at(alloc, vertices, from, link.kind)?,
-    })
+    let kind = kind_at(alloc, vertices, &vertices[link.from], link.kind)?;
+    let from = vertices[link.from].copy(alloc)?;
+    let to = vertices[to].copy(alloc)?;
+    Ok(Edge { to, from, kind })
 }
 
 /// The kind of an edge from this vertex.
@@ -111,12 +109,13 @@ fn kind_at(
 {
     match kind {
         LinkKind::Control(label) => Ok(Kind::Control(label)),
-        LinkKind::Independent => Ok(Kind::Independent(name_from(alloc, from)?)),
+        LinkKind::Independent => name_from(alloc, from).map(Kind::Independent),
         LinkKind::Carried(w) => {
             let name = name_from(alloc, from)?;
-            Ok(Kind::Carried(name, vertices[w].copy(alloc)?))
+            let around = vertices[w].copy(alloc)?;
+            Ok(Kind::Carried(name, around))
         }
-        LinkKind::Order(u) => Ok(Kind::Order(vertices[u].copy(alloc)?)),
+        LinkKind::Order(u) => vertices[u].copy(alloc).map(Kind::Order),
     }
 }
 

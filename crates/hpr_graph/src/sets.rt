@@ -1,5 +1,5 @@
 //! Unions and restrictions: one graph's vertices and edges put into another.
-ghost use Rattle.std.specs.Prelude.{◌≡◌, ◌↔◌, ◌⊎◌, ℕ, ◌<◌, [], length, Contains, slice_get, Some, IsSome, IsTrue, OnOk, IfOk, IfSome};
+ghost use Rattle.std.specs.Prelude.{◌≡◌, ◌↔◌, ◌⊎◌, ℕ, ◌<◌, [], ◌∷◌, ◌++◌, length, Contains, slice_get, Some, IsSome, IsTrue, OnOk, IfOk, IfSome};
 ghost use Rattle.std.specs.List.Sorted.{IsSorted};
 ghost use Rattle.hpr_search.specs.Marks.{IsMarked};
 ghost use Rattle.hpr_graph.specs.declared.vertex.Vertex.{Vertex};
@@ -91,11 +91,22 @@ fn push_if(
     ensures edges { OnOk result ((e : Edge) → HasEdge target.new e ↔ HasEdge target.old e) }
     ensures only { OnOk result ((v : Vertex) → HasVertex target.new v → HasVertex target.old v ⊎ (IsTrue keep × (v ≡ vertex.now))) }
 {
-    if keep {
-        Ok(Some(target.push_new_vertex(vertex.copy(alloc)?)?))
-    } else {
-        Ok(None)
+    if !keep {
+        return Ok(None);
     }
+    push_copy(alloc, target, vertex).map(Some)
+}
+
+/// Adds a copy of a vertex that isn't there, and answers its number.
+fn push_copy(alloc: Global, target: &mut Graph, vertex: &Vertex) -> Result<usize, NoMemory>
+    requires { ¬ HasVertex target.old vertex.now }
+    ensures next { IfOk result (λ n. n ≡ length target.old.vertices) }
+    ensures vertices { OnOk result (target.new.vertices ≡ target.old.vertices ++ vertex.now ∷ []) }
+    ensures grown { OnOk result (IsGrown target.old target.new) }
+    ensures edges { OnOk result ((e : Edge) → HasEdge target.new e ↔ HasEdge target.old e) }
+{
+    let copy = vertex.copy(alloc)?;
+    target.push_new_vertex(copy)
 }
 
 /// Adds the edges all of whose vertices have numbers here.

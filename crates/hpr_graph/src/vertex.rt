@@ -1,9 +1,10 @@
 //! The vertices of a dependence graph.
 ghost use Rattle.std.specs.Prelude.{◌≡◌, ◌↔◌, IfOk, IsTrue};
 ghost use Rattle.std.specs.Option.{option_copied};
+ghost use Rattle.hpr_syntax.specs.Rows.{assigned};
 ghost use Rattle.hpr_graph.specs.Graphs.{name_of};
 
-use hpr_syntax::{Content, Name, NoMemory, Tag, same_content};
+use hpr_syntax::{Content, Name, NoMemory, Tag};
 use std::alloc::Global;
 
 /// A vertex of a dependence graph (Horwitz, Prins and Reps 1989). A part whose content changed under a kept
@@ -29,7 +30,7 @@ impl Vertex {
     {
         match self {
             Vertex::Init(name) => Some(name),
-            Vertex::Part(_, Content::Assign(name, _)) => Some(name),
+            Vertex::Part(_, content) => assigned(content),
             _ => None,
         }
     }
@@ -40,24 +41,27 @@ impl Vertex {
     {
         match self {
             Vertex::Entry => Ok(Vertex::Entry),
-            Vertex::Init(name) => Ok(Vertex::Init(name.copy(alloc)?)),
-            Vertex::Part(tag, content) => Ok(Vertex::Part(*tag, content.copy(alloc)?)),
-            Vertex::Final(name) => Ok(Vertex::Final(name.copy(alloc)?)),
+            Vertex::Init(name) => name.copy(alloc).map(Vertex::Init),
+            Vertex::Part(tag, content) => content.copy(alloc).map(|copy| Vertex::Part(*tag, copy)),
+            Vertex::Final(name) => name.copy(alloc).map(Vertex::Final),
         }
     }
 }
 
+/// The name that a part with this content assigns.
+fn assigned(content: &Content) -> Option<&Name>
+    ensures { option_copied result ≡ assigned content.now }
+{
+    match content {
+        Content::Assign(name, _) => Some(name),
+        _ => None,
+    }
+}
+
 /// Whether two vertices are the same.
+#[tactic(auto, using(crate::proofs::VertexOrder::vertex_equal))]
 pub fn same_vertex(a: &Vertex, b: &Vertex) -> bool
     ensures { IsTrue result ↔ (a.now ≡ b.now) }
 {
-    match (a, b) {
-        (Vertex::Entry, Vertex::Entry) => true,
-        (Vertex::Init(name), Vertex::Init(other)) => name.is_same(other),
-        (Vertex::Part(tag, content), Vertex::Part(other_tag, other)) => {
-            tag == other_tag && same_content(content, other)
-        }
-        (Vertex::Final(name), Vertex::Final(other)) => name.is_same(other),
-        _ => false,
-    }
+    a == b
 }
