@@ -14,7 +14,7 @@ use crate::reading::{read_issued, read_items, read_names};
 use hpr_forest::Orders;
 use hpr_graph::{Graph, Name, NoMemory, Vertex};
 use hpr_syntax::{Issued, Program};
-use std::alloc::Global;
+use std::alloc::{AllocError, Global};
 use std::marker::Model;
 
 /// The arrangements of a graph that are still to come: the programs that its parts and control edges allow,
@@ -47,14 +47,14 @@ impl Model for Arrangements {
 }
 
 /// Takes the next order.
-fn next_order(orders: &mut Option<Orders>) -> Result<Option<Vec<usize>>, NoMemory>
+fn next_order(orders: &mut Option<Orders>) -> Result<Option<Vec<usize>>, AllocError>
     ensures some { IfOk result (λ o. IfSome o (λ order. orders_in orders.old ≡ order.items ∷ orders_in orders.new)) }
     ensures none { IfOk result (λ o. IfNone o ((orders_in orders.old ≡ []) × (orders_in orders.new ≡ []))) }
     ensures err { OnErr result (orders_in orders.new ≡ orders_in orders.old) }
 {
     match orders {
         None => Ok(None),
-        Some(orders) => Ok(orders.next_one()?),
+        Some(orders) => orders.next_one(),
     }
 }
 

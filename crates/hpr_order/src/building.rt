@@ -75,12 +75,18 @@ impl Pending {
         ensures count { OnOk result (vec_len self.new.branches ≡ vec_len self.old.branches) }
     {
         match slot {
-            None => self.top.push(stmt)?,
-            Some((item, true)) => self.branches[item].first.push(stmt)?,
-            Some((item, false)) => self.branches[item].second.push(stmt)?,
+            None => push_stmt(&mut self.top, stmt),
+            Some((item, true)) => push_stmt(&mut self.branches[item].first, stmt),
+            Some((item, false)) => push_stmt(&mut self.branches[item].second, stmt),
         }
-        Ok(())
     }
+}
+
+fn push_stmt(row: &mut Vec<Stmt>, stmt: Stmt) -> Result<(), NoMemory>
+    ensures { OnOk result (row.new.items ≡ row.old.items ++ stmt ∷ []) }
+{
+    row.push(stmt)?;
+    Ok(())
 }
 
 /// The block of these statements, which stand the last first.
@@ -93,23 +99,13 @@ fn block_of(stmts: Vec<Stmt>) -> Block
 }
 
 /// The part with these blocks, as far as it has blocks.
-fn statement(
-    alloc: Global,
-    tag: Tag,
-    content: &Content,
-    yes: Block,
-    no: Block,
-) -> Result<Stmt, NoMemory>
-    ensures { IfOk result (λ s. before s done ≡ said tag content.now yes no done) }
+fn statement(tag: Tag, content: Content, yes: Block, no: Block) -> Stmt
+    ensures { before result done ≡ said tag content yes no done }
 {
     match content {
-        Content::Assign(name, value) => Ok(Stmt::Assign(
-            tag,
-            name.copy(alloc)?,
-            value.copy(alloc)?,
-        )),
-        Content::If(test) => Ok(Stmt::If(tag, test.copy(alloc)?, yes, no)),
-        Content::While(test) => Ok(Stmt::While(tag, test.copy(alloc)?, yes)),
+        Content::Assign(name, value) => Stmt::Assign(tag, name, value),
+        Content::If(test) => Stmt::If(tag, test, yes, no),
+        Content::While(test) => Stmt::While(tag, test, yes),
     }
 }
 
@@ -142,9 +138,10 @@ fn put_item(
     ensures blocks { OnOk result ((order : List ℕ) → AreBlocks items.now order pending.old → ¬ Contains order item → AreBlocks items.now (item ∷ order) pending.new) }
     ensures count { OnOk result (vec_len pending.new.branches ≡ vec_len pending.old.branches) }
 {
+    let content = items[item].content.copy(alloc)?;
     let yes = pending.take_first(alloc, item);
     let no = pending.take_second(alloc, item);
-    let stmt = statement(alloc, items[item].tag, &items[item].content, yes, no)?;
+    let stmt = statement(items[item].tag, content, yes, no);
     pending.put(items[item].slot, stmt)
 }
 

@@ -48,10 +48,17 @@ fn part_number(graph: &Graph, vertex: &Vertex) -> Option<usize>
     ensures part { IfSome result (λ n. IsPart vertex.now) }
     ensures none { IfNone result (IsPart vertex.now → ¬ HasVertex graph.now vertex.now) }
 {
-    match vertex {
-        Vertex::Part(_, _) => graph.number_of(vertex),
-        _ => None,
+    if is_part(vertex) {
+        graph.number_of(vertex)
+    } else {
+        None
     }
+}
+
+fn is_part(vertex: &Vertex) -> bool
+    ensures { IsTrue result ↔ IsPart vertex.now }
+{
+    matches!(vertex, Vertex::Part(_, _))
 }
 
 /// For each number of a vertex, its place among these numbers.

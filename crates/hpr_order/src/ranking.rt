@@ -1,10 +1,11 @@
 //! The rank of the parts of three programs.
-ghost use Rattle.std.specs.Prelude.{◌≡◌, ◌↔◌, ◌<◌, Some, IfSome, IfOk, OnOk, IsNone, IsTrue, Contains, slice_get};
+ghost use Rattle.std.specs.Prelude.{◌≡◌, ◌↔◌, ◌<◌, ◌∷◌, ◌++◌, [], Some, IfSome, IfOk, OnOk, IsNone, IsTrue, Contains, slice_get};
 ghost use Rattle.std.specs.Option.{option_copied};
+ghost use Rattle.hpr_graph.specs.declared.vertex.Vertex.{Vertex};
 ghost use Rattle.hpr_graph.specs.Rank.{parts_of, IsAddedAt, IsPutIn, IsJoined, IsRankOf, IsRank};
 
 use hpr_graph::{NoMemory, Vertex, same_vertex};
-use hpr_syntax::Program;
+use hpr_syntax::{Program, Row};
 use std::alloc::Global;
 
 /// The parts of three programs in the order of their rank: A's parts in preorder, then those of B that
@@ -47,11 +48,21 @@ fn rank_of(
 fn parts(alloc: Global, program: &Program) -> Result<Vec<Vertex>, NoMemory>
     ensures { IfOk result (λ v. v.items ≡ parts_of program.now) }
 {
+    let rows = program.preorder(alloc)?;
     let mut parts = Vec::new(alloc);
-    for row in &program.preorder(alloc)? {
-        parts.push(Vertex::Part(row.tag, row.content.copy(alloc)?))?;
+    for row in &rows {
+        push_part(alloc, row, &mut parts)?;
     }
     Ok(parts)
+}
+
+/// Puts the part of the row behind the others.
+fn push_part(alloc: Global, row: &Row, into: &mut Vec<Vertex>) -> Result<(), NoMemory>
+    ensures { OnOk result (into.new.items ≡ into.old.items ++ Vertex.Part row.now.tag row.now.content ∷ []) }
+{
+    let content = row.content.copy(alloc)?;
+    into.push(Vertex::Part(row.tag, content))?;
+    Ok(())
 }
 
 /// Puts in what the list lacks of these parts, from their end on.

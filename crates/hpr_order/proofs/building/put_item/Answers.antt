@@ -2,6 +2,7 @@ use Rattle.std.proofs.Common.{◌≡◌, ◌∙◌, sym, ap, subst, get_or, slic
 use Rattle.std.specs.Result.{OnOk}
 use Rattle.std.specs.declared.result.Result.{Result}
 use Rattle.std.proofs.lemmas.Option.{slice_get-get_or, get_or_from_slice_get}
+use Rattle.hpr_syntax.specs.declared.rows.Content.{Content}
 use Rattle.hpr_syntax.specs.Body.{done}
 use Rattle.hpr_syntax.specs.BodyOf.{before}
 use Rattle.hpr_order.specs.declared.item.Item.{Item}
@@ -27,15 +28,15 @@ returns-clause-blocks c =
     let item = c.args.item in
     let i : Item = get_or c.args.items.now c.args.item c.index-items-item-3.result in
     let at : slice_get items item ≡ Some i = slice_get-get_or items item c.index-items-item-3.result c.requires.item in
-    let tags : get_or items item c.index-items-item.result ≡ i = get_or_from_slice_get items item i c.index-items-item.result at in
-    let contents : get_or items item c.index-items-item-2.result ≡ i = get_or_from_slice_get items item i c.index-items-item-2.result at in
+    let contents : get_or items item c.index-items-item.result ≡ i = get_or_from_slice_get items item i c.index-items-item.result at in
+    let tags : get_or items item c.index-items-item-2.result ≡ i = get_or_from_slice_get items item i c.index-items-item-2.result at in
     let first = c.take_first-yes.result in
     let second = c.take_second-no.result in
-    let says : before c.in_ok-stmt.stmt done ≡ said i.tag i.content first second done =
-    c.in_ok-stmt.ensures
-    ∙ ap (λ (z : Item). said z.tag (get_or items item c.index-items-item-2.result).content first second done) tags
-    ∙ ap (λ (z : Item). said i.tag z.content first second done) contents in
+    let says : before c.statement-stmt.result done ≡ said i.tag i.content first second done =
+    c.statement-stmt.ensures
+    ∙ ap (λ (z : Item). said z.tag c.in_ok-content.content first second done) tags
+    ∙ ap (λ (z : Content). said i.tag z first second done) (c.in_ok-content.ensures ∙ ap (λ (z : Item). z.content) contents) in
     on_two c.put.result c.put.ensures.put c.put.ensures.rest (λ put rest order are out.
-    put_blocks items c.args.pending.now c.put.new.self item i c.in_ok-stmt.stmt order at c.requires.item
-    (is_put c.args.pending.now c.take_first-yes.new.self c.take_second-no.new.self c.put.new.self item i c.in_ok-stmt.stmt first second
+    put_blocks items c.args.pending.now c.put.new.self item i c.statement-stmt.result order at c.requires.item
+    (is_put c.args.pending.now c.take_first-yes.new.self c.take_second-no.new.self c.put.new.self item i c.statement-stmt.result first second
     c.take_first-yes.ensures.block c.take_first-yes.ensures.rest c.take_second-no.ensures.block c.take_second-no.ensures.rest says put rest) are out)
