@@ -6,9 +6,9 @@ use Rattle.clap.specs.ValueTests.{accepts}
 use Rattle.clap.specs.Walk.{is_empty}
 use Rattle.clap.specs.Words.{App, Row, fault_of, first_of, matches_of}
 use Rattle.clap.specs.declared.builder.value_parser.ValueParser.TheVariants.{Unsigned}
-use Rattle.hpr_words.specs.Commands.{edit_app, integrate_app, run_app, slice_app, tag_app, trial_app}
+use Rattle.hpr_words.specs.Commands.{affected_app, edit_app, graph_app, integrate_app, run_app, slice_app, tag_app, trial_app}
 use Rattle.hpr_words.specs.Request.{IsInRange, Request, Text}
-use Rattle.hpr_words.specs.Taken.{author_in, edit_in, edit_with, flag_in, integrate_in, integrate_with, list_in, number_in, number_of, number_or, run_in, run_with, slice_in, slice_with, steps_in, tag_in, tag_with, taken_by, trial_in, trial_with}
+use Rattle.hpr_words.specs.Taken.{affected_in, affected_with, author_in, edit_in, edit_with, flag_in, graph_in, graph_with, integrate_in, integrate_with, list_in, number_in, number_of, number_or, run_in, run_with, slice_in, slice_with, steps_in, tag_in, tag_with, taken_by, trial_in, trial_with}
 use Rattle.hpr_words.proofs.PieceLemmas.{none_some}
 
 number_of-range : (most : ℕ) (text : Text) (n : ℕ) → number_of most text ≡ Some n → (1 ≤ n) × (n ≤ most)
@@ -35,6 +35,14 @@ run_with-range : (file : Option Text) (states : List Text) (o : Option ℕ) (tra
     → run_with file states o trace ≡ Some r → IsInRange r
 run_with-range (Some file) states (Some steps) trace r range e = subst IsInRange (ap (λ o. unwrap_or o r) e) (range steps refl)
 run_with-range file states o trace r range e = absurd (none_some r e)
+
+graph_with-range : (file : Option Text) (json : Bool) (r : Request) → graph_with file json ≡ Some r → IsInRange r
+graph_with-range (Some file) json r e = subst IsInRange (ap (λ o. unwrap_or o r) e) tt
+graph_with-range file json r e = absurd (none_some r e)
+
+affected_with-range : (base a : Option Text) (r : Request) → affected_with base a ≡ Some r → IsInRange r
+affected_with-range (Some base) (Some a) r e = subst IsInRange (ap (λ o. unwrap_or o r) e) tt
+affected_with-range base a r e = absurd (none_some r e)
 
 slice_with-range : (file : Option Text) (points : List Text) (r : Request) → slice_with file points ≡ Some r → IsInRange r
 slice_with-range (Some file) (point ∷ points) r e = subst IsInRange (ap (λ o. unwrap_or o r) e) (omega arith)
@@ -82,6 +90,12 @@ run_taken-range = taken_by-range run_app run_in (λ rows r.
 
 pub slice_taken-range : (words : List Text) (r : Request) → taken_by slice_app slice_in words ≡ Some r → IsInRange r
 slice_taken-range = taken_by-range slice_app slice_in (λ rows r. slice_with-range (first_of (codes "file") rows) (list_in (codes "point") rows) r)
+
+pub graph_taken-range : (words : List Text) (r : Request) → taken_by graph_app graph_in words ≡ Some r → IsInRange r
+graph_taken-range = taken_by-range graph_app graph_in (λ rows r. graph_with-range (first_of (codes "file") rows) (flag_in (codes "json") rows) r)
+
+pub affected_taken-range : (words : List Text) (r : Request) → taken_by affected_app affected_in words ≡ Some r → IsInRange r
+affected_taken-range = taken_by-range affected_app affected_in (λ rows r. affected_with-range (first_of (codes "base") rows) (first_of (codes "a") rows) r)
 
 pub trial_taken-range : (words : List Text) (r : Request) → taken_by trial_app trial_in words ≡ Some r → IsInRange r
 trial_taken-range = taken_by-range trial_app trial_in (λ rows r.
