@@ -1,12 +1,15 @@
 //! Commands, each carried out on a copy of the program that is edited.
-ghost use Rattle.std.specs.Prelude.{◌≡◌, ◌≤◌, None, Some, IfOk, if◌then◌else◌};
+ghost use Rattle.std.specs.Prelude.{◌≡◌, ◌≤◌, None, Some, IfOk, OnOk, if◌then◌else◌};
+ghost use Rattle.hpr_syntax.specs.Body.{done};
+ghost use Rattle.hpr_syntax.specs.BodyOf.{before};
 ghost use Rattle.hpr_syntax.specs.Issued.{raised};
+ghost use Rattle.hpr_syntax.specs.Rows.{content_of};
 ghost use Rattle.hpr_syntax.specs.Shape.{IsProgram};
 ghost use Rattle.hpr_edit.specs.declared.command.Command.TheVariants.{Insert, Delete, Move, Set, Wrap, Unwrap, Finals};
 ghost use Rattle.hpr_edit.specs.Places.{width};
-ghost use Rattle.hpr_edit.specs.Changes.{at_part, first_block, second_block};
+ghost use Rattle.hpr_edit.specs.Changes.{at_part, at_place, first_block, made, second_block};
 ghost use Rattle.hpr_edit.specs.Edited.{edited, next_tag, is_spent, is_assignment, same_kind};
-ghost use Rattle.hpr_edit.specs.InPlace.{done_by, Located, Settles, Answers};
+ghost use Rattle.hpr_edit.specs.InPlace.{done_by, times, Located, Settles, Answers};
 
 use crate::change::{Change, Put, change_part, make, put_at_place};
 use crate::command::{Command, EditError, FinalNames, Inverse, Place};
@@ -52,18 +55,33 @@ fn insert(
     let Some(tag) = next_tag(program.issued(), author) else {
         return Err(EditError::SerialsSpent);
     };
-    let part = make(
-        tag,
-        content.copy(alloc)?,
-        Block::new(Vec::new(alloc)),
-        Block::new(Vec::new(alloc)),
-    );
     let mut body = program.body().copy(alloc)?;
-    put_at_place(alloc, &mut body, place, Put::Part(&part))?;
+    put_new(alloc, &mut body, place, tag, content)?;
     match settle_new(alloc, program, body, tag) {
         Ok(after) => Ok((after, Inverse::Remove(tag))),
         Err(why) => Err(why),
     }
+}
+
+/// Puts a new part with no parts in it at a place of a body, if there is such a place.
+fn put_new(
+    alloc: Global,
+    body: &mut Block,
+    place: Place,
+    tag: Tag,
+    content: &Content,
+) -> Result<(), NoMemory>
+    requires once { (t : Tag) → times t body.old ≤ 1 }
+    ensures { OnOk result (body.new ≡ at_place place (before (made tag content.now done done)) body.old) }
+{
+    let content = content.copy(alloc)?;
+    let part = make(
+        tag,
+        content,
+        Block::new(Vec::new(alloc)),
+        Block::new(Vec::new(alloc)),
+    );
+    put_at_place(alloc, body, place, Put::Part(&part))
 }
 
 /// Deletes a part and all that stands in it.
@@ -82,7 +100,10 @@ fn delete(
     let part = part.copy(alloc)?;
     match settle(alloc, program, body) {
         Ok(after) => Ok((after, Inverse::PutBack(old, part))),
-        Err(why) => Err(why),
+        Err(why) => {
+            drop(part);
+            Err(why)
+        }
     }
 }
 
@@ -126,14 +147,17 @@ fn set(
     let Some((part, _)) = located(program, tag) else {
         return Err(EditError::NoTag(tag));
     };
-    let old = content_of(alloc, part)?;
-    if !same_kind(content, &old) {
+    if !same_kind(content, part) {
         return Err(EditError::KindDiffers(tag));
     }
     let body = changed(alloc, program, tag, Change::Say(content))?;
+    let old = content_of(alloc, part)?;
     match settle(alloc, program, body) {
         Ok(after) => Ok((after, Inverse::SetBack(tag, old))),
-        Err(why) => Err(why),
+        Err(why) => {
+            drop(old);
+            Err(why)
+        }
     }
 }
 
@@ -175,15 +199,18 @@ fn unwrap(
     let Some((part, place)) = located(program, tag) else {
         return Err(EditError::NoTag(tag));
     };
-    let old = content_of(alloc, part)?;
-    if is_assignment(&old) {
+    if says_assignment(part) {
         return Err(EditError::KindDiffers(tag));
     }
     let (first, second) = widths(part);
     let body = changed(alloc, program, tag, Change::Unwrap)?;
+    let old = content_of(alloc, part)?;
     match settle(alloc, program, body) {
         Ok(after) => Ok((after, Inverse::Rewrap(place, tag, old, first, second))),
-        Err(why) => Err(why),
+        Err(why) => {
+            drop(old);
+            Err(why)
+        }
     }
 }
 
@@ -198,10 +225,14 @@ fn name_finals(
 {
     let issued = program.issued().copy(alloc)?;
     let body = program.body().copy(alloc)?;
+    let finals = copy_names(alloc, names.names())?;
     let old = FinalNames::new(copy_names(alloc, program.finals())?);
-    match settled(alloc, issued, body, copy_names(alloc, names.names())?) {
+    match settled(alloc, issued, body, finals) {
         Ok(after) => Ok((after, Inverse::FinalsBack(old))),
-        Err(why) => Err(why),
+        Err(why) => {
+            drop(old);
+            Err(why)
+        }
     }
 }
 
@@ -245,16 +276,23 @@ fn next_tag(issued: &Issued, author: u32) -> Option<Tag>
     })
 }
 
-/// Whether two contents are of one kind.
-fn same_kind(a: &Content, b: &Content) -> bool
-    ensures { result ≡ same_kind a.now b.now }
+/// Whether the content is of the part's kind.
+fn same_kind(content: &Content, part: &Stmt) -> bool
+    ensures { result ≡ same_kind content.now (content_of part.now) }
 {
-    match (a, b) {
-        (Content::Assign(_, _), Content::Assign(_, _)) => true,
-        (Content::If(_), Content::If(_)) => true,
-        (Content::While(_), Content::While(_)) => true,
+    match (content, part) {
+        (Content::Assign(_, _), Stmt::Assign(_, _, _)) => true,
+        (Content::If(_), Stmt::If(_, _, _, _)) => true,
+        (Content::While(_), Stmt::While(_, _, _)) => true,
         _ => false,
     }
+}
+
+/// Whether a part is an assignment.
+fn says_assignment(part: &Stmt) -> bool
+    ensures { result ≡ is_assignment (content_of part.now) }
+{
+    matches!(part, Stmt::Assign(_, _, _))
 }
 
 /// Whether a content is one of an assignment.

@@ -283,10 +283,10 @@ fn enclose_at(
     requires { at ≤ vec_len stmts.old }
     ensures { OnOk result (body_of stmts.new.items ≡ from at (rewrapped tag content.now first second) (body_of stmts.old.items)) }
 {
-    let content = content.copy(alloc)?;
     let mut yes = stmts.split_off(at)?;
     let mut no = cut(&mut yes, first)?;
     let mut rest = cut(&mut no, second)?;
+    let content = content.copy(alloc)?;
     stmts.push(make(tag, content, Block::new(yes), Block::new(no)))?;
     stmts.append(&mut rest)?;
     Ok(())

@@ -94,7 +94,10 @@ impl Editor {
         ensures author { self.new.author ≡ self.old.author }
     {
         match self.take_back(alloc, &inverse) {
-            Ok(()) => Ok(()),
+            Ok(()) => {
+                drop(inverse);
+                Ok(())
+            }
             Err(_) => Err(inverse),
         }
     }

@@ -1,14 +1,15 @@
 //! Inverses, each carried out on a copy of the program that is edited.
 ghost use Rattle.std.specs.Prelude.{◌≡◌, ◌≤◌, IfOk, OnOk};
 ghost use Rattle.hpr_syntax.specs.Shape.{IsProgram};
+ghost use Rattle.hpr_syntax.specs.BodyOf.{before};
 ghost use Rattle.hpr_syntax.specs.Parts.{find_stmt};
-ghost use Rattle.hpr_edit.specs.Changes.{at_part, gone};
+ghost use Rattle.hpr_edit.specs.Changes.{at_part, at_place, gone};
 ghost use Rattle.hpr_edit.specs.Reverted.{reverted, body_back, finals_back, moved};
 ghost use Rattle.hpr_edit.specs.InPlace.{times};
 
 use crate::change::{Change, Put, change_part, put_at_place};
 use crate::command::{Inverse, Place};
-use hpr_syntax::{Block, NoMemory, Program};
+use hpr_syntax::{Block, NoMemory, Program, Stmt};
 use hpr_terms::{Name, Tag, copy_names};
 use std::alloc::Global;
 
@@ -92,6 +93,20 @@ fn move_back(alloc: Global, body: &mut Block, tag: Tag, place: Place) -> Result<
         None => return Ok(()),
         Some(part) => part.copy(alloc)?,
     };
+    put_elsewhere(alloc, body, tag, place, &part)
+}
+
+/// Takes a part out and puts a copy of this one at a place.
+fn put_elsewhere(
+    alloc: Global,
+    body: &mut Block,
+    tag: Tag,
+    place: Place,
+    part: &Stmt,
+) -> Result<(), NoMemory>
+    requires once { (t : Tag) → times t body.old ≤ 1 }
+    ensures { OnOk result (body.new ≡ at_place place (before part.now) (at_part tag gone body.old)) }
+{
     take(alloc, body, tag)?;
-    put_at_place(alloc, body, place, Put::Part(&part))
+    put_at_place(alloc, body, place, Put::Part(part))
 }

@@ -21,7 +21,7 @@ returns-in-Ok c =
     let part = c.in-Some.part.now in
     let old = c.in-Some.place in
     found_ends t _ _ _ part old _ c.in-Some.ensures.found.0 c.in-Some.ensures.found.1
-    (passed (KindDiffers t) (is_assignment (content_of part)) _ _ (ap is_assignment (sym c.in_ok-old.ensures) ∙ sym c.is_assignment.ensures ∙ c.if-is_assignment.false)
+    (passed (KindDiffers t) (is_assignment (content_of part)) _ _ (sym c.says_assignment.ensures ∙ c.if-says_assignment.false)
     (settled_ok (record p { body = c.in_ok-body.body }) (record p { body = at_part t unwrapped p.body }) c.in-Ok.after (Rewrap old t (content_of part) (width (first_block part)) (width (second_block part)))
     (ap (λ y. record p { body = y }) c.in_ok-body.ensures) c.in-Ok.ensures
     ∙ ap (λ y. becomes c.in-Ok.after (Rewrap old t y (width (first_block part)) (width (second_block part)))) (sym c.in_ok-old.ensures)
@@ -40,6 +40,6 @@ returns-in-Err c =
     part old why c.in-Some.ensures.found.0 c.in-Some.ensures.found.1
     (passed_err (KindDiffers t) (is_assignment (content_of part))
     (settled (record p { body = at_part t unwrapped p.body }) (Rewrap old t (content_of part) (width (first_block part)) (width (second_block part)))) why
-    (ap is_assignment (sym c.in_ok-old.ensures) ∙ sym c.is_assignment.ensures ∙ c.if-is_assignment.false)
+    (sym c.says_assignment.ensures ∙ c.if-says_assignment.false)
     (settled_err (record p { body = c.in_ok-body.body }) (record p { body = at_part t unwrapped p.body }) (Rewrap old t (content_of part) (width (first_block part)) (width (second_block part))) why
     (ap (λ y. record p { body = y }) c.in_ok-body.ensures) c.in-Err.ensures))

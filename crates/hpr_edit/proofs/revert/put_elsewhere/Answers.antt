@@ -1,7 +1,7 @@
 use Rattle.std.proofs.Common.{◌≤◌, sym, subst}
 use Rattle.hpr_edit.specs.InPlace.{times}
 use Rattle.hpr_edit.proofs.Ends.{once_gone}
-use Rattle.hpr_edit.proofs.revert.move_back.Goals as goal
+use Rattle.hpr_edit.proofs.revert.put_elsewhere.Goals as goal
 
 pub put_at_place-requires : goal.put_at_place-requires
 put_at_place-requires c = record {
