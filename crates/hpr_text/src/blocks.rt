@@ -1,5 +1,5 @@
 //! Blocks that have begun and have not ended.
-ghost use Rattle.std.specs.Prelude.{◌≡◌, ◌∷◌, [], length, MatchOption, IfOk};
+ghost use Rattle.std.specs.Prelude.{◌≡◌, ◌∷◌, [], length, MatchOption, OnOk};
 ghost use Rattle.hpr_text.specs.Blocks as blocks;
 
 use hpr_syntax::Block;
@@ -77,23 +77,17 @@ impl Blocks {
     }
 
     /// One more open block.
-    pub fn with(self, block: Begun) -> Result<Blocks, NoMemory>
-        ensures { IfOk result (λ b. b ≡ block ∷ self) }
+    pub fn push(&mut self, block: Begun) -> Result<(), NoMemory>
+        ensures { OnOk result (self.new ≡ block ∷ self.old) }
     {
-        let Blocks { mut open } = self;
-        open.push(block)?;
-        Ok(Blocks { open })
+        Ok(self.open.push(block)?)
     }
 
-    /// The innermost open block, and those around it.
-    pub fn closed(self) -> Option<(Begun, Blocks)>
-        ensures { MatchOption result (self ≡ []) (λ p. self ≡ p.0 ∷ p.1) }
+    /// The innermost open block, which is open no more.
+    pub fn pop(&mut self) -> Option<Begun>
+        ensures { MatchOption result (self.old ≡ []) (λ b. self.old ≡ b ∷ self.new) }
     {
-        let Blocks { mut open } = self;
-        match open.pop() {
-            None => None,
-            Some(block) => Some((block, Blocks { open })),
-        }
+        self.open.pop()
     }
 
     /// What the innermost open block is.

@@ -1,6 +1,6 @@
 //! What was read so far.
-ghost use Rattle.std.specs.Prelude.{◌≡◌, ◌≤◌, [], ◌∷◌, ◌++◌, length, nat_lt, is_some, IfOk};
-ghost use Rattle.hpr_syntax.specs.Body.{assign, branch, done};
+ghost use Rattle.std.specs.Prelude.{◌≡◌, ◌≤◌, [], ◌∷◌, ◌++◌, length, nat_lt, is_some, IfOk, OnOk};
+ghost use Rattle.hpr_syntax.specs.Body.{done};
 ghost use Rattle.hpr_syntax.specs.BodyOf.{before};
 ghost use Rattle.hpr_syntax.specs.Shape.{max_levels};
 ghost use Rattle.hpr_scan.specs.Steps.{Steps};
@@ -13,6 +13,7 @@ use hpr_syntax::{Block, Issued, Stmt};
 use hpr_terms::{Expr, Name, NoMemory, Tag};
 use std::alloc::Global;
 use std::marker::Model;
+use std::mem;
 
 /// Blocks with parts may stand this deep in one another.
 const MAX_LEVELS: usize = 64;
@@ -43,12 +44,10 @@ impl Names {
         }
     }
 
-    fn with(self, name: Name) -> Result<Names, NoMemory>
-        ensures { IfOk result (λ n. n ≡ self ++ (name ∷ [])) }
+    fn push(&mut self, name: Name) -> Result<(), NoMemory>
+        ensures { OnOk result (self.new ≡ self.old ++ (name ∷ [])) }
     {
-        let Names { mut names } = self;
-        names.push(name)?;
-        Ok(Names { names })
+        Ok(self.names.push(name)?)
     }
 
     /// The names.
@@ -61,7 +60,7 @@ impl Names {
 }
 
 /// What was read so far.
-#[derive(Debug, Drop)]
+#[derive(Debug)]
 pub struct Found {
     /// Which texts are read.
     pub mode: Mode,
@@ -79,31 +78,30 @@ pub struct Found {
     pub names: Names,
 }
 
-#[tactic(auto, using(crate::proofs::Parts::pushed_body))]
-fn push_part(block: Block, stmt: Stmt) -> Result<Block, NoMemory>
-    ensures { IfOk result (λ b. b ≡ machine.then_parts block (before stmt done)) }
-{
-    let mut stmts = block.into_stmts();
-    stmts.push(stmt)?;
-    Ok(Block::new(stmts))
-}
-
-/// The parts, and one more behind them, unless more have begun than a program may have.
-fn push_kept(block: Block, begun: usize, stmt: Stmt) -> Result<Block, NoMemory>
-    ensures { IfOk result (λ b. b ≡ machine.then_kept (machine.keeps machine.limit begun) block (before stmt done)) }
-{
-    if begun <= MAX_PARTS {
-        push_part(block, stmt)
-    } else {
-        Ok(block)
+/// All of it is dropped in one call.
+impl Drop for Found {
+    fn drop(self) {
+        let Found {
+            mode: _,
+            count: _,
+            has_header: _,
+            issued: _,
+            blocks: _,
+            parts: _,
+            names: _,
+        } = self;
     }
 }
 
-fn conditional(around: Around, begun: usize, yes: Block, no: Block) -> Result<Block, NoMemory>
-    ensures { IfOk result (λ b. b ≡ machine.then_kept (machine.keeps machine.limit begun) around.before (branch around.tag around.test yes no done)) }
+/// One more part stands behind these, unless more have begun than a program may have.
+#[tactic(auto, using(crate::proofs::Parts::pushed_body))]
+fn push_kept(parts: &mut Block, begun: usize, part: Stmt) -> Result<(), NoMemory>
+    ensures { OnOk result (parts.new ≡ machine.then_kept (machine.keeps machine.limit begun) parts.old (before part done)) }
 {
-    let Around { before, tag, test } = around;
-    push_kept(before, begun, Stmt::If(tag, test, yes, no))
+    if begun > MAX_PARTS {
+        return Ok(());
+    }
+    Ok(parts.stmts.push(part)?)
 }
 
 impl Found {
@@ -123,23 +121,20 @@ impl Found {
     }
 
     /// There is a header.
-    pub fn with_header(self) -> Found
+    pub fn with_header(mut self) -> Found
         ensures { result ≡ machine.with_header self }
     {
-        Found {
-            has_header: true,
-            ..self
-        }
+        self.has_header = true;
+        self
     }
 
     /// The author's number is raised to the serial.
-    pub fn with_number(self, author: u32, serial: u32) -> Result<Found, NoMemory>
+    pub fn with_number(mut self, author: u32, serial: u32) -> Result<Found, NoMemory>
         requires { 1 ≤ serial }
         ensures { IfOk result (λ f. f ≡ machine.with_number author serial self) }
     {
-        let mut found = self;
-        found.issued.raise(author, serial)?;
-        Ok(found)
+        self.issued.raise(author, serial)?;
+        Ok(self)
     }
 
     /// The number of the tag's author is raised to the tag's serial, unless there is a header.
@@ -172,132 +167,133 @@ impl Found {
     }
 
     /// A part without a tag begins, and gets one. `Refused` comes exactly where it cannot begin.
-    pub fn begin(self) -> Result<(Found, Tag), Fault>
+    pub fn begin(mut self) -> Result<(Found, Tag), Fault>
         ensures { Steps (machine.part_begun machine.limit self) result }
     {
-        let author = match self.mode {
-            Mode::Tagged => return Err(Fault::Refused),
-            Mode::Untagged(author) => author,
+        let Mode::Untagged(author) = self.mode else {
+            return Err(Fault::Refused);
         };
         if !self.has_room() {
             return Err(Fault::Refused);
         }
-        let count = self.count.saturating_add(1);
+        self.count = self.count.saturating_add(1);
         // the parts past those that are kept have the last serial
-        let serial = count.min(MAX_PARTS) as u32;
+        let serial = self.count.min(MAX_PARTS) as u32;
         let tag = Tag { author, serial };
-        let found = Found { count, ..self };
-        Ok((found.with_tag(tag)?, tag))
+        Ok((self.with_tag(tag)?, tag))
+    }
+
+    /// The part stands behind the others, unless more have begun than a program may have.
+    fn with_stmt(mut self, part: Stmt) -> Result<Found, NoMemory>
+        ensures { IfOk result (λ f. f ≡ machine.with_parts machine.limit self.parts (before part done) self) }
+    {
+        push_kept(&mut self.parts, self.count, part)?;
+        Ok(self)
     }
 
     /// One more part, unless more have begun than a program may have.
     pub fn with_part(self, tag: Tag, name: Name, value: Expr) -> Result<Found, NoMemory>
         ensures { IfOk result (λ f. f ≡ machine.with_part machine.limit tag name value self) }
     {
-        let parts = push_kept(self.parts, self.count, Stmt::Assign(tag, name, value))?;
-        Ok(Found { parts, ..self })
+        self.with_stmt(Stmt::Assign(tag, name, value))
+    }
+
+    /// A block begins, and the parts so far stand before the part that has it.
+    fn around(&mut self, alloc: Global, tag: Tag, test: Expr) -> Around
+        ensures around { result ≡ machine.around tag test self.old }
+        ensures rest { self.new ≡ record self.old { parts = done } }
+    {
+        let before = mem::replace(&mut self.parts, Block::new(Vec::new(alloc)));
+        Around { before, tag, test }
     }
 
     /// The first block of a conditional begins.
-    pub fn in_then(self, alloc: Global, tag: Tag, test: Expr) -> Result<Found, NoMemory>
+    pub fn in_then(mut self, alloc: Global, tag: Tag, test: Expr) -> Result<Found, NoMemory>
         ensures { IfOk result (λ f. f ≡ machine.in_then tag test self) }
     {
-        let before = self.parts;
-        let blocks = self.blocks.with(Begun::Then(Around { before, tag, test }))?;
-        let parts = Block::new(Vec::new(alloc));
-        Ok(Found {
-            blocks,
-            parts,
-            ..self
-        })
+        let around = self.around(alloc, tag, test);
+        self.blocks.push(Begun::Then(around))?;
+        Ok(self)
     }
 
     /// The block of a loop begins.
-    pub fn in_loop(self, alloc: Global, tag: Tag, test: Expr) -> Result<Found, NoMemory>
+    pub fn in_loop(mut self, alloc: Global, tag: Tag, test: Expr) -> Result<Found, NoMemory>
         ensures { IfOk result (λ f. f ≡ machine.in_loop tag test self) }
     {
-        let before = self.parts;
-        let blocks = self.blocks.with(Begun::Loop(Around { before, tag, test }))?;
-        let parts = Block::new(Vec::new(alloc));
-        Ok(Found {
-            blocks,
-            parts,
-            ..self
-        })
+        let around = self.around(alloc, tag, test);
+        self.blocks.push(Begun::Loop(around))?;
+        Ok(self)
     }
 
     /// The second block of a conditional begins. `Refused` comes exactly where it cannot.
-    pub fn at_else(self, alloc: Global) -> Result<Found, Fault>
+    pub fn at_else(mut self, alloc: Global) -> Result<Found, Fault>
         ensures { Steps (machine.else_found self) result }
     {
-        match self.blocks.closed() {
-            None => Err(Fault::Refused),
-            Some((block, blocks)) => match block {
-                Begun::Then(around) => {
-                    let blocks = blocks.with(Begun::Else(around, self.parts))?;
-                    let parts = Block::new(Vec::new(alloc));
-                    Ok(Found {
-                        blocks,
-                        parts,
-                        ..self
-                    })
-                }
-                _ => Err(Fault::Refused),
-            },
+        match self.blocks.pop() {
+            Some(Begun::Then(around)) => {
+                let yes = mem::replace(&mut self.parts, Block::new(Vec::new(alloc)));
+                self.blocks.push(Begun::Else(around, yes))?;
+                Ok(self)
+            }
+            _ => Err(Fault::Refused),
         }
     }
 
     /// A conditional ends. `Refused` comes exactly where it cannot.
-    pub fn at_fi(self, alloc: Global) -> Result<Found, Fault>
+    pub fn at_fi(mut self, alloc: Global) -> Result<Found, Fault>
         ensures { Steps (machine.fi_found machine.limit self) result }
     {
-        match self.blocks.closed() {
-            None => Err(Fault::Refused),
-            Some((block, blocks)) => {
-                let parts = match block {
-                    Begun::Then(around) => {
-                        let no = Block::new(Vec::new(alloc));
-                        conditional(around, self.count, self.parts, no)?
-                    }
-                    Begun::Else(around, yes) => conditional(around, self.count, yes, self.parts)?,
-                    Begun::Loop(_) => return Err(Fault::Refused),
-                };
-                Ok(Found {
-                    blocks,
-                    parts,
-                    ..self
-                })
+        match self.blocks.pop() {
+            Some(Begun::Then(Around { before, tag, test })) => {
+                let yes = mem::replace(&mut self.parts, before);
+                let no = Block::new(Vec::new(alloc));
+                Ok(self.with_stmt(Stmt::If(tag, test, yes, no))?)
             }
+            Some(Begun::Else(around, yes)) => {
+                let Around { before, tag, test } = around;
+                let no = mem::replace(&mut self.parts, before);
+                Ok(self.with_stmt(Stmt::If(tag, test, yes, no))?)
+            }
+            _ => Err(Fault::Refused),
         }
     }
 
     /// A loop ends. `Refused` comes exactly where it cannot.
-    pub fn at_od(self) -> Result<Found, Fault>
+    pub fn at_od(mut self) -> Result<Found, Fault>
         ensures { Steps (machine.od_found machine.limit self) result }
     {
-        match self.blocks.closed() {
-            None => Err(Fault::Refused),
-            Some((block, blocks)) => match block {
-                Begun::Loop(around) => {
-                    let Around { before, tag, test } = around;
-                    let stmt = Stmt::While(tag, test, self.parts);
-                    let parts = push_kept(before, self.count, stmt)?;
-                    Ok(Found {
-                        blocks,
-                        parts,
-                        ..self
-                    })
-                }
-                _ => Err(Fault::Refused),
-            },
+        match self.blocks.pop() {
+            Some(Begun::Loop(Around { before, tag, test })) => {
+                let body = mem::replace(&mut self.parts, before);
+                Ok(self.with_stmt(Stmt::While(tag, test, body))?)
+            }
+            _ => Err(Fault::Refused),
         }
     }
 
     /// One more name of `end`.
-    pub fn with_name(self, name: Name) -> Result<Found, NoMemory>
+    pub fn with_name(mut self, name: Name) -> Result<Found, NoMemory>
         ensures { IfOk result (λ f. f ≡ machine.with_name name self) }
     {
-        let names = self.names.with(name)?;
-        Ok(Found { names, ..self })
+        self.names.push(name)?;
+        Ok(self)
+    }
+
+    /// The issued numbers, the parts and the names of `end`.
+    pub fn into_parts(self) -> (Issued, Block, Vec<Name>)
+        ensures issued { result.0 ≡ self.issued }
+        ensures body { result.1 ≡ self.parts }
+        ensures names { result.2.items ≡ self.names }
+    {
+        let Found {
+            mode: _,
+            count: _,
+            has_header: _,
+            issued,
+            blocks: _,
+            parts,
+            names,
+        } = self;
+        (issued, parts, names.into_vec())
     }
 }

@@ -8,7 +8,7 @@ ghost use Rattle.hpr_text.specs.Forms.{form_of, HasAuthor};
 ghost use Rattle.hpr_text.specs.Machine.{shape_of, tree_of};
 
 use crate::form::Mode;
-use crate::found::{Found, MAX_PARTS};
+use crate::found::MAX_PARTS;
 use crate::state::State;
 use hpr_scan::{Refusal, read};
 use hpr_syntax::{Program, ShapeError};
@@ -39,19 +39,12 @@ fn built(alloc: Global, state: State) -> Result<Program, TextError>
     ensures shape { IfShape result (λ e. shape_of state.found ≡ Some e) }
     ensures no_place { IfSyntax result (λ n. ⊥) }
 {
-    let Found {
-        mode: _,
-        count,
-        has_header: _,
-        issued,
-        blocks: _,
-        parts,
-        names,
-    } = state.into_found();
+    let count = state.found.count;
     if count > MAX_PARTS {
         return Err(TextError::Shape(ShapeError::TooManyParts(count)));
     }
-    match Program::new(alloc, issued, parts, names.into_vec()) {
+    let (issued, parts, names) = state.into_found().into_parts();
+    match Program::new(alloc, issued, parts, names) {
         Ok(program) => Ok(program),
         Err(ShapeError::Memory) => Err(TextError::Memory),
         Err(error) => Err(TextError::Shape(error)),
