@@ -12,7 +12,7 @@ mod tests;
 ghost use Rattle.std.specs.Prelude.{◌≡◌, ℕ, ◌<◌, ◌≤◌, Bool, List, length, take, vec_len, Option, IfOk, IfSome, OnOk, OnErr, IsErrOf, IsErr, IsTrue};
 ghost use Rattle.hpr_io.specs.Counts.{Counted};
 ghost use Rattle.hpr_io.specs.Files.{Files, bytes_of};
-ghost use Rattle.hpr_io.specs.Taken.{taken_then, TookPrefix};
+ghost use Rattle.hpr_io.specs.Taken.{taken_then, TookPrefix, TookStrictPrefix};
 
 pub use memory_shelf::MemoryShelf;
 pub use memory_sink::MemorySink;
@@ -88,6 +88,7 @@ pub trait Sink {
 pub fn put_all<S: Sink>(sink: &mut S, bytes: &[u8]) -> Result<(), PutError>
     ensures all { OnOk result (S.taken sink.new ≡ taken_then (S.taken sink.old) bytes.now) }
     ensures prefix { OnErr result (TookPrefix (S.taken sink.old) (S.taken sink.new) bytes.now) }
+    ensures cut { OnErr result (TookStrictPrefix (S.taken sink.old) (S.taken sink.new) bytes.now) }
     ensures count { Counted (S.faults sink.old) (S.faults sink.new) (IsErr result) }
 {
     let mut from = 0;
