@@ -12,7 +12,7 @@ use Rattle.hpr_paths.specs.declared.spot.Step.{Step}
 use Rattle.hpr_paths.specs.Spots.{Spot, loops_of, steps_of, next_at, nest_at}
 use Rattle.hpr_paths.specs.Successors.{step_to, first_step, spots_of, spots}
 use Rattle.hpr_paths.specs.Numbers.{Leads}
-use Rattle.hpr_paths.proofs.Few.{contains_none, contains_one, contains_two}
+use Rattle.hpr_terms.proofs.Few.{contains_none, contains_one, contains_two}
 use Rattle.hpr_paths.proofs.Stands.{SpotIn, WholeIn, has_low, has_of_in, count_spots, count_whole, end_of, whole_of_get}
 use Rattle.hpr_paths.proofs.Sound.{has_high, get_below, are_spots}
 use Rattle.hpr_reach.specs.Reaches.{back_to}

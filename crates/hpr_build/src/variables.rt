@@ -90,7 +90,7 @@ fn push_used(
     ensures rows { OnOk result ((i : ℕ) (x : List ℕ) → slice_get names.now i ≡ Some x → (p : ℕ) → Contains (points_at rows.new.items i) p ↔ (Contains (points_at rows.old.items i) p ⊎ (UsesAt succ.now point x × (point ≡ p)))) }
     ensures once { OnOk result ((i : ℕ) (x : List ℕ) → slice_get names.now i ≡ Some x → IsOnce (points_at rows.old.items i) → ¬ Contains (points_at rows.old.items i) point → IsOnce (points_at rows.new.items i)) }
 {
-    let used = in_order(succ.used_names(alloc, point)?)?;
+    let used = in_order(succ.used_names(point)?)?;
     push_all(names, &used, point, rows)?;
     Ok(())
 }
@@ -163,7 +163,7 @@ fn used_names(alloc: Global, succ: &Succ) -> Result<Vec<Name>, NoMemory>
 {
     let mut names = Vec::new(alloc);
     for point in 0..succ.points() {
-        let mut used = succ.used_names(alloc, point)?;
+        let mut used = succ.used_names(point)?;
         names.append(&mut used)?;
     }
     in_order(names)

@@ -9,11 +9,9 @@ use Rattle.std.proofs.lemmas.Cmp.{nat_list_cmp_total}
 use Rattle.std.proofs.lemmas.List.Elements.{All-contains, All-from_recursion}
 use Rattle.std.proofs.lemmas.Map.Lookups.{exact_bytes}
 use Rattle.hpr_terms.specs.declared.expr.Expr.{Expr}
-use Rattle.hpr_terms.specs.Term.{Term, num, var, prefix, infix'}
 use Rattle.hpr_terms.specs.TermOf.{term_of}
-use Rattle.hpr_paths.specs.Spots.{names_in}
-use Rattle.hpr_paths.proofs.Readers.{terms_used}
-use Rattle.hpr_terms.specs.Uses.{TermUses, Uses}
+use Rattle.hpr_terms.specs.Uses.{Uses, names_in}
+use Rattle.hpr_terms.proofs.NamesUsed.{terms_used}
 use Rattle.hpr_graph.specs.Order.{name_cmp}
 use Rattle.hpr_graph.proofs.Lists.{in_none, in_cons, in_here, in_later}
 use Rattle.hpr_meaning.specs.Instances.{put_name, put_names, names_of}
@@ -91,43 +89,33 @@ put_only x y (z ∷ names) h = at (name_cmp x z) h (put_only x y names)
       | inr d ↦ elim (k d) [ inl e ↦ inl e | inr d ↦ inr (in_later z y names d) ]
     ]
 
-in_up : (t : Term) (names : Names) → IsStrictlySortedBy name_cmp names → IsStrictlySortedBy name_cmp (put_names t names)
-in_up (num n) names h = h
-in_up (var x) names h = put_up x names h
-in_up (prefix op a) names h = in_up a names h
-in_up (infix' op a b) names h = in_up a (put_names b names) (in_up b names h)
+all_up : (names : Names) → IsStrictlySortedBy name_cmp (put_names names)
+unfolding IsStrictlySortedBy
+all_up [] = tt
+all_up (x ∷ names) = put_up x (put_names names) (all_up names)
 
-in_only : (t : Term) (y : List ℕ) (names : Names) → Contains (put_names t names) y → TermUses t y ⊎ Contains names y
-in_only (num n) y names h = inr h
-in_only (var x) y names h = put_only x y names h
-in_only (prefix op a) y names h = in_only a y names h
-in_only (infix' op a b) y names h = elim (in_only a y (put_names b names) h) [
-  | inl u ↦ inl (inl u)
-  | inr c ↦ elim (in_only b y names c) [ inl u ↦ inl (inr u) | inr d ↦ inr d ]
+all_old : (names : Names) (y : List ℕ) → Contains (put_names names) y → Contains names y
+all_old [] y h = h
+all_old (x ∷ names) y h = elim (put_only x y (put_names names) h) [
+  | inl e ↦ subst (λ w. Contains (x ∷ names) w) (sym e) (in_here x names)
+  | inr c ↦ in_later x y names (all_old names y c)
 ]
 
-in_old : (t : Term) (y : List ℕ) (names : Names) → Contains names y → Contains (put_names t names) y
-in_old (num n) y names h = h
-in_old (var x) y names h = put_old x y names h
-in_old (prefix op a) y names h = in_old a y names h
-in_old (infix' op a b) y names h = in_old a y (put_names b names) (in_old b y names h)
-
-in_new : (t : Term) (y : List ℕ) (names : Names) → TermUses t y → Contains (put_names t names) y
-in_new (num n) y names u = absurd u
-in_new (var x) y names u = subst (λ w. Contains (put_name x names) w) (sym u) (put_new x names)
-in_new (prefix op a) y names u = in_new a y names u
-in_new (infix' op a b) y names (inl u) = in_new a y (put_names b names) u
-in_new (infix' op a b) y names (inr u) = in_old a y (put_names b names) (in_new b y names u)
+all_there : (names : Names) (y : List ℕ) → Contains names y → Contains (put_names names) y
+all_there [] y h = h
+all_there (x ∷ names) y h = elim (in_cons x y names h) [
+  | inl e ↦ subst (λ w. Contains (put_name x (put_names names)) w) e (put_new x (put_names names))
+  | inr c ↦ put_old x y (put_names names) (all_there names y c)
+]
 
 pub names_up : (e : Expr) → IsStrictlySortedBy name_cmp (names_of e)
-unfolding IsStrictlySortedBy
-names_up e = in_up (term_of e) [] tt
+names_up e = all_up (names_in (term_of e))
 
 -- the names of an expression are those that it uses
 pub names_used : (e : Expr) (x : List ℕ) → Contains (names_of e) x ↔ Uses e x
 names_used e x = (
-  (λ c. elim (in_only (term_of e) x [] c) [ inl u ↦ u | inr d ↦ absurd (in_none x d) ]),
-  (λ u. in_new (term_of e) x [] u),
+  (λ c. (terms_used (term_of e) x).0 (all_old (names_in (term_of e)) x c)),
+  (λ u. all_there (names_in (term_of e)) x ((terms_used (term_of e) x).1 u)),
 )
 
 -- lists in order with the same names are the same
@@ -167,16 +155,16 @@ one_order (x ∷ xs) (y ∷ ys) h k f g =
     ap (λ w. w ∷ xs) e ∙ ap (λ l. y ∷ l) rest
 
 -- a list of the names from left to right, put in order
-one_list : (e : Expr) (from names : Names) → from ≡ names_in (term_of e) → IsStrictlySortedBy name_cmp names
-    → ((x : List ℕ) → Contains names x ↔ Contains from x) → names ≡ names_of e
-one_list e from names is up same =
+one_list : (e : Expr) (names : Names) → IsStrictlySortedBy name_cmp names
+    → ((x : List ℕ) → Contains names x ↔ Contains (names_in (term_of e)) x) → names ≡ names_of e
+one_list e names up same =
     one_order names (names_of e) up (names_up e)
-    (λ x c. (names_used e x).1 ((terms_used (term_of e) x).0 (subst (λ l. Contains l x) is ((same x).0 c))))
-    (λ x c. (same x).1 (subst (λ l. Contains l x) (sym is) ((terms_used (term_of e) x).1 ((names_used e x).0 c))))
+    (λ x c. all_there (names_in (term_of e)) x ((same x).0 c))
+    (λ x c. (same x).1 (all_old (names_in (term_of e)) x c))
 
 -- what the code answers
 pub in_order_of : {V E : Type 0} (items : V → Names) (e : Expr) (from : Names) (r : Result V E) → from ≡ names_in (term_of e)
     → IfOk r (λ v. IsStrictlySortedBy name_cmp (items v)) → IfOk r (λ v. (x : List ℕ) → Contains (items v) x ↔ Contains from x)
     → IfOk r (λ v. items v ≡ names_of e)
-in_order_of items e from (Ok v) is up same = one_list e from (items v) is up same
+in_order_of items e from (Ok v) is up same = one_list e (items v) up (subst (λ l. (x : List ℕ) → Contains (items v) x ↔ Contains l x) is same)
 in_order_of items e from (Err f) is up same = tt

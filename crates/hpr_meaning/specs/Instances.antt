@@ -9,7 +9,7 @@
 -- state_after s log     == the state from s on after the log
 -- definer x log         == the step that last defined the name x
 -- put_name x names      == the name among these, which ascend, each once
--- put_names term names  == the names of a term put among these
+-- put_names names       == these names, ascending, each once
 -- names_of e            == the names of an expression, ascending, each once
 -- read_of s log x       == the read of x after the log
 -- reads_of e s log      == the reads of an expression, ascending by name
@@ -31,7 +31,7 @@ use Rattle.std.specs.Ordering.{is_lt, is_eq}
 use Rattle.std.specs.FinMap.{insert}
 use Rattle.hpr_terms.specs.declared.tag.Tag.{Tag}
 use Rattle.hpr_terms.specs.declared.expr.Expr.{Expr}
-use Rattle.hpr_terms.specs.Term.{Term, num, var, prefix, infix'}
+use Rattle.hpr_terms.specs.Uses.{names_in}
 use Rattle.hpr_terms.specs.TermOf.{term_of}
 use Rattle.hpr_syntax.specs.declared.rows.Content.{Content}
 use Rattle.hpr_syntax.specs.declared.rows.Content.TheVariants.{Assign, If, While}
@@ -84,14 +84,12 @@ put_name x [] = x ∷ []
 put_name x (y ∷ names) =
     if is_lt (name_cmp x y) then x ∷ y ∷ names else (if is_eq (name_cmp x y) then y ∷ names else y ∷ put_name x names)
 
-abbrev pub put_names : Term → List (List ℕ) → List (List ℕ)
-put_names (num n) names = names
-put_names (var x) names = put_name x names
-put_names (prefix op a) names = put_names a names
-put_names (infix' op a b) names = put_names a (put_names b names)
+abbrev pub put_names : List (List ℕ) → List (List ℕ)
+put_names [] = []
+put_names (x ∷ names) = put_name x (put_names names)
 
 abbrev pub names_of : Expr → List (List ℕ)
-names_of e = put_names (term_of e) []
+names_of e = put_names (names_in (term_of e))
 
 abbrev pub read_of : Values → List Instance → List ℕ → Read
 read_of s log x = record { name = x; value = value_at (state_after s log) x; origin = definer x log }

@@ -16,7 +16,7 @@ use Rattle.hpr_paths.specs.Spots.{Spot, point_of, tag_of, loops_of, tag_at, nest
 use Rattle.hpr_paths.specs.Successors.{first_step, spots}
 use Rattle.hpr_paths.specs.Numbers.{IsNumberOf}
 use Rattle.hpr_paths.proofs.Two.{TwoIn, at_spot, wider}
-use Rattle.hpr_paths.proofs.Few.{contains_none, contains_one, has_one}
+use Rattle.hpr_terms.proofs.Few.{contains_none, contains_one, has_one}
 use Rattle.hpr_paths.proofs.Stands.{SpotIn, WholeIn, end_of, get_of_whole, whole_of_get}
 use Rattle.hpr_paths.proofs.Names.{Holds, role_of_get, get_of_role}
 use Rattle.hpr_paths.proofs.Whole.{holds_whole}

@@ -1,5 +1,4 @@
 pub mod Blocks
-pub mod Few
 pub mod Readers
 pub mod Stands
 pub mod Names

@@ -17,7 +17,7 @@ use Rattle.hpr_paths.specs.declared.spot.Step.{Step}
 use Rattle.hpr_paths.specs.Spots.{Role, part, Spot, point_of, tag_of, role_at}
 use Rattle.hpr_paths.specs.Successors.{first_step, spot_of}
 use Rattle.hpr_paths.specs.Numbers.{mark_of}
-use Rattle.hpr_paths.proofs.Few.{contains_one, contains_two, has_one, has_first, has_second}
+use Rattle.hpr_terms.proofs.Few.{contains_one, contains_two, has_one, has_first, has_second}
 use Rattle.hpr_paths.proofs.Stands.{SpotIn}
 
 pub role_of_get : (S : List Spot) (p : ℕ) (s : Spot) → slice_get S p ≡ Some s → role_at S p ≡ Some s.role

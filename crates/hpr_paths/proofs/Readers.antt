@@ -1,19 +1,18 @@
 -- What a point that was read says of the list of points.
-use Rattle.std.proofs.Common.{◌≡◌, ◌<◌, ℕ, Bool, IsTrue, Some, inl, inr, List, [], ◌∷◌, length, get_or, ◌↔◌, All, Result, Ok, Err, IfOk, refl, sym, ap, ◌∙◌, subst}
+use Rattle.std.proofs.Common.{◌≡◌, ◌<◌, ℕ, Bool, IsTrue, Some, List, length, get_or, ◌↔◌, All, Result, Ok, Err, IfOk, refl, sym, ap, ◌∙◌, subst}
 use Rattle.std.specs.List.{Contains}
 use Rattle.std.specs.Option.{option_map}
 use Rattle.std.proofs.lemmas.Option.{slice_get_read, slice_get_within, same_Some}
-use Rattle.std.proofs.lemmas.List.Elements.{Contains-append_left, Contains-append_right, Contains-append_cases, All-weaker}
-use Rattle.hpr_terms.specs.Term.{Term, num, var, prefix, infix'}
+use Rattle.std.proofs.lemmas.List.Elements.{All-weaker}
 use Rattle.hpr_terms.specs.TermOf.{term_of}
-use Rattle.hpr_terms.specs.Uses.{TermUses}
+use Rattle.hpr_terms.proofs.NamesUsed.{terms_used}
 use Rattle.hpr_paths.specs.declared.spot.Step.{Step}
-use Rattle.hpr_paths.specs.Spots.{Role, enter, part, exit, Spot, names_in, names_of, RoleUses, steps_of, loops_of, nest_at, role_at, UsesAt, IsLoopAt}
+use Rattle.hpr_paths.specs.Spots.{Role, enter, part, exit, Spot, names_of, uses_of, used_at, RoleUses, steps_of, loops_of, nest_at, role_at, UsesAt, IsLoopAt}
 use Rattle.hpr_syntax.specs.Rows.{expr_in}
 use Rattle.hpr_paths.specs.Successors.{AreSpots}
 use Rattle.hpr_syntax.specs.declared.rows.Content.TheVariants.{While}
 use Rattle.hpr_paths.proofs.Names.{get_of_role}
-use Rattle.hpr_paths.proofs.Few.{contains_none, contains_one, has_one}
+use Rattle.hpr_terms.proofs.Few.{contains_none}
 
 pub role_read : (xs : List Spot) (p : ℕ) (s : Spot) → p < length xs → s ≡ get_or xs p s → role_at xs p ≡ Some s.role
 role_read xs p s l is = ap (option_map (λ (t : Spot). t.role)) (slice_get_read xs (length xs) p s refl l is)
@@ -37,24 +36,14 @@ nest_within xs p s sound l is =
     let P : List ℕ → Type 0 = λ ws. All (λ w. w < length xs) ws in
     subst P (ap loops_of (slice_get_read xs (length xs) p s refl l is)) (All-weaker (λ w. IsLoopAt xs w) (λ w. w < length xs) (λ w h. loop_within xs w h) (nest_at xs p) (sound.loops p))
 
-pub terms_used : (t : Term) (x : List ℕ) → Contains (names_in t) x ↔ TermUses t x
-terms_used (num n) x = (contains_none x, λ h. absurd h)
-terms_used (var y) x =
-    let P : List ℕ → Type 0 = λ z. Contains (y ∷ []) z in
-    (contains_one y x, λ h. subst P (sym h) (has_one y))
-terms_used (prefix op a) x = terms_used a x
-terms_used (infix' op a b) x = (
-  λ h. elim (Contains-append_cases (names_in a) (names_in b) x h) [ inl u ↦ inl ((terms_used a x).0 u) | inr u ↦ inr ((terms_used b x).0 u) ],
-  λ h. elim h [
-    | inl u ↦ Contains-append_left (names_in a) (names_in b) x ((terms_used a x).1 u)
-    | inr u ↦ Contains-append_right (names_in a) (names_in b) x ((terms_used b x).1 u)
-  ],
-)
-
 pub role_used : (r : Role) (x : List ℕ) → Contains (names_of r) x ↔ RoleUses r x
 role_used enter x = (contains_none x, λ h. absurd h)
 role_used (part t c) x = terms_used (term_of (expr_in c)) x
 role_used (exit finals) x = (λ h. h, λ h. h)
+
+-- what was read of a point are the names that it uses
+pub names_read : (xs : List Spot) (p : ℕ) (s : Spot) (names : List (List ℕ)) → p < length xs → s ≡ get_or xs p s → names ≡ names_of s.role → names ≡ used_at xs p
+names_read xs p s names l is given = given ∙ sym (ap uses_of (role_read xs p s l is))
 
 pub used_by_role : (xs : List Spot) (p : ℕ) (s : Spot) (names : List (List ℕ)) → p < length xs → s ≡ get_or xs p s → names ≡ names_of s.role → (x : List ℕ) → Contains names x ↔ UsesAt xs p x
 used_by_role xs p s names l is given x =

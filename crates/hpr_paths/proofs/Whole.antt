@@ -11,7 +11,7 @@ use Rattle.hpr_paths.specs.declared.spot.Step.{Step}
 use Rattle.hpr_paths.specs.Spots.{enter, exit, Spot, point_of, steps_of, role_at, next_at}
 use Rattle.hpr_paths.specs.Successors.{first_step, spot_of, spots}
 use Rattle.hpr_paths.specs.Numbers.{IsNumberOf, mark_of, Leads}
-use Rattle.hpr_paths.proofs.Few.{contains_none, contains_one, has_one}
+use Rattle.hpr_terms.proofs.Few.{contains_none, contains_one, has_one}
 use Rattle.hpr_paths.proofs.Stands.{WholeIn, end_of, get_of_whole, whole_of_get}
 use Rattle.hpr_paths.proofs.Names.{Holds, Names, StepOf, role_of_get, get_of_role, names_one, first_names, follows_of_step, step_of_follows, step_named}
 

@@ -4,10 +4,10 @@
 -- Spot              == a point: the steps from it, the loops that enclose it from the outermost on, and its role
 -- point_of role     == the point by its tag
 -- tag_of role       == the part's tag; none at Enter and at Exit
--- names_in term     == the names in a term, from left to right
 -- names_of role     == the names that the part's expression uses; at Exit the names of `end`
 -- defined role      == the name that an assignment defines; none at a predicate, at Enter and at Exit
 -- RoleUses role x   == the part's expression uses x; Exit uses the names of `end`
+-- uses_of role      == the names that the role uses, if there is one
 -- steps_of spot     == the steps from the point, if there is one
 -- loops_of spot     == the loops that enclose the point, if there is one
 -- next_at spots p   == the steps from the point p
@@ -16,15 +16,15 @@
 -- tag_at spots p    == the tag of the part p
 -- defined_at spots p == the name that the point p defines
 -- UsesAt spots p x  == the point p uses x
+-- used_at spots p   == the names that the point p uses, from left to right, each as often as it stands there
 -- IsLoopAt spots p  == the point p is the predicate of a loop
-use Rattle.std.specs.Prelude.{◌≡◌, ℕ, Option, Some, None, List, [], ◌∷◌, ◌++◌, Contains}
+use Rattle.std.specs.Prelude.{◌≡◌, ℕ, Option, Some, None, List, [], Contains}
 use Rattle.std.specs.List.{slice_get}
 use Rattle.std.specs.Option.{option_map, option_and_then}
 use Rattle.hpr_terms.specs.declared.tag.Tag.{Tag}
 use Rattle.hpr_terms.specs.declared.expr.Expr.{Expr}
-use Rattle.hpr_terms.specs.Term.{Term, num, var, prefix, infix'}
 use Rattle.hpr_terms.specs.TermOf.{term_of}
-use Rattle.hpr_terms.specs.Uses.{Uses}
+use Rattle.hpr_terms.specs.Uses.{Uses, names_in}
 use Rattle.hpr_syntax.specs.declared.rows.Content.{Content}
 use Rattle.hpr_syntax.specs.declared.rows.Content.TheVariants.{While}
 use Rattle.hpr_syntax.specs.Skeleton as points
@@ -56,12 +56,6 @@ defined enter = None
 defined (part t c) = assigned c
 defined (exit finals) = None
 
-abbrev pub names_in : Term → List (List ℕ)
-names_in (num n) = []
-names_in (var x) = x ∷ []
-names_in (prefix op a) = names_in a
-names_in (infix' op a b) = names_in a ++ names_in b
-
 abbrev pub names_of : Role → List (List ℕ)
 names_of enter = []
 names_of (part t c) = names_in (term_of (expr_in c))
@@ -71,6 +65,10 @@ abbrev pub RoleUses : Role → List ℕ → Type 0
 RoleUses enter x = ⊥
 RoleUses (part t c) x = Uses (expr_in c) x
 RoleUses (exit finals) x = Contains finals x
+
+abbrev pub uses_of : Option Role → List (List ℕ)
+uses_of None = []
+uses_of (Some r) = names_of r
 
 abbrev pub steps_of : Option Spot → List Step
 steps_of None = []
@@ -97,6 +95,9 @@ defined_at spots p = option_and_then defined (role_at spots p)
 
 abbrev pub UsesAt : List Spot → ℕ → List ℕ → Type 0
 UsesAt spots p x = (r : Role) × (role_at spots p ≡ Some r) × RoleUses r x
+
+abbrev pub used_at : List Spot → ℕ → List (List ℕ)
+used_at spots p = uses_of (role_at spots p)
 
 abbrev pub IsLoopAt : List Spot → ℕ → Type 0
 IsLoopAt spots p = (t : Tag) × (e : Expr) × (role_at spots p ≡ Some (part t (While e)))

@@ -1,14 +1,13 @@
 //! The points of a program.
 ghost use Rattle.std.specs.Prelude.{◌≡◌, ◌↔◌, ◌<◌, ◌+◌, ◌⊎◌, None, IfOk, IsTrue, List, ℕ, All, Contains, length};
 ghost use Rattle.std.specs.Option.{option_copied};
-ghost use Rattle.hpr_paths.specs.Spots.{Spot, next_at, nest_at, tag_at, defined_at, UsesAt};
+ghost use Rattle.hpr_paths.specs.Spots.{Spot, next_at, nest_at, tag_at, defined_at, UsesAt, used_at};
 ghost use Rattle.hpr_paths.specs.Successors.{AreSpots};
 
 use crate::spot::{Role, Spot, Step};
 use crate::used::{expr_in, names_of};
 use hpr_syntax::Content;
 use hpr_terms::{Name, NoMemory, Tag};
-use std::alloc::Global;
 use std::marker::Model;
 
 /// The points of a program, numbered from 0: Enter, the parts in preorder, Exit. A conditional or a
@@ -117,13 +116,15 @@ impl Succ {
         }
     }
 
-    /// The names that the point, which is below `points`, uses, each as often as it stands there.
-    pub fn used_names(&self, alloc: Global, point: usize) -> Result<Vec<Name>, NoMemory>
+    /// The names that the point, which is below `points`, uses, from left to right, each as often as
+    /// it stands there. Its one error is want of memory.
+    pub fn used_names(&self, point: usize) -> Result<Vec<Name>, NoMemory>
         requires { point < length self.now }
-        ensures { IfOk result (λ names. (x : List ℕ) → Contains names.items x ↔ UsesAt self.now point x) }
+        ensures names { IfOk result (λ names. names.items ≡ used_at self.now point) }
+        ensures uses { IfOk result (λ names. (x : List ℕ) → Contains names.items x ↔ UsesAt self.now point x) }
     {
         let spot = &self.spots[point];
-        names_of(alloc, &spot.role)
+        names_of(*self.spots.allocator(), &spot.role)
     }
 }
 

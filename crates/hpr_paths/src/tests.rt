@@ -109,7 +109,7 @@ fn users(alloc: Global, succ: &Succ, name: &str) -> Result<Vec<usize>, Fail> {
 fn all_used(alloc: Global, succ: &Succ) -> Result<String, Fail> {
     let mut text = String::new(alloc);
     for point in 0..succ.points() {
-        for name in &succ.used_names(alloc, point)? {
+        for name in &succ.used_names(point)? {
             write!(text, "{point}{} ", name.text())?;
         }
     }

@@ -76,7 +76,7 @@ fn undefined_names(alloc: Global, succ: &Succ, defined: &[Name]) -> Result<Vec<N
     let mut names = Vec::new(alloc);
     for point in 0..points {
         if row.has(point) {
-            let used = succ.used_names(alloc, point)?;
+            let used = succ.used_names(point)?;
             push_others(alloc, used.as_slice(), defined, &mut names)?;
         }
     }

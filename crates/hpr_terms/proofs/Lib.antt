@@ -1,3 +1,5 @@
 pub mod Compare
 pub mod Equal
 pub mod InOrder
+pub mod Few
+pub mod NamesUsed

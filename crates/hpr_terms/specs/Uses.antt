@@ -2,7 +2,8 @@
 --
 -- TermUses t x == the name x stands in the term
 -- Uses e x     == the name x stands in the expression
-use Rattle.std.specs.Prelude.{◌≡◌, ℕ, List, ◌⊎◌}
+-- names_in t   == the names in the term, from left to right, each as often as it stands there
+use Rattle.std.specs.Prelude.{◌≡◌, ℕ, List, [], ◌∷◌, ◌++◌, ◌⊎◌}
 use Rattle.hpr_terms.specs.declared.expr.Expr.{Expr}
 use Rattle.hpr_terms.specs.Term.{Term, num, var, prefix, infix'}
 use Rattle.hpr_terms.specs.TermOf.{term_of}
@@ -15,3 +16,9 @@ TermUses (infix' op a b) x = TermUses a x ⊎ TermUses b x
 
 abbrev pub Uses : Expr → List ℕ → Type 0
 Uses e x = TermUses (term_of e) x
+
+abbrev pub names_in : Term → List (List ℕ)
+names_in (num n) = []
+names_in (var x) = x ∷ []
+names_in (prefix op a) = names_in a
+names_in (infix' op a b) = names_in a ++ names_in b

@@ -10,7 +10,7 @@ pub loop-point-preserved : goal.loop-point-preserved
 loop-point-preserved c = λ x.
     let names = c.loop-point.names.items in
     let more = c.in_ok-used.used.items in
-    let used = c.in_ok-used.ensures x in
+    let used = c.in_ok-used.ensures.uses x in
     let P : ℕ → Type 0 = λ p. UsesAt c.args.succ.now p x in
     let new : Contains c.append.new.self.items x ↔ (Contains names x ⊎ P c.loop-point.point) = rw c.in_ok-append.ensures.items (
       (λ h. elim (Contains-append_cases names more x h) [ inl was ↦ inl was | inr k ↦ inr (used.0 k) ]),

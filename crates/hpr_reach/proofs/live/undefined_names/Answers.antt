@@ -18,7 +18,7 @@ loop-point-preserved c = λ x.
       | then-has+in_ok-used+in_ok-push_others w ↦
           let names : c.if-has.names.items ≡ w.push_others.new.into.items = ap (λ v. v.items) w.names-is in
           let marked : M n = subst (λ (r : List Bool). IsMarked r n) (sym c.row.view_is) (c.has.ensures.0 w.if-has.true) in
-          let uses : Contains w.as_slice.result.now x ↔ U n = rw w.as_slice.ensures.value (w.in_ok-used.ensures x) in
+          let uses : Contains w.as_slice.result.now x ↔ U n = rw w.as_slice.ensures.value (w.in_ok-used.ensures.uses x) in
           let here : Contains c.if-has.names.items x ↔ (Contains c.loop-point.names.items x ⊎ P n) =
           rw names (marked_turn _ _ (M n) (U n) D (Contains w.as_slice.result.now x) marked uses (w.in_ok-push_others.ensures x)) in
           turn_of_number P n _ _ here (c.loop-point.invariant x)

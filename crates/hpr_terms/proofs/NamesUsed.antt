@@ -1,0 +1,20 @@
+-- The names in a term are those that it uses.
+use Rattle.std.proofs.Common.{ℕ, ◌↔◌, inl, inr, List, [], ◌∷◌, Contains, sym, subst}
+use Rattle.std.proofs.lemmas.List.Elements.{Contains-append_left, Contains-append_right, Contains-append_cases}
+use Rattle.hpr_terms.specs.Term.{Term, num, var, prefix, infix'}
+use Rattle.hpr_terms.specs.Uses.{TermUses, names_in}
+use Rattle.hpr_terms.proofs.Few.{contains_none, contains_one, has_one}
+
+pub terms_used : (t : Term) (x : List ℕ) → Contains (names_in t) x ↔ TermUses t x
+terms_used (num n) x = (contains_none x, λ h. absurd h)
+terms_used (var y) x =
+    let P : List ℕ → Type 0 = λ z. Contains (y ∷ []) z in
+    (contains_one y x, λ h. subst P (sym h) (has_one y))
+terms_used (prefix op a) x = terms_used a x
+terms_used (infix' op a b) x = (
+  λ h. elim (Contains-append_cases (names_in a) (names_in b) x h) [ inl u ↦ inl ((terms_used a x).0 u) | inr u ↦ inr ((terms_used b x).0 u) ],
+  λ h. elim h [
+    | inl u ↦ Contains-append_left (names_in a) (names_in b) x ((terms_used a x).1 u)
+    | inr u ↦ Contains-append_right (names_in a) (names_in b) x ((terms_used b x).1 u)
+  ],
+)
