@@ -5,7 +5,7 @@ use Rattle.hpr_syntax.specs.Run.{FinalValues, Outcome, ends, faults, more, run}
 use Rattle.hpr_syntax.specs.Shape.{IsProgram}
 use Rattle.hpr_syntax.specs.Tree.{Tree}
 use Rattle.hpr_syntax.specs.Values.{Values}
-use Rattle.hpr_syntax.proofs.OneSide.{ends_once}
+use Rattle.hpr_syntax.proofs.MoreSteps.{ends_once}
 use Rattle.hpr_graph.specs.declared.conflict.Conflict.{Conflict}
 use Rattle.hpr_graph.specs.declared.conflict.Side.{Side}
 use Rattle.hpr_graph.specs.declared.vertex.Vertex.{Vertex}

@@ -1,11 +1,9 @@
 pub mod CompareBlocks
 pub mod OrderBlocks
-pub mod BlocksEqual
 pub mod PartBound
 pub mod DepthBound
 pub mod Runs
 pub mod MoreSteps
-pub mod OneSide
 pub mod ValueByUses
 pub mod IssuedLemmas
 pub mod ShapeLemmas

@@ -1,11 +1,12 @@
 -- A run with more steps to spend.
-use Rattle.std.proofs.Common.{◌≡◌, ℕ, zero, suc, ◌+◌, ◌-◌, ◌≤◌, ℤ, Bool, true, false, List, refl, arith, if◌then◌else◌, Ok, Err}
+use Rattle.std.proofs.Common.{◌≡◌, ℕ, zero, suc, ◌+◌, ◌-◌, ◌≤◌, ℤ, Bool, true, false, List, refl, sym, ◌∙◌, subst, arith, if◌then◌else◌, Ok, Err}
 use Rattle.std.specs.FinMap.{insert}
 use Rattle.hpr_terms.specs.declared.tag.Tag.{Tag}
 use Rattle.hpr_terms.specs.declared.expr.Expr.{Expr}
 use Rattle.hpr_syntax.specs.Tree.{Tree}
 use Rattle.hpr_syntax.specs.Body.{Body, done, assign, branch, loop}
-use Rattle.hpr_syntax.specs.Run.{ends}
+use Rattle.hpr_syntax.specs.Run.{ends, FinalValues}
+use Rattle.hpr_syntax.specs.Meaning.{Ends}
 use Rattle.hpr_syntax.specs.Values.{Values}
 use Rattle.hpr_syntax.specs.Value.{Answer, value, is_true}
 use Rattle.hpr_syntax.specs.Run.{After, goes, stops, spent, step, then_go, turns, run_body}
@@ -54,3 +55,19 @@ outcome-more p n k steps finals spent y le m e = absurd cc
 
 pub run-more : (p : Tree) (s : Values) (n k steps : ℕ) (finals : List (List ℕ × ℤ)) → run p s n ≡ ends finals steps → run p s (n + k) ≡ ends finals steps
 run-more p s n k steps finals e = outcome-more p n k steps finals (run_body p.body s n) _ (run_body_leaves p.body s n) (run_body-more k p.body s n) e
+
+ends_more : (p : Tree) (s : Values) (n k : ℕ) (f : FinalValues) → Ends p s n f → Ends p s (n + k) f
+ends_more p s n k f e = (e.0, run-more p s n k e.0 f e.1)
+
+same_finals : (f g : FinalValues) (m n : ℕ) → ends f m ≡ ends g n → f ≡ g
+same_finals f g m n h = cc
+
+-- a program ends on a state with one list of final values
+pub ends_once : (p : Tree) (s : Values) (m n : ℕ) (f g : FinalValues) → Ends p s m f → Ends p s n g → f ≡ g
+unfolding ends_more
+ends_once p s m n f g d e =
+    let a : run p s (m + n) ≡ ends f d.0 = (ends_more p s m n f d).1 in
+    let b : run p s (n + m) ≡ ends g e.0 = (ends_more p s n m g e).1 in
+    let swap : n + m ≡ m + n = omega arith in
+    let c : run p s (m + n) ≡ ends g e.0 = subst (λ k. run p s k ≡ ends g e.0) swap b in
+    same_finals f g d.0 e.0 (sym a ∙ c)

@@ -10,9 +10,7 @@ mod rows;
 mod shape;
 mod tree;
 
-pub use hpr_terms::{
-    Binary, Expr, Keyword, Literal, Name, NameError, NoMemory, Operand, Sign, Tag, Token, Unary,
-};
+pub use hpr_terms::{Binary, Expr, Literal, Name, NameError, NoMemory, Operand, Tag, Unary};
 pub use issued::Issued;
 pub use program::Program;
 pub use rows::{Content, Row, content_of, has_content, same_content};

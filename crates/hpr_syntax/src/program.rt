@@ -151,14 +151,6 @@ impl Program {
         self == other
     }
 
-    /// Whether two programs have the same body.
-    #[tactic(auto, using(crate::proofs::BlocksEqual::block_equal))]
-    pub fn has_body(&self, body: &Block) -> bool
-        ensures { IsTrue result ↔ (self.now.body ≡ body.now) }
-    {
-        self.body == *body
-    }
-
     /// A copy.
     pub fn copy(&self, alloc: Global) -> Result<Program, NoMemory>
         ensures { IfOk result (λ p. p ≡ self.now) }
