@@ -10,4 +10,4 @@ mod put;
 mod tests;
 
 pub use contents::{content_text, expr_text};
-pub use program::{text_of, text_of_parts};
+pub use program::text_of;

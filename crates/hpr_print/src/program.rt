@@ -1,11 +1,10 @@
 //! The text of a program.
-ghost use Rattle.std.specs.Prelude.{◌≡◌, ◌++◌, ◌^◌, ◌<◌, OnOk, IfOk, map};
-ghost use Rattle.hpr_syntax.specs.Body.{depth};
+ghost use Rattle.std.specs.Prelude.{◌≡◌, ◌++◌, OnOk, IfOk, map};
 ghost use Rattle.hpr_syntax.specs.Print.{text, pair_text, issued_text, joined, after_commas};
 
 use crate::blocks::put_block;
 use crate::put::{put, put_number};
-use hpr_syntax::{Block, Issued, Name, NoMemory, Program};
+use hpr_syntax::{Issued, Name, NoMemory, Program};
 use std::alloc::Global;
 
 fn put_pair(alloc: Global, out: &mut Vec<u8>, pair: (u32, u32)) -> Result<(), NoMemory>
@@ -65,32 +64,23 @@ fn put_names(out: &mut Vec<u8>, names: &[Name]) -> Result<(), NoMemory>
 /// The canonical text of a program: its lines `program` and `issued`, a line for each part and for
 /// each `else`, `fi` and `od`, indented by two spaces a level, and the line `end(..)`. It fails only
 /// for want of memory. The text is our profile.
-#[tactic(auto, using(hpr_syntax::proofs::DepthBound::shallow))]
 pub fn text_of(alloc: Global, program: &Program) -> Result<Vec<u8>, NoMemory>
     ensures { IfOk result (λ v. v.items ≡ text program.now) }
 {
-    text_of_parts(alloc, program.issued(), program.body(), program.finals())
+    let mut out = Vec::new(alloc);
+    put_program(alloc, &mut out, program)?;
+    Ok(out)
 }
 
-/// The canonical text of the program of these parts, as `text_of` gives it, where the caller has
-/// them apart. They need not make a program; only their blocks stand less than 2^32 levels deep. It
-/// fails only for want of memory.
-#[tactic(auto, unfolding(hpr_syntax::specs::Print::text))]
-pub fn text_of_parts(
-    alloc: Global,
-    issued: &Issued,
-    body: &Block,
-    finals: &[Name],
-) -> Result<Vec<u8>, NoMemory>
-    requires { depth body.now < 2 ^ 32 }
-    ensures { IfOk result (λ v. v.items ≡ text (record { issued = issued.now; body = body.now; finals = finals.now })) }
+/// Puts the lines of a program.
+#[tactic(auto, using(hpr_syntax::proofs::DepthBound::shallow), unfolding(hpr_syntax::specs::Print::text))]
+fn put_program(alloc: Global, out: &mut Vec<u8>, program: &Program) -> Result<(), NoMemory>
+    ensures { OnOk result (out.new.items ≡ out.old.items ++ text program.now) }
 {
-    let mut out = Vec::new(alloc);
-    put(&mut out, b"program\n")?;
-    put_issued(alloc, &mut out, issued)?;
-    put_block(alloc, &mut out, body, 0)?;
-    put(&mut out, b"end(")?;
-    put_names(&mut out, finals)?;
-    put(&mut out, b")\n")?;
-    Ok(out)
+    put(out, b"program\n")?;
+    put_issued(alloc, out, program.issued())?;
+    put_block(alloc, out, program.body(), 0)?;
+    put(out, b"end(")?;
+    put_names(out, program.finals())?;
+    put(out, b")\n")
 }

@@ -2,7 +2,7 @@
 ghost use Rattle.std.specs.Prelude.{◌≡◌};
 ghost use Rattle.hpr_syntax.specs.Body.{done};
 
-use crate::{content_text, expr_text, text_of, text_of_parts};
+use crate::{content_text, expr_text, text_of};
 use hpr_syntax::{
     Binary, Block, Content, Expr, Issued, Literal, Name, Operand, Program, Stmt, Tag, Unary,
 };
@@ -176,14 +176,5 @@ end(x, a_1)
 ";
     let program = Program::new(alloc, issued(alloc)?, body(alloc)?, finals(alloc)?)?;
     assert!(rt; text_of(alloc, &program)?.as_slice() == want);
-    Ok(())
-}
-
-#[test]
-fn shows_parts_of_no_program(rt: HostRuntime) -> Result<(), Fail> {
-    let alloc = rt.alloc();
-    let want: &[u8] = b"program\nend()\n";
-    let text = text_of_parts(alloc, &Issued::new(alloc), &empty(alloc), &[])?;
-    assert!(rt; text.as_slice() == want);
     Ok(())
 }
