@@ -120,7 +120,8 @@ fn step_content(
             Ok((reader, place + 1))
         }
         Err(TextError::Syntax { place }) => Err(ScriptError::Syntax { place }),
-        Err(_) => Err(ScriptError::Memory),
+        Err(TextError::Memory) => Err(ScriptError::Memory),
+        Err(TextError::Shape(_)) => unreachable!(),
     }
 }
 
