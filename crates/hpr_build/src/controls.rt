@@ -23,11 +23,9 @@ fn parent_of(places: &[Place], number: usize) -> Option<Parent>
     requires { 1 ≤ number }
     ensures { result ≡ parent_of (place_at places.now number) }
 {
-    if number <= places.len() {
-        let place = &places[number - 1];
-        place.parent
-    } else {
-        None
+    match places.get(number - 1) {
+        Some(place) => place.parent,
+        None => None,
     }
 }
 

@@ -11,7 +11,7 @@ ghost use Rattle.hpr_graph.specs.Graphs.{IsOnce};
 use crate::lists::push_if;
 use hpr_paths::{Name, NoMemory, Step, Succ};
 use hpr_reach::{BitRow, reach};
-use std::alloc::Global;
+use std::alloc::{AllocError, Global};
 
 /// How a value comes to a use: without the back edge of a loop that encloses both ends, or with
 /// that of the loop at this point, which encloses both.
@@ -77,10 +77,10 @@ fn mark_backs(round: &mut Vec<bool>, steps: &[Step])
     }
 }
 
-fn blank(alloc: Global, points: usize) -> Result<Vec<bool>, NoMemory>
+fn blank(alloc: Global, points: usize) -> Result<Vec<bool>, AllocError>
     ensures { IfOk result (λ row. row.items ≡ replicate points false) }
 {
-    Ok(vec![in alloc; false; points]?)
+    vec![in alloc; false; points]
 }
 
 /// Marks the loops to whose predicates the value comes round.

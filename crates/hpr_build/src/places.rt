@@ -61,7 +61,7 @@ pub(crate) fn places(alloc: Global, program: &Program) -> Result<Vec<Place>, NoM
 fn others_with(alloc: Global, others: &[Span], other: Span) -> Result<Vec<Span>, NoMemory>
     ensures { IfOk result (λ v. v.items ≡ others.now ++ other ∷ []) }
 {
-    let mut more = Vec::from_slice(alloc, others)?;
+    let mut more = others.to_vec(alloc)?;
     more.push(other)?;
     Ok(more)
 }
