@@ -86,11 +86,11 @@ module _ (p q r : Tree) (tries : ℕ) (old new : Option (List ℕ)) (s : Status)
     spent_status (no_program n) e = absurd cc
     spent_status spent e = refl
 
-    answer_completes : IsProgram q → IsProgram r → IsWithoutConflict p q r → Completes p q r tries old new s
-    answer_completes is_q is_r free = record {
+    answer_completes : IsProgram q → IsProgram r → Completes p q r tries old new s
+    answer_completes is_q is_r = record {
       answered = (x, answer, is, took);
-      first = λ ps m tried fits. printed_so m (λ bytes. bytes ≡ text m) refl (fit_is_printed p q r is_q is_r tries ps free tried m x fits answer);
-      enough = λ ps tried few e. enough p q r is_q is_r tries ps free tried x few answer (spent_status x (sym e ∙ is));
+      first = λ free ps m tried fits. printed_so m (λ bytes. bytes ≡ text m) refl (fit_is_printed p q r is_q is_r tries ps free tried m x fits answer);
+      enough = λ free ps tried few e. enough p q r is_q is_r tries ps free tried x few answer (spent_status x (sym e ∙ is));
     }
 
     other_b : IsProgram p → IsProgram r → 1 ≤ tries → q ≡ p → DonePrinting (IsOtherText p q r r) old new s
@@ -121,8 +121,8 @@ module _ (p q r : Tree) (tries : ℕ) (old new : Option (List ℕ)) (s : Status)
           let (x, answer, shown) = behind_graphs in
           (x, answer, is ∙ ap status_of shown, took ∙ ap (λ y. taken_then old (text_of y)) shown)
 
-      of_three : IsWithoutConflict p q r → Completes p q r tries old new s
-      of_three free = let (x, answer, is_x, took_x) = answered in answer_completes x answer is_x took_x hq.program hr.program free
+      of_three : Completes p q r tries old new s
+      of_three = let (x, answer, is_x, took_x) = answered in answer_completes x answer is_x took_x hq.program hr.program
 
       other_printed : 1 ≤ tries → (q ≡ p → DonePrinting (IsOtherText p q r r) old new s) × (r ≡ p → DonePrinting (IsOtherText p q r q) old new s)
       other_printed one =
@@ -199,7 +199,7 @@ module _ (old new : Option (List ℕ)) (s : Status) (fs : Files) (d : Decision) 
 
 request_completes : (request : Request) (fs : Files) (old new : Option (List ℕ)) (s : Status) (d : Decision) → s ≡ status_of d → new ≡ taken_then old (text_of d)
     → RequestOutcome request fs d → RequestCompletes request fs old new s
-request_completes (integrate base a b tries) fs old new s d is took o = λ p q r hp hq hr few none. of_three p q r tries old new s fs base a b d o hp hq hr few is took none
+request_completes (integrate base a b tries) fs old new s d is took o = λ p q r hp hq hr few. of_three p q r tries old new s fs base a b d o hp hq hr few is took
 request_completes (run file words steps trace) fs old new s d is took o = λ state p told hp. of_run state p old new s fs file words steps trace d is took o told hp
 request_completes (graph file json) fs old new s d is took o = λ p hp few. of_graph old new s fs d is took file json p o hp few
 request_completes (slice file points) fs old new s d is took o = λ p hp few named. of_slice old new s fs d is took file points p o hp few named

@@ -77,31 +77,30 @@ request_keeps (trial base a b words steps) fs bytes h = tt
 request_keeps (edit file script author) fs bytes h = tt
 request_keeps (tag file author) fs bytes h = tt
 
-abbrev pub Kept : Request → Files → List ℕ → Option (List ℕ) → Type 0
-Kept request fs old new = (bytes : List ℕ) × (new ≡ Some (old ++ bytes)) × KeepsMeaning request fs bytes
+abbrev pub Kept : Request → Files → Option (List ℕ) → Option (List ℕ) → Type 0
+Kept request fs taken new = (bytes : List ℕ) × (new ≡ taken_then taken bytes) × KeepsMeaning request fs bytes
 
-decision_keeps : (request : Request) (fs : Files) (old : List ℕ) (r : Decision) (taken new : Option (List ℕ)) → status.Done ≡ status_of r → RequestOutcome request fs r → taken ≡ Some old
-    → new ≡ taken_then taken (text_of r) → Kept request fs old new
-decision_keeps request fs old (prints kind.Done bytes) taken new e o told took =
-    (bytes, took ∙ ap (λ t. taken_then t bytes) told, request_keeps request fs bytes o)
-decision_keeps request fs old (prints kind.Interference bytes) taken new e o told took = absurd cc
-decision_keeps request fs old (prints kind.NotEnded bytes) taken new e o told took = absurd cc
-decision_keeps request fs old (refuses message) taken new e o told took = absurd cc
-decision_keeps request fs old (prints kind.NoProgram bytes) taken new e o told took = absurd cc
-decision_keeps request fs old (prints kind.Spent bytes) taken new e o told took = absurd cc
-decision_keeps request fs old usage taken new e o told took = absurd cc
+decision_keeps : (request : Request) (fs : Files) (r : Decision) (taken new : Option (List ℕ)) → status.Done ≡ status_of r → RequestOutcome request fs r
+    → new ≡ taken_then taken (text_of r) → Kept request fs taken new
+decision_keeps request fs (prints kind.Done bytes) taken new e o took = (bytes, took, request_keeps request fs bytes o)
+decision_keeps request fs (prints kind.Interference bytes) taken new e o took = absurd cc
+decision_keeps request fs (prints kind.NotEnded bytes) taken new e o took = absurd cc
+decision_keeps request fs (refuses message) taken new e o took = absurd cc
+decision_keeps request fs (prints kind.NoProgram bytes) taken new e o took = absurd cc
+decision_keeps request fs (prints kind.Spent bytes) taken new e o took = absurd cc
+decision_keeps request fs usage taken new e o took = absurd cc
 
-pub done_keeps : (request : Request) (fs : Files) (reads : List ℕ → Type 0) (old : List ℕ) (s : Status) (before now : ℕ) (out err : Change) → s ≡ status.Done → out.old ≡ Some old
-    → Ends s (OutcomeIfTold (Some request) (Some fs)) reads before now out err → Kept request fs old out.new
-done_keeps request fs reads old s before now out err e told h =
+pub done_keeps : (request : Request) (fs : Files) (reads : List ℕ → Type 0) (s : Status) (before now : ℕ) (out err : Change) → s ≡ status.Done
+    → Ends s (OutcomeIfTold (Some request) (Some fs)) reads before now out err → Kept request fs out.old out.new
+done_keeps request fs reads s before now out err e h =
     let d : Decided status.Done (OutcomeIfTold (Some request) (Some fs)) before now out err =
     subst (λ x. Ends x (OutcomeIfTold (Some request) (Some fs)) reads before now out err) e h in
-    decision_keeps request fs old d.r out.old out.new d.status_is (d.outcome fs refl) told d.took
+    decision_keeps request fs d.r out.old out.new d.status_is (d.outcome fs refl) d.took
 
 -- the same, for a request and files that are known by other names
-pub asked_keeps : (known request : Request) (taken : Option Request) (files : Option Files) (fs : Files) (reads : List ℕ → Type 0) (old : List ℕ) (s : Status) (before now : ℕ) (out err : Change)
-    → Some known ≡ taken → taken ≡ Some request → files ≡ Some fs → out.old ≡ Some old → s ≡ status.Done
-    → Ends s (OutcomeIfTold (Some known) files) reads before now out err → Kept request fs old out.new
-asked_keeps known request taken files fs reads old s before now out err is asked told took e h =
-    done_keeps request fs reads old s before now out err e took
+pub asked_keeps : (known request : Request) (taken : Option Request) (files : Option Files) (fs : Files) (reads : List ℕ → Type 0) (s : Status) (before now : ℕ) (out err : Change)
+    → Some known ≡ taken → taken ≡ Some request → files ≡ Some fs → s ≡ status.Done
+    → Ends s (OutcomeIfTold (Some known) files) reads before now out err → Kept request fs out.old out.new
+asked_keeps known request taken files fs reads s before now out err is asked told e h =
+    done_keeps request fs reads s before now out err e
     (asked_ends known request taken files fs reads s before now out err is asked told h)

@@ -183,29 +183,28 @@ other_ends (edit file script author) fs s other = tt
 other_ends (tag file author) fs s other = tt
 other_ends (trial base a b words steps) fs s other = λ state p q r f0 f1 f2 told sp sq sr base_ends a_ends b_ends. other
 
-abbrev pub KeptTrial : Request → Files → List ℕ → Option (List ℕ) → Type 0
-KeptTrial request fs old new = (bytes : List ℕ) × (new ≡ Some (old ++ bytes)) × KeepsTrial request fs bytes
+abbrev pub KeptTrial : Request → Files → Option (List ℕ) → Option (List ℕ) → Type 0
+KeptTrial request fs taken new = (bytes : List ℕ) × (new ≡ taken_then taken bytes) × KeepsTrial request fs bytes
 
-decision_keeps : (request : Request) (fs : Files) (old : List ℕ) (r : Decision) (taken new : Option (List ℕ)) → status.Done ≡ call.status_of r → RequestOutcome request fs r
-    → taken ≡ Some old → new ≡ taken_then taken (call.text_of r) → KeptTrial request fs old new
-decision_keeps request fs old (prints kind.Done bytes) taken new e o told took =
-    (bytes, took ∙ ap (λ t. taken_then t bytes) told, request_keeps request fs bytes o)
-decision_keeps request fs old (prints kind.Interference bytes) taken new e o told took = absurd cc
-decision_keeps request fs old (prints kind.NotEnded bytes) taken new e o told took = absurd cc
-decision_keeps request fs old (refuses message) taken new e o told took = absurd cc
-decision_keeps request fs old (prints kind.NoProgram bytes) taken new e o told took = absurd cc
-decision_keeps request fs old (prints kind.Spent bytes) taken new e o told took = absurd cc
-decision_keeps request fs old usage taken new e o told took = absurd cc
+decision_keeps : (request : Request) (fs : Files) (r : Decision) (taken new : Option (List ℕ)) → status.Done ≡ call.status_of r → RequestOutcome request fs r
+    → new ≡ taken_then taken (call.text_of r) → KeptTrial request fs taken new
+decision_keeps request fs (prints kind.Done bytes) taken new e o took = (bytes, took, request_keeps request fs bytes o)
+decision_keeps request fs (prints kind.Interference bytes) taken new e o took = absurd cc
+decision_keeps request fs (prints kind.NotEnded bytes) taken new e o took = absurd cc
+decision_keeps request fs (refuses message) taken new e o took = absurd cc
+decision_keeps request fs (prints kind.NoProgram bytes) taken new e o took = absurd cc
+decision_keeps request fs (prints kind.Spent bytes) taken new e o took = absurd cc
+decision_keeps request fs usage taken new e o took = absurd cc
 
 module _ (request : Request) (fs : Files) (reads : List ℕ → Type 0) where
   abbrev Told : Decision → Type 0
   Told = OutcomeIfTold (Some request) (Some fs)
 
-  pub done_trial : (old : List ℕ) (s : Status) (before now : ℕ) (out err : call.Change) → s ≡ status.Done → out.old ≡ Some old
-      → call.Ends s Told reads before now out err → KeptTrial request fs old out.new
-  done_trial old s before now out err e told h =
+  pub done_trial : (s : Status) (before now : ℕ) (out err : call.Change) → s ≡ status.Done
+      → call.Ends s Told reads before now out err → KeptTrial request fs out.old out.new
+  done_trial s before now out err e h =
       let d : call.Decided status.Done Told before now out err = subst (λ x. call.Ends x Told reads before now out err) e h in
-      decision_keeps request fs old d.r out.old out.new d.status_is (d.outcome fs refl) told d.took
+      decision_keeps request fs d.r out.old out.new d.status_is (d.outcome fs refl) d.took
 
   pub ends_trial : (s : Status) (before now : ℕ) (out err : call.Change) → call.Ends s Told reads before now out err → EndsTrial request fs s
   ends_trial status.NotEnded before now out err h = request_ends request fs h.r h.status_is (h.outcome fs refl) status.NotEnded refl

@@ -49,8 +49,8 @@ DonePrinting P old new s = (s ≡ Done) × (bytes : List ℕ) × P bytes × (new
 
 pub record Completes (base a b : Tree) (tries : ℕ) (old new : Option (List ℕ)) (s : Status) : Type 0 where
   pub answered : (x : Answer) × IsAnswer base a b tries x × (s ≡ status_of (report tries x)) × (new ≡ taken_then old (text_of (report tries x)))
-  pub first : (ps : List Tree) (m : Tree) → AreTried base a b ps → IsFirstFit (merged_of base a b) (take tries ps) m → DonePrinting (λ bytes. bytes ≡ text m) old new s
-  pub enough : (ps : List Tree) → AreTried base a b ps → length ps ≤ tries → s ≢ Spent
+  pub first : IsWithoutConflict base a b → (ps : List Tree) (m : Tree) → AreTried base a b ps → IsFirstFit (merged_of base a b) (take tries ps) m → DonePrinting (λ bytes. bytes ≡ text m) old new s
+  pub enough : IsWithoutConflict base a b → (ps : List Tree) → AreTried base a b ps → length ps ≤ tries → s ≢ Spent
 
 abbrev pub IsOtherText : Tree → Tree → Tree → Tree → List ℕ → Type 0
 IsOtherText base a b other bytes = (m : Tree) × IsSettled (issued_of base a b) other m × (bytes ≡ text m)
@@ -65,7 +65,7 @@ Tries base a b state steps old new s = (d : Decision) × IsTried base a b state 
 abbrev pub RequestCompletes : Request → Files → Option (List ℕ) → Option (List ℕ) → Status → Type 0
 RequestCompletes (integrate base a b tries) files old new s =
     (p q r : Tree) → IsFileOf (bytes_of files base) p → IsFileOf (bytes_of files a) q → IsFileOf (bytes_of files b) r → AreInLimit p q r
-    → IsWithoutConflict p q r → Completes p q r tries old new s
+    → Completes p q r tries old new s
 RequestCompletes (run file states steps trace) files old new s =
     (state : Values) (p : Tree) → states_of states ≡ Ok state → IsFileOf (bytes_of files file) p → Runs p state steps trace old new s
 RequestCompletes (graph file json) files old new s =

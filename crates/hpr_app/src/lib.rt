@@ -22,10 +22,11 @@ mod trace_text;
 mod trial;
 mod versions;
 
-ghost use Rattle.std.specs.Prelude.{◌≡◌, ◌≢◌, ℕ, List, ◌++◌, ◌<◌, ◌⊎◌, ◌↔◌, All, None, IsTrue, map, string_bytes};
+ghost use Rattle.std.specs.Prelude.{◌≡◌, ◌≢◌, ℕ, List, ◌<◌, ◌⊎◌, ◌↔◌, All, None, IsTrue, map, string_bytes};
 ghost use Rattle.hpr_graph.specs.declared.conflict.Conflict.{Conflict};
 ghost use Rattle.hpr_io.specs.Files.{Files};
 ghost use Rattle.hpr_io.specs.Counts.{Rose};
+ghost use Rattle.hpr_io.specs.Taken.{taken_then};
 ghost use Rattle.hpr_words.specs.Asked.{request};
 ghost use Rattle.hpr_words.specs.Plain.{plain};
 ghost use Rattle.hpr_words.specs.Request.{Request, IsInRange};
@@ -113,14 +114,14 @@ pub fn hpr<S: Shelf, O: Sink, E: Sink>(
 
     // The integration theorem: the bytes that `out` took in this call spell a program whose graph is the merged graph, and which keeps the meaning of
     // both variants.
-    ensures keeps { (asked : Request) (fs : Files) (old : List ℕ) → taken (map string_bytes words.now) ≡ Some asked → S.files shelf.old ≡ Some fs
-        → O.taken out.old ≡ Some old → result ≡ Status.Done → (new : List ℕ) × (O.taken out.new ≡ Some (old ++ new)) × KeepsMeaning asked fs new }
+    ensures keeps { (asked : Request) (fs : Files) → taken (map string_bytes words.now) ≡ Some asked → S.files shelf.old ≡ Some fs
+        → result ≡ Status.Done → (new : List ℕ) × (O.taken out.new ≡ taken_then (O.taken out.old) new) × KeepsMeaning asked fs new }
 
     // A trial is finished wherever base, A and B end. Then the merged program ends too, within as many steps as the three took together, and the
     // rows of the table have what a variant changed and what all three agree on.
     ensures trial_ends { (asked : Request) (fs : Files) → taken (map string_bytes words.now) ≡ Some asked → S.files shelf.old ≡ Some fs → EndsTrial asked fs result }
-    ensures trial { (asked : Request) (fs : Files) (old : List ℕ) → taken (map string_bytes words.now) ≡ Some asked → S.files shelf.old ≡ Some fs
-        → O.taken out.old ≡ Some old → result ≡ Status.Done → (new : List ℕ) × (O.taken out.new ≡ Some (old ++ new)) × KeepsTrial asked fs new }
+    ensures trial { (asked : Request) (fs : Files) → taken (map string_bytes words.now) ≡ Some asked → S.files shelf.old ≡ Some fs
+        → result ≡ Status.Done → (new : List ℕ) × (O.taken out.new ≡ taken_then (O.taken out.old) new) × KeepsTrial asked fs new }
 {
     match read_words(alloc, words) {
         Ok(asked) => run_asked(alloc, asked, shelf, out, err),

@@ -16,8 +16,8 @@ pub returns-in-Ok-clause-ends : goal.returns-in-Ok-clause-ends
 returns-in-Ok-clause-ends g c = Ends-for _ _ _ _ _ _ _ _ (sym c.in-Ok.ensures.taken) c.run_asked.ensures.ends
 
 pub returns-in-Ok-clause-keeps : goal.returns-in-Ok-clause-keeps
-returns-in-Ok-clause-keeps g c asked fs old is told took done =
-    asked_keeps _ asked _ (g.S.Shelf.files c.args.shelf.now) fs _ old _ _ _ _ _ (sym c.in-Ok.ensures.taken) is told took done c.run_asked.ensures.ends
+returns-in-Ok-clause-keeps g c asked fs is told done =
+    asked_keeps _ asked _ (g.S.Shelf.files c.args.shelf.now) fs _ _ _ _ _ _ (sym c.in-Ok.ensures.taken) is told done c.run_asked.ensures.ends
 
 pub returns-in-Ok-clause-complete : goal.returns-in-Ok-clause-complete
 returns-in-Ok-clause-complete g c asked fs is told read written =
@@ -48,8 +48,8 @@ returns-in-Ok-clause-spent g c asked fs is told over =
     (asked_ends _ asked _ (g.S.Shelf.files c.args.shelf.now) fs _ _ _ _ _ _ (sym c.in-Ok.ensures.taken) is told c.run_asked.ensures.ends)
 
 pub returns-in-Ok-clause-trial : goal.returns-in-Ok-clause-trial
-returns-in-Ok-clause-trial g c asked fs old is told took done =
-    done_trial asked fs _ old _ _ _ _ _ done took
+returns-in-Ok-clause-trial g c asked fs is told done =
+    done_trial asked fs _ _ _ _ _ _ done
     (asked_ends _ asked _ (g.S.Shelf.files c.args.shelf.now) fs _ _ _ _ _ _ (sym c.in-Ok.ensures.taken) is told c.run_asked.ensures.ends)
 
 pub returns-in-Ok-clause-trial_ends : goal.returns-in-Ok-clause-trial_ends
