@@ -1,5 +1,5 @@
 -- The affected points of two files' graphs.
-use Rattle.std.proofs.Common.{◌≡◌, ℕ, ◌↔◌, List, [], ◌∷◌, Contains, Option, Err, Result, arith, refl, inr}
+use Rattle.std.proofs.Common.{◌≡◌, ℕ, ◌↔◌, List, [], ◌∷◌, Option, Err, Result, refl, inl, inr}
 use Rattle.hpr_io.specs.Files.{Files}
 use Rattle.hpr_syntax.specs.Tree.{Tree}
 use Rattle.hpr_graph.specs.declared.vertex.Vertex.{Vertex}
@@ -14,15 +14,16 @@ use Rattle.hpr_report.specs.AffectedText.{IsAffectedText, IsOneOf}
 use Rattle.hpr_report.proofs.OneText.{affected_text_same}
 use Rattle.hpr_words.specs.Request.{Text}
 use Rattle.hpr_app.specs.AffectedFiles.{AffectedOutcome, AffectedPoints}
-use Rattle.hpr_app.specs.Answer.{StopIs, Decides, Merges}
+use Rattle.hpr_app.specs.Private.Answer.{StopIs, Decides, Merges}
 use Rattle.hpr_app.specs.Decision.{Decision, prints}
-use Rattle.hpr_app.specs.Files.{IfTold, Fails}
+use Rattle.hpr_app.specs.Private.Files.{Fails}
+use Rattle.hpr_app.specs.Reads.{IfTold, IsReached}
 use Rattle.hpr_engine.specs.Limit.{HasTooManyEdges}
 use Rattle.hpr_app.specs.Integrate.{OnFile}
 use Rattle.hpr_app.specs.declared.answer.Kind.TheVariants.{Done}
 use Rattle.hpr_app.specs.declared.answer.Report.{Report}
 use Rattle.hpr_app.specs.declared.answer.Stop.{Stop}
-use Rattle.hpr_app.proofs.ReadLemmas.{FileOf, fails_from, file_fails, past_file, past_last_file}
+use Rattle.hpr_app.proofs.ReadLemmas.{FileOf, fails_from, file_fails, past_file, past_last_file, spelled}
 
 -- the order of causes
 module _ (files : Option Files) (base a : List ℕ) where
@@ -30,7 +31,7 @@ module _ (files : Option Files) (base a : List ℕ) where
   Reaches r = IfTold files (λ fs. AffectedOutcome fs base a r)
 
   abbrev pub Reads : List ℕ → Type 0
-  Reads file = Contains (base ∷ a ∷ []) file
+  Reads file = IsReached files (base ∷ a ∷ []) file
 
   -- what the outcome is behind the first file
   abbrev AfterBase : Files → Tree → Decision → Type 0
@@ -38,12 +39,12 @@ module _ (files : Option Files) (base a : List ℕ) where
 
   module _ (before now : ℕ) where
     pub base_fails : (s : Stop) → Fails files base before now s → StopIs Reaches Reads before now s
-    base_fails s h = file_fails files Reads before now base AfterBase s (0, omega arith, refl) h
+    base_fails s h = file_fails files Reads before now base AfterBase s (inl refl) h
 
     pub a_fails : (then : ℕ) (p : Tree) (s : Stop) → FileOf files base p → then ≡ before → Fails files a then now s → StopIs Reaches Reads before now s
     a_fails then p s hp same h =
         past_file files Reads before now base AfterBase p (Err s) hp
-        (file_fails files Reads before now a (λ fs q d. AffectedPoints base p a q d) s (1, omega arith, refl) (fails_from files a before then now s same h))
+        (file_fails files Reads before now a (λ fs q d. AffectedPoints base p a q d) s (inr (spelled files base p hp, inl refl)) (fails_from files a before then now s same h))
 
     pub decided : (p q : Tree) (result : Result Report Stop) → FileOf files base p → FileOf files a q → now ≡ before → Merges (AffectedPoints base p a q) result
         → Decides Reaches Reads before now result

@@ -8,7 +8,7 @@ use Rattle.hpr_syntax.specs.Print.{text}
 use Rattle.hpr_syntax.specs.Shape.{IsProgram}
 use Rattle.hpr_syntax.specs.Tree.{Tree}
 use Rattle.hpr_syntax.specs.Values.{Values}
-use Rattle.hpr_graph.specs.Answer.{Answer, interference, printed, no_program, spent, IsAnswer, IsWithoutConflict, issued_of}
+use Rattle.hpr_graph.specs.Answer.{Answer, interference, printed, no_program, spent, IsAnswer, issued_of}
 use Rattle.hpr_graph.specs.Graphs.{Graph}
 use Rattle.hpr_graph.specs.Points.{IsAffected}
 use Rattle.hpr_graph.specs.ProgramGraph.{graph_of}
@@ -212,13 +212,7 @@ request_completes (tag file author) fs old new s d is took o = λ p hp. of_tag o
 request_prints_other : (request : Request) (fs : Files) (old new : Option (List ℕ)) (s : Status) (d : Decision) → s ≡ status_of d → new ≡ taken_then old (text_of d)
     → IsInRange request → RequestOutcome request fs d → PrintsOther request fs old new s
 request_prints_other (integrate base a b tries) fs old new s d is took range o = λ p q r hp hq hr few. other_printed p q r tries old new s fs base a b d o hp hq hr few is took range.0
-request_prints_other (run file words steps trace) fs old new s d is took range o = tt
-request_prints_other (graph file json) fs old new s d is took range o = tt
-request_prints_other (slice file points) fs old new s d is took range o = tt
-request_prints_other (affected base a) fs old new s d is took range o = tt
-request_prints_other (trial base a b words steps) fs old new s d is took range o = tt
-request_prints_other (edit file script author) fs old new s d is took range o = tt
-request_prints_other (tag file author) fs old new s d is took range o = tt
+request_prints_other _ fs old new s d is took range o = tt
 
 module _ (request : Request) (fs : Files) (reads : List ℕ → Type 0) (before now : ℕ) (out err : Change)
     (read : Rose before now → ⊥) (written : Rose out.before out.now → ⊥) where

@@ -1,5 +1,5 @@
 -- The order of causes where a program and then a script are read.
-use Rattle.std.proofs.Common.{◌≡◌, ℕ, List, [], ◌∷◌, Contains, arith, refl, sym, ap, subst, ◌∙◌, Option, Err, Result}
+use Rattle.std.proofs.Common.{◌≡◌, ℕ, List, [], ◌∷◌, refl, sym, ap, inl, inr, subst, ◌∙◌, Option, Err, Result}
 use Rattle.hpr_io.specs.Files.{Files, bytes_of}
 use Rattle.hpr_syntax.specs.Print.{text}
 use Rattle.hpr_syntax.specs.Tree.{Tree}
@@ -8,21 +8,22 @@ use Rattle.hpr_edit.specs.declared.command.EditError.{EditError}
 use Rattle.hpr_refusals.specs.Applied.{Applied, applied, becomes, refused}
 use Rattle.hpr_refusals.specs.Reasons.{command_text}
 use Rattle.hpr_refusals.specs.Refusals.{IsRefusedScript, IsScriptOf}
-use Rattle.hpr_app.specs.Answer.{StopIs, Decides, Merges}
+use Rattle.hpr_app.specs.Private.Answer.{StopIs, Decides, Merges}
 use Rattle.hpr_app.specs.Decision.{Decision, prints, refuses}
 use Rattle.hpr_app.specs.EditFiles.{EditOutcome, OnScript, edit_decision}
-use Rattle.hpr_app.specs.Files.{IfTold, Fails, FailsBy}
+use Rattle.hpr_app.specs.Private.Files.{Fails, FailsBy}
+use Rattle.hpr_app.specs.Reads.{IfTold, IsReached}
 use Rattle.hpr_app.specs.declared.answer.Kind.TheVariants.{Done}
 use Rattle.hpr_app.specs.declared.answer.Report.{Report}
 use Rattle.hpr_app.specs.declared.answer.Stop.{Stop}
-use Rattle.hpr_app.proofs.ReadLemmas.{FileOf, file_fails, past_file, past_last_read, read_fails}
+use Rattle.hpr_app.proofs.ReadLemmas.{FileOf, file_fails, past_file, past_last_read, read_fails, spelled}
 
 module _ (files : Option Files) (file script : List ℕ) (author : ℕ) where
   abbrev pub Reaches : Decision → Type 0
   Reaches r = IfTold files (λ fs. EditOutcome fs file script author r)
 
   abbrev pub Reads : List ℕ → Type 0
-  Reads name = Contains (file ∷ script ∷ []) name
+  Reads name = IsReached files (file ∷ script ∷ []) name
 
   abbrev Edits : Tree → List Command → Decision → Type 0
   Edits p cs r = r ≡ edit_decision script (applied p cs author)
@@ -33,12 +34,12 @@ module _ (files : Option Files) (file script : List ℕ) (author : ℕ) where
 
   module _ (before now : ℕ) where
     pub program_fails : (s : Stop) → Fails files file before now s → StopIs Reaches Reads before now s
-    program_fails s h = file_fails files Reads before now file AfterFile s (0, omega arith, refl) h
+    program_fails s h = file_fails files Reads before now file AfterFile s (inl refl) h
 
     pub script_fails : (p : Tree) (s : Stop) → FileOf files file p → FailsBy (IsRefusedScript script) files script before now s → StopIs Reaches Reads before now s
     script_fails p s hp h =
         past_file files Reads before now file AfterFile p (Err s) hp
-        (read_fails files Reads before now (IsRefusedScript script) IsScriptOf script (λ fs cs r. Edits p cs r) s (1, omega arith, refl) h)
+        (read_fails files Reads before now (IsRefusedScript script) IsScriptOf script (λ fs cs r. Edits p cs r) s (inr (spelled files file p hp, inl refl)) h)
 
     pub decided : (p : Tree) (cs : List Command) (result : Result Report Stop) → FileOf files file p → IfTold files (λ fs. IsScriptOf (bytes_of fs script) cs)
         → now ≡ before → Merges (Edits p cs) result → Decides Reaches Reads before now result

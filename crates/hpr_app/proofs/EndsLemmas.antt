@@ -4,12 +4,13 @@ use Rattle.std.proofs.lemmas.List.{append-nil}
 use Rattle.hpr_io.specs.Taken.{taken_then}
 use Rattle.hpr_io.specs.Files.{Files}
 use Rattle.hpr_words.specs.Request.{Request}
-use Rattle.hpr_app.specs.Outcome.{OutcomeIfTold}
+use Rattle.hpr_app.specs.Asked.{Took}
+use Rattle.hpr_app.specs.Outcome.{RequestOutcome, OutcomeIfTold}
 use Rattle.hpr_app.specs.Reads.{MayReadIfTaken}
 use Rattle.hpr_app.specs.Decision.{Decision, prints, refuses}
-use Rattle.hpr_app.specs.Answer.{Decides}
-use Rattle.hpr_app.specs.Writes.{Writes, PutsAll, PutsPrefix}
-use Rattle.hpr_app.specs.Ends.{Change, Ends, Says, status_of_kind}
+use Rattle.hpr_app.specs.Private.Answer.{Decides}
+use Rattle.hpr_app.specs.Private.Writes.{Writes, PutsAll, PutsPrefix}
+use Rattle.hpr_app.specs.Ends.{Change, Ends, Decided, Says, status_of_kind, status_of, text_of}
 use Rattle.hpr_app.specs.declared.answer.Kind.{Kind}
 use Rattle.hpr_app.specs.declared.answer.Kind.TheVariants as kind
 use Rattle.hpr_app.specs.declared.answer.Report.{Report}
@@ -53,8 +54,8 @@ module _ (P : Decision → Type 0) (reads : List ℕ → Type 0) (before now : �
   ends_of (Err stop.Memory) s d w = at_status s status.Memory w.0 (w.1, w.2)
 
 pub Ends-for : (s : Status) (p q : Option Request) (files : Option Files) (before now : ℕ) (out err : Change)
-    → p ≡ q → Ends s (OutcomeIfTold p files) (MayReadIfTaken p) before now out err → Ends s (OutcomeIfTold q files) (MayReadIfTaken q) before now out err
-Ends-for s p q files before now out err e h = subst (λ r. Ends s (OutcomeIfTold r files) (MayReadIfTaken r) before now out err) e h
+    → p ≡ q → Ends s (OutcomeIfTold p files) (MayReadIfTaken p files) before now out err → Ends s (OutcomeIfTold q files) (MayReadIfTaken q files) before now out err
+Ends-for s p q files before now out err e h = subst (λ r. Ends s (OutcomeIfTold r files) (MayReadIfTaken r files) before now out err) e h
 
 -- the same end, for a request and files that are known by other names
 pub asked_ends : (known request : Request) (taken : Option Request) (files : Option Files) (fs : Files) (reads : List ℕ → Type 0) (s : Status) (before now : ℕ) (out err : Change)
@@ -63,3 +64,19 @@ pub asked_ends : (known request : Request) (taken : Option Request) (files : Opt
 asked_ends known request taken files fs reads s before now out err is asked told h =
     subst (λ o. Ends s (OutcomeIfTold o (Some fs)) reads before now out err) (is ∙ asked)
     (subst (λ f. Ends s (OutcomeIfTold (Some known) f) reads before now out err) told h)
+
+-- what is so of each text of the status Done is so of what the output took
+module _ (P : Request → Files → List ℕ → Type 0)
+    (shown : (request : Request) (fs : Files) (bytes : List ℕ) → RequestOutcome request fs (prints kind.Done bytes) → P request fs bytes)
+    (request : Request) (fs : Files) where
+  decision_took : (r : Decision) (old new : Option (List ℕ)) → status.Done ≡ status_of r → RequestOutcome request fs r → new ≡ taken_then old (text_of r)
+      → Took old new (P request fs)
+  decision_took (prints kind.Done bytes) old new e o took = (bytes, took, shown request fs bytes o)
+  decision_took _ old new e o took = absurd cc
+
+  pub done_took : (reads : List ℕ → Type 0) (s : Status) (before now : ℕ) (out err : Change) → s ≡ status.Done
+      → Ends s (OutcomeIfTold (Some request) (Some fs)) reads before now out err → Took out.old out.new (P request fs)
+  done_took reads s before now out err e h =
+      let d : Decided status.Done (OutcomeIfTold (Some request) (Some fs)) before now out err =
+      subst (λ x. Ends x (OutcomeIfTold (Some request) (Some fs)) reads before now out err) e h in
+      decision_took d.r out.old out.new d.status_is (d.outcome fs refl) d.took

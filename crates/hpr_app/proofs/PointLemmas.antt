@@ -10,7 +10,7 @@ use Rattle.hpr_graph.specs.Numbered.{Numbered, graph_in}
 use Rattle.hpr_build.proofs.Once.{among_map, map_among, map_of_item}
 use Rattle.hpr_words.specs.Request.{Text}
 use Rattle.hpr_app.specs.Points.{IsFirstStranger, IsNamed, point_text}
-use Rattle.hpr_app.specs.ReadsPoints.{AreNumbersFor, AreNumbersIn, RefusesPoint, TakesText}
+use Rattle.hpr_app.specs.Private.ReadsPoints.{AreNumbersFor, AreNumbersIn, RefusesPoint, TakesText}
 use Rattle.hpr_app.specs.declared.answer.Stop.{Stop}
 use Rattle.hpr_app.specs.declared.answer.Stop.TheVariants as stop
 

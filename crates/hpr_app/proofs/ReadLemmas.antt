@@ -4,15 +4,20 @@ use Rattle.hpr_io.specs.Files.{Files, bytes_of}
 use Rattle.hpr_syntax.specs.Tree.{Tree}
 use Rattle.hpr_app.specs.Decision.{Decision, OnRead}
 use Rattle.hpr_app.specs.Integrate.{OnFile}
-use Rattle.hpr_app.specs.Files.{IfTold, Fails, FailsBy}
+use Rattle.hpr_app.specs.Private.Files.{Fails, FailsBy}
+use Rattle.hpr_app.specs.Reads.{IfTold, SpellsProgram}
 use Rattle.hpr_refusals.specs.Refusals.{IsFileOf, IsRefused}
-use Rattle.hpr_app.specs.Answer.{StopIs, Decides, Merges}
+use Rattle.hpr_app.specs.Private.Answer.{StopIs, Decides, Merges}
 use Rattle.hpr_app.specs.declared.answer.Report.{Report}
 use Rattle.hpr_app.specs.declared.answer.Stop.{Stop}
 use Rattle.hpr_app.specs.declared.answer.Stop.TheVariants as stop
 
 abbrev pub FileOf : Option Files → List ℕ → Tree → Type 0
 FileOf files file p = IfTold files (λ fs. IsFileOf (bytes_of fs file) p)
+
+-- a file that spells a known program spells one
+pub spelled : (files : Option Files) (file : List ℕ) (p : Tree) → FileOf files file p → SpellsProgram files file
+spelled files file p h = λ fs told. (p, h fs told)
 
 pub merges_map : (P Q : Decision → Type 0) → ((r : Decision) → P r → Q r) → (result : Result Report Stop) → Merges P result → Merges Q result
 merges_map P Q f (Ok report) h = f _ h

@@ -1,4 +1,4 @@
--- The calls of `integrate` that print no program.
+-- The calls that print no program: what the status tells.
 use Rattle.std.proofs.Common.{◌≡◌, ℕ, Bool, true, false, List, refl, ap, ◌∙◌, subst, inl, inr, ◌⊎◌, Some, Ok, Err, Result}
 use Rattle.hpr_io.specs.Counts.{Rose}
 use Rattle.hpr_io.specs.Files.{Files, bytes_of}
@@ -7,50 +7,50 @@ use Rattle.hpr_syntax.specs.Grammar.{untagged}
 use Rattle.hpr_syntax.specs.Print.{text}
 use Rattle.hpr_syntax.specs.Run.{Outcome, ends, faults, more}
 use Rattle.hpr_syntax.specs.Run as means
+use Rattle.hpr_syntax.specs.Shape.{IsProgram}
 use Rattle.hpr_syntax.specs.Tree.{Tree}
 use Rattle.hpr_syntax.specs.Values.{Values}
 use Rattle.hpr_graph.specs.declared.conflict.Conflict.{Conflict}
-use Rattle.hpr_graph.specs.Answer.{Answer, interference, printed, no_program, spent}
+use Rattle.hpr_graph.specs.declared.conflict.Side.{Side}
+use Rattle.hpr_graph.specs.declared.vertex.Vertex.{Vertex}
+use Rattle.hpr_graph.specs.Conflicts.{IsConflictAt, graph_on}
+use Rattle.hpr_graph.specs.Answer.{Answer, interference, printed, no_program, spent, IsAnswer, IsWithoutConflict, merged_of}
 use Rattle.hpr_graph.specs.Graphs.{Graph}
 use Rattle.hpr_graph.specs.ProgramGraph.{graph_of}
 use Rattle.hpr_engine.specs.Limit.{AreInLimit, HasTooManyEdges}
+use Rattle.hpr_engine.proofs.PrintedKeeps.{sides_kept}
 use Rattle.hpr_report.specs.ConflictsText.{conflicts_text}
 use Rattle.hpr_words.specs.Request.{Request, Text, integrate, run, graph, slice, affected, trial, edit, tag}
 use Rattle.hpr_app.specs.Decision.{Decision, OnRead, Prints, prints, refuses}
 use Rattle.hpr_app.specs.Ends.{Change, Ends, Decided, status_of, text_of}
 use Rattle.hpr_app.specs.Graphs.{OnGraph}
-use Rattle.hpr_app.specs.Integrate.{OnFile, OnFiles, OnGraphs, report}
+use Rattle.hpr_app.specs.Integrate.{OnFile, OnFiles, OnGraphs, report, IsReported, Integrated, no_program_text, spent_text}
 use Rattle.hpr_app.specs.Outcome.{RequestOutcome, OutcomeIfTold}
 use Rattle.hpr_app.specs.Points.{OnPoints}
 use Rattle.hpr_refusals.specs.Applied as made
 use Rattle.hpr_refusals.specs.Refusals.{IsFileIn, IsFileOf, IsRefused, IsRefusedIn, IsRefusedScript, IsScriptOf}
 use Rattle.hpr_app.specs.EditFiles.{edit_decision}
-use Rattle.hpr_app.specs.Reports.{HasAnswer, IsInterference}
+use Rattle.hpr_app.specs.Reports.{HasAnswer, HasConflict, IsInterference, tries_of}
 use Rattle.hpr_app.specs.RunFile.{OnState, kind_of}
 use Rattle.hpr_app.specs.States.{RefusedWord, states_of}
-use Rattle.hpr_app.specs.TrialFiles.{IsTrialBy, ShowsIf, Tried, have_ended, steps_together, trial_tries}
+use Rattle.hpr_app.specs.TrialFiles.{IsTrialBy, IsTried, ShowsIf, Tried, have_ended, steps_together, trial_tries}
 use Rattle.hpr_app.specs.declared.answer.Kind.TheVariants as kind
 use Rattle.hpr_app.specs.declared.status.Status.{Status}
 use Rattle.hpr_app.specs.declared.status.Status.TheVariants as status
-use Rattle.hpr_app.proofs.Completeness.{settled}
+use Rattle.hpr_app.proofs.Completeness.{settled, of_programs, of_program_graphs}
 use Rattle.hpr_app.proofs.Once.{one_interference}
-use Rattle.hpr_app.proofs.VersionLemmas.{on_state}
+use Rattle.hpr_app.proofs.VersionLemmas.{on_state, of_state}
 
 -- an answer of the files is reported
 answer_outcome : (request : Request) (fs : Files) (cs : List Conflict) → HasAnswer request fs (interference cs)
     → RequestOutcome request fs (prints kind.Interference (conflicts_text cs))
 answer_outcome (integrate base a b tries) fs cs h =
     inr (h.p, h.base_is, inr (h.q, h.a_is, inr (h.r, h.b_is, inr (h.within.0, inr (h.within.1, inr (h.within.2, (interference cs, h.answer, refl)))))))
-answer_outcome (run file words steps trace) fs cs h = absurd h
-answer_outcome (graph file json) fs cs h = absurd h
-answer_outcome (slice file points) fs cs h = absurd h
-answer_outcome (affected base a) fs cs h = absurd h
-answer_outcome (edit file script author) fs cs h = absurd h
-answer_outcome (tag file author) fs cs h = absurd h
 answer_outcome (trial base a b words steps) fs cs (state, told, h) =
     let d = prints kind.Interference (conflicts_text cs) in
     on_state (states_of words) state told (λ t d. OnFiles fs base a b (λ p q r. Tried base p a q b r t steps d) d) d
     (inr (h.p, h.base_is, inr (h.q, h.a_is, inr (h.r, h.b_is, inr (h.within.0, inr (h.within.1, inr (h.within.2, (interference cs, h.answer, refl))))))))
+answer_outcome _ fs cs h = absurd h
 
 -- the statuses that only an answer without a program has
 abbrev pub IsReport : Status → Type 0
@@ -125,14 +125,7 @@ module _ (fs : Files) (d : Decision) (is : IsReport (status_of d)) where
       ((few, few_too, few_three), h)
 
   abbrev Reports : Request → Type 0
-  Reports (integrate base a b tries) = (x : Answer) × HasAnswer (integrate base a b tries) fs x × (d ≡ report tries x)
-  Reports (run file words steps trace) = ⊥
-  Reports (graph file json) = ⊥
-  Reports (slice file points) = ⊥
-  Reports (affected base a) = ⊥
-  Reports (edit file script author) = ⊥
-  Reports (tag file author) = ⊥
-  Reports (trial base a b words steps) = (x : Answer) × HasAnswer (trial base a b words steps) fs x × (d ≡ report trial_tries x)
+  Reports request = (x : Answer) × HasAnswer request fs x × (d ≡ report (tries_of request) x)
 
   reports : (request : Request) → RequestOutcome request fs d → Reports request
   reports (integrate base a b tries) o =
@@ -186,57 +179,59 @@ spent_of tries (printed m) e = absurd cc
 spent_of tries (no_program n) e = absurd cc
 spent_of tries spent e = refl
 
-module _ (request : Request) (fs : Files) (d : Decision) where
-  shows_interference : status.Interference ≡ status_of d → RequestOutcome request fs d
-      → (cs : List Conflict) × HasAnswer request fs (interference cs) × (d ≡ prints kind.Interference (conflicts_text cs))
-  shows_interference is o = by_request request (reports fs d (subst IsReport is tt) request o)
-    where
-      by_request : (request : Request) → Reports fs d (subst IsReport is tt) request
-          → (cs : List Conflict) × HasAnswer request fs (interference cs) × (d ≡ prints kind.Interference (conflicts_text cs))
-      by_request (integrate base a b tries) (x, has, shown) =
-          let (cs, e) = interference_of tries x (is ∙ ap status_of shown) in
-          (cs, subst (λ (y : Answer). HasAnswer (integrate base a b tries) fs y) e has, shown ∙ ap (report tries) e)
-      by_request (run file words steps trace) h = absurd h
-      by_request (graph file json) h = absurd h
-      by_request (slice file points) h = absurd h
-      by_request (affected base a) h = absurd h
-      by_request (edit file script author) h = absurd h
-      by_request (tag file author) h = absurd h
-      by_request (trial base a b words steps) (x, has, shown) =
-          let (cs, e) = interference_of trial_tries x (is ∙ ap status_of shown) in
-          (cs, subst (λ (y : Answer). HasAnswer (trial base a b words steps) fs y) e has, shown ∙ ap (report trial_tries) e)
+module _ (request : Request) (fs : Files) (d : Decision) (o : RequestOutcome request fs d) where
+  shows_interference : status.Interference ≡ status_of d → (cs : List Conflict) × HasAnswer request fs (interference cs) × (d ≡ prints kind.Interference (conflicts_text cs))
+  shows_interference is =
+      let (x, has, shown) = reports fs d (subst IsReport is tt) request o in
+      let (cs, e) = interference_of (tries_of request) x (is ∙ ap status_of shown) in
+      (cs, subst (λ (y : Answer). HasAnswer request fs y) e has, shown ∙ ap (report (tries_of request)) e)
 
-  shows_no_program : status.NoProgram ≡ status_of d → RequestOutcome request fs d → (n : ℕ) × HasAnswer request fs (no_program n)
-  shows_no_program is o = by_request request (reports fs d (subst IsReport is tt) request o)
-    where
-      by_request : (request : Request) → Reports fs d (subst IsReport is tt) request → (n : ℕ) × HasAnswer request fs (no_program n)
-      by_request (integrate base a b tries) (x, has, shown) =
-          let (n, e) = no_program_of tries x (is ∙ ap status_of shown) in
-          (n, subst (λ (y : Answer). HasAnswer (integrate base a b tries) fs y) e has)
-      by_request (run file words steps trace) h = absurd h
-      by_request (graph file json) h = absurd h
-      by_request (slice file points) h = absurd h
-      by_request (affected base a) h = absurd h
-      by_request (edit file script author) h = absurd h
-      by_request (tag file author) h = absurd h
-      by_request (trial base a b words steps) (x, has, shown) =
-          let (n, e) = no_program_of trial_tries x (is ∙ ap status_of shown) in
-          (n, subst (λ (y : Answer). HasAnswer (trial base a b words steps) fs y) e has)
+  shows_no_program : status.NoProgram ≡ status_of d → (n : ℕ) × HasAnswer request fs (no_program n) × (d ≡ prints kind.NoProgram (no_program_text n))
+  shows_no_program is =
+      let (x, has, shown) = reports fs d (subst IsReport is tt) request o in
+      let (n, e) = no_program_of (tries_of request) x (is ∙ ap status_of shown) in
+      (n, subst (λ (y : Answer). HasAnswer request fs y) e has, shown ∙ ap (report (tries_of request)) e)
 
-  shows_spent : status.Spent ≡ status_of d → RequestOutcome request fs d → HasAnswer request fs spent
-  shows_spent is o = by_request request (reports fs d (subst IsReport is tt) request o)
-    where
-      by_request : (request : Request) → Reports fs d (subst IsReport is tt) request → HasAnswer request fs spent
-      by_request (integrate base a b tries) (x, has, shown) =
-          subst (λ (y : Answer). HasAnswer (integrate base a b tries) fs y) (spent_of tries x (is ∙ ap status_of shown)) has
-      by_request (run file words steps trace) h = absurd h
-      by_request (graph file json) h = absurd h
-      by_request (slice file points) h = absurd h
-      by_request (affected base a) h = absurd h
-      by_request (edit file script author) h = absurd h
-      by_request (tag file author) h = absurd h
-      by_request (trial base a b words steps) (x, has, shown) =
-          subst (λ (y : Answer). HasAnswer (trial base a b words steps) fs y) (spent_of trial_tries x (is ∙ ap status_of shown)) has
+  shows_spent : status.Spent ≡ status_of d → HasAnswer request fs spent × (d ≡ prints kind.Spent (spent_text (tries_of request)))
+  shows_spent is =
+      let (x, has, shown) = reports fs d (subst IsReport is tt) request o in
+      let e = spent_of (tries_of request) x (is ∙ ap status_of shown) in
+      (subst (λ (y : Answer). HasAnswer request fs y) e has, shown ∙ ap (report (tries_of request)) e)
+
+-- where a point is a conflict, the answer is a list of conflicts
+module _ (p q r : Tree) (is_p : IsProgram p) (is_q : IsProgram q) (is_r : IsProgram r) (side : Side) (point : Vertex)
+    (conflict : IsConflictAt (merged_of p q r) (graph_on side (graph_of q) (graph_of r)) (graph_of p) point) where
+  not_free : IsWithoutConflict p q r → ⊥
+  not_free free = sides_kept p q r is_p is_q is_r free (λ kept. conflict.1 (kept side point conflict.0))
+
+  conflicting : (tries : ℕ) (x : Answer) → IsAnswer p q r tries x → (cs : List Conflict) × (x ≡ interference cs)
+  conflicting tries (interference cs) answer = (cs, refl)
+  conflicting tries (printed m) answer = absurd (not_free answer.0)
+  conflicting tries (no_program n) answer = absurd (not_free answer.0)
+  conflicting tries spent answer = absurd (not_free answer.0)
+
+  reported_conflicting : (tries : ℕ) (d : Decision) → IsReported p q r tries d → status_of d ≡ status.Interference
+  reported_conflicting tries d (x, answer, shown) =
+      let (cs, e) = conflicting tries x answer in
+      ap status_of shown ∙ ap (λ y. status_of (report tries y)) e
+
+  tried_conflicting : (state : Values) (steps : ℕ) (d : Decision) → IsTried p q r state steps d → status_of d ≡ status.Interference
+  tried_conflicting state steps d (x, answer, by) =
+      let (cs, e) = conflicting trial_tries x answer in
+      let same : d ≡ report trial_tries (interference cs) = subst (λ (y : Answer). IsTrialBy p q r state steps y d) e by in
+      ap status_of same
+
+conflict_outcome : (request : Request) (fs : Files) (d : Decision) → HasConflict request fs → RequestOutcome request fs d → status_of d ≡ status.Interference
+conflict_outcome (integrate base a b tries) fs d h o =
+    let on_graphs = of_programs fs base a b (λ p q r. Integrated base p a q b r tries d) d h.p h.q h.r o h.base_is h.a_is h.b_is in
+    reported_conflicting h.p h.q h.r h.base_is.program h.a_is.program h.b_is.program h.side h.point h.conflict tries d
+    (of_program_graphs base h.p a h.q b h.r (IsReported h.p h.q h.r tries d) d h.within on_graphs)
+conflict_outcome (trial base a b words steps) fs d (state, told, h) o =
+    let on_files = of_state (states_of words) state told (λ t d. OnFiles fs base a b (λ p q r. Tried base p a q b r t steps d) d) d o in
+    let on_graphs = of_programs fs base a b (λ p q r. Tried base p a q b r state steps d) d h.p h.q h.r on_files h.base_is h.a_is h.b_is in
+    tried_conflicting h.p h.q h.r h.base_is.program h.a_is.program h.b_is.program h.side h.point h.conflict state steps d
+    (of_program_graphs base h.p a h.q b h.r (IsTried h.p h.q h.r state steps d) d h.within on_graphs)
+conflict_outcome _ fs d h o = absurd h
 
 module _ (request : Request) (fs : Files) (reads : List ℕ → Type 0) (before now : ℕ) (out err : Change) where
   abbrev Told : Decision → Type 0
@@ -247,18 +242,22 @@ module _ (request : Request) (fs : Files) (reads : List ℕ → Type 0) (before 
       → (cs : List Conflict) × HasAnswer request fs (interference cs) × IsInterference cs out.old out.new s
   interference_ends s e h =
       let d : Decided status.Interference Told before now out err = subst (λ x. Ends x Told reads before now out err) e h in
-      let (cs, has, shown) = shows_interference request fs d.r d.status_is (d.outcome fs refl) in
+      let (cs, has, shown) = shows_interference request fs d.r (d.outcome fs refl) d.status_is in
       (cs, has, (e, d.took ∙ ap (λ r. taken_then out.old (text_of r)) shown))
 
-  pub no_program_ends : (s : Status) → s ≡ status.NoProgram → Ends s Told reads before now out err → (n : ℕ) × HasAnswer request fs (no_program n)
+  pub no_program_ends : (s : Status) → s ≡ status.NoProgram → Ends s Told reads before now out err
+      → (n : ℕ) × HasAnswer request fs (no_program n) × (out.new ≡ taken_then out.old (no_program_text n))
   no_program_ends s e h =
       let d : Decided status.NoProgram Told before now out err = subst (λ x. Ends x Told reads before now out err) e h in
-      shows_no_program request fs d.r d.status_is (d.outcome fs refl)
+      let (n, has, shown) = shows_no_program request fs d.r (d.outcome fs refl) d.status_is in
+      (n, has, d.took ∙ ap (λ r. taken_then out.old (text_of r)) shown)
 
-  pub spent_ends : (s : Status) → s ≡ status.Spent → Ends s Told reads before now out err → HasAnswer request fs spent
+  pub spent_ends : (s : Status) → s ≡ status.Spent → Ends s Told reads before now out err
+      → HasAnswer request fs spent × (out.new ≡ taken_then out.old (spent_text (tries_of request)))
   spent_ends s e h =
       let d : Decided status.Spent Told before now out err = subst (λ x. Ends x Told reads before now out err) e h in
-      shows_spent request fs d.r d.status_is (d.outcome fs refl)
+      let (has, shown) = shows_spent request fs d.r (d.outcome fs refl) d.status_is in
+      (has, d.took ∙ ap (λ r. taken_then out.old (text_of r)) shown)
 
   -- and comes wherever it has
   pub interferes_ends : (cs : List Conflict) → HasAnswer request fs (interference cs) → (Rose before now → ⊥) → (Rose out.before out.now → ⊥) → (s : Status)
@@ -267,3 +266,10 @@ module _ (request : Request) (fs : Files) (reads : List ℕ → Type 0) (before 
       settled request fs reads before now out err read written (λ s. IsInterference cs out.old out.new s)
       (λ s d. let same : d.r ≡ prints kind.Interference (conflicts_text cs) = one_interference request fs d.r cs (d.outcome fs refl) (answer_outcome request fs cs has) in
       (d.status_is ∙ ap status_of same, d.took ∙ ap (λ r. taken_then out.old (text_of r)) same))
+
+  -- so it does wherever a point is a conflict
+  pub conflict_ends : HasConflict request fs → (Rose before now → ⊥) → (Rose out.before out.now → ⊥) → (s : Status) → Ends s Told reads before now out err
+      → (s ≡ status.Memory) ⊎ (s ≡ status.Interference)
+  conflict_ends has read written =
+      settled request fs reads before now out err read written (λ s. s ≡ status.Interference)
+      (λ s d. d.status_is ∙ conflict_outcome request fs d.r has (d.outcome fs refl))

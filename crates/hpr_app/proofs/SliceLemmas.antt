@@ -12,11 +12,11 @@ use Rattle.hpr_slice.specs.Vertices.{IsOneOf}
 use Rattle.hpr_report.specs.GraphTexts.{IsGraphText}
 use Rattle.hpr_report.proofs.OneText.{graph_text_same}
 use Rattle.hpr_words.specs.Request.{Text}
-use Rattle.hpr_app.specs.Answer.{Merges}
+use Rattle.hpr_app.specs.Private.Answer.{Merges}
 use Rattle.hpr_app.specs.Decision.{prints, refuses}
 use Rattle.hpr_engine.specs.Limit.{HasTooManyEdges}
 use Rattle.hpr_app.specs.Points.{IsNamed, IsPoint}
-use Rattle.hpr_app.specs.ReadsPoints.{AreNumbersFor, RefusesPoint}
+use Rattle.hpr_app.specs.Private.ReadsPoints.{AreNumbersFor, RefusesPoint}
 use Rattle.hpr_app.specs.SliceFile.{Sliced}
 use Rattle.hpr_app.specs.declared.answer.Kind.TheVariants.{Done}
 use Rattle.hpr_app.specs.declared.answer.Stop.{Stop}

@@ -12,9 +12,9 @@ use Rattle.hpr_engine.proofs.OneAnswer.{one_answer}
 use Rattle.hpr_report.specs.TableText.{IsSingleValued}
 use Rattle.hpr_report.proofs.OneTable.{one_table_text, ended_single_valued}
 use Rattle.hpr_words.specs.Request.{Text}
-use Rattle.hpr_app.specs.Answer.{Decides}
+use Rattle.hpr_app.specs.Private.Answer.{Decides}
 use Rattle.hpr_app.specs.Decision.{Decision, prints}
-use Rattle.hpr_app.specs.Files.{IfTold}
+use Rattle.hpr_app.specs.Reads.{IfTold}
 use Rattle.hpr_app.specs.Integrate.{OnFiles, no_program_text, report, spent_text}
 use Rattle.hpr_app.specs.Outcome.{AgreeButForBudget, HasSearched}
 use Rattle.hpr_app.specs.States.{states_of}

@@ -1,7 +1,6 @@
 -- What a finished trial shows.
-use Rattle.std.proofs.Common.{◌≡◌, ℕ, ◌+◌, Bool, true, ◌&&◌, List, ◌++◌, Ok, refl, ap, ap₂, ◌∙◌, subst, inl, inr, Option, Some, map, codes}
+use Rattle.std.proofs.Common.{◌≡◌, ℕ, ◌+◌, Bool, true, ◌&&◌, List, ◌++◌, Ok, refl, ap, ap₂, ◌∙◌, subst, inl, inr, Some, map, codes}
 use Rattle.hpr_io.specs.Files.{Files, bytes_of}
-use Rattle.hpr_io.specs.Taken.{taken_then}
 use Rattle.hpr_syntax.specs.Grammar.{tagged}
 use Rattle.hpr_syntax.specs.Meaning.{Ends}
 use Rattle.hpr_syntax.specs.Run.{FinalValues, Outcome, ends, faults, more}
@@ -15,8 +14,8 @@ use Rattle.hpr_engine.proofs.PrintedKeeps.{printed_keeps}
 use Rattle.hpr_report.specs.GraphTexts.{on_lines}
 use Rattle.hpr_report.specs.TableText.{Row, AreRows, table_line}
 use Rattle.hpr_report.proofs.OneTable.{kept_in_rows}
-use Rattle.hpr_words.specs.Request.{Request, Text, integrate, run, graph, slice, affected, trial, edit, tag}
-use Rattle.hpr_app.specs.Decision.{Decision, prints, refuses, usage}
+use Rattle.hpr_words.specs.Request.{Request, Text, trial}
+use Rattle.hpr_app.specs.Decision.{Decision, prints, refuses}
 use Rattle.hpr_app.specs.Ends as call
 use Rattle.hpr_app.specs.Graphs.{OnGraph}
 use Rattle.hpr_app.specs.Integrate.{OnFile, OnFiles}
@@ -142,78 +141,33 @@ module _ (fs : Files) (d : Decision) (taken : (message : List ℕ) → d ≡ ref
         let (q, hq, on_b) = past_file a _ on_a in
         let (r, hr, on_graphs) = past_file b _ on_b in
         let tried : IsTried p q r state steps d = past_graph b r _ (past_graph a q _ (past_graph base p _ on_graphs)) in
-        of_spelled (bytes_of fs base) (bytes_of fs a) (bytes_of fs b) p q r trial_tries hp hq hr P (f p q r hp.program hq.program hr.program tried)
+        of_spelled (bytes_of fs base) (bytes_of fs a) (bytes_of fs b) p q r hp hq hr P (f p q r hp.program hq.program hr.program tried)
 
 done_is_taken : (bytes message : List ℕ) → prints kind.Done bytes ≡ refuses message → ⊥
 done_is_taken bytes message e = cc
 
-request_keeps : (request : Request) (fs : Files) (bytes : List ℕ) → RequestOutcome request fs (prints kind.Done bytes) → KeepsTrial request fs bytes
-request_keeps (integrate base a b tries) fs bytes o = tt
-request_keeps (run file words steps trace) fs bytes o = tt
-request_keeps (graph file json) fs bytes o = tt
-request_keeps (slice file points) fs bytes o = tt
-request_keeps (affected base a) fs bytes o = tt
-request_keeps (edit file script author) fs bytes o = tt
-request_keeps (tag file author) fs bytes o = tt
-request_keeps (trial base a b words steps) fs bytes o = λ state p q r told sp sq sr.
+pub trial_keeps : (request : Request) (fs : Files) (bytes : List ℕ) → RequestOutcome request fs (prints kind.Done bytes) → KeepsTrial request fs bytes
+trial_keeps (trial base a b words steps) fs bytes o = λ state p q r told sp sq sr.
     of_programs fs (prints kind.Done bytes) (done_is_taken bytes) base a b words steps state told o (λ p q r. IsKeptTrial p q r state steps bytes)
     (λ p q r is_p is_q is_r tried. tried_kept p q r state steps is_p is_q is_r bytes tried) p q r sp sq sr
+trial_keeps _ fs bytes o = tt
 
 request_ends : (request : Request) (fs : Files) (d : Decision) → status.NotEnded ≡ call.status_of d → RequestOutcome request fs d → (s : Status) → (s ≡ status.NotEnded) → EndsTrial request fs s
-request_ends (integrate base a b tries) fs d is o s e = tt
-request_ends (run file words steps trace) fs d is o s e = tt
-request_ends (graph file json) fs d is o s e = tt
-request_ends (slice file points) fs d is o s e = tt
-request_ends (affected base a) fs d is o s e = tt
-request_ends (edit file script author) fs d is o s e = tt
-request_ends (tag file author) fs d is o s e = tt
 request_ends (trial base a b words steps) fs d is o s e = λ state p q r f0 f1 f2 told sp sq sr base_ends a_ends b_ends not_ended.
     of_programs fs d (λ message same. (let no : status.NotEnded ≡ status.Refused = is ∙ ap call.status_of same in cc)) base a b words steps state told o
     (λ p q r. AllEnd p q r state steps f0 f1 f2 → ⊥)
     (λ p q r is_p is_q is_r tried ended. all_finished p q r state steps d is f0 f1 f2 ended tried) p q r sp sq sr (base_ends, a_ends, b_ends)
+request_ends _ fs d is o s e = tt
 
 -- where the status is another, there is nothing to say
 other_ends : (request : Request) (fs : Files) (s : Status) → (s ≡ status.NotEnded → ⊥) → EndsTrial request fs s
-other_ends (integrate base a b tries) fs s other = tt
-other_ends (run file words steps trace) fs s other = tt
-other_ends (graph file json) fs s other = tt
-other_ends (slice file points) fs s other = tt
-other_ends (affected base a) fs s other = tt
-other_ends (edit file script author) fs s other = tt
-other_ends (tag file author) fs s other = tt
 other_ends (trial base a b words steps) fs s other = λ state p q r f0 f1 f2 told sp sq sr base_ends a_ends b_ends. other
-
-abbrev pub KeptTrial : Request → Files → Option (List ℕ) → Option (List ℕ) → Type 0
-KeptTrial request fs taken new = (bytes : List ℕ) × (new ≡ taken_then taken bytes) × KeepsTrial request fs bytes
-
-decision_keeps : (request : Request) (fs : Files) (r : Decision) (taken new : Option (List ℕ)) → status.Done ≡ call.status_of r → RequestOutcome request fs r
-    → new ≡ taken_then taken (call.text_of r) → KeptTrial request fs taken new
-decision_keeps request fs (prints kind.Done bytes) taken new e o took = (bytes, took, request_keeps request fs bytes o)
-decision_keeps request fs (prints kind.Interference bytes) taken new e o took = absurd cc
-decision_keeps request fs (prints kind.NotEnded bytes) taken new e o took = absurd cc
-decision_keeps request fs (refuses message) taken new e o took = absurd cc
-decision_keeps request fs (prints kind.NoProgram bytes) taken new e o took = absurd cc
-decision_keeps request fs (prints kind.Spent bytes) taken new e o took = absurd cc
-decision_keeps request fs usage taken new e o took = absurd cc
+other_ends _ fs s other = tt
 
 module _ (request : Request) (fs : Files) (reads : List ℕ → Type 0) where
   abbrev Told : Decision → Type 0
   Told = OutcomeIfTold (Some request) (Some fs)
 
-  pub done_trial : (s : Status) (before now : ℕ) (out err : call.Change) → s ≡ status.Done
-      → call.Ends s Told reads before now out err → KeptTrial request fs out.old out.new
-  done_trial s before now out err e h =
-      let d : call.Decided status.Done Told before now out err = subst (λ x. call.Ends x Told reads before now out err) e h in
-      decision_keeps request fs d.r out.old out.new d.status_is (d.outcome fs refl) d.took
-
   pub ends_trial : (s : Status) (before now : ℕ) (out err : call.Change) → call.Ends s Told reads before now out err → EndsTrial request fs s
   ends_trial status.NotEnded before now out err h = request_ends request fs h.r h.status_is (h.outcome fs refl) status.NotEnded refl
-  ends_trial status.ReadFault before now out err h = other_ends request fs status.ReadFault (λ e. cc)
-  ends_trial status.WriteFault before now out err h = other_ends request fs status.WriteFault (λ e. cc)
-  ends_trial status.Memory before now out err h = other_ends request fs status.Memory (λ e. cc)
-  ends_trial status.Done before now out err h = other_ends request fs status.Done (λ e. cc)
-  ends_trial status.Interference before now out err h = other_ends request fs status.Interference (λ e. cc)
-  ends_trial status.NoProgram before now out err h = other_ends request fs status.NoProgram (λ e. cc)
-  ends_trial status.Spent before now out err h = other_ends request fs status.Spent (λ e. cc)
-  ends_trial status.Refused before now out err h = other_ends request fs status.Refused (λ e. cc)
-  ends_trial status.Words before now out err h = other_ends request fs status.Words (λ e. cc)
+  ends_trial s before now out err h = other_ends request fs s (λ e. cc)

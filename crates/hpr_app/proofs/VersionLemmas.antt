@@ -1,24 +1,25 @@
 -- The order of causes where three files are read.
-use Rattle.std.proofs.Common.{◌≡◌, ℕ, List, [], ◌∷◌, Contains, arith, refl, sym, subst, inl, inr, Option, Ok, Err, Result}
+use Rattle.std.proofs.Common.{◌≡◌, ℕ, List, [], ◌∷◌, refl, sym, subst, inl, inr, Option, Ok, Err, Result}
 use Rattle.hpr_io.specs.Files.{Files}
 use Rattle.hpr_syntax.specs.Tree.{Tree}
 use Rattle.hpr_syntax.specs.Values.{Values}
-use Rattle.hpr_app.specs.Answer.{StopIs, Decides, Merges}
+use Rattle.hpr_app.specs.Private.Answer.{StopIs, Decides, Merges}
 use Rattle.hpr_app.specs.Decision.{Decision}
-use Rattle.hpr_app.specs.Files.{IfTold, Fails}
+use Rattle.hpr_app.specs.Private.Files.{Fails}
+use Rattle.hpr_app.specs.Reads.{IfTold, IsReached}
 use Rattle.hpr_app.specs.Integrate.{OnFile, OnFiles}
-use Rattle.hpr_app.specs.ReadsFiles.{AreFilesOf, IsRefusedByFiles}
+use Rattle.hpr_app.specs.Private.ReadsFiles.{AreFilesOf, IsRefusedByFiles}
 use Rattle.hpr_app.specs.RunFile.{OnState}
 use Rattle.hpr_app.specs.States.{RefusedWord}
 use Rattle.hpr_app.specs.declared.answer.Report.{Report}
 use Rattle.hpr_app.specs.declared.answer.Stop.{Stop}
 use Rattle.hpr_app.specs.declared.answer.Stop.TheVariants as stop
 use Rattle.hpr_app.specs.declared.versions.Versions.{Versions}
-use Rattle.hpr_app.proofs.ReadLemmas.{FileOf, decides_map, merges_told, fails_from, file_fails, past_file}
+use Rattle.hpr_app.proofs.ReadLemmas.{FileOf, decides_map, merges_told, fails_from, file_fails, past_file, spelled}
 
 module _ (files : Option Files) (base a b : List ℕ) where
   abbrev pub Reads : List ℕ → Type 0
-  Reads file = Contains (base ∷ a ∷ b ∷ []) file
+  Reads file = IsReached files (base ∷ a ∷ b ∷ []) file
 
   abbrev pub Refused : Decision → Type 0
   Refused r = IfTold files (λ fs. IsRefusedByFiles fs base a b r)
@@ -32,18 +33,18 @@ module _ (files : Option Files) (base a b : List ℕ) where
 
   module _ (before now : ℕ) where
     pub base_fails : (s : Stop) → Fails files base before now s → StopIs Refused Reads before now s
-    base_fails s h = file_fails files Reads before now base AfterBase s (0, omega arith, refl) h
+    base_fails s h = file_fails files Reads before now base AfterBase s (inl refl) h
 
     pub a_fails : (then : ℕ) (p : Tree) (s : Stop) → FileOf files base p → then ≡ before → Fails files a then now s → StopIs Refused Reads before now s
     a_fails then p s hp same h =
         past_file files Reads before now base AfterBase p (Err s) hp
-        (file_fails files Reads before now a AfterA s (1, omega arith, refl) (fails_from files a before then now s same h))
+        (file_fails files Reads before now a AfterA s (inr (spelled files base p hp, inl refl)) (fails_from files a before then now s same h))
 
     pub b_fails : (then : ℕ) (p q : Tree) (s : Stop) → FileOf files base p → FileOf files a q → then ≡ before → Fails files b then now s → StopIs Refused Reads before now s
     b_fails then p q s hp hq same h =
         past_file files Reads before now base AfterBase p (Err s) hp
         (past_file files Reads before now a AfterA q (Err s) hq
-        (file_fails files Reads before now b (λ fs r d. ⊥) s (2, omega arith, refl) (fails_from files b before then now s same h)))
+        (file_fails files Reads before now b (λ fs r d. ⊥) s (inr (spelled files base p hp, inr (spelled files a q hq, inl refl))) (fails_from files b before then now s same h)))
 
   -- a refusal of a file decides whatever the programs would
   module _ (next : Tree → Tree → Tree → Decision → Type 0) where

@@ -1,17 +1,19 @@
 -- What a call is sure to do where nothing fails.
 --
 -- DonePrinting P old new s          == the status is Done, and `out` took a text that has P in full
--- Completes base a b tries old new s == the status and the text report an answer; the first program that fits, of the arrangements that may be tried, is
---                                      printed; and the budget is not spent where there are no more arrangements
+-- Completes base a b tries old new s == the status and the text report an answer. Where no variants interfere, the first program that fits, of the
+--                                      arrangements that may be tried, is printed; and the budget is not spent where there are no more arrangements
 -- IsOtherText base a b other bytes  == the text of the variant `other` with its finals ascending and, for each author, the greatest issued number of the three
 -- Runs p state steps trace old new s == the status is that of how the run went, and `out` took its text in full
 -- Tries base a b state steps old new s == the status and the text are those of a decision on the trial of the three programs
 -- RequestCompletes request files .. == that, where no state word is refused, each file of the request is of an accepted length and spells a program, or a
---                                      script that is one of which no command is refused, no graph that the request needs has too many edges, the variants
---                                      don't interfere, and each point is named
+--                                      script that is one of which no command is refused, no graph that the request needs has too many edges, and each
+--                                      point is named
 -- PrintsOther request files ..      == where one variant of an integration is the base and no graph has too many edges, the other one is printed so
+-- UnlessFailed shelf_before .. s P    == where no read and no write failed in the call: P, unless memory ran out
 -- IsRefusedCall message s err       == the status is Refused, and `err` got the message; or memory ran out
 use Rattle.std.specs.Prelude.{◌≡◌, ◌≢◌, ◌≤◌, ◌⊎◌, ℕ, Bool, List, All, Option, Ok, length, take}
+use Rattle.hpr_io.specs.Counts.{Rose}
 use Rattle.hpr_io.specs.Files.{Files, bytes_of}
 use Rattle.hpr_io.specs.Taken.{taken_then}
 use Rattle.hpr_syntax.specs.Grammar.{untagged}
@@ -89,13 +91,10 @@ abbrev pub PrintsOther : Request → Files → Option (List ℕ) → Option (Lis
 PrintsOther (integrate base a b tries) files old new s =
     (p q r : Tree) → IsFileOf (bytes_of files base) p → IsFileOf (bytes_of files a) q → IsFileOf (bytes_of files b) r → AreInLimit p q r
     → (q ≡ p → DonePrinting (IsOtherText p q r r) old new s) × (r ≡ p → DonePrinting (IsOtherText p q r q) old new s)
-PrintsOther (run file states steps trace) files old new s = Unit {0}
-PrintsOther (graph file json) files old new s = Unit {0}
-PrintsOther (slice file points) files old new s = Unit {0}
-PrintsOther (affected base a) files old new s = Unit {0}
-PrintsOther (trial base a b states steps) files old new s = Unit {0}
-PrintsOther (edit file script author) files old new s = Unit {0}
-PrintsOther (tag file author) files old new s = Unit {0}
+PrintsOther _ files old new s = Unit {0}
+
+abbrev pub UnlessFailed : (shelf_before shelf_now out_before out_now : ℕ) → Status → Type 0 → Type 0
+UnlessFailed shelf_before shelf_now out_before out_now s P = ¬ Rose shelf_before shelf_now → ¬ Rose out_before out_now → (s ≡ Memory) ⊎ P
 
 abbrev pub IsRefusedCall : List ℕ → Status → Change → Type 0
 IsRefusedCall message s err = (s ≡ Memory) ⊎ ((s ≡ Refused) × Says message err)

@@ -9,8 +9,6 @@
 -- OnGraphs base p a q b s next r     == for the programs p, q and s of three files: a graph with too many edges refuses its file, in this order; else r is
 --                                       what next says
 -- Integrated base p a q b s tries r  == that, where next is that r reports an answer of their integration
--- file_of which base a b             == the name of the file of this program
--- IsStopped base a b tries stop r    == r is what is decided of an integration that stops so: the refusal of a file, or the report of an answer
 -- IntegrateOutcome files base a b tries r == what is so decided of the programs that three files spell
 use Rattle.std.specs.Prelude.{◌≡◌, ℕ, List, ◌++◌, codes}
 use Rattle.std.specs.Fmt.{decimal}
@@ -18,13 +16,9 @@ use Rattle.hpr_io.specs.Files.{Files, bytes_of}
 use Rattle.hpr_syntax.specs.Tree.{Tree}
 use Rattle.hpr_syntax.specs.Print.{text}
 use Rattle.hpr_graph.specs.Answer.{Answer, interference, printed, no_program, spent, IsAnswer}
-use Rattle.hpr_engine.specs.declared.stop.Stop.{Stop}
-use Rattle.hpr_engine.specs.declared.stop.Stop.TheVariants.{TooManyEdges, Interference, NoProgram, Spent, Memory}
-use Rattle.hpr_engine.specs.declared.stop.Which.{Which}
-use Rattle.hpr_engine.specs.declared.stop.Which.TheVariants.{Base, A, B}
 use Rattle.hpr_report.specs.ConflictsText.{conflicts_text}
-use Rattle.hpr_app.specs.Decision.{Decision, OnRead, prints, refuses}
-use Rattle.hpr_app.specs.Graphs.{OnGraph, too_many_edges}
+use Rattle.hpr_app.specs.Decision.{Decision, OnRead, prints}
+use Rattle.hpr_app.specs.Graphs.{OnGraph}
 use Rattle.hpr_refusals.specs.Refusals.{IsFileOf, IsRefused}
 use Rattle.hpr_app.specs.declared.answer.Kind.TheVariants as kind
 
@@ -54,18 +48,6 @@ OnGraphs base p a q b s next r = OnGraph base p (OnGraph a q (OnGraph b s next r
 
 abbrev pub Integrated : List ℕ → Tree → List ℕ → Tree → List ℕ → Tree → ℕ → Decision → Type 0
 Integrated base p a q b s tries r = OnGraphs base p a q b s (IsReported p q s tries r) r
-
-abbrev pub file_of : Which → List ℕ → List ℕ → List ℕ → List ℕ
-file_of Base base a b = base
-file_of A base a b = a
-file_of B base a b = b
-
-abbrev pub IsStopped : List ℕ → List ℕ → List ℕ → ℕ → Stop → Decision → Type 0
-IsStopped base a b tries (TooManyEdges which) r = r ≡ refuses (too_many_edges (file_of which base a b))
-IsStopped base a b tries (Interference cs) r = r ≡ report tries (interference cs.items)
-IsStopped base a b tries (NoProgram n) r = r ≡ report tries (no_program n)
-IsStopped base a b tries Spent r = r ≡ report tries spent
-IsStopped base a b tries Memory r = ⊥
 
 abbrev pub IntegrateOutcome : Files → List ℕ → List ℕ → List ℕ → ℕ → Decision → Type 0
 IntegrateOutcome files base a b tries r = OnFiles files base a b (λ p q s. Integrated base p a q b s tries r) r

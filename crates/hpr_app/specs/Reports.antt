@@ -1,7 +1,10 @@
 -- The answers of an integration, as the status and the text tell them.
 --
+-- tries_of request              == the budget of tries of its integration
 -- AnswersFiles base a b tries x == the bytes of three files spell programs whose graphs are within the limit, and x is an answer of their integration
 -- HasAnswer request files x     == for `integrate`, and for `trial` where no state word is refused: x is such an answer
+-- ConflictsIn base a b          == the bytes of three files spell programs whose graphs are within the limit, and a point of one side is a conflict
+-- HasConflict request files     == for `integrate`, and for `trial` where no state word is refused: there is such a point
 -- IsInterference cs old new s   == the status is Interference, and `out` took the text of all these conflicts
 use Rattle.std.specs.Prelude.{◌≡◌, ℕ, List, Option, Ok}
 use Rattle.hpr_io.specs.Files.{Files, bytes_of}
@@ -9,15 +12,23 @@ use Rattle.hpr_io.specs.Taken.{taken_then}
 use Rattle.hpr_syntax.specs.Tree.{Tree}
 use Rattle.hpr_syntax.specs.Values.{Values}
 use Rattle.hpr_graph.specs.declared.conflict.Conflict.{Conflict}
-use Rattle.hpr_graph.specs.Answer.{Answer, IsAnswer}
+use Rattle.hpr_graph.specs.declared.conflict.Side.{Side}
+use Rattle.hpr_graph.specs.declared.vertex.Vertex.{Vertex}
+use Rattle.hpr_graph.specs.Answer.{Answer, IsAnswer, merged_of}
+use Rattle.hpr_graph.specs.Conflicts.{IsConflictAt, graph_on}
+use Rattle.hpr_graph.specs.ProgramGraph.{graph_of}
 use Rattle.hpr_engine.specs.Limit.{AreInLimit}
 use Rattle.hpr_report.specs.ConflictsText.{conflicts_text}
-use Rattle.hpr_words.specs.Request.{Request, integrate, run, graph, slice, affected, trial, edit, tag}
+use Rattle.hpr_words.specs.Request.{Request, integrate, trial}
 use Rattle.hpr_refusals.specs.Refusals.{IsFileOf}
 use Rattle.hpr_app.specs.States.{states_of}
 use Rattle.hpr_app.specs.TrialFiles.{trial_tries}
 use Rattle.hpr_app.specs.declared.status.Status.{Status}
 use Rattle.hpr_app.specs.declared.status.Status.TheVariants.{Interference}
+
+abbrev pub tries_of : Request → ℕ
+tries_of (integrate base a b tries) = tries
+tries_of _ = trial_tries
 
 pub record AnswersFiles (base a b : List ℕ) (tries : ℕ) (x : Answer) : Type 0 where
   pub p : Tree
@@ -31,14 +42,27 @@ pub record AnswersFiles (base a b : List ℕ) (tries : ℕ) (x : Answer) : Type 
 
 abbrev pub HasAnswer : Request → Files → Answer → Type 0
 HasAnswer (integrate base a b tries) files x = AnswersFiles (bytes_of files base) (bytes_of files a) (bytes_of files b) tries x
-HasAnswer (run file states steps trace) files x = ⊥
-HasAnswer (graph file json) files x = ⊥
-HasAnswer (slice file points) files x = ⊥
-HasAnswer (affected base a) files x = ⊥
 HasAnswer (trial base a b states steps) files x =
     (state : Values) × (states_of states ≡ Ok state) × AnswersFiles (bytes_of files base) (bytes_of files a) (bytes_of files b) trial_tries x
-HasAnswer (edit file script author) files x = ⊥
-HasAnswer (tag file author) files x = ⊥
+HasAnswer _ files x = ⊥
+
+pub record ConflictsIn (base a b : List ℕ) : Type 0 where
+  pub p : Tree
+  pub q : Tree
+  pub r : Tree
+  pub base_is : IsFileOf base p
+  pub a_is : IsFileOf a q
+  pub b_is : IsFileOf b r
+  pub within : AreInLimit p q r
+  pub side : Side
+  pub point : Vertex
+  pub conflict : IsConflictAt (merged_of p q r) (graph_on side (graph_of q) (graph_of r)) (graph_of p) point
+
+abbrev pub HasConflict : Request → Files → Type 0
+HasConflict (integrate base a b tries) files = ConflictsIn (bytes_of files base) (bytes_of files a) (bytes_of files b)
+HasConflict (trial base a b states steps) files =
+    (state : Values) × (states_of states ≡ Ok state) × ConflictsIn (bytes_of files base) (bytes_of files a) (bytes_of files b)
+HasConflict _ files = ⊥
 
 abbrev pub IsInterference : List Conflict → Option (List ℕ) → Option (List ℕ) → Status → Type 0
 IsInterference cs old new s = (s ≡ Interference) × (new ≡ taken_then old (conflicts_text cs))

@@ -17,7 +17,7 @@ use Rattle.hpr_syntax.specs.Values.{Values}
 use Rattle.hpr_graph.specs.Answer.{IsAnswer, printed}
 use Rattle.hpr_report.specs.GraphTexts.{on_lines}
 use Rattle.hpr_report.specs.TableText.{Row, AreRows, IsKeptIn, table_line}
-use Rattle.hpr_words.specs.Request.{Request, integrate, run, graph, slice, affected, trial, edit, tag}
+use Rattle.hpr_words.specs.Request.{Request, trial}
 use Rattle.hpr_app.specs.States.{states_of}
 use Rattle.hpr_app.specs.TrialFiles.{trial_tries, three_lines, trial_line}
 use Rattle.hpr_app.specs.declared.status.Status.{Status}
@@ -44,26 +44,14 @@ pub record IsKeptTrial (p q s : Tree) (state : Values) (steps : ℕ) (bytes : Li
   pub text : bytes ≡ three_lines (ends base base_steps) (ends a a_steps) (ends b b_steps) ++ trial_line (codes "merged ") (ends merged merged_steps) ++ on_lines (map table_line rows)
 
 abbrev pub KeepsTrial : Request → Files → List ℕ → Type 0
-KeepsTrial (integrate base a b tries) files bytes = Unit {0}
-KeepsTrial (run file states steps trace) files bytes = Unit {0}
-KeepsTrial (graph file json) files bytes = Unit {0}
-KeepsTrial (slice file points) files bytes = Unit {0}
-KeepsTrial (affected base a) files bytes = Unit {0}
 KeepsTrial (trial base a b states steps) files bytes =
     (state : Values) (p q s : Tree) → states_of states ≡ Ok state → Spells tagged (bytes_of files base) p → Spells tagged (bytes_of files a) q → Spells tagged (bytes_of files b) s
     → IsKeptTrial p q s state steps bytes
-KeepsTrial (edit file script author) files bytes = Unit {0}
-KeepsTrial (tag file author) files bytes = Unit {0}
+KeepsTrial _ files bytes = Unit {0}
 
 abbrev pub EndsTrial : Request → Files → Status → Type 0
-EndsTrial (integrate base a b tries) files s = Unit {0}
-EndsTrial (run file states steps trace) files s = Unit {0}
-EndsTrial (graph file json) files s = Unit {0}
-EndsTrial (slice file points) files s = Unit {0}
-EndsTrial (affected base a) files s = Unit {0}
 EndsTrial (trial base a b states steps) files s =
     (state : Values) (p q r : Tree) (f0 f1 f2 : FinalValues) → states_of states ≡ Ok state
     → Spells tagged (bytes_of files base) p → Spells tagged (bytes_of files a) q → Spells tagged (bytes_of files b) r
     → Ends p state steps f0 → Ends q state steps f1 → Ends r state steps f2 → s ≢ NotEnded
-EndsTrial (edit file script author) files s = Unit {0}
-EndsTrial (tag file author) files s = Unit {0}
+EndsTrial _ files s = Unit {0}

@@ -4,7 +4,7 @@ ghost use Rattle.hpr_words.specs.Request.{affected};
 ghost use Rattle.hpr_app.specs.Outcome.{OutcomeIfTold};
 ghost use Rattle.hpr_app.specs.Reads.{MayRead};
 ghost use Rattle.hpr_app.specs.AffectedFiles.{AffectedPoints};
-ghost use Rattle.hpr_app.specs.Answer.{Decides, Merges};
+ghost use Rattle.hpr_app.specs.Private.Answer.{Decides, Merges};
 
 use crate::answer::{Kind, Report, Stop};
 use crate::files::read_program;
@@ -24,7 +24,7 @@ pub fn affected_files<S: Shelf>(
 ) -> Result<Report, Stop>
     requires base { IsTrue (S.serves shelf.old base.now) }
     requires a { IsTrue (S.serves shelf.old a.now) }
-    ensures { Decides (OutcomeIfTold (Some (affected base.now a.now)) (S.files shelf.old)) (MayRead (affected base.now a.now)) (S.faults shelf.old) (S.faults shelf.new) result }
+    ensures { Decides (OutcomeIfTold (Some (affected base.now a.now)) (S.files shelf.old)) (MayRead (affected base.now a.now) (S.files shelf.old)) (S.faults shelf.old) (S.faults shelf.new) result }
 {
     let base_program = read_program(alloc, base, shelf)?;
     let a_program = read_program(alloc, a, shelf)?;

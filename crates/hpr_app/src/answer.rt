@@ -1,6 +1,6 @@
 //! Writes an answer to `out` and `err`.
 ghost use Rattle.std.specs.Prelude.{◌≡◌};
-ghost use Rattle.hpr_app.specs.Writes.{Writes, stop_status, stop_message};
+ghost use Rattle.hpr_app.specs.Private.Writes.{Writes, stop_status, stop_message};
 ghost use Rattle.hpr_app.specs.Ends.{Says};
 
 use crate::status::Status;

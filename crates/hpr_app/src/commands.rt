@@ -4,7 +4,7 @@ ghost use Rattle.hpr_words.specs.Asked.{request};
 ghost use Rattle.hpr_words.specs.Request.{IsInRange};
 ghost use Rattle.hpr_app.specs.Outcome.{OutcomeIfTold};
 ghost use Rattle.hpr_app.specs.Reads.{MayRead, files_of};
-ghost use Rattle.hpr_app.specs.Answer.{Decides};
+ghost use Rattle.hpr_app.specs.Private.Answer.{Decides};
 
 use crate::affected::affected_files;
 use crate::answer::{Report, Stop};
@@ -23,7 +23,7 @@ use std::alloc::Global;
 pub fn decide<S: Shelf>(alloc: Global, asked: Asked<'_>, shelf: &mut S) -> Result<Report, Stop>
     requires serves { All (λ name. IsTrue (S.serves shelf.old name)) (files_of (request asked)) }
     requires in_range { IsInRange (request asked) }
-    ensures { Decides (OutcomeIfTold (Some (request asked.entry)) (S.files shelf.old)) (MayRead (request asked.entry)) (S.faults shelf.old) (S.faults shelf.new) result }
+    ensures { Decides (OutcomeIfTold (Some (request asked.entry)) (S.files shelf.old)) (MayRead (request asked.entry) (S.files shelf.old)) (S.faults shelf.old) (S.faults shelf.new) result }
 {
     match asked {
         Asked::Integrate { base, a, b, tries } => {

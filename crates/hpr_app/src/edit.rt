@@ -5,7 +5,7 @@ ghost use Rattle.hpr_refusals.specs.Applied.{applied};
 ghost use Rattle.hpr_app.specs.EditFiles.{edit_decision};
 ghost use Rattle.hpr_app.specs.Outcome.{OutcomeIfTold};
 ghost use Rattle.hpr_app.specs.Reads.{MayRead};
-ghost use Rattle.hpr_app.specs.Answer.{Decides, Merges};
+ghost use Rattle.hpr_app.specs.Private.Answer.{Decides, Merges};
 
 use crate::answer::{Report, Stop};
 use crate::files::{read_commands, read_program};
@@ -28,7 +28,7 @@ pub fn edit_file<S: Shelf>(
     requires file { IsTrue (S.serves shelf.old file.now) }
     requires script { IsTrue (S.serves shelf.old script.now) }
     requires author { 1 ≤ author }
-    ensures { Decides (OutcomeIfTold (Some (edit file.now script.now author)) (S.files shelf.old)) (MayRead (edit file.now script.now author)) (S.faults shelf.old) (S.faults shelf.new) result }
+    ensures { Decides (OutcomeIfTold (Some (edit file.now script.now author)) (S.files shelf.old)) (MayRead (edit file.now script.now author) (S.files shelf.old)) (S.faults shelf.old) (S.faults shelf.new) result }
 {
     let program = read_program(alloc, file, shelf)?;
     let commands = read_commands(alloc, script, shelf)?;

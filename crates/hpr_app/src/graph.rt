@@ -5,7 +5,7 @@ ghost use Rattle.hpr_words.specs.Request.{graph};
 ghost use Rattle.hpr_app.specs.Outcome.{OutcomeIfTold};
 ghost use Rattle.hpr_app.specs.Reads.{MayRead};
 ghost use Rattle.hpr_app.specs.GraphFile.{Graphed, IsShown};
-ghost use Rattle.hpr_app.specs.Answer.{Decides, Merges};
+ghost use Rattle.hpr_app.specs.Private.Answer.{Decides, Merges};
 
 use crate::answer::{Kind, Report, Stop};
 use crate::files::read_program;
@@ -24,7 +24,7 @@ pub fn graph_file<S: Shelf>(
     shelf: &mut S,
 ) -> Result<Report, Stop>
     requires { IsTrue (S.serves shelf.old file.now) }
-    ensures { Decides (OutcomeIfTold (Some (graph file.now json)) (S.files shelf.old)) (MayRead (graph file.now json)) (S.faults shelf.old) (S.faults shelf.new) result }
+    ensures { Decides (OutcomeIfTold (Some (graph file.now json)) (S.files shelf.old)) (MayRead (graph file.now json) (S.files shelf.old)) (S.faults shelf.old) (S.faults shelf.new) result }
 {
     let program = read_program(alloc, file, shelf)?;
     show_graph(alloc, file, &program, json)

@@ -1,5 +1,5 @@
 //! The graphs of files.
-ghost use Rattle.hpr_app.specs.Graphs.{MakesGraph, RefusesGraph};
+ghost use Rattle.hpr_app.specs.Private.MakesGraph.{MakesGraph, RefusesGraph};
 
 use crate::answer::Stop;
 use hpr_build::{BuildError, graph_of};

@@ -1,10 +1,11 @@
 //! The command `integrate`.
-ghost use Rattle.std.specs.Prelude.{◌≡◌, ◌≤◌, [], ◌∷◌, Contains, IsTrue};
+ghost use Rattle.std.specs.Prelude.{◌≡◌, ◌≤◌, [], ◌∷◌, IsTrue};
 ghost use Rattle.hpr_report.specs.ConflictsText.{conflicts_text};
-ghost use Rattle.hpr_app.specs.Files.{IfTold};
+ghost use Rattle.hpr_app.specs.Reads.{IfTold, IsReached};
 ghost use Rattle.hpr_app.specs.Decision.{prints};
-ghost use Rattle.hpr_app.specs.Integrate.{file_of, no_program_text, spent_text, Integrated, IntegrateOutcome, IsStopped};
-ghost use Rattle.hpr_app.specs.Answer.{Decides, Merges};
+ghost use Rattle.hpr_app.specs.Integrate.{no_program_text, spent_text, Integrated, IntegrateOutcome};
+ghost use Rattle.hpr_app.specs.Private.Stopped.{file_of, IsStopped};
+ghost use Rattle.hpr_app.specs.Private.Answer.{Decides, Merges};
 
 use crate::answer::{Kind, Report, Stop};
 use crate::graphs::refuse_graph;
@@ -31,7 +32,7 @@ pub fn integrate_files<S: Shelf>(
     requires a { IsTrue (S.serves shelf.old a.now) }
     requires b { IsTrue (S.serves shelf.old b.now) }
     requires tries { 1 ≤ tries }
-    ensures { Decides (λ r. IfTold (S.files shelf.old) (λ fs. IntegrateOutcome fs base.now a.now b.now tries r)) (λ file. Contains (base.now ∷ a.now ∷ b.now ∷ []) file) (S.faults shelf.old) (S.faults shelf.new) result }
+    ensures { Decides (λ r. IfTold (S.files shelf.old) (λ fs. IntegrateOutcome fs base.now a.now b.now tries r)) (IsReached (S.files shelf.old) (base.now ∷ a.now ∷ b.now ∷ [])) (S.faults shelf.old) (S.faults shelf.new) result }
 {
     let versions = read_versions(alloc, base, a, b, shelf)?;
     integrate_versions(alloc, base, a, b, &versions, tries)

@@ -23,21 +23,22 @@ mod trial;
 mod versions;
 
 ghost use Rattle.std.specs.Prelude.{◌≡◌, ◌≢◌, ℕ, List, ◌<◌, ◌⊎◌, ◌↔◌, All, None, IsTrue, map, string_bytes};
-ghost use Rattle.hpr_graph.specs.declared.conflict.Conflict.{Conflict};
-ghost use Rattle.hpr_io.specs.Files.{Files};
 ghost use Rattle.hpr_io.specs.Counts.{Rose};
 ghost use Rattle.hpr_io.specs.Taken.{taken_then};
+ghost use Rattle.hpr_graph.specs.declared.conflict.Conflict.{Conflict};
+ghost use Rattle.hpr_graph.specs.Answer.{interference, no_program, spent};
 ghost use Rattle.hpr_words.specs.Asked.{request};
 ghost use Rattle.hpr_words.specs.Plain.{plain};
 ghost use Rattle.hpr_words.specs.Request.{Request, IsInRange};
-ghost use Rattle.hpr_words.specs.Taken.{taken};
+ghost use Rattle.hpr_app.specs.Asked.{Took, WhereAsked, asked_by};
 ghost use Rattle.hpr_app.specs.Reads.{MayRead, MayReadIfTaken, files_of, files_of_taken};
 ghost use Rattle.hpr_app.specs.Outcome.{RequestOutcome, OutcomeIfTold};
 ghost use Rattle.hpr_app.specs.Decision.{refuses};
-ghost use Rattle.hpr_app.specs.Complete.{RequestCompletes, PrintsOther, IsRefusedCall};
-ghost use Rattle.hpr_graph.specs.Answer.{interference, no_program, spent};
-ghost use Rattle.hpr_app.specs.Reports.{HasAnswer, IsInterference};
+ghost use Rattle.hpr_app.specs.Integrate.{no_program_text, spent_text};
+ghost use Rattle.hpr_app.specs.Complete.{RequestCompletes, PrintsOther, UnlessFailed, IsRefusedCall};
+ghost use Rattle.hpr_app.specs.Reports.{HasAnswer, HasConflict, IsInterference, tries_of};
 ghost use Rattle.hpr_app.specs.Theorem.{KeepsMeaning};
+ghost use Rattle.hpr_app.specs.MergedText.{PrintsMerged};
 ghost use Rattle.hpr_app.specs.TrialKeeps.{EndsTrial, KeepsTrial};
 ghost use Rattle.hpr_app.specs.Ends.{Ends};
 
@@ -66,17 +67,17 @@ pub fn hpr<S: Shelf, O: Sink, E: Sink>(
     out: &mut O,
     err: &mut E,
 ) -> Status
-    requires { All (λ name. IsTrue (S.serves shelf.old name)) (files_of_taken (taken (map string_bytes words.now))) }
+    requires { All (λ name. IsTrue (S.serves shelf.old name)) (files_of_taken (asked_by words.now)) }
 
     // Exactly one of four cases holds, by the status.
-    ensures ends { Ends result (OutcomeIfTold (taken (map string_bytes words.now)) (S.files shelf.old))
-        (MayReadIfTaken (taken (map string_bytes words.now)))
+    ensures ends { Ends result (OutcomeIfTold (asked_by words.now) (S.files shelf.old))
+        (MayReadIfTaken (asked_by words.now) (S.files shelf.old))
         (S.faults shelf.old) (S.faults shelf.new)
         (record { before = O.faults out.old; now = O.faults out.new; old = O.taken out.old; new = O.taken out.new })
         (record { before = E.faults err.old; now = E.faults err.new; old = E.taken err.old; new = E.taken err.new }) }
 
     // Each status has its cause, and plain words are a call.
-    ensures words { result ≢ Status.Memory → ((result ≡ Status.Words) ↔ (taken (map string_bytes words.now) ≡ None)) }
+    ensures words { result ≢ Status.Memory → ((result ≡ Status.Words) ↔ (asked_by words.now ≡ None)) }
     ensures plain { (asked : Request) → plain (map string_bytes words.now) ≡ Some asked → result ≢ Status.Words }
     ensures read { result ≡ Status.ReadFault → Rose (S.faults shelf.old) (S.faults shelf.new) }
     ensures write { result ≡ Status.WriteFault → Rose (O.faults out.old) (O.faults out.new) }
@@ -84,44 +85,55 @@ pub fn hpr<S: Shelf, O: Sink, E: Sink>(
     ensures write_grew { O.faults out.old < O.faults out.new → result ≡ Status.WriteFault }
 
     // Where no read and no write failed and nothing is refused, the command does what it is for, if memory was found.
-    ensures complete { (asked : Request) (fs : Files) → taken (map string_bytes words.now) ≡ Some asked → S.files shelf.old ≡ Some fs
-        → ¬ Rose (S.faults shelf.old) (S.faults shelf.new) → ¬ Rose (O.faults out.old) (O.faults out.new)
-        → (result ≡ Status.Memory) ⊎ RequestCompletes asked fs (O.taken out.old) (O.taken out.new) result }
+    ensures complete { WhereAsked words.now (S.files shelf.old) (λ asked files.
+        UnlessFailed (S.faults shelf.old) (S.faults shelf.new) (O.faults out.old) (O.faults out.new) result
+        (RequestCompletes asked files (O.taken out.old) (O.taken out.new) result)) }
 
     // Where one variant is the base, the other one is printed.
-    ensures one_side { (asked : Request) (fs : Files) → taken (map string_bytes words.now) ≡ Some asked → S.files shelf.old ≡ Some fs
-        → ¬ Rose (S.faults shelf.old) (S.faults shelf.new) → ¬ Rose (O.faults out.old) (O.faults out.new)
-        → (result ≡ Status.Memory) ⊎ PrintsOther asked fs (O.taken out.old) (O.taken out.new) result }
+    ensures one_side { WhereAsked words.now (S.files shelf.old) (λ asked files.
+        UnlessFailed (S.faults shelf.old) (S.faults shelf.new) (O.faults out.old) (O.faults out.new) result
+        (PrintsOther asked files (O.taken out.old) (O.taken out.new) result)) }
 
-    // The status is Interference exactly where there are conflicts and no earlier cause holds; `out` then takes the text of all of them.
-    ensures interference { (asked : Request) (fs : Files) → taken (map string_bytes words.now) ≡ Some asked → S.files shelf.old ≡ Some fs
-        → result ≡ Status.Interference → (cs : List Conflict) × HasAnswer asked fs (interference cs) × IsInterference cs (O.taken out.old) (O.taken out.new) result }
-    ensures interferes { (asked : Request) (fs : Files) (cs : List Conflict) → taken (map string_bytes words.now) ≡ Some asked → S.files shelf.old ≡ Some fs
-        → HasAnswer asked fs (interference cs) → ¬ Rose (S.faults shelf.old) (S.faults shelf.new) → ¬ Rose (O.faults out.old) (O.faults out.new)
-        → (result ≡ Status.Memory) ⊎ IsInterference cs (O.taken out.old) (O.taken out.new) result }
+    // The status is Interference exactly where a changed point's slice differs in the merged graph and no earlier cause
+    // holds; `out` then takes the text of all conflicts.
+    ensures conflict { WhereAsked words.now (S.files shelf.old) (λ asked files. HasConflict asked files
+        → UnlessFailed (S.faults shelf.old) (S.faults shelf.new) (O.faults out.old) (O.faults out.new) result
+        (result ≡ Status.Interference)) }
+    ensures interferes { (cs : List Conflict) → WhereAsked words.now (S.files shelf.old) (λ asked files.
+        HasAnswer asked files (interference cs)
+        → UnlessFailed (S.faults shelf.old) (S.faults shelf.new) (O.faults out.old) (O.faults out.new) result
+        (IsInterference cs (O.taken out.old) (O.taken out.new) result)) }
+    ensures interference { WhereAsked words.now (S.files shelf.old) (λ asked files. result ≡ Status.Interference
+        → (cs : List Conflict) × HasAnswer asked files (interference cs)
+        × IsInterference cs (O.taken out.old) (O.taken out.new) result) }
 
-    // NoProgram comes only where no program has the merged graph, and Spent only where none of the arrangements that may be tried has it and there are more.
-    ensures no_program { (asked : Request) (fs : Files) → taken (map string_bytes words.now) ≡ Some asked → S.files shelf.old ≡ Some fs
-        → result ≡ Status.NoProgram → (parts : ℕ) × HasAnswer asked fs (no_program parts) }
-    ensures spent { (asked : Request) (fs : Files) → taken (map string_bytes words.now) ≡ Some asked → S.files shelf.old ≡ Some fs
-        → result ≡ Status.Spent → HasAnswer asked fs spent }
+    // NoProgram comes only where no program has the merged graph, and Spent only where none of the arrangements that may
+    // be tried has it and there are more; `out` then takes the line that says so.
+    ensures no_program { WhereAsked words.now (S.files shelf.old) (λ asked files. result ≡ Status.NoProgram
+        → (parts : ℕ) × HasAnswer asked files (no_program parts)
+        × (O.taken out.new ≡ taken_then (O.taken out.old) (no_program_text parts))) }
+    ensures spent { WhereAsked words.now (S.files shelf.old) (λ asked files. result ≡ Status.Spent
+        → HasAnswer asked files spent × (O.taken out.new ≡ taken_then (O.taken out.old) (spent_text (tries_of asked)))) }
 
     // Where no read failed, a call with a file that is refused gives its message, if memory was found.
-    ensures refused { (asked : Request) (fs : Files) (message : List ℕ) → taken (map string_bytes words.now) ≡ Some asked → S.files shelf.old ≡ Some fs
-        → RequestOutcome asked fs (refuses message) → ¬ Rose (S.faults shelf.old) (S.faults shelf.new)
+    ensures refused { (message : List ℕ) → WhereAsked words.now (S.files shelf.old) (λ asked files.
+        RequestOutcome asked files (refuses message) → ¬ Rose (S.faults shelf.old) (S.faults shelf.new)
         → IsRefusedCall message result
-        (record { before = E.faults err.old; now = E.faults err.new; old = E.taken err.old; new = E.taken err.new }) }
+        (record { before = E.faults err.old; now = E.faults err.new; old = E.taken err.old; new = E.taken err.new })) }
 
-    // The integration theorem: the bytes that `out` took in this call spell a program whose graph is the merged graph, and which keeps the meaning of
-    // both variants.
-    ensures keeps { (asked : Request) (fs : Files) → taken (map string_bytes words.now) ≡ Some asked → S.files shelf.old ≡ Some fs
-        → result ≡ Status.Done → (new : List ℕ) × (O.taken out.new ≡ taken_then (O.taken out.old) new) × KeepsMeaning asked fs new }
+    // The integration theorem: the bytes that `out` took in this call spell a program that keeps the meaning of both variants.
+    ensures keeps { WhereAsked words.now (S.files shelf.old) (λ asked files. result ≡ Status.Done
+        → Took (O.taken out.old) (O.taken out.new) (KeepsMeaning asked files)) }
 
-    // A trial is finished wherever base, A and B end. Then the merged program ends too, within as many steps as the three took together, and the
-    // rows of the table have what a variant changed and what all three agree on.
-    ensures trial_ends { (asked : Request) (fs : Files) → taken (map string_bytes words.now) ≡ Some asked → S.files shelf.old ≡ Some fs → EndsTrial asked fs result }
-    ensures trial { (asked : Request) (fs : Files) → taken (map string_bytes words.now) ≡ Some asked → S.files shelf.old ≡ Some fs
-        → result ≡ Status.Done → (new : List ℕ) × (O.taken out.new ≡ taken_then (O.taken out.old) new) × KeepsTrial asked fs new }
+    // Its graph is the merged graph.
+    ensures merged { WhereAsked words.now (S.files shelf.old) (λ asked files. result ≡ Status.Done
+        → Took (O.taken out.old) (O.taken out.new) (PrintsMerged asked files)) }
+
+    // A trial is finished wherever base, A and B end. Then the merged program ends too, within as many steps as the three
+    // took together, and the rows of the table have what a variant changed and what all three agree on.
+    ensures trial_ends { WhereAsked words.now (S.files shelf.old) (λ asked files. EndsTrial asked files result) }
+    ensures trial { WhereAsked words.now (S.files shelf.old) (λ asked files. result ≡ Status.Done
+        → Took (O.taken out.old) (O.taken out.new) (KeepsTrial asked files)) }
 {
     match read_words(alloc, words) {
         Ok(asked) => run_asked(alloc, asked, shelf, out, err),
@@ -143,7 +155,7 @@ fn run_asked<S: Shelf, O: Sink, E: Sink>(
     requires in_range { IsInRange (request asked) }
     requires serves { All (λ name. IsTrue (S.serves shelf.old name)) (files_of (request asked)) }
     ensures ends { Ends result (OutcomeIfTold (Some (request asked.entry)) (S.files shelf.old))
-        (MayRead (request asked.entry))
+        (MayRead (request asked.entry) (S.files shelf.old))
         (S.faults shelf.old) (S.faults shelf.new)
         (record { before = O.faults out.old; now = O.faults out.new; old = O.taken out.old; new = O.taken out.new })
         (record { before = E.faults err.old; now = E.faults err.new; old = E.taken err.old; new = E.taken err.new }) }

@@ -2,7 +2,7 @@
 ghost use Rattle.std.specs.Prelude.{◌≡◌};
 ghost use Rattle.hpr_syntax.specs.Print.{text};
 ghost use Rattle.hpr_app.specs.Decision.{prints};
-ghost use Rattle.hpr_app.specs.Answer.{Merges};
+ghost use Rattle.hpr_app.specs.Private.Answer.{Merges};
 
 use crate::answer::{Kind, Report, Stop};
 use hpr_print::text_of;

@@ -1,13 +1,12 @@
 //! The command `run`.
-ghost use Rattle.std.specs.Prelude.{◌≡◌, true, IsTrue, IfOk, Some, map};
+ghost use Rattle.std.specs.Prelude.{◌≡◌, true, IsTrue, Some, map};
 ghost use Rattle.hpr_words.specs.Request.{run};
-ghost use Rattle.hpr_syntax.specs.Run as means;
 ghost use Rattle.hpr_report.specs.Texts.{outcome_text};
 ghost use Rattle.hpr_run.specs.Outcomes.{outcome_of};
 ghost use Rattle.hpr_app.specs.Outcome.{OutcomeIfTold};
 ghost use Rattle.hpr_app.specs.Reads.{MayRead};
 ghost use Rattle.hpr_app.specs.RunFile.{Ran, kind_of};
-ghost use Rattle.hpr_app.specs.Answer.{Decides, Merges};
+ghost use Rattle.hpr_app.specs.Private.Answer.{Decides, Merges};
 
 use crate::answer::{Kind, Report, Stop};
 use crate::files::read_program;
@@ -31,7 +30,7 @@ pub fn run_file<S: Shelf>(
     shelf: &mut S,
 ) -> Result<Report, Stop>
     requires { IsTrue (S.serves shelf.old file.now) }
-    ensures { Decides (OutcomeIfTold (Some (run file.now (map (λ w. w.now) words.now) steps trace)) (S.files shelf.old)) (MayRead (run file.now (map (λ w. w.now) words.now) steps trace)) (S.faults shelf.old) (S.faults shelf.new) result }
+    ensures { Decides (OutcomeIfTold (Some (run file.now (map (λ w. w.now) words.now) steps trace)) (S.files shelf.old)) (MayRead (run file.now (map (λ w. w.now) words.now) steps trace) (S.files shelf.old)) (S.faults shelf.old) (S.faults shelf.new) result }
 {
     let state = read_state(alloc, words)?;
     let program = read_program(alloc, file, shelf)?;

@@ -4,7 +4,7 @@ ghost use Rattle.hpr_words.specs.Request.{slice};
 ghost use Rattle.hpr_app.specs.Outcome.{OutcomeIfTold};
 ghost use Rattle.hpr_app.specs.Reads.{MayRead};
 ghost use Rattle.hpr_app.specs.SliceFile.{Sliced};
-ghost use Rattle.hpr_app.specs.Answer.{Decides, Merges};
+ghost use Rattle.hpr_app.specs.Private.Answer.{Decides, Merges};
 
 use crate::answer::{Kind, Report, Stop};
 use crate::files::read_program;
@@ -24,7 +24,7 @@ pub fn slice_file<S: Shelf>(
     shelf: &mut S,
 ) -> Result<Report, Stop>
     requires { IsTrue (S.serves shelf.old file.now) }
-    ensures { Decides (OutcomeIfTold (Some (slice file.now (map (λ w. w.now) points.now))) (S.files shelf.old)) (MayRead (slice file.now (map (λ w. w.now) points.now))) (S.faults shelf.old) (S.faults shelf.new) result }
+    ensures { Decides (OutcomeIfTold (Some (slice file.now (map (λ w. w.now) points.now))) (S.files shelf.old)) (MayRead (slice file.now (map (λ w. w.now) points.now)) (S.files shelf.old)) (S.faults shelf.old) (S.faults shelf.new) result }
 {
     let program = read_program(alloc, file, shelf)?;
     show_slice(alloc, file, &program, points)

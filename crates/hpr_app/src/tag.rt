@@ -3,7 +3,7 @@ ghost use Rattle.std.specs.Prelude.{◌≤◌, IsTrue, Some};
 ghost use Rattle.hpr_words.specs.Request.{tag};
 ghost use Rattle.hpr_app.specs.Outcome.{OutcomeIfTold};
 ghost use Rattle.hpr_app.specs.Reads.{MayRead};
-ghost use Rattle.hpr_app.specs.Answer.{Decides};
+ghost use Rattle.hpr_app.specs.Private.Answer.{Decides};
 
 use crate::answer::{Report, Stop};
 use crate::files::read_text;
@@ -21,7 +21,7 @@ pub fn tag_file<S: Shelf>(
 ) -> Result<Report, Stop>
     requires serves { IsTrue (S.serves shelf.old file.now) }
     requires author { 1 ≤ author }
-    ensures { Decides (OutcomeIfTold (Some (tag file.now author)) (S.files shelf.old)) (MayRead (tag file.now author)) (S.faults shelf.old) (S.faults shelf.new) result }
+    ensures { Decides (OutcomeIfTold (Some (tag file.now author)) (S.files shelf.old)) (MayRead (tag file.now author) (S.files shelf.old)) (S.faults shelf.old) (S.faults shelf.new) result }
 {
     let program = read_text(alloc, file, Mode::Untagged(author), shelf)?;
     print_program(alloc, &program)

@@ -3,7 +3,7 @@ ghost use Rattle.std.specs.Prelude.{◌≡◌, ◌++◌, IfOk, OnOk, codes, flat
 ghost use Rattle.std.specs.Fmt.{signed_decimal};
 ghost use Rattle.hpr_meaning.specs.Items.{item_in};
 ghost use Rattle.hpr_app.specs.TraceText.{comma_turn, turns_text};
-ghost use Rattle.hpr_app.specs.ItemLine.{item_line};
+ghost use Rattle.hpr_app.specs.Private.ItemLine.{item_line};
 
 use hpr_meaning::Instance;
 use hpr_refusals::tag_name;

@@ -1,12 +1,11 @@
 //! The command `trial`.
-ghost use Rattle.std.specs.Prelude.{◌≡◌, ◌≤◌, ◌++◌, ℕ, Bool, List, [], ◌∷◌, Contains, IsTrue, IsOk, IfOk, OnOk, map};
-ghost use Rattle.hpr_syntax.specs.Run as means;
+ghost use Rattle.std.specs.Prelude.{◌≡◌, ◌≤◌, [], ◌∷◌, IsTrue, IsOk, IfOk, map};
 ghost use Rattle.hpr_run.specs.Outcomes.{outcome_of};
 ghost use Rattle.hpr_report.specs.TableText.{IsSingleValued};
-ghost use Rattle.hpr_app.specs.Answer.{Decides, Merges};
-ghost use Rattle.hpr_app.specs.Files.{IfTold};
+ghost use Rattle.hpr_app.specs.Private.Answer.{Decides, Merges};
+ghost use Rattle.hpr_app.specs.Reads.{IfTold, IsReached};
 ghost use Rattle.hpr_app.specs.States.{states_of};
-ghost use Rattle.hpr_app.specs.TrialFiles.{has_ended, have_ended, finals_of, steps_of, steps_together, outcome_line, trial_line, three_lines, IsTrialText, IsTrialOf, Tried, TrialOutcome};
+ghost use Rattle.hpr_app.specs.TrialFiles.{has_ended, finals_of, steps_of, outcome_line, trial_line, three_lines, IsTrialText, IsTrialOf, Tried, TrialOutcome};
 
 use crate::answer::{Kind, Report, Stop};
 use crate::integrate::stopped;
@@ -39,7 +38,7 @@ pub fn trial_files<S: Shelf>(
     requires a { IsTrue (S.serves shelf.old a.now) }
     requires b { IsTrue (S.serves shelf.old b.now) }
     requires steps { steps ≤ 1000000000 }
-    ensures { Decides (λ r. IfTold (S.files shelf.old) (λ fs. TrialOutcome fs base.now a.now b.now (map (λ w. w.now) words.now) steps r)) (λ file. Contains (base.now ∷ a.now ∷ b.now ∷ []) file × IsOk (states_of (map (λ w. w.now) words.now))) (S.faults shelf.old) (S.faults shelf.new) result }
+    ensures { Decides (λ r. IfTold (S.files shelf.old) (λ fs. TrialOutcome fs base.now a.now b.now (map (λ w. w.now) words.now) steps r)) (λ file. IsReached (S.files shelf.old) (base.now ∷ a.now ∷ b.now ∷ []) file × IsOk (states_of (map (λ w. w.now) words.now))) (S.faults shelf.old) (S.faults shelf.new) result }
 {
     let state = read_state(alloc, words)?;
     let versions = read_versions(alloc, base, a, b, shelf)?;

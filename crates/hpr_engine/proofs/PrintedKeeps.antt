@@ -43,7 +43,7 @@ module _ (base a b : Tree) (is : IsProgram base) (is_a : IsProgram a) (is_b : Is
         | inr (e, least) ↦ absurd (no_added side v e affected least)
       ]
 
-  sides_kept : ¬ (¬ KeepsSides base a b)
+  pub sides_kept : ¬ (¬ KeepsSides base a b)
   sides_kept n = listed base (λ lb. listed a (λ la. listed b (λ lbb. merged_listed base a b (λ lm. n (kept_when_listed lb la lbb lm)))))
 
 -- a run is computed, so what can't be refuted of kept meaning is so

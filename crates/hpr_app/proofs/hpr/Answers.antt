@@ -1,11 +1,14 @@
 use Rattle.std.proofs.Common.{All, IsTrue, ap, map, string_bytes, subst, sym, Err}
 use Rattle.hpr_app.specs.Reads.{files_of_taken}
 use Rattle.hpr_app.proofs.Completeness.{asked_completes, asked_prints_other}
-use Rattle.hpr_app.proofs.EndsLemmas.{Ends-for, asked_ends}
-use Rattle.hpr_app.proofs.Reported.{interference_ends, interferes_ends, no_program_ends, spent_ends}
+use Rattle.hpr_app.specs.Theorem.{KeepsMeaning}
+use Rattle.hpr_app.specs.MergedText.{PrintsMerged}
+use Rattle.hpr_app.specs.TrialKeeps.{KeepsTrial}
+use Rattle.hpr_app.proofs.EndsLemmas.{Ends-for, asked_ends, done_took}
+use Rattle.hpr_app.proofs.Reported.{conflict_ends, interference_ends, interferes_ends, no_program_ends, spent_ends}
 use Rattle.hpr_app.proofs.Once.{asked_refused}
-use Rattle.hpr_app.proofs.Theorem.{asked_keeps}
-use Rattle.hpr_app.proofs.TrialTheorem.{done_trial, ends_trial}
+use Rattle.hpr_app.proofs.Theorem.{request_keeps, request_fits}
+use Rattle.hpr_app.proofs.TrialTheorem.{trial_keeps, ends_trial}
 use Rattle.hpr_app.proofs.WordLemmas.{plain_is_taken}
 use Rattle.hpr_app.proofs.hpr.Goals as goal
 
@@ -17,7 +20,13 @@ returns-in-Ok-clause-ends g c = Ends-for _ _ _ _ _ _ _ _ (sym c.in-Ok.ensures.ta
 
 pub returns-in-Ok-clause-keeps : goal.returns-in-Ok-clause-keeps
 returns-in-Ok-clause-keeps g c asked fs is told done =
-    asked_keeps _ asked _ (g.S.Shelf.files c.args.shelf.now) fs _ _ _ _ _ _ (sym c.in-Ok.ensures.taken) is told done c.run_asked.ensures.ends
+    done_took KeepsMeaning request_keeps asked fs _ _ _ _ _ _ done
+    (asked_ends _ asked _ (g.S.Shelf.files c.args.shelf.now) fs _ _ _ _ _ _ (sym c.in-Ok.ensures.taken) is told c.run_asked.ensures.ends)
+
+pub returns-in-Ok-clause-merged : goal.returns-in-Ok-clause-merged
+returns-in-Ok-clause-merged g c asked fs is told done =
+    done_took PrintsMerged request_fits asked fs _ _ _ _ _ _ done
+    (asked_ends _ asked _ (g.S.Shelf.files c.args.shelf.now) fs _ _ _ _ _ _ (sym c.in-Ok.ensures.taken) is told c.run_asked.ensures.ends)
 
 pub returns-in-Ok-clause-complete : goal.returns-in-Ok-clause-complete
 returns-in-Ok-clause-complete g c asked fs is told read written =
@@ -33,8 +42,13 @@ returns-in-Ok-clause-interference g c asked fs is told interfered =
     (asked_ends _ asked _ (g.S.Shelf.files c.args.shelf.now) fs _ _ _ _ _ _ (sym c.in-Ok.ensures.taken) is told c.run_asked.ensures.ends)
 
 pub returns-in-Ok-clause-interferes : goal.returns-in-Ok-clause-interferes
-returns-in-Ok-clause-interferes g c asked fs cs is told interferes read written =
+returns-in-Ok-clause-interferes g c cs asked fs is told interferes read written =
     interferes_ends asked fs _ _ _ _ _ cs interferes read written _
+    (asked_ends _ asked _ (g.S.Shelf.files c.args.shelf.now) fs _ _ _ _ _ _ (sym c.in-Ok.ensures.taken) is told c.run_asked.ensures.ends)
+
+pub returns-in-Ok-clause-conflict : goal.returns-in-Ok-clause-conflict
+returns-in-Ok-clause-conflict g c asked fs is told conflicts read written =
+    conflict_ends asked fs _ _ _ _ _ conflicts read written _
     (asked_ends _ asked _ (g.S.Shelf.files c.args.shelf.now) fs _ _ _ _ _ _ (sym c.in-Ok.ensures.taken) is told c.run_asked.ensures.ends)
 
 pub returns-in-Ok-clause-no_program : goal.returns-in-Ok-clause-no_program
@@ -49,7 +63,7 @@ returns-in-Ok-clause-spent g c asked fs is told over =
 
 pub returns-in-Ok-clause-trial : goal.returns-in-Ok-clause-trial
 returns-in-Ok-clause-trial g c asked fs is told done =
-    done_trial asked fs _ _ _ _ _ _ done
+    done_took KeepsTrial trial_keeps asked fs _ _ _ _ _ _ done
     (asked_ends _ asked _ (g.S.Shelf.files c.args.shelf.now) fs _ _ _ _ _ _ (sym c.in-Ok.ensures.taken) is told c.run_asked.ensures.ends)
 
 pub returns-in-Ok-clause-trial_ends : goal.returns-in-Ok-clause-trial_ends
@@ -58,7 +72,7 @@ returns-in-Ok-clause-trial_ends g c asked fs is told =
     (asked_ends _ asked _ (g.S.Shelf.files c.args.shelf.now) fs _ _ _ _ _ _ (sym c.in-Ok.ensures.taken) is told c.run_asked.ensures.ends)
 
 pub returns-in-Ok-clause-refused : goal.returns-in-Ok-clause-refused
-returns-in-Ok-clause-refused g c asked fs message is told refused read =
+returns-in-Ok-clause-refused g c message asked fs is told refused read =
     asked_refused _ asked _ (g.S.Shelf.files c.args.shelf.now) fs _ message _ _ _ _ _ (sym c.in-Ok.ensures.taken) is told refused read c.run_asked.ensures.ends
 
 pub returns-in-Err-Refused-clause-plain : goal.returns-in-Err-Refused-clause-plain

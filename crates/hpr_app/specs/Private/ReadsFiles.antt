@@ -3,11 +3,11 @@
 -- AreFilesOf files base a b v            == the three files spell these programs
 -- IsRefusedByFiles files base a b r      == r is the refusal of the first of the three files that spells no program
 -- ReadsFiles files base a b before now result == the programs that they spell; or a file is refused; or a read failed, or memory ran out
-use Rattle.std.specs.Prelude.{◌≡◌, ℕ, List, [], ◌∷◌, Contains, Option, Result, Ok, Err}
+use Rattle.std.specs.Prelude.{◌≡◌, ℕ, List, [], ◌∷◌, Option, Result, Ok, Err}
 use Rattle.hpr_io.specs.Files.{Files, bytes_of}
-use Rattle.hpr_app.specs.Answer.{StopIs}
+use Rattle.hpr_app.specs.Private.Answer.{StopIs}
 use Rattle.hpr_app.specs.Decision.{Decision}
-use Rattle.hpr_app.specs.Files.{IfTold}
+use Rattle.hpr_app.specs.Reads.{IfTold, IsReached}
 use Rattle.hpr_app.specs.Integrate.{OnFiles}
 use Rattle.hpr_refusals.specs.Refusals.{IsFileOf}
 use Rattle.hpr_app.specs.declared.answer.Stop.{Stop}
@@ -22,4 +22,4 @@ IsRefusedByFiles files base a b r = OnFiles files base a b (λ p q s. ⊥) r
 abbrev pub ReadsFiles : Option Files → List ℕ → List ℕ → List ℕ → ℕ → ℕ → Result Versions Stop → Type 0
 ReadsFiles files base a b before now (Ok v) = IfTold files (λ fs. AreFilesOf fs base a b v) × (now ≡ before)
 ReadsFiles files base a b before now (Err s) =
-    StopIs (λ r. IfTold files (λ fs. IsRefusedByFiles fs base a b r)) (λ file. Contains (base ∷ a ∷ b ∷ []) file) before now s
+    StopIs (λ r. IfTold files (λ fs. IsRefusedByFiles fs base a b r)) (IsReached files (base ∷ a ∷ b ∷ [])) before now s

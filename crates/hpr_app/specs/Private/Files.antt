@@ -1,6 +1,5 @@
 -- What reading a file comes to.
 --
--- IfTold files P                              == P of the files, for whatever files the shelf tells
 -- FailsBy refused files file before now stop  == the file is refused so; or the read failed, and the message names the file; or memory ran out
 -- ReadsBy refused is files file before now result == what is so of the file's bytes; or as above
 -- IsTooLong file bytes message                == a file with this name and these bytes is refused with this message, for its length
@@ -9,7 +8,7 @@
 -- Fails files file before now stop            == the file spells no program, and is refused so; or as above
 -- ReadsProgram files file before now result   == the program that it spells, with the tag of each part; or as above
 -- ReadsScript files file before now result    == the commands of the script that it spells; or as above
-use Rattle.std.specs.Prelude.{◌≡◌, ℕ, ◌≤◌, ◌<◌, List, length, Option, Some, Result, Ok, Err, Vec, string_bytes}
+use Rattle.std.specs.Prelude.{◌≡◌, ℕ, ◌≤◌, ◌<◌, List, length, Option, Result, Ok, Err, Vec, string_bytes}
 use Rattle.std.specs.Global.{Global}
 use Rattle.hpr_io.specs.Counts.{Rose}
 use Rattle.hpr_io.specs.Files as io
@@ -20,11 +19,9 @@ use Rattle.hpr_refusals.specs.Reasons.{refusal_text}
 use Rattle.hpr_refusals.specs.Refusals.{IsFileIn, IsRefusedIn, IsRefusedScript, IsScriptOf, max_file}
 use Rattle.hpr_refusals.specs.declared.files.Refusal.TheVariants.{Longer}
 use Rattle.hpr_app.specs.Ends.{cannot_read}
+use Rattle.hpr_app.specs.Reads.{IfTold}
 use Rattle.hpr_app.specs.declared.answer.Stop.{Stop}
 use Rattle.hpr_app.specs.declared.answer.Stop.TheVariants as stop
-
-abbrev pub IfTold : Option io.Files → (io.Files → Type 0) → Type 0
-IfTold files P = (fs : io.Files) → files ≡ Some fs → P fs
 
 abbrev pub FailsBy : (List ℕ → List ℕ → Type 0) → Option io.Files → List ℕ → ℕ → ℕ → Stop → Type 0
 FailsBy refused files file before now (stop.Refused message) = IfTold files (λ fs. refused (io.bytes_of fs file) (string_bytes message)) × (now ≡ before)

@@ -1,0 +1,30 @@
+-- The graph of the program that is printed.
+--
+-- HasMergedGraph base a b bytes   == the bytes base, a and b are accepted files that spell three programs, and the bytes spell a program whose graph is
+--                                    their merged graph
+-- PrintsMerged request files bytes == for `integrate`: the bytes are such a text, of the files that it names
+use Rattle.std.specs.Prelude.{ℕ, List}
+use Rattle.hpr_io.specs.Files.{Files, bytes_of}
+use Rattle.hpr_syntax.specs.Tree.{Tree}
+use Rattle.hpr_syntax.specs.Shape.{IsProgram}
+use Rattle.hpr_syntax.specs.Grammar.{tagged}
+use Rattle.hpr_syntax.specs.Spelling.{Spells}
+use Rattle.hpr_graph.specs.Answer.{Fits, merged_of}
+use Rattle.hpr_refusals.specs.Refusals.{IsFileOf}
+use Rattle.hpr_words.specs.Request.{Request, integrate}
+
+pub record HasMergedGraph (base a b bytes : List ℕ) : Type 0 where
+  pub base_program : Tree
+  pub a_program : Tree
+  pub b_program : Tree
+  pub base_is : IsFileOf base base_program
+  pub a_is : IsFileOf a a_program
+  pub b_is : IsFileOf b b_program
+  pub printed : Tree
+  pub program : IsProgram printed
+  pub spelled : Spells tagged bytes printed
+  pub fits : Fits (merged_of base_program a_program b_program) printed
+
+abbrev pub PrintsMerged : Request → Files → List ℕ → Type 0
+PrintsMerged (integrate base a b tries) files bytes = HasMergedGraph (bytes_of files base) (bytes_of files a) (bytes_of files b) bytes
+PrintsMerged _ files bytes = Unit {0}
