@@ -5,14 +5,14 @@
 -- status_of r          == the status of a decision
 -- text_of r            == its text for `out`
 -- message_of r         == its message for `err`, if it has one
--- Says message err     == `err` took a prefix of the message, and all of it where no put failed
+-- Says message err     == `err` took a prefix of the message, all of it where no put failed, and not all of it where one did
 -- Decided s P .. err   == some decision r of P has the status s; no read and no write failed; `out` took the text of r, and `err` the message
--- CutShort P .. err    == a write failed: `out` took a prefix of the text of some decision of P
+-- CutShort P .. err    == a write failed: `out` took a prefix of the text of some decision of P, and not all of it
 -- ReadFailed reads ..  == a read failed: `out` took nothing, and the message names a file that the call reads
 -- Ends s P reads ..    == the call ends with the status s in the one case that s stands for
-use Rattle.std.specs.Prelude.{◌≡◌, ℕ, List, [], ◌++◌, Option, Some, None, codes}
+use Rattle.std.specs.Prelude.{◌≡◌, ◌<◌, ℕ, List, [], ◌++◌, Option, Some, None, codes}
 use Rattle.hpr_io.specs.Counts.{Rose}
-use Rattle.hpr_io.specs.Taken.{taken_then, TookPrefix}
+use Rattle.hpr_io.specs.Taken.{taken_then, TookPrefix, TookStrictPrefix}
 use Rattle.hpr_app.specs.declared.answer.Kind.{Kind}
 use Rattle.hpr_app.specs.declared.answer.Kind.TheVariants as kind
 use Rattle.hpr_app.specs.declared.status.Status.{Status}
@@ -68,6 +68,7 @@ message_of usage = Some usage_text
 pub record Says (message : List ℕ) (err : Change) : Type 0 where
   pub prefix : TookPrefix err.old err.new message
   pub whole : (Rose err.before err.now → ⊥) → err.new ≡ taken_then err.old message
+  pub cut : err.before < err.now → TookStrictPrefix err.old err.new message
 
 abbrev pub SaysIfAny : Option (List ℕ) → Change → Type 0
 SaysIfAny None err = IsUntouched err
@@ -88,7 +89,7 @@ pub record CutShort (P : Decision → Type 0) (shelf_before shelf_now : ℕ) (ou
   pub text : has_text r
   pub shelf : shelf_now ≡ shelf_before
   pub count : Rose out.before out.now
-  pub took : TookPrefix out.old out.new (text_of r)
+  pub took : TookStrictPrefix out.old out.new (text_of r)
   pub says : Says cannot_write err
 
 pub record ReadFailed (reads : List ℕ → Type 0) (shelf_before shelf_now : ℕ) (out err : Change) : Type 0 where

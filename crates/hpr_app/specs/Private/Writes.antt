@@ -3,11 +3,11 @@
 -- stop_status stop  == the status of a stop
 -- stop_message stop == its message for `err`
 -- PutsAll ..        == all of the text was put
--- PutsPrefix ..     == a put failed, and a prefix of the text was put
+-- PutsPrefix ..     == a put failed, and a prefix of the text was put, but not all of it
 -- Writes answer s out err == the answer is written with the status s
 use Rattle.std.specs.Prelude.{◌≡◌, ◌⊎◌, ℕ, List, Result, Ok, Err, string_bytes}
 use Rattle.hpr_io.specs.Counts.{Rose}
-use Rattle.hpr_io.specs.Taken.{taken_then, TookPrefix}
+use Rattle.hpr_io.specs.Taken.{taken_then, TookStrictPrefix}
 use Rattle.hpr_app.specs.Ends.{Change, IsUntouched, Says, cannot_write, no_memory, status_of_kind}
 use Rattle.hpr_app.specs.declared.answer.Report.{Report}
 use Rattle.hpr_app.specs.declared.answer.Stop.{Stop}
@@ -34,7 +34,7 @@ pub record PutsAll (normal : Status) (text : List ℕ) (s : Status) (out err : C
 pub record PutsPrefix (text : List ℕ) (s : Status) (out err : Change) : Type 0 where
   pub status_is : s ≡ status.WriteFault
   pub count : Rose out.before out.now
-  pub took : TookPrefix out.old out.new text
+  pub took : TookStrictPrefix out.old out.new text
   pub says : Says cannot_write err
 
 abbrev pub Writes : Result Report Stop → Status → Change → Change → Type 0
