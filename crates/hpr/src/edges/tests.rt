@@ -7,45 +7,58 @@ use std::io::{ErrorKind, Read, Write};
 use std::test::Fail;
 use std::{fs, io};
 
+// What is fetched of a real file with this name that holds `hello`.
+fn fetched(rt: &HostRuntime, name: &str, most: usize) -> Result<Vec<u8>, Fail> {
+    fs::write(rt, name, "hello")?;
+    let mut shelf = FileShelf::new(rt);
+    let bytes = shelf.fetch(rt.alloc(), name, most);
+    fs::remove_file(rt, name)?;
+    Ok(bytes?)
+}
+
 #[test]
-fn fetches_real_files(rt: HostRuntime) -> Result<(), Fail> {
-    let name = "hpr_fetch_test.tmp";
-    fs::write(&rt, name, "hello")?;
-    let mut shelf = FileShelf::new(&rt);
-    let whole = shelf.fetch(rt.alloc(), name, 9);
-    let front = shelf.fetch(rt.alloc(), name, 2);
-    fs::remove_file(&rt, name)?;
-    assert_eq!(rt; whole?.as_slice(), b"hello".as_slice());
-    assert_eq!(rt; front?.as_slice(), b"he".as_slice());
-    assert_eq!(rt; shelf.faults, 0);
-    assert_eq!(rt;
-        shelf.fetch(rt.alloc(), name, 9).err(),
-        Some(FetchError::Failed)
-    );
-    assert_eq!(rt;
-        shelf.fetch(rt.alloc(), ".", 9).err(),
-        Some(FetchError::Failed)
-    );
-    assert_eq!(rt; shelf.faults, 2);
+fn fetches_a_whole_file(rt: HostRuntime) -> Result<(), Fail> {
+    let bytes = fetched(&rt, "hpr_whole_test.tmp", 9)?;
+    assert_eq!(rt; bytes.as_slice(), b"hello".as_slice());
     Ok(())
 }
 
 #[test]
-fn puts_to_real_files(rt: HostRuntime) -> Result<(), Fail> {
+fn fetches_the_front_of_a_file(rt: HostRuntime) -> Result<(), Fail> {
+    let bytes = fetched(&rt, "hpr_front_test.tmp", 2)?;
+    assert_eq!(rt; bytes.as_slice(), b"he".as_slice());
+    Ok(())
+}
+
+#[test]
+fn counts_failed_fetches(rt: HostRuntime) {
+    let mut shelf = FileShelf::new(&rt);
+    let absent = shelf.fetch(rt.alloc(), "hpr_absent_test.tmp", 9).err();
+    let folder = shelf.fetch(rt.alloc(), ".", 9).err();
+    assert!(rt; absent == Some(FetchError::Failed) && folder == Some(FetchError::Failed));
+    assert_eq!(rt; shelf.faults, 2);
+}
+
+#[test]
+fn puts_to_a_real_file(rt: HostRuntime) -> Result<(), Fail> {
     let name = "hpr_put_test.tmp";
     let mut sink = StdSink::new(fs::create(&rt, name)?);
-    let first = put_all(&mut sink, b"hel");
-    let second = put_all(&mut sink, b"lo");
+    let done = put_all(&mut sink, b"hel").is_ok() && put_all(&mut sink, b"lo").is_ok();
     let text = fs::read_to_string(&rt, name)?;
+    fs::remove_file(&rt, name)?;
+    assert!(rt; done && sink.faults == 0);
+    assert_eq!(rt; text.as_str(), "hello");
+    Ok(())
+}
+
+#[test]
+fn counts_a_failed_put(rt: HostRuntime) -> Result<(), Fail> {
+    let name = "hpr_closed_test.tmp";
+    fs::write(&rt, name, "")?;
     let mut closed = StdSink::new(fs::open(&rt, name)?);
     let refused = closed.put(b"x");
     fs::remove_file(&rt, name)?;
-    assert_eq!(rt; first, Ok(()));
-    assert_eq!(rt; second, Ok(()));
-    assert_eq!(rt; text.as_str(), "hello");
-    assert_eq!(rt; sink.faults, 0);
-    assert_eq!(rt; refused, Err(PutError::Failed));
-    assert_eq!(rt; closed.faults, 1);
+    assert!(rt; refused == Err(PutError::Failed) && closed.faults == 1);
     Ok(())
 }
 
@@ -57,6 +70,10 @@ struct Rough {
 }
 
 impl Rough {
+    fn failing(fails: u32) -> Rough {
+        Rough { calls: 0, fails }
+    }
+
     fn step(&mut self, room: usize) -> io::Result<usize>
         ensures { IfOk result (λ n. n ≤ room) }
     {
@@ -88,19 +105,21 @@ impl Write for Rough {
 }
 
 #[test]
-fn goes_on_after_an_interruption_alone(rt: HostRuntime) -> Result<(), Fail> {
-    let mut reader = Rough {
-        calls: 0,
-        fails: 100,
-    };
-    assert_eq!(rt; read_front(&mut reader, rt.alloc(), 5)?.len(), 5);
-    let mut failing = Rough { calls: 0, fails: 4 };
-    assert_eq!(rt;
-        read_front(&mut failing, rt.alloc(), 5).err(),
-        Some(FetchError::Failed)
-    );
-    let mut sink = StdSink::new(Rough { calls: 0, fails: 4 });
-    assert_eq!(rt; put_all(&mut sink, b"abc"), Err(PutError::Failed));
-    assert_eq!(rt; sink.faults, 1);
+fn reads_on_after_an_interruption(rt: HostRuntime) -> Result<(), Fail> {
+    let bytes = read_front(&mut Rough::failing(100), rt.alloc(), 5)?;
+    assert_eq!(rt; bytes.len(), 5);
     Ok(())
+}
+
+#[test]
+fn stops_at_a_failed_read(rt: HostRuntime) {
+    let cause = read_front(&mut Rough::failing(4), rt.alloc(), 5).err();
+    assert!(rt; cause == Some(FetchError::Failed));
+}
+
+#[test]
+fn stops_at_a_failed_write(rt: HostRuntime) {
+    let mut sink = StdSink::new(Rough::failing(4));
+    let answer = put_all(&mut sink, b"abc");
+    assert!(rt; answer == Err(PutError::Failed) && sink.faults == 1);
 }
