@@ -18,7 +18,7 @@ use std::marker::Model;
 ///
 /// A contract sees the two graphs.
 #[derive(Drop)]
-pub struct Comparison<'a> {
+pub(crate) struct Comparison<'a> {
     sources: Sources<'a>,
     others: Sources<'a>,
     there: OneWay,
@@ -42,7 +42,11 @@ impl<'a> Model for Comparison<'a> {
 impl<'a> Comparison<'a> {
     /// The graph beside the other. Looks each vertex of one up in the other, and sorts the links into
     /// each vertex.
-    pub fn of(alloc: Global, graph: &'a Graph, other: &'a Graph) -> Result<Comparison<'a>, NoMemory>
+    pub(crate) fn of(
+        alloc: Global,
+        graph: &'a Graph,
+        other: &'a Graph,
+    ) -> Result<Comparison<'a>, NoMemory>
         ensures graph { IfOk result (λ c. c.graph ≡ graph.now) }
         ensures other { IfOk result (λ c. c.other ≡ other.now) }
     {
@@ -56,24 +60,24 @@ impl<'a> Comparison<'a> {
 
     /// Whether the other graph has this vertex of the graph too, with the same slice. Looks at each edge
     /// of the two slices a fixed number of times.
-    pub fn is_shared(&self, alloc: Global, at: usize) -> Result<bool, NoMemory>
+    pub(crate) fn is_shared(&self, at: usize) -> Result<bool, NoMemory>
         requires { at < length self.now.graph.vertices }
         ensures { IfOk result (λ shared. (v : Vertex) → slice_get self.now.graph.vertices at ≡ Some v → IsTrue shared ↔ IsShared (graph_in self.now.graph) (graph_in self.now.other) v) }
     {
         match number_at(&self.there.numbers, at) {
-            Some(to) => self.is_same_slice(alloc, at, to),
+            Some(to) => self.is_same_slice(at, to),
             None => Ok(false),
         }
     }
 
     /// Whether the graphs have the same slice at this vertex, whose number in the other graph is `to`.
-    fn is_same_slice(&self, alloc: Global, at: usize, to: usize) -> Result<bool, NoMemory>
+    fn is_same_slice(&self, at: usize, to: usize) -> Result<bool, NoMemory>
         requires at { at < length self.now.graph.vertices }
         requires to { slice_get self.now.other.vertices to ≡ slice_get self.now.graph.vertices at }
         ensures { IfOk result (λ same. (v : Vertex) → slice_get self.now.graph.vertices at ≡ Some v → IsTrue same ↔ Same (slice_at (graph_in self.now.graph) v) (slice_at (graph_in self.now.other) v)) }
     {
-        let marks = self.sources.reaching(alloc, &[at])?;
-        let others = self.others.reaching(alloc, &[to])?;
+        let marks = self.sources.reaching(&[at])?;
+        let others = self.others.reaching(&[to])?;
         if !all_kept(&self.there, &marks, &others) {
             return Ok(false);
         }

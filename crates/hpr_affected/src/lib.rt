@@ -8,7 +8,6 @@ mod lacking;
 mod lists;
 mod points;
 
-pub use comparison::Comparison;
 pub use hpr_graph::{Graph, NoMemory};
 pub use points::{affected, preserved};
 

@@ -20,7 +20,7 @@ pub fn affected(alloc: Global, variant: &Graph, base: &Graph) -> Result<Vec<usiz
     let comparison = Comparison::of(alloc, variant, base)?;
     let mut points = Vec::new(alloc);
     for at in 0..variant.vertex_count() {
-        let shared = comparison.is_shared(alloc, at)?;
+        let shared = comparison.is_shared(at)?;
         push_if(!shared, at, &mut points)?;
     }
     Ok(points)
@@ -35,9 +35,23 @@ pub fn preserved(alloc: Global, base: &Graph, a: &Graph, b: &Graph) -> Result<Ve
 {
     let with_a = Comparison::of(alloc, base, a)?;
     let with_b = Comparison::of(alloc, base, b)?;
+    preserved_in(alloc, base, &with_a, &with_b)
+}
+
+/// The preserved points of a base that stands beside the variants.
+fn preserved_in(
+    alloc: Global,
+    base: &Graph,
+    with_a: &Comparison,
+    with_b: &Comparison,
+) -> Result<Vec<usize>, NoMemory>
+    requires a { with_a.now.graph ≡ base.now }
+    requires b { with_b.now.graph ≡ base.now }
+    ensures { IfOk result (λ points. AreNumbersOf base.now (IsPreserved (graph_in base.now) (graph_in with_a.now.other) (graph_in with_b.now.other)) points.items) }
+{
     let mut points = Vec::new(alloc);
     for at in 0..base.vertex_count() {
-        let kept = is_preserved(alloc, base, at, &with_a, &with_b)?;
+        let kept = is_preserved(base, at, with_a, with_b)?;
         push_if(kept, at, &mut points)?;
     }
     Ok(points)
@@ -45,7 +59,6 @@ pub fn preserved(alloc: Global, base: &Graph, a: &Graph, b: &Graph) -> Result<Ve
 
 /// Whether the vertex of the base with this number is preserved.
 fn is_preserved(
-    alloc: Global,
     base: &Graph,
     at: usize,
     with_a: &Comparison,
@@ -59,11 +72,11 @@ fn is_preserved(
     if is_init(base.vertex(at)) {
         return Ok(false);
     }
-    let in_a = with_a.is_shared(alloc, at)?;
+    let in_a = with_a.is_shared(at)?;
     if !in_a {
         return Ok(false);
     }
-    with_b.is_shared(alloc, at)
+    with_b.is_shared(at)
 }
 
 fn is_init(vertex: &Vertex) -> bool

@@ -62,12 +62,12 @@ impl<'a> Beside<'a> {
     /// The least edge that the merged graph adds to the variant's slice at the vertex with this number and
     /// that ends in a vertex of that slice, or none where there is none. Looks at each edge of the two
     /// slices a fixed number of times, and looks those of the merged graph up among those of the variant.
-    pub(crate) fn added_at(&self, alloc: Global, at: usize) -> Result<Option<Edge>, NoMemory>
+    pub(crate) fn added_at(&self, at: usize) -> Result<Option<Edge>, NoMemory>
         requires { at < length self.now.merged.vertices }
         ensures { IfOk result (λ edge. (v : Vertex) → slice_get self.now.merged.vertices at ≡ Some v → IsLeastAdded (graph_in self.now.merged) (graph_in self.now.own) v edge) }
     {
-        let grown = self.wide.reaching(alloc, &[at])?;
-        let own = self.narrow.reaching(alloc, &[at])?;
+        let grown = self.wide.reaching(&[at])?;
+        let own = self.narrow.reaching(&[at])?;
         match first_added(self.merged, self.variant, &grown, &own) {
             Some((to, link)) => Ok(Some(self.merged.edge(to, link)?)),
             None => Ok(None),

@@ -52,7 +52,7 @@ fn conflicts_in(
     let mut conflicts = Vec::new(alloc);
     for at in 0..wide.vertex_count() {
         let vertex = wide.vertex(at);
-        let edge = edge_at(alloc, variant, points, beside, at, vertex)?;
+        let edge = edge_at(variant, points, beside, at, vertex)?;
         push_conflict(alloc, side, vertex, edge, &mut conflicts)?;
     }
     Ok(conflicts)
@@ -61,7 +61,6 @@ fn conflicts_in(
 /// The least edge that is added at the vertex, which has this number in both graphs, if it is one of the
 /// points.
 fn edge_at(
-    alloc: Global,
     variant: &Graph,
     points: &[usize],
     beside: &Beside,
@@ -76,7 +75,7 @@ fn edge_at(
     if !is_one_of(variant, points, vertex) {
         return Ok(None);
     }
-    beside.added_at(alloc, at)
+    beside.added_at(at)
 }
 
 /// Whether the vertex is one of the graph with these numbers, which ascend.

@@ -11,6 +11,7 @@ use std::marker::Model;
 #[derive(Drop)]
 pub(crate) struct Rows {
     rows: Vec<Vec<usize>>,
+    alloc: Global,
 }
 
 impl Model for Rows {
@@ -42,22 +43,26 @@ impl Digraph for Rows {
 }
 
 impl Rows {
-    pub(crate) fn new(rows: Vec<Vec<usize>>) -> Rows
+    pub(crate) fn new(alloc: Global, rows: Vec<Vec<usize>>) -> Rows
         requires { AreWithin (numbers_of rows.items) }
         ensures { result ≡ numbers_of rows.items }
     {
-        Rows { rows }
+        Rows { rows, alloc }
     }
 
     /// The rows turned round.
-    pub(crate) fn turned(&self, alloc: Global) -> Result<Rows, NoMemory>
+    pub(crate) fn turned(&self) -> Result<Rows, NoMemory>
         ensures { IfOk result (λ turned. AreTurned self.now turned) }
     {
+        let alloc = self.alloc;
         let mut turned = blank_rows(alloc, self.rows.len())?;
         for (at, row) in self.rows.iter().enumerate() {
             push_to_each(&mut turned, row, at)?;
         }
-        Ok(Rows { rows: turned })
+        Ok(Rows {
+            rows: turned,
+            alloc,
+        })
     }
 }
 

@@ -17,7 +17,7 @@ pub fn slice(alloc: Global, graph: &Graph, points: &[usize]) -> Result<Graph, No
     ensures { IfOk result (λ g. Same (graph_in g) (slice_of (graph_in graph.now) (IsOneOf graph.now points.now))) }
 {
     let sources = Sources::of(alloc, graph)?;
-    let keep = sources.reaching(alloc, points)?;
+    let keep = sources.reaching(points)?;
     graph.restrict(&keep)
 }
 
@@ -28,5 +28,5 @@ pub fn forward(alloc: Global, graph: &Graph, points: &[usize]) -> Result<Vec<boo
     requires { All (λ p. p < length graph.now.vertices) points.now }
     ensures { IfOk result (λ marks. MarksExactly graph.now (IsReached (graph_in graph.now) (IsOneOf graph.now points.now)) marks.items) }
 {
-    Sources::of(alloc, graph)?.reached_from(alloc, points)
+    Sources::of(alloc, graph)?.reached_from(points)
 }

@@ -19,6 +19,7 @@ use std::marker::Model;
 pub struct Sources<'a> {
     graph: &'a Graph,
     rows: Rows,
+    alloc: Global,
 }
 
 impl<'a> Model for Sources<'a> {
@@ -46,28 +47,29 @@ impl Sources<'_> {
         }
         Ok(Sources {
             graph,
-            rows: Rows::new(rows),
+            rows: Rows::new(alloc, rows),
+            alloc,
         })
     }
 
     /// Marks the vertices from which control and flow edges lead to one of these, these included: the
     /// vertices of their slice (Reps and Yang 1988). The numbers are those of vertices. Looks at each
     /// control or flow edge into a marked vertex at most once.
-    pub fn reaching(&self, alloc: Global, numbers: &[usize]) -> Result<Vec<bool>, NoMemory>
+    pub fn reaching(&self, numbers: &[usize]) -> Result<Vec<bool>, NoMemory>
         requires { All (λ n. n < length self.now.vertices) numbers.now }
         ensures { IfOk result (λ marks. MarksExactly self.now (ReachesOne (graph_in self.now) (IsOneOf self.now numbers.now)) marks.items) }
     {
-        Ok(reachable(alloc, &self.rows, numbers)?)
+        Ok(reachable(self.alloc, &self.rows, numbers)?)
     }
 
     /// Marks the vertices to which control and flow edges lead from one of these, these included. The
     /// numbers are those of vertices. Looks at each control or flow edge at most twice.
-    pub fn reached_from(&self, alloc: Global, numbers: &[usize]) -> Result<Vec<bool>, NoMemory>
+    pub(crate) fn reached_from(&self, numbers: &[usize]) -> Result<Vec<bool>, NoMemory>
         requires { All (λ n. n < length self.now.vertices) numbers.now }
         ensures { IfOk result (λ marks. MarksExactly self.now (IsReached (graph_in self.now) (IsOneOf self.now numbers.now)) marks.items) }
     {
-        let targets = self.rows.turned(alloc)?;
-        Ok(reachable(alloc, &targets, numbers)?)
+        let targets = self.rows.turned()?;
+        Ok(reachable(self.alloc, &targets, numbers)?)
     }
 }
 

@@ -254,12 +254,12 @@ fn one_look_up_serves_many_searches(rt: HostRuntime) -> Result<(), Fail> {
     let graph = whole(&rt, alloc)?;
     assert!(rt; 6 < graph.vertex_count());
     let sources = Sources::of(alloc, &graph)?;
-    let back = sources.reaching(alloc, &[6])?;
+    let back = sources.reaching(&[6])?;
     let leads_to_x = [
         true, false, false, true, true, true, true, false, true, false,
     ];
     assert_eq!(rt; back.as_slice(), leads_to_x.as_slice());
-    let ahead = sources.reached_from(alloc, &[6])?;
+    let ahead = sources.reached_from(&[6])?;
     let reached_from_x = [
         false, false, false, false, false, false, true, true, false, true,
     ];
