@@ -189,7 +189,7 @@ impl Graph {
     }
 
     /// A copy, with the same numbers.
-    pub fn copy(&self) -> Result<Graph, NoMemory>
+    pub(crate) fn copy(&self) -> Result<Graph, NoMemory>
         ensures { IfOk result (λ g. g ≡ self.now) }
     {
         Ok(Graph {

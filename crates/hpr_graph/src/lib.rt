@@ -22,7 +22,7 @@ pub use edge::{Edge, Kind};
 pub use graph::Graph;
 pub use hpr_syntax::{Content, Name, NoMemory, Tag};
 pub use link::{Link, LinkKind};
-pub use order::{compare_edges, compare_vertices};
+pub use order::compare_vertices;
 pub use vertex::{Vertex, same_vertex};
 
 #[cfg(test)]

@@ -1,8 +1,8 @@
-//! The order of vertices and of edges, in which reports and conflicts name them.
+//! The order of vertices, in which reports and conflicts name them.
 ghost use Rattle.std.specs.Prelude.{◌≡◌};
-ghost use Rattle.hpr_graph.specs.Order.{vertex_cmp, edge_cmp};
+ghost use Rattle.hpr_graph.specs.Order.{vertex_cmp};
 
-use crate::{Edge, Vertex};
+use crate::Vertex;
 use std::cmp::Ordering;
 
 /// How two vertices compare: Entry, then Init by name, then Part by author, serial and content, then
@@ -12,12 +12,4 @@ pub fn compare_vertices(a: &Vertex, b: &Vertex) -> Ordering
     ensures { result ≡ vertex_cmp a.now b.now }
 {
     a.cmp(b)
-}
-
-/// How two edges compare: by target, then by source, then by kind. This is their `Ord`.
-#[tactic(auto, using(crate::proofs::Orders::edge_order))]
-pub fn compare_edges(e: &Edge, f: &Edge) -> Ordering
-    ensures { result ≡ edge_cmp e.now f.now }
-{
-    e.cmp(f)
 }

@@ -1,8 +1,7 @@
 //! A graph put in its order, and its edges.
-use crate::{Edge, Graph, Kind, Link, LinkKind, Vertex, compare_edges};
+use crate::{Edge, Graph, Kind, Link, LinkKind, Vertex};
 use hpr_syntax::{Content, Expr, Literal, Name, Tag};
 use std::alloc::Global;
-use std::cmp::Ordering;
 use std::process::Abort;
 use std::test::Fail;
 
@@ -95,7 +94,7 @@ fn flow_x(alloc: Global) -> Result<Edge, Fail> {
 }
 
 fn is_flow_x(alloc: Global, edge: &Edge) -> Result<bool, Fail> {
-    Ok(compare_edges(edge, &flow_x(alloc)?) == Ordering::Equal)
+    Ok(*edge == flow_x(alloc)?)
 }
 
 #[test]

@@ -2,7 +2,7 @@
 ghost use Rattle.std.specs.Prelude.{◌↔◌, IsTrue, Contains};
 
 use crate::{
-    Edge, Graph, Kind, Link, LinkKind, Vertex, compare_edges, compare_vertices, links, same_vertex,
+    Edge, Graph, Kind, Link, LinkKind, Vertex, compare_vertices, links, same_vertex,
 };
 use hpr_syntax::{Content, Expr, Literal, Name, Tag};
 use std::alloc::Global;
@@ -373,7 +373,7 @@ fn edges_ascend_by_target_source_and_kind(rt: HostRuntime) -> Result<(), Fail> {
     let edges = all_edges(rt.alloc())?;
     for (i, e) in edges.iter().enumerate() {
         for (j, f) in edges.iter().enumerate() {
-            assert_eq!(rt; compare_edges(e, f), i.cmp(&j), "{i} and {j}");
+            assert_eq!(rt; e.cmp(f), i.cmp(&j), "{i} and {j}");
         }
     }
     Ok(())
