@@ -3,7 +3,7 @@ ghost use Rattle.std.specs.Prelude.{◌≡◌, ◌++◌, map, IfOk, OnOk, string
 ghost use Rattle.hpr_report.specs.GraphTexts.{on_lines};
 ghost use Rattle.hpr_report.specs.ConflictsText.{side_word, conflict_text, conflicts_text};
 
-use crate::graphs::{edge_text, put_line, vertex_text};
+use crate::graphs::{bracketed, edge_words, put_line};
 use hpr_graph::{Conflict, NoMemory, Side};
 use std::alloc::Global;
 
@@ -34,8 +34,8 @@ fn conflict_text(alloc: Global, conflict: &Conflict) -> Result<String, NoMemory>
     ensures { IfOk result (λ text. string_bytes text ≡ conflict_text conflict.now) }
 {
     let side = side_word(conflict.side);
-    let point = vertex_text(alloc, &conflict.point)?;
-    let edge = edge_text(alloc, &conflict.edge)?;
+    let point = bracketed(alloc, &conflict.point)?;
+    let edge = edge_words(alloc, &conflict.edge)?;
     Ok(format!(in alloc; "{side} {point}: {edge}")?)
 }
 

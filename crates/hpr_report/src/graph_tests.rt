@@ -351,7 +351,7 @@ fn shows_vertices(rt: HostRuntime) -> Result<(), Fail> {
     let vertices = count_vertices(alloc)?;
     for (vertex, want) in vertices.iter().zip(texts) {
         let text = vertex_text(alloc, vertex)?;
-        assert_eq!(rt; text.as_str(), want);
+        assert_eq!(rt; text.as_slice(), want.as_bytes());
     }
     Ok(())
 }
@@ -371,7 +371,8 @@ fn shows_an_edge(rt: HostRuntime) -> Result<(), Fail> {
     let alloc = rt.alloc();
     for edge in &branch_edges(alloc)? {
         let text = edge_text(alloc, edge)?;
-        assert_eq!(rt; text.as_str(), "control false [1.1 if p] -> [1.3 x := 2]");
+        let want: &[u8] = b"control false [1.1 if p] -> [1.3 x := 2]";
+        assert_eq!(rt; text.as_slice(), want);
     }
     Ok(())
 }

@@ -1,18 +1,25 @@
 //! Vertices, edges and graphs.
 ghost use Rattle.std.specs.Prelude.{◌≡◌, ◌++◌, ◌<◌, length, map, IfOk, OnOk, codes, string_bytes};
-ghost use Rattle.hpr_syntax.specs.Print.{content_text};
+ghost use Rattle.hpr_syntax.specs.Print.{content_text, tag_text};
 ghost use Rattle.hpr_graph.specs.Numbered.{IsLink, graph_in};
 ghost use Rattle.hpr_graph.specs.InOrder.{edge_of, row_edges, edges_of};
 ghost use Rattle.hpr_report.specs.GraphTexts.{vertex_words, vertex_text, edge_text, on_lines, IsGraphText};
 
 use crate::outcome::tag_name;
-use hpr_graph::{Content, Edge, Graph, Kind, Link, NoMemory, Vertex};
+use hpr_graph::{Content, Edge, Graph, Kind, Link, NoMemory, Tag, Vertex};
 use hpr_print::content_text;
 use std::alloc::Global;
 
 /// A vertex in brackets: `[entry]`, `[init NAME]`, `[final NAME]`, and for a part its tag and what it
 /// says, as `[1.2 x := 1]`. It fails only for want of memory. The text is our profile.
-pub fn vertex_text(alloc: Global, vertex: &Vertex) -> Result<String, NoMemory>
+pub fn vertex_text(alloc: Global, vertex: &Vertex) -> Result<Vec<u8>, NoMemory>
+    ensures { IfOk result (λ text. text.items ≡ vertex_text vertex.now) }
+{
+    Ok(bracketed(alloc, vertex)?.into_bytes())
+}
+
+/// A vertex in brackets.
+pub(crate) fn bracketed(alloc: Global, vertex: &Vertex) -> Result<String, NoMemory>
     ensures { IfOk result (λ text. string_bytes text ≡ vertex_text vertex.now) }
 {
     let words = vertex_words(alloc, vertex)?;
@@ -29,16 +36,21 @@ pub(crate) fn vertex_words(alloc: Global, vertex: &Vertex) -> Result<String, NoM
             let name = name.text();
             Ok(format!(in alloc; "init {name}")?)
         }
-        Vertex::Part(tag, content) => {
-            let tag = tag_name(alloc, tag)?;
-            let content = content_words(alloc, content)?;
-            Ok(format!(in alloc; "{tag} {content}")?)
-        }
+        Vertex::Part(tag, content) => part_words(alloc, tag, content),
         Vertex::Final(name) => {
             let name = name.text();
             Ok(format!(in alloc; "final {name}")?)
         }
     }
+}
+
+/// The tag of a part and what it says.
+fn part_words(alloc: Global, tag: &Tag, content: &Content) -> Result<String, NoMemory>
+    ensures { IfOk result (λ text. string_bytes text ≡ tag_text tag.now ++ codes " " ++ content_text content.now) }
+{
+    let tag = tag_name(alloc, tag)?;
+    let content = content_words(alloc, content)?;
+    Ok(format!(in alloc; "{tag} {content}")?)
 }
 
 /// What a part says.
@@ -54,27 +66,42 @@ fn content_words(alloc: Global, content: &Content) -> Result<String, NoMemory>
 /// An edge from its source to its target, each in brackets: `control LABEL FROM -> TO`,
 /// `flow NAME FROM -> TO`, `carried NAME FROM -> TO by LOOP`, `order FROM -> TO for USE`. It fails only
 /// for want of memory. The text is our profile.
-pub fn edge_text(alloc: Global, edge: &Edge) -> Result<String, NoMemory>
+pub fn edge_text(alloc: Global, edge: &Edge) -> Result<Vec<u8>, NoMemory>
+    ensures { IfOk result (λ text. text.items ≡ edge_text edge.now) }
+{
+    Ok(edge_words(alloc, edge)?.into_bytes())
+}
+
+/// An edge from its source to its target.
+pub(crate) fn edge_words(alloc: Global, edge: &Edge) -> Result<String, NoMemory>
     ensures { IfOk result (λ text. string_bytes text ≡ edge_text edge.now) }
 {
-    let from = vertex_text(alloc, &edge.from)?;
-    let to = vertex_text(alloc, &edge.to)?;
+    let ends = ends_words(alloc, edge)?;
     match &edge.kind {
-        Kind::Control(label) => Ok(format!(in alloc; "control {label} {from} -> {to}")?),
+        Kind::Control(label) => Ok(format!(in alloc; "control {label} {ends}")?),
         Kind::Independent(name) => {
             let name = name.text();
-            Ok(format!(in alloc; "flow {name} {from} -> {to}")?)
+            Ok(format!(in alloc; "flow {name} {ends}")?)
         }
         Kind::Carried(name, by) => {
             let name = name.text();
-            let by = vertex_text(alloc, by)?;
-            Ok(format!(in alloc; "carried {name} {from} -> {to} by {by}")?)
+            let by = bracketed(alloc, by)?;
+            Ok(format!(in alloc; "carried {name} {ends} by {by}")?)
         }
         Kind::Order(used) => {
-            let used = vertex_text(alloc, used)?;
-            Ok(format!(in alloc; "order {from} -> {to} for {used}")?)
+            let used = bracketed(alloc, used)?;
+            Ok(format!(in alloc; "order {ends} for {used}")?)
         }
     }
+}
+
+/// The source and the target of an edge.
+fn ends_words(alloc: Global, edge: &Edge) -> Result<String, NoMemory>
+    ensures { IfOk result (λ text. string_bytes text ≡ vertex_text edge.now.from ++ codes " -> " ++ vertex_text edge.now.to) }
+{
+    let from = bracketed(alloc, &edge.from)?;
+    let to = bracketed(alloc, &edge.to)?;
+    Ok(format!(in alloc; "{from} -> {to}")?)
 }
 
 /// A graph: the line `vertices N` and a line for each vertex, the line `edges N` and a line for each
@@ -111,7 +138,7 @@ pub(crate) fn put_vertices(
     ensures { OnOk result (out.new.items ≡ out.old.items ++ on_lines (map vertex_text vertices.now)) }
 {
     for vertex in vertices {
-        put_line(out, vertex_text(alloc, vertex)?.as_str())?;
+        put_line(out, bracketed(alloc, vertex)?.as_str())?;
     }
     Ok(())
 }
@@ -144,5 +171,7 @@ fn link_text(alloc: Global, graph: &Graph, to: usize, link: Link) -> Result<Stri
     ensures { IfOk result (λ text. string_bytes text ≡ edge_text (edge_of graph.now.vertices to link)) }
 {
     let edge = graph.edge(to, link)?;
-    edge_text(alloc, &edge)
+    let text = edge_words(alloc, &edge);
+    drop(edge);
+    text
 }
