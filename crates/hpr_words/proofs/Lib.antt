@@ -22,3 +22,4 @@ pub mod AskedLemmas
 pub mod PlaceLemmas
 pub mod RunPlaceLemmas
 pub mod TrialPlaceLemmas
+mod OneMore

@@ -5,7 +5,7 @@ ghost use Rattle.hpr_words.specs.Commands.{affected_app};
 ghost use Rattle.hpr_words.specs.Taken.{affected_in, taken_by};
 ghost use Rattle.clap.specs.Words.{app_of, found_of, rows_of};
 
-use crate::arguments::{name_arg, name_from, parse};
+use crate::arguments::{name_arg, name_from, parse, with_arg};
 use crate::asked::{Asked, WordsError};
 use clap::{ArgMatches, Command};
 use std::alloc::{AllocError, Global};
@@ -22,10 +22,9 @@ pub fn read_affected<'a>(alloc: Global, words: &'a [String]) -> Result<Asked<'a>
 fn affected_command<'a>(alloc: Global) -> Result<Command<'a>, AllocError>
     ensures { IfOk result (λ c. app_of c ≡ affected_app) }
 {
-    let command = Command::new(alloc, "affected")
-        .arg(name_arg(alloc, "base"))?
-        .arg(name_arg(alloc, "a"))?;
-    Ok(command)
+    let command = Command::new(alloc, "affected");
+    let command = with_arg(command, name_arg(alloc, "base"))?;
+    with_arg(command, name_arg(alloc, "a"))
 }
 
 fn affected_from<'a>(matches: &ArgMatches<'a>) -> Option<Asked<'a>>

@@ -4,7 +4,7 @@ ghost use Rattle.hpr_words.specs.Commands.{filled_list_rule, author_rule, flag_r
 ghost use Rattle.hpr_words.specs.Taken as spec;
 ghost use Rattle.hpr_words.specs.Taken.{author_in, flag_in, number_in, list_in, steps_in};
 ghost use Rattle.clap.specs.Walk.{is_empty};
-ghost use Rattle.clap.specs.Words.{app_of, fault_of, first_of, found_of, is_simple_and_free, rule_of, matches_of, rows_of};
+ghost use Rattle.clap.specs.Words.{app_of, fault_of, first_of, found_of, is_simple_and_free, rule_of, matches_of, rows_of, with_rule};
 
 use crate::asked::WordsError;
 use clap::error::ErrorKind;
@@ -93,15 +93,22 @@ pub fn flag_arg<'a>(alloc: Global, id: &'a str) -> Arg<'a>
     Arg::new(alloc, id).long(id).action(ArgAction::SetTrue)
 }
 
+/// The command with one more argument.
+pub fn with_arg<'a>(command: Command<'a>, arg: Arg<'a>) -> Result<Command<'a>, AllocError>
+    requires { arg.global ≡ false }
+    ensures { IfOk result (λ c. app_of c ≡ with_rule (app_of command.entry) (rule_of arg.entry)) }
+{
+    command.arg(arg)
+}
+
 /// A command of this name, of the names of base and two variants.
 pub fn variants_command<'a>(alloc: Global, name: &'a str) -> Result<Command<'a>, AllocError>
     ensures { IfOk result (λ c. app_of c ≡ variants_app name.entry.now) }
 {
-    let command = Command::new(alloc, name)
-        .arg(name_arg(alloc, "base"))?
-        .arg(name_arg(alloc, "a"))?
-        .arg(name_arg(alloc, "b"))?;
-    Ok(command)
+    let command = Command::new(alloc, name);
+    let command = with_arg(command, name_arg(alloc, "base"))?;
+    let command = with_arg(command, name_arg(alloc, "a"))?;
+    with_arg(command, name_arg(alloc, "b"))
 }
 
 /// The word of a positional of one word.

@@ -5,7 +5,7 @@ ghost use Rattle.hpr_words.specs.Commands.{edit_app};
 ghost use Rattle.hpr_words.specs.Taken.{edit_in, taken_by};
 ghost use Rattle.clap.specs.Words.{app_of, found_of, rows_of};
 
-use crate::arguments::{author_arg, author_from, name_arg, name_from, parse};
+use crate::arguments::{author_arg, author_from, name_arg, name_from, parse, with_arg};
 use crate::asked::{Asked, WordsError};
 use clap::{ArgMatches, Command};
 use std::alloc::{AllocError, Global};
@@ -22,11 +22,10 @@ pub fn read_edit<'a>(alloc: Global, words: &'a [String]) -> Result<Asked<'a>, Wo
 fn edit_command<'a>(alloc: Global) -> Result<Command<'a>, AllocError>
     ensures { IfOk result (λ c. app_of c ≡ edit_app) }
 {
-    let command = Command::new(alloc, "edit")
-        .arg(name_arg(alloc, "file"))?
-        .arg(name_arg(alloc, "script"))?
-        .arg(author_arg(alloc))?;
-    Ok(command)
+    let command = Command::new(alloc, "edit");
+    let command = with_arg(command, name_arg(alloc, "file"))?;
+    let command = with_arg(command, name_arg(alloc, "script"))?;
+    with_arg(command, author_arg(alloc))
 }
 
 fn edit_from<'a>(matches: &ArgMatches<'a>) -> Option<Asked<'a>>

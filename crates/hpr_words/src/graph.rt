@@ -5,7 +5,7 @@ ghost use Rattle.hpr_words.specs.Commands.{graph_app};
 ghost use Rattle.hpr_words.specs.Taken.{graph_in, taken_by};
 ghost use Rattle.clap.specs.Words.{app_of, found_of, rows_of};
 
-use crate::arguments::{flag_arg, flag_from, name_arg, name_from, parse};
+use crate::arguments::{flag_arg, flag_from, name_arg, name_from, parse, with_arg};
 use crate::asked::{Asked, WordsError};
 use clap::{ArgMatches, Command};
 use std::alloc::{AllocError, Global};
@@ -22,10 +22,9 @@ pub fn read_graph<'a>(alloc: Global, words: &'a [String]) -> Result<Asked<'a>, W
 fn graph_command<'a>(alloc: Global) -> Result<Command<'a>, AllocError>
     ensures { IfOk result (λ c. app_of c ≡ graph_app) }
 {
-    let command = Command::new(alloc, "graph")
-        .arg(name_arg(alloc, "file"))?
-        .arg(flag_arg(alloc, "json"))?;
-    Ok(command)
+    let command = Command::new(alloc, "graph");
+    let command = with_arg(command, name_arg(alloc, "file"))?;
+    with_arg(command, flag_arg(alloc, "json"))
 }
 
 fn graph_from<'a>(matches: &ArgMatches<'a>) -> Option<Asked<'a>>

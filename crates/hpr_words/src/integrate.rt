@@ -5,7 +5,7 @@ ghost use Rattle.hpr_words.specs.Commands.{integrate_app};
 ghost use Rattle.hpr_words.specs.Taken.{integrate_in, taken_by};
 ghost use Rattle.clap.specs.Words.{app_of, found_of, rows_of};
 
-use crate::arguments::{name_from, number_arg, number_from, parse, variants_command};
+use crate::arguments::{name_from, number_arg, number_from, parse, variants_command, with_arg};
 use crate::asked::{Asked, WordsError};
 use clap::{ArgMatches, Command};
 use std::alloc::{AllocError, Global};
@@ -27,8 +27,8 @@ fn integrate_command<'a>(alloc: Global) -> Result<Command<'a>, AllocError>
     ensures { IfOk result (λ c. app_of c ≡ integrate_app) }
 {
     let tries = number_arg(alloc, "tries", MOST_TRIES);
-    let command = variants_command(alloc, "integrate")?.arg(tries)?;
-    Ok(command)
+    let command = variants_command(alloc, "integrate")?;
+    with_arg(command, tries)
 }
 
 fn integrate_from<'a>(matches: &ArgMatches<'a>) -> Option<Asked<'a>>

@@ -7,6 +7,7 @@ ghost use Rattle.clap.specs.Words.{app_of, found_of, rows_of};
 
 use crate::arguments::{
     flag_arg, flag_from, list_arg, list_from, name_arg, name_from, parse, steps_arg, steps_from,
+    with_arg,
 };
 use crate::asked::{Asked, WordsError};
 use clap::{ArgMatches, Command};
@@ -24,12 +25,11 @@ pub fn read_run<'a>(alloc: Global, words: &'a [String]) -> Result<Asked<'a>, Wor
 fn run_command<'a>(alloc: Global) -> Result<Command<'a>, AllocError>
     ensures { IfOk result (λ c. app_of c ≡ run_app) }
 {
-    let command = Command::new(alloc, "run")
-        .arg(name_arg(alloc, "file"))?
-        .arg(list_arg(alloc, "state"))?
-        .arg(steps_arg(alloc))?
-        .arg(flag_arg(alloc, "trace"))?;
-    Ok(command)
+    let command = Command::new(alloc, "run");
+    let command = with_arg(command, name_arg(alloc, "file"))?;
+    let command = with_arg(command, list_arg(alloc, "state"))?;
+    let command = with_arg(command, steps_arg(alloc))?;
+    with_arg(command, flag_arg(alloc, "trace"))
 }
 
 fn run_from<'a>(alloc: Global, matches: &ArgMatches<'a>) -> Result<Option<Asked<'a>>, AllocError>

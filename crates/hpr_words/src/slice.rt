@@ -5,7 +5,7 @@ ghost use Rattle.hpr_words.specs.Commands.{slice_app};
 ghost use Rattle.hpr_words.specs.Taken.{slice_in, taken_by};
 ghost use Rattle.clap.specs.Words.{app_of, found_of, rows_of};
 
-use crate::arguments::{filled_list_arg, list_from, name_arg, name_from, parse};
+use crate::arguments::{filled_list_arg, list_from, name_arg, name_from, parse, with_arg};
 use crate::asked::{Asked, WordsError};
 use clap::{ArgMatches, Command};
 use std::alloc::{AllocError, Global};
@@ -22,10 +22,9 @@ pub fn read_slice<'a>(alloc: Global, words: &'a [String]) -> Result<Asked<'a>, W
 fn slice_command<'a>(alloc: Global) -> Result<Command<'a>, AllocError>
     ensures { IfOk result (λ c. app_of c ≡ slice_app) }
 {
-    let command = Command::new(alloc, "slice")
-        .arg(name_arg(alloc, "file"))?
-        .arg(filled_list_arg(alloc, "point"))?;
-    Ok(command)
+    let command = Command::new(alloc, "slice");
+    let command = with_arg(command, name_arg(alloc, "file"))?;
+    with_arg(command, filled_list_arg(alloc, "point"))
 }
 
 fn slice_from<'a>(alloc: Global, matches: &ArgMatches<'a>) -> Result<Option<Asked<'a>>, AllocError>

@@ -5,7 +5,7 @@ ghost use Rattle.hpr_words.specs.Commands.{tag_app};
 ghost use Rattle.hpr_words.specs.Taken.{tag_in, taken_by};
 ghost use Rattle.clap.specs.Words.{app_of, found_of, rows_of};
 
-use crate::arguments::{author_arg, author_from, name_arg, name_from, parse};
+use crate::arguments::{author_arg, author_from, name_arg, name_from, parse, with_arg};
 use crate::asked::{Asked, WordsError};
 use clap::{ArgMatches, Command};
 use std::alloc::{AllocError, Global};
@@ -22,10 +22,9 @@ pub fn read_tag<'a>(alloc: Global, words: &'a [String]) -> Result<Asked<'a>, Wor
 fn tag_command<'a>(alloc: Global) -> Result<Command<'a>, AllocError>
     ensures { IfOk result (λ c. app_of c ≡ tag_app) }
 {
-    let command = Command::new(alloc, "tag")
-        .arg(name_arg(alloc, "file"))?
-        .arg(author_arg(alloc))?;
-    Ok(command)
+    let command = Command::new(alloc, "tag");
+    let command = with_arg(command, name_arg(alloc, "file"))?;
+    with_arg(command, author_arg(alloc))
 }
 
 fn tag_from<'a>(matches: &ArgMatches<'a>) -> Option<Asked<'a>>

@@ -6,7 +6,7 @@ ghost use Rattle.hpr_words.specs.Taken.{taken_by, trial_in};
 ghost use Rattle.clap.specs.Words.{app_of, found_of, rows_of};
 
 use crate::arguments::{
-    list_arg, list_from, name_from, parse, steps_arg, steps_from, variants_command,
+    list_arg, list_from, name_from, parse, steps_arg, steps_from, variants_command, with_arg,
 };
 use crate::asked::{Asked, WordsError};
 use clap::{ArgMatches, Command};
@@ -24,10 +24,9 @@ pub fn read_trial<'a>(alloc: Global, words: &'a [String]) -> Result<Asked<'a>, W
 fn trial_command<'a>(alloc: Global) -> Result<Command<'a>, AllocError>
     ensures { IfOk result (λ c. app_of c ≡ trial_app) }
 {
-    let command = variants_command(alloc, "trial")?
-        .arg(list_arg(alloc, "state"))?
-        .arg(steps_arg(alloc))?;
-    Ok(command)
+    let command = variants_command(alloc, "trial")?;
+    let command = with_arg(command, list_arg(alloc, "state"))?;
+    with_arg(command, steps_arg(alloc))
 }
 
 fn trial_from<'a>(alloc: Global, matches: &ArgMatches<'a>) -> Result<Option<Asked<'a>>, AllocError>
