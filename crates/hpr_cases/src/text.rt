@@ -1,0 +1,87 @@
+//! The bytes and numbers that lines spell.
+use std::alloc::{AllocError, Global};
+
+fn digit(byte: u8) -> u8 {
+    match byte {
+        b'0'..=b'9' => byte - b'0',
+        b'a'..=b'f' => byte - b'a' + 10,
+        _ => 0,
+    }
+}
+
+/// The bytes of the text, where `\HH` is one byte. A `\` at the end is none.
+pub fn unescaped(alloc: Global, text: &str) -> Result<Vec<u8>, AllocError> {
+    let mut bytes = Vec::new(alloc);
+    let mut left: u8 = 0;
+    let mut value: u8 = 0;
+    for byte in text.as_bytes() {
+        if left > 0 {
+            left -= 1;
+            value = value.wrapping_mul(16).wrapping_add(digit(*byte));
+            if left == 0 {
+                bytes.push(value)?;
+            }
+        } else if *byte == b'\\' {
+            left = 2;
+            value = 0;
+        } else {
+            bytes.push(*byte)?;
+        }
+    }
+    Ok(bytes)
+}
+
+/// The word that a piece of a line spells.
+pub fn word(alloc: Global, text: &str) -> Option<String> {
+    String::from_utf8(unescaped(alloc, text).ok()?).ok()
+}
+
+/// The words of a line.
+pub fn words(alloc: Global, line: &str) -> Option<Vec<String>> {
+    let mut words = Vec::new(alloc);
+    for piece in line.split_whitespace() {
+        words.push(word(alloc, piece)?).ok()?;
+    }
+    Some(words)
+}
+
+/// The numbers of a line.
+pub fn numbers(alloc: Global, line: &str) -> Option<Vec<u64>> {
+    let mut numbers = Vec::new(alloc);
+    for piece in line.split_whitespace() {
+        numbers.push(piece.parse::<u64>().ok()?).ok()?;
+    }
+    Some(numbers)
+}
+
+// Puts the text behind the bytes, with the number in the place of `$`.
+fn push_numbered(
+    alloc: Global,
+    bytes: &mut Vec<u8>,
+    text: &[u8],
+    number: u64,
+) -> Result<(), AllocError> {
+    for byte in text {
+        if *byte == b'$' {
+            let digits = format!(in alloc; "{number}")?;
+            bytes.extend_from_slice(digits.as_bytes())?;
+        } else {
+            bytes.push(*byte)?;
+        }
+    }
+    Ok(())
+}
+
+/// Puts the text behind the bytes for each number from `first` to `last`.
+pub fn push_repeated(
+    alloc: Global,
+    bytes: &mut Vec<u8>,
+    text: &[u8],
+    first: u64,
+    last: u64,
+) -> Result<(), AllocError> {
+    for number in first..=last {
+        push_numbered(alloc, bytes, text, number)?;
+    }
+    Ok(())
+}
