@@ -8,7 +8,7 @@ use std::alloc::Global;
 use std::marker::Model;
 
 /// A part with blocks that is being read: the parts before it, its tag and what it tests.
-#[derive(Debug, Drop)]
+#[derive(Drop)]
 pub struct Around {
     pub before: Block,
     pub tag: Tag,
@@ -16,7 +16,7 @@ pub struct Around {
 }
 
 /// A block that has begun.
-#[derive(Debug, Drop)]
+#[derive(Drop)]
 pub enum Begun {
     /// The first block of a conditional.
     Then(Around),
@@ -27,7 +27,7 @@ pub enum Begun {
 }
 
 /// What the innermost open block is.
-#[derive(Clone, Copy, Debug, PartialEq, Eq, PartialOrd, Ord)]
+#[derive(Clone, Copy)]
 pub enum Kind {
     /// There is none: the parts stand at the top.
     Top,
@@ -40,7 +40,7 @@ pub enum Kind {
 }
 
 /// The open blocks. A contract sees their list, the innermost one first.
-#[derive(Debug, Drop)]
+#[derive(Drop)]
 pub struct Blocks {
     open: Vec<Begun>,
 }

@@ -16,7 +16,7 @@ use hpr_terms::{Expr, Keyword, Name, Sign, Token};
 use std::alloc::Global;
 
 /// What the expression of a content is read for.
-#[derive(Debug, Drop)]
+#[derive(Drop)]
 pub enum Aim {
     /// The value of an assignment.
     Assign(Name),
@@ -27,7 +27,7 @@ pub enum Aim {
 }
 
 /// How far a content was read.
-#[derive(Debug, Drop)]
+#[derive(Drop)]
 pub enum ContentState {
     /// Nothing was read.
     Start,

@@ -22,7 +22,7 @@ const MAX_LEVELS: usize = 64;
 pub const MAX_PARTS: usize = 1000;
 
 /// Names in their order. A contract sees their list.
-#[derive(Debug, Drop)]
+#[derive(Drop)]
 pub struct Names {
     names: Vec<Name>,
 }
@@ -60,7 +60,6 @@ impl Names {
 }
 
 /// What was read so far.
-#[derive(Debug)]
 pub struct Found {
     /// Which texts are read.
     pub mode: Mode,

@@ -9,7 +9,7 @@ use hpr_terms::{Name, Tag};
 use std::alloc::Global;
 
 /// What an expression is read for.
-#[derive(Debug, Drop)]
+#[derive(Drop)]
 pub enum Purpose {
     /// The value of an assignment.
     Assign(Tag, Name),
@@ -20,7 +20,7 @@ pub enum Purpose {
 }
 
 /// What was read last.
-#[derive(Debug, Drop)]
+#[derive(Drop)]
 pub enum Place {
     /// Nothing.
     Start,
@@ -61,7 +61,7 @@ pub enum Place {
 }
 
 /// A reader of the tokens of a program.
-#[derive(Debug, Drop)]
+#[derive(Drop)]
 pub struct State {
     pub found: Found,
     pub place: Place,
