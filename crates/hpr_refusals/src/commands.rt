@@ -8,7 +8,7 @@ ghost use Rattle.hpr_refusals.specs.Applied.{applied, becomes, refused};
 
 use crate::reasons::{about, shape_reason, tag_name};
 use hpr_edit::{Command, EditError, Editor};
-use hpr_syntax::Program;
+use hpr_syntax::{Program, ShapeError};
 use std::alloc::{AllocError, Global};
 
 /// The first command of a script that is refused.
@@ -28,6 +28,7 @@ impl CommandRefusal {
     pub fn message(&self, alloc: Global, script: &str) -> Result<String, AllocError>
         ensures text { IfOk result (λ text. string_bytes text ≡ command_text script.now self.now.number self.now.why) }
         ensures memory { IfOk result (λ text. self.now.why ≢ EditError.Memory) }
+        ensures shape { IfOk result (λ text. self.now.why ≢ EditError.Shape ShapeError.Memory) }
     {
         let number = self.number;
         let reason = command_reason(alloc, &self.why)?;
@@ -40,6 +41,7 @@ impl CommandRefusal {
 fn command_reason(alloc: Global, why: &EditError) -> Result<String, AllocError>
     ensures text { IfOk result (λ text. string_bytes text ≡ command_reason why.now) }
     ensures memory { IfOk result (λ text. why.now ≢ EditError.Memory) }
+    ensures shape { IfOk result (λ text. why.now ≢ EditError.Shape ShapeError.Memory) }
 {
     match why {
         EditError::NoTag(tag) => {

@@ -1,5 +1,5 @@
 //! Why a file is refused, and what is said of it.
-ghost use Rattle.std.specs.Prelude.{◌≡◌, IfOk, string_bytes};
+ghost use Rattle.std.specs.Prelude.{◌≡◌, ◌≢◌, IfOk, string_bytes};
 ghost use Rattle.hpr_refusals.specs.Reasons.{reason, refusal_text};
 
 use crate::reasons::{about, shape_reason};
@@ -27,14 +27,16 @@ impl Refusal {
     /// It fails where memory runs out, also where that is why there is no program. Messages are our
     /// profile.
     pub fn message(&self, alloc: Global, file: &str) -> Result<String, AllocError>
-        ensures { IfOk result (λ text. string_bytes text ≡ refusal_text file.now self.now) }
+        ensures text { IfOk result (λ text. string_bytes text ≡ refusal_text file.now self.now) }
+        ensures memory { IfOk result (λ text. self.now ≢ Refusal.Shape ShapeError.Memory) }
     {
         let reason = self.reason(alloc)?;
         about(alloc, file, reason.as_str())
     }
 
     fn reason(&self, alloc: Global) -> Result<String, AllocError>
-        ensures { IfOk result (λ text. string_bytes text ≡ reason self.now) }
+        ensures text { IfOk result (λ text. string_bytes text ≡ reason self.now) }
+        ensures memory { IfOk result (λ text. self.now ≢ Refusal.Shape ShapeError.Memory) }
     {
         match self {
             Refusal::Longer => String::from_str(alloc, "longer than 4194304 bytes"),

@@ -1,5 +1,5 @@
 //! What is said of a file, a word or a tree that is refused.
-ghost use Rattle.std.specs.Prelude.{◌≡◌, IfOk, string_bytes};
+ghost use Rattle.std.specs.Prelude.{◌≡◌, ◌≢◌, IfOk, string_bytes};
 ghost use Rattle.hpr_syntax.specs.Print.{tag_text};
 ghost use Rattle.hpr_refusals.specs.Reasons.{about, shape_text};
 
@@ -24,7 +24,8 @@ pub fn tag_name(alloc: Global, tag: &Tag) -> Result<String, AllocError>
 
 /// What is said of a tree that is no program. Want of memory is no such reason, and fails.
 pub(crate) fn shape_reason(alloc: Global, error: &ShapeError) -> Result<String, AllocError>
-    ensures { IfOk result (λ text. string_bytes text ≡ shape_text error.now) }
+    ensures text { IfOk result (λ text. string_bytes text ≡ shape_text error.now) }
+    ensures memory { IfOk result (λ text. error.now ≢ ShapeError.Memory) }
 {
     match error {
         ShapeError::DuplicateTag(tag) => {

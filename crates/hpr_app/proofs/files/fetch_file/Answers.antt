@@ -4,7 +4,7 @@ use Rattle.hpr_app.proofs.files.fetch_file.Goals as goal
 
 pub returns-then-len-gt-MAX_FILE-clause-fetches : goal.returns-then-len-gt-MAX_FILE-clause-fetches
 returns-then-len-gt-MAX_FILE-clause-fetches g c =
-    (longer_file (g.S.Shelf.files c.args.shelf.now) c.args.file.now c.in-Ok.bytes.items 4194305 _ refl c.in-Ok.ensures.bytes (omega arith) c.in_ok-message-in-Ok.ensures, search rules)
+    (longer_file (g.S.Shelf.files c.args.shelf.now) c.args.file.now c.in-Ok.bytes.items 4194305 _ refl c.in-Ok.ensures.bytes (omega arith) c.in_ok-message-in-Ok.ensures.text, search rules)
 
 pub returns-else-len-gt-MAX_FILE-clause-fetches : goal.returns-else-len-gt-MAX_FILE-clause-fetches
 returns-else-len-gt-MAX_FILE-clause-fetches g c =

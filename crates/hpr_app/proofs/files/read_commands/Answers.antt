@@ -12,6 +12,6 @@ returns-in_err-bytes-clause-reads g c =
 pub returns-in-Err-Syntax-clause-reads : goal.returns-in-Err-Syntax-clause-reads
 returns-in-Err-Syntax-clause-reads g c = (
   refused_script (g.S.Shelf.files c.args.shelf.now) c.args.file.now c.in_ok-bytes.bytes.items _ _ c.in-Err-Syntax.place _ c.in_ok-bytes.ensures.fetches.0
-      c.as_slice.ensures.value c.in-Err-Syntax.field-0-is c.in-Err-Syntax.ensures.syntax c.in_ok-message-in-Err-Syntax.ensures,
+      c.as_slice.ensures.value c.in-Err-Syntax.field-0-is c.in-Err-Syntax.ensures.syntax c.in_ok-message-in-Err-Syntax.ensures.text,
   search rules,
 )
