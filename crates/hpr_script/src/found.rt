@@ -10,7 +10,7 @@ use std::alloc::Global;
 use std::marker::Model;
 
 /// Commands in their order. A contract sees their list.
-#[derive(Debug, Drop)]
+#[derive(Drop)]
 pub struct Commands {
     commands: Vec<Command>,
 }
@@ -55,7 +55,7 @@ impl Commands {
 }
 
 /// What was read so far.
-#[derive(Debug, Drop)]
+#[derive(Drop)]
 pub struct Found {
     /// The commands whose `;` was read.
     pub commands: Commands,

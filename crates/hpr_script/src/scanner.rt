@@ -19,7 +19,7 @@ use hpr_terms::{Keyword, Name, NameError, is_name, is_name_byte, is_name_like};
 use std::alloc::Global;
 
 /// What has begun before the next byte.
-#[derive(Debug, Drop)]
+#[derive(Drop)]
 pub enum Begun {
     /// Nothing.
     Gap,
@@ -30,7 +30,7 @@ pub enum Begun {
 }
 
 /// A place in a script outside of a content: what has begun there, and what was read before it.
-#[derive(Debug, Drop)]
+#[derive(Drop)]
 pub struct Reader {
     pub begun: Begun,
     pub found: Found,

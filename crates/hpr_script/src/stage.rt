@@ -10,7 +10,7 @@ use hpr_terms::Tag;
 const NUMBERS: u64 = 4_294_967_296;
 
 /// What is to stand at a place.
-#[derive(Clone, Copy, Debug)]
+#[derive(Clone, Copy)]
 pub enum Placed {
     /// A new part.
     New,
@@ -19,7 +19,7 @@ pub enum Placed {
 }
 
 /// What a tag is read for.
-#[derive(Clone, Copy, Debug)]
+#[derive(Clone, Copy)]
 pub enum Asked {
     /// The part to be deleted.
     Delete,
@@ -36,7 +36,7 @@ pub enum Asked {
 }
 
 /// What a content is read for.
-#[derive(Clone, Copy, Debug)]
+#[derive(Clone, Copy)]
 pub enum Holder {
     /// A new part at this place.
     Insert(Place),
@@ -47,7 +47,7 @@ pub enum Holder {
 }
 
 /// A command without a content, before its `;`. The names of `finals` are kept apart.
-#[derive(Clone, Copy, Debug)]
+#[derive(Clone, Copy)]
 pub enum Plain {
     Delete(Tag),
     Move(Tag, Place),
@@ -56,7 +56,7 @@ pub enum Plain {
 }
 
 /// What was read last.
-#[derive(Clone, Copy, Debug)]
+#[derive(Clone, Copy)]
 pub enum Stage {
     /// Nothing, or a command and its `;`.
     AtCommand,
@@ -87,7 +87,7 @@ pub enum Stage {
 }
 
 /// What comes next.
-#[derive(Clone, Copy, Debug)]
+#[derive(Clone, Copy)]
 pub enum Turn {
     /// A token of this place.
     Head(Stage),

@@ -4,7 +4,7 @@ ghost use Rattle.std.specs.Str.{bytes_eq};
 ghost use Rattle.hpr_script.specs.ScriptWords.{script_text, script_word};
 
 /// A word that a script has at some places. It is not reserved: a name may be any of them.
-#[derive(Clone, Copy, Debug, PartialEq, Eq)]
+#[derive(Clone, Copy)]
 pub enum ScriptWord {
     Insert,
     Delete,
