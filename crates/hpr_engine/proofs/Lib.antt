@@ -1,11 +1,8 @@
-pub mod OneContent
 pub mod OneSide
 pub mod OneList
 mod SameConflicts
 mod Merge
 mod Premises
-mod Bounded
-mod BoundedGraph
 mod OneSideWhole
 mod FirstInRank
 pub mod OneSideAnswer
@@ -13,6 +10,5 @@ mod OneRank
 pub mod OneAnswer
 mod IssuedRows
 mod Unsearched
-mod ProgramRegular
 pub mod PrintedKeeps
 pub mod WithinBounds

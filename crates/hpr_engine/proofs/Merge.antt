@@ -20,7 +20,7 @@ use Rattle.hpr_merge.specs.Loops.{HasLoops, IsListed, IsRegular}
 use Rattle.hpr_merge.proofs.EdgeStands.{kept_or_added, regular_by_numbers}
 use Rattle.hpr_merge.proofs.ProgramLoops.{program_loops}
 use Rattle.hpr_meaning.specs.UnionLaw.{KeepsSides}
-use Rattle.hpr_engine.proofs.OneContent.{says_once}
+use Rattle.hpr_merge.proofs.OneContent.{says_once}
 use Rattle.hpr_engine.proofs.SameConflicts.{conflicts_same, side_same, slices_same}
 
 -- the graph of a program, by numbers, is regular

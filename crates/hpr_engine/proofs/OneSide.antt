@@ -19,7 +19,7 @@ use Rattle.hpr_merge.proofs.EdgeStands.{edge_inside, point_within}
 use Rattle.hpr_merge.proofs.ProgramLoops.{program_loops}
 use Rattle.hpr_meaning.specs.UnionLaw.{KeepsSides}
 use Rattle.hpr_meaning.proofs.Unions.{LeadsRight, HasUses, program_uses}
-use Rattle.hpr_engine.proofs.OneContent.{says_once}
+use Rattle.hpr_merge.proofs.OneContent.{says_once}
 
 -- where both graphs have the vertices of P with the same slices, the other has the slice of P
 module _ (base g : Graph) (loops : HasLoops base) (uses : HasUses base) (P : Vertex → Type 0) (shared : (v : Vertex) → P v → IsShared base g v) where

@@ -50,6 +50,13 @@ pub fn one_answer()
         → length ps ≤ tries → IsAnswer base a b tries r → r ≢ spent }
 {}
 
+/// Where there is no conflict, each program with the merged graph keeps the meaning of both variants,
+/// whoever made it (Horwitz, Prins and Reps 1989; Reps and Yang 1988).
+pub fn merged_keeps()
+    ensures { (base a b m : Tree) → IsProgram base → IsProgram a → IsProgram b → IsProgram m → IsWithoutConflict base a b → Fits (merged_of base a b) m
+        → Keeps base a b m }
+{}
+
 /// What is printed is a program, and its graph is the merged graph.
 pub fn printed_is_merged()
     ensures { (base a b : Tree) (tries : ℕ) (m : Tree) → IsAnswer base a b tries (printed m) → IsProgram m × Fits (merged_of base a b) m }

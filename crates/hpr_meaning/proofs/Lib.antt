@@ -17,7 +17,9 @@ pub mod TwoRuns
 pub mod RunRecords
 pub mod SameSlices
 pub mod SharedSlices
+pub mod SidesKept
 pub mod Unions
 pub mod MergedEnd
 pub mod KeptMeaning
+pub mod WithoutConflict
 pub mod Origins

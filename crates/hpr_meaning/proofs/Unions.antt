@@ -7,6 +7,7 @@ use Rattle.hpr_syntax.specs.Skeleton.{Point}
 use Rattle.hpr_syntax.specs.Shape.{IsProgram}
 use Rattle.hpr_syntax.specs.Paths.{IsUndisturbed}
 use Rattle.hpr_syntax.specs.Initial.{IsInitial, UsedBy}
+use Rattle.hpr_graph.specs.declared.conflict.Side.{Side}
 use Rattle.hpr_graph.specs.declared.conflict.Side.TheVariants.{A, B}
 use Rattle.hpr_graph.specs.declared.vertex.Vertex.{Vertex}
 use Rattle.hpr_graph.specs.declared.vertex.Vertex.TheVariants.{Entry, Init, Part, Final}
@@ -25,7 +26,8 @@ use Rattle.hpr_merge.proofs.EdgeStands.{edge_inside, merged_loops, on_either, po
 use Rattle.hpr_merge.proofs.ProgramLoops.{program_loops}
 use Rattle.hpr_skeleton.proofs.Different.{distinct_program}
 use Rattle.hpr_skeleton.proofs.Says.{says_one}
-use Rattle.hpr_meaning.specs.UnionLaw.{affected_on, IsUnionKept}
+use Rattle.hpr_meaning.specs.UnionLaw.{affected_on, KeepsSides, IsUnionKept}
+use Rattle.hpr_meaning.proofs.SidesKept.{sides_kept}
 
 -- the sources of control and flow edges are vertices
 abbrev pub HasSources : Graph → Type 0
@@ -200,8 +202,8 @@ keeps_preserved base a b is is_a is_b v (other, there, (in_a, same_a), (in_b, sa
 pub union_is_kept : (base a b : Tree) → IsProgram base → IsProgram a → IsProgram b → IsUnionKept base a b
 union_is_kept base a b is is_a is_b = record {
   preserved = keeps_preserved base a b is is_a is_b;
-  affected = λ keeps side. points_same (merged_of base a b) (graph_on side (graph_of a) (graph_of b)) loops (on_either HasLoops (graph_of a) (graph_of b) side (loops_of a is_a) (loops_of b is_b))
-      uses (on_either HasUses (graph_of a) (graph_of b) side (program_uses a) (program_uses b)) (affected_on side base a b) (keeps side);
+  affected = together;
+  free = λ free side n. sides_kept base a b is is_a is_b free (λ keeps. n (together keeps side));
   covered = λ v h. h;
 }
   where
@@ -210,3 +212,9 @@ union_is_kept base a b is is_a is_b = record {
 
     uses : HasUses (merged_of base a b)
     uses = merged_uses (graph_of base) (graph_of a) (graph_of b) (loops_of base is) (loops_of a is_a) (loops_of b is_b) (program_uses base) (program_uses a) (program_uses b)
+
+    together : KeepsSides base a b → (side : Side)
+        → Same (slice_of (merged_of base a b) (affected_on side base a b)) (slice_of (graph_on side (graph_of a) (graph_of b)) (affected_on side base a b))
+    together keeps side =
+        points_same (merged_of base a b) (graph_on side (graph_of a) (graph_of b)) loops (on_either HasLoops (graph_of a) (graph_of b) side (loops_of a is_a) (loops_of b is_b))
+        uses (on_either HasUses (graph_of a) (graph_of b) side (program_uses a) (program_uses b)) (affected_on side base a b) (keeps side)

@@ -5,13 +5,14 @@
 -- affected_on side base a b == the affected points of a side
 -- LiesInOne base a b v == v is a vertex of one of the three slices whose union the merged graph is
 -- IsUnionKept base a b == the law: each preserved point has the slice that it has in base's graph; where the sides are kept, the slice of each
---                         side's affected points, taken together, is that of the side's graph; each vertex lies in one of the three slices
+--                         side's affected points, taken together, is that of the side's graph; where there is no conflict, that it isn't can't
+--                         be; each vertex lies in one of the three slices
 use Rattle.std.specs.Prelude.{◌⊎◌}
 use Rattle.hpr_syntax.specs.Tree.{Tree}
 use Rattle.hpr_graph.specs.declared.conflict.Side.{Side}
 use Rattle.hpr_graph.specs.declared.conflict.Side.TheVariants.{A, B}
 use Rattle.hpr_graph.specs.declared.vertex.Vertex.{Vertex}
-use Rattle.hpr_graph.specs.Answer.{merged_of}
+use Rattle.hpr_graph.specs.Answer.{merged_of, IsWithoutConflict}
 use Rattle.hpr_graph.specs.Conflicts.{graph_on}
 use Rattle.hpr_graph.specs.Graphs.{Same}
 use Rattle.hpr_graph.specs.Points.{IsAffected, IsPreserved}
@@ -35,4 +36,6 @@ pub record IsUnionKept (base a b : Tree) : Type 0 where
   pub preserved : (v : Vertex) → IsPreserved (graph_of base) (graph_of a) (graph_of b) v → Same (slice_at (merged_of base a b) v) (slice_at (graph_of base) v)
   pub affected : KeepsSides base a b → (side : Side)
       → Same (slice_of (merged_of base a b) (affected_on side base a b)) (slice_of (graph_on side (graph_of a) (graph_of b)) (affected_on side base a b))
+  pub free : IsWithoutConflict base a b → (side : Side)
+      → ¬ (¬ Same (slice_of (merged_of base a b) (affected_on side base a b)) (slice_of (graph_on side (graph_of a) (graph_of b)) (affected_on side base a b)))
   pub covered : (v : Vertex) → (merged_of base a b).vertex v → LiesInOne base a b v

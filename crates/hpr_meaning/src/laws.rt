@@ -9,7 +9,7 @@ ghost use Rattle.hpr_graph.specs.declared.vertex.Vertex.{Vertex};
 ghost use Rattle.hpr_graph.specs.Graphs.{Same};
 ghost use Rattle.hpr_graph.specs.Slices.{slice_of};
 ghost use Rattle.hpr_graph.specs.ProgramGraph.{graph_of};
-ghost use Rattle.hpr_graph.specs.Answer.{Fits, merged_of};
+ghost use Rattle.hpr_graph.specs.Answer.{Fits, IsWithoutConflict, merged_of};
 ghost use Rattle.hpr_meaning.specs.Instances.{Instance, after_of, course_of, definer};
 ghost use Rattle.hpr_meaning.specs.Items.{origin_in, IsOriginOf};
 ghost use Rattle.hpr_meaning.specs.TimeLaw.{IsTimely};
@@ -58,22 +58,23 @@ pub fn shared_slices()
 
 /// The law of the union: each preserved point has in the merged graph of three programs the slice that
 /// it has in base's graph. Where each affected point keeps its side's slice, so do the affected points of
-/// a side together. Each vertex of the merged graph lies in one of the three slices that it is made of.
+/// a side together; and where there is no conflict, that they don't can't be. Each vertex of the merged
+/// graph lies in one of the three slices that it is made of.
 pub fn union_kept()
     ensures { (base a b : Tree) → IsProgram base → IsProgram a → IsProgram b → IsUnionKept base a b }
 {}
 
 /// The law of the merged end. A program whose graph is the merged graph of a base and two variants, where
-/// each affected point keeps its side's slice, ends on every state on which the three end, within as many
-/// steps as they have together.
+/// there is no conflict, ends on every state on which the three end, within as many steps as they have
+/// together.
 pub fn merged_end()
-    ensures { (base a b m : Tree) → IsProgram base → IsProgram a → IsProgram b → IsProgram m → Fits (merged_of base a b) m → KeepsSides base a b
+    ensures { (base a b m : Tree) → IsProgram base → IsProgram a → IsProgram b → IsProgram m → Fits (merged_of base a b) m → IsWithoutConflict base a b
         → (s : Values) (n0 n1 n2 : ℕ) (f0 f1 f2 : FinalValues) → Ends base s n0 f0 → Ends a s n1 f1 → Ends b s n2 f2
         → (f : FinalValues) × Ends m s (n0 + n1 + n2) f }
 {}
 
-/// Kept meaning (Reps and Yang 1988; Horwitz, Prins and Reps 1989). Such a program keeps the meaning of
-/// both variants: where base and both variants end, it ends with the variant's value for each final
+/// Kept meaning (Reps and Yang 1988; Horwitz, Prins and Reps 1989). A program whose graph is the merged
+/// graph, where each affected point keeps its side's slice, keeps the meaning of both variants: where base and both variants end, it ends with the variant's value for each final
 /// variable that a variant changed, and with the common value where all three agree.
 pub fn kept_meaning()
     ensures { (base a b m : Tree) → IsProgram base → IsProgram a → IsProgram b → IsProgram m → Fits (merged_of base a b) m → KeepsSides base a b

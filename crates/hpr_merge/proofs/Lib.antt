@@ -8,3 +8,7 @@ mod ConflictLists
 mod BothSides
 pub mod EdgeStands
 pub mod ProgramLoops
+pub mod OneContent
+pub mod Bounded
+pub mod BoundedGraph
+pub mod ProgramRegular

@@ -1,10 +1,12 @@
 -- The graph of a program lies within bounds.
 use Rattle.std.proofs.Common.{◌≡◌, ℕ, Bool, true, false, inl, inr, ◌⊎◌, None, List, [], Contains, refl, sym, ap, subst}
+use Rattle.hpr_terms.specs.declared.tag.Tag.{Tag}
 use Rattle.hpr_terms.specs.TermOf.{term_of}
 use Rattle.hpr_terms.specs.Uses.{Uses}
 use Rattle.hpr_syntax.specs.declared.rows.Content.{Content}
+use Rattle.hpr_syntax.specs.declared.rows.Content.TheVariants.{Assign, If, While}
 use Rattle.hpr_syntax.specs.Initial.{UsedBy}
-use Rattle.hpr_syntax.specs.Body.{loop}
+use Rattle.hpr_syntax.specs.Body.{Body, done, assign, branch, loop}
 use Rattle.hpr_syntax.specs.Nests.{Says}
 use Rattle.hpr_syntax.specs.Rows.{expr_in}
 use Rattle.hpr_syntax.specs.Skeleton.{Point, enter, at, exit}
@@ -15,10 +17,47 @@ use Rattle.hpr_graph.specs.declared.edge.Kind.{Kind}
 use Rattle.hpr_graph.specs.declared.edge.Kind.TheVariants.{Control, Independent, Carried, Order}
 use Rattle.hpr_graph.specs.declared.edge.Edge.{Edge}
 use Rattle.hpr_graph.specs.ProgramGraph.{Defines, Reads, IsTop, HasFlow, IsVertexOf, IsEdgeBy, IsEdgeOf}
-use Rattle.hpr_graph.specs.Rank.{parts_of}
 use Rattle.hpr_skeleton.proofs.Says.{says_of_standing}
-use Rattle.hpr_rebuild.proofs.Parts.{says_part}
-use Rattle.hpr_engine.proofs.Bounded.{Bounded, of_none, of_one, of_within, of_either, of_list, of_each, of_term}
+use Rattle.hpr_merge.proofs.Bounded.{Bounded, of_none, of_one, of_within, of_either, of_list, of_each, of_term}
+
+-- the parts of a block
+abbrev IsSaid : Body → Vertex → Type 0
+IsSaid b v = (t : Tag) × (c : Content) × (v ≡ Part t c) × Says b t c
+
+abbrev IsFirst : Tag → Content → Vertex → Type 0
+IsFirst t c v = v ≡ Part t c
+
+is_part : (v : Vertex) (s t : Tag) (c d : Content) → v ≡ Part s c → s ≡ t → c ≡ d → v ≡ Part t d
+is_part v s t c d is same content = cc
+
+said_bounded : (b : Body) → Bounded (IsSaid b)
+said_bounded done = of_within (IsSaid done) (λ v. ⊥) (λ v (t, c, is, says). says) of_none
+said_bounded (assign t x e rest) =
+    of_within (IsSaid (assign t x e rest)) (λ v. IsFirst t (Assign x e) v ⊎ IsSaid rest v)
+    (λ v (s, c, is, says). elim says [
+      | inl first ↦ inl (is_part v s t c (Assign x e) is first.0 first.1)
+      | inr later ↦ inr (s, c, is, later)
+    ])
+    (of_either (IsFirst t (Assign x e)) (IsSaid rest) (of_one (Part t (Assign x e))) (said_bounded rest))
+said_bounded (branch t e a b rest) =
+    of_within (IsSaid (branch t e a b rest)) (λ v. IsFirst t (If e) v ⊎ (IsSaid a v ⊎ (IsSaid b v ⊎ IsSaid rest v)))
+    (λ v (s, c, is, says). elim says [
+      | inl first ↦ inl (is_part v s t c (If e) is first.0 first.1)
+      | inr more ↦ inr (elim more [
+        | inl in_a ↦ inl (s, c, is, in_a)
+        | inr others ↦ inr (elim others [ inl in_b ↦ inl (s, c, is, in_b) | inr later ↦ inr (s, c, is, later) ])
+      ])
+    ])
+    (of_either (IsFirst t (If e)) (λ v. IsSaid a v ⊎ (IsSaid b v ⊎ IsSaid rest v)) (of_one (Part t (If e)))
+    (of_either (IsSaid a) (λ v. IsSaid b v ⊎ IsSaid rest v) (said_bounded a) (of_either (IsSaid b) (IsSaid rest) (said_bounded b) (said_bounded rest))))
+said_bounded (loop t e b rest) =
+    of_within (IsSaid (loop t e b rest)) (λ v. IsFirst t (While e) v ⊎ (IsSaid b v ⊎ IsSaid rest v))
+    (λ v (s, c, is, says). elim says [
+      | inl first ↦ inl (is_part v s t c (While e) is first.0 first.1)
+      | inr more ↦ inr (elim more [ inl in_b ↦ inl (s, c, is, in_b) | inr later ↦ inr (s, c, is, later) ])
+    ])
+    (of_either (IsFirst t (While e)) (λ v. IsSaid b v ⊎ IsSaid rest v) (of_one (Part t (While e)))
+    (of_either (IsSaid b) (IsSaid rest) (said_bounded b) (said_bounded rest)))
 
 -- a part uses the names of its expression
 abbrev UsesAt : Vertex → List ℕ → Type 0
@@ -35,24 +74,24 @@ uses_bounded (Final y) = of_none
 
 module _ (t : Tree) where
   abbrev UsedAtPart : List ℕ → Type 0
-  UsedAtPart x = (v : Vertex) × Contains (parts_of t) v × UsesAt v x
+  UsedAtPart x = (v : Vertex) × IsSaid t.body v × UsesAt v x
 
   abbrev Used : List ℕ → Type 0
   Used x = UsedAtPart x ⊎ Contains t.finals x
 
   used_bounded : Bounded Used
   used_bounded =
-      of_either UsedAtPart (λ x. Contains t.finals x) (of_each (λ v. Contains (parts_of t) v) UsesAt (of_list (parts_of t)) (λ v _. uses_bounded v)) (of_list t.finals)
+      of_either UsedAtPart (λ x. Contains t.finals x) (of_each (λ v. IsSaid t.body v) UsesAt (said_bounded t.body) (λ v _. uses_bounded v)) (of_list t.finals)
 
   used_by : (x : List ℕ) (a : Point) → UsedBy t x a → Used x
   used_by x enter h = absurd h
-  used_by x (at v) (c, says, uses) = inl (Part v c, says_part t v c says, uses)
+  used_by x (at v) (c, says, uses) = inl (Part v c, (v, c, refl, says), uses)
   used_by x exit h = inr h
 
   used_read : (x : List ℕ) (v : Vertex) (z : Point) → Reads t x v z → Used x
   used_read x Entry z h = absurd h
   used_read x (Init y) z h = absurd h
-  used_read x (Part v c) z (uses, says, is) = inl (Part v c, says_part t v c says, uses)
+  used_read x (Part v c) z (uses, says, is) = inl (Part v c, (v, c, refl, says), uses)
   used_read x (Final y) z (same, named, is) = inr named
 
   -- vertices
@@ -63,19 +102,19 @@ module _ (t : Tree) where
   IsInitOf v = (x : List ℕ) × Used x × (v ≡ Init x)
 
   abbrev MayBe : Vertex → Type 0
-  MayBe v = (v ≡ Entry) ⊎ (Contains (parts_of t) v ⊎ (IsFinalOf v ⊎ IsInitOf v))
+  MayBe v = (v ≡ Entry) ⊎ (IsSaid t.body v ⊎ (IsFinalOf v ⊎ IsInitOf v))
 
   may_bounded : Bounded MayBe
   may_bounded =
-      of_either (λ v. v ≡ Entry) (λ v. Contains (parts_of t) v ⊎ (IsFinalOf v ⊎ IsInitOf v)) (of_one Entry)
-      (of_either (λ v. Contains (parts_of t) v) (λ v. IsFinalOf v ⊎ IsInitOf v) (of_list (parts_of t))
+      of_either (λ v. v ≡ Entry) (λ v. IsSaid t.body v ⊎ (IsFinalOf v ⊎ IsInitOf v)) (of_one Entry)
+      (of_either (λ v. IsSaid t.body v) (λ v. IsFinalOf v ⊎ IsInitOf v) (said_bounded t.body)
       (of_either IsFinalOf IsInitOf (of_each (λ x. Contains t.finals x) (λ x v. v ≡ Final x) (of_list t.finals) (λ x _. of_one (Final x)))
       (of_each Used (λ x v. v ≡ Init x) used_bounded (λ x _. of_one (Init x)))))
 
   may_be : (v : Vertex) → IsVertexOf t v → MayBe v
   may_be Entry h = inl refl
   may_be (Init x) (a, marks, path, used) = inr (inr (inr (x, used_by x a used, refl)))
-  may_be (Part v c) h = inr (inl (says_part t v c h))
+  may_be (Part v c) h = inr (inl (v, c, refl, h))
   may_be (Final x) h = inr (inr (inl (x, h, refl)))
 
   pub vertices_bounded : Bounded (IsVertexOf t)
@@ -84,7 +123,7 @@ module _ (t : Tree) where
   defined : (x : List ℕ) (v : Vertex) (a : Point) → Defines t x v a → Used x → MayBe v
   defined x Entry a h used = absurd h
   defined x (Init y) a (same, is) used = inr (inr (inr (x, used, subst (λ (z : List ℕ). Init y ≡ Init z) same refl)))
-  defined x (Part v c) a (sets, says, is) used = inr (inl (says_part t v c says))
+  defined x (Part v c) a (sets, says, is) used = inr (inl (v, c, refl, says))
   defined x (Final y) a h used = absurd h
 
   pub read_is : (x : List ℕ) (v : Vertex) (z : Point) → Reads t x v z → IsVertexOf t v
@@ -164,8 +203,8 @@ module _ (t : Tree) where
   ends (Control label) from to (inl (is, truth, top)) = (inl is, may_be to (top_is to top), control_kind label)
   ends (Control label) from to (inr (p, c, is, says, (v, s, stands, under, up))) =
       let says_v : Says t.body v s.content = says_of_standing t.body [] None v s stands in (
-        inr (inl (subst (λ (x : Vertex). Contains (parts_of t) x) (sym is) (says_part t p c says))),
-        inr (inl (subst (λ (x : Vertex). Contains (parts_of t) x) (sym under) (says_part t v s.content says_v))),
+        inr (inl (subst (λ (x : Vertex). IsSaid t.body x) (sym is) (p, c, refl, says))),
+        inr (inl (subst (λ (x : Vertex). IsSaid t.body x) (sym under) (v, s.content, refl, says_v))),
         control_kind label,
       )
   ends (Independent x) from to h =
@@ -174,7 +213,7 @@ module _ (t : Tree) where
       (defined x from a defines used, may_be to (read_is x to z reads), inr (inr (inl (x, used, refl))))
   ends (Carried x w) from to (a, z, marks, l, c, (defines, reads, path), loop_is, says, around, carries) =
       let used = used_read x to z reads in
-      let loop : MayBe w = inr (inl (subst (λ (v : Vertex). Contains (parts_of t) v) (sym loop_is) (says_part t l c says))) in
+      let loop : MayBe w = inr (inl (subst (λ (v : Vertex). IsSaid t.body v) (sym loop_is) (l, c, refl, says))) in
       (defined x from a defines used, may_be to (read_is x to z reads), inr (inr (inr (inl (x, used, (w, loop, refl))))))
   ends (Order u) from to (x, a, b, defines, defines_too, flow, flow_too, left, together) =
       let (c, z, sets, reads) = flow_at x from u flow in
