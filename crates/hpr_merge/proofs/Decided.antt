@@ -17,7 +17,7 @@ use Rattle.hpr_graph.proofs.VertexOrder.{edge_never, edge_total, vertex_tied, ve
 abbrev pub Decided : Type 0 → Type 0
 Decided P = P ⊎ ¬ P
 
-both : (P Q : Type 0) → Decided P → Decided Q → Decided (P × Q)
+pub both : (P Q : Type 0) → Decided P → Decided Q → Decided (P × Q)
 both P Q (inl p) (inl q) = inl (p, q)
 both P Q (inr p) q = inr (λ h. p h.0)
 both P Q (inl p) (inr q) = inr (λ h. q h.1)
@@ -27,7 +27,7 @@ by_order v w Equal is = inl (vertex_tied v w is)
 by_order v w Less is = inr (λ same. (let tie = ap (λ (x : Vertex). vertex_cmp x w) same ∙ vertex_itself w in let e : Less ≡ Equal = sym is ∙ tie in cc))
 by_order v w Greater is = inr (λ same. (let tie = ap (λ (x : Vertex). vertex_cmp x w) same ∙ vertex_itself w in let e : Greater ≡ Equal = sym is ∙ tie in cc))
 
-vertex_decided : (v w : Vertex) → Decided (v ≡ w)
+pub vertex_decided : (v w : Vertex) → Decided (v ≡ w)
 vertex_decided v w = by_order v w (vertex_cmp v w) refl
 
 edge_decided : (e f : Edge) → Decided (e ≡ f)

@@ -12,3 +12,4 @@ pub mod OneContent
 pub mod Bounded
 pub mod BoundedGraph
 pub mod ProgramRegular
+mod ProgramStands
