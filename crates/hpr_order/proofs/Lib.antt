@@ -25,3 +25,4 @@ pub mod Linking
 pub mod Tabling
 pub mod Coming
 pub mod Preorders
+mod OuterControls

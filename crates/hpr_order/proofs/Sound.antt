@@ -27,7 +27,7 @@ use Rattle.hpr_graph.specs.declared.vertex.Vertex.{Vertex}
 use Rattle.hpr_graph.specs.declared.vertex.Vertex.TheVariants.{Entry, Part, Final}
 use Rattle.hpr_graph.specs.declared.edge.Kind.{Kind}
 use Rattle.hpr_graph.specs.declared.edge.Kind.TheVariants.{Control}
-use Rattle.hpr_graph.specs.Arrangements.{IsArrangement, Directs, edge_into}
+use Rattle.hpr_graph.specs.Arrangements.{IsArrangement, IsOuter, Directs, edge_into}
 use Rattle.hpr_graph.specs.Graphs.{Graph}
 use Rattle.hpr_graph.specs.InOrder.{Ascends}
 use Rattle.hpr_graph.specs.Order.{name_cmp}
@@ -81,6 +81,7 @@ pub record IsGiven (g : Graph) (xs : List Item) (ns : Issued) (fs : List (List �
   pub names : All IsName fs
   pub finals : (x : List ℕ) → Contains fs x ↔ g.vertex (Final x)
   pub order : Ascends name_cmp fs
+  pub outer : (v from : Vertex) (label : Bool) → IsOuter v → g.vertex v → g.edge (edge_into from v (Control label)) ↔ ((from ≡ Entry) × (label ≡ true))
 
 pub part_same : (t u : Tag) (c d : Content) → Part t c ≡ Part u d → (t ≡ u) × (c ≡ d)
 part_same t u c d e = ((cc), (cc))
@@ -222,6 +223,7 @@ module _ (g : Graph) (items : List Item) (issued : Issued) (finals : List (List 
     control = λ label from u c. controls t b from label u c a h;
     finals = is.finals;
     ascending = is.order;
+    outer = is.outer;
     directed = λ s u c d k e dir. direct t b s u c d k a h e dir;
   }
 

@@ -1,5 +1,5 @@
 -- Every program with the graph is an arrangement, its finals put in order and its issued numbers replaced.
-use Rattle.std.proofs.Common.{◌≡◌, ◌≤◌, ◌<◌, All, None, List, [], refl, sym, subst, arith}
+use Rattle.std.proofs.Common.{◌≡◌, ◌≤◌, ◌<◌, ◌↔◌, ℕ, Bool, true, inl, inr, All, None, List, [], refl, sym, subst, arith}
 use Rattle.std.proofs.lemmas.List.Sorted.{All-permutation}
 use Rattle.hpr_terms.specs.declared.tag.Tag.{Tag}
 use Rattle.hpr_terms.specs.Names.{IsName}
@@ -18,12 +18,12 @@ use Rattle.hpr_paths.specs.Spots.{part}
 use Rattle.hpr_paths.proofs.Left.{number_left}
 use Rattle.hpr_paths.proofs.Nested.{number_of_says}
 use Rattle.hpr_graph.specs.declared.vertex.Vertex.{Vertex}
-use Rattle.hpr_graph.specs.declared.vertex.Vertex.TheVariants.{Part, Final}
+use Rattle.hpr_graph.specs.declared.vertex.Vertex.TheVariants.{Entry, Init, Part, Final}
 use Rattle.hpr_graph.specs.declared.edge.Kind.{Kind}
 use Rattle.hpr_graph.specs.declared.edge.Kind.TheVariants.{Control, Independent, Carried, Order}
 use Rattle.hpr_graph.specs.Graphs.{Graph}
-use Rattle.hpr_graph.specs.ProgramGraph.{IsEdgeBy, graph_of}
-use Rattle.hpr_graph.specs.Arrangements.{Directs, edge_into, IsArrangement, AreArrangements}
+use Rattle.hpr_graph.specs.ProgramGraph.{IsControl, IsEdgeBy, IsVertexOf, graph_of}
+use Rattle.hpr_graph.specs.Arrangements.{Directs, IsOuter, edge_into, IsArrangement, AreArrangements}
 use Rattle.hpr_graph.specs.Answer.{Fits, NoneFits, HasNoProgram}
 use Rattle.hpr_graph.proofs.Laws.{same_then}
 use Rattle.hpr_build.proofs.BridgeVertices.{finals_once}
@@ -89,6 +89,21 @@ directed_left t s v c d (Independent x) prog h directs = independent_to_right t 
 directed_left t s v c d (Carried x w) prog h directs = absurd directs
 directed_left t s v c d (Order u) prog h directs = order_to_right t s v c d (edge_into (Part s c) (Part v d) (Order u)) u h refl refl refl
 
+-- exactly the control edge from Entry goes into what is no part
+init_control : (t : Tree) (x : List ℕ) (from : Vertex) (label : Bool) → IsControl t label from (Init x) → (from ≡ Entry) × (label ≡ true)
+init_control t x from label (inl (is, truth, top)) = (is, truth)
+init_control t x from label (inr (p, c, is, says, (v, s, stands, under, up))) = absurd cc
+
+final_control : (t : Tree) (x : List ℕ) (from : Vertex) (label : Bool) → IsControl t label from (Final x) → (from ≡ Entry) × (label ≡ true)
+final_control t x from label (inl (is, truth, top)) = (is, truth)
+final_control t x from label (inr (p, c, is, says, (v, s, stands, under, up))) = absurd cc
+
+outer_controls : (t : Tree) (v from : Vertex) (label : Bool) → IsOuter v → IsVertexOf t v → IsControl t label from v ↔ ((from ≡ Entry) × (label ≡ true))
+outer_controls t Entry from label out there = absurd out
+outer_controls t (Init x) from label out there = (init_control t x from label, λ (is, truth). inl (is, truth, there))
+outer_controls t (Part v c) from label out there = absurd out
+outer_controls t (Final x) from label out there = (final_control t x from label, λ (is, truth). inl (is, truth, there))
+
 pub settled_fits : (g : Graph) (issued : Issued) (p q : Tree) → Fits g p → IsSettled issued p q → Fits g q
 settled_fits g issued p q fits s = same_then (graph_of q) (graph_of p) g (settled_same issued p q s) fits
 
@@ -104,6 +119,10 @@ member g issued p q prog fits proper allowed s =
       control = λ label from t c. new.1 (edge_into from (Part t c) (Control label));
       finals = λ x. new.0 (Final x);
       ascending = s.ascending;
+      outer = λ v from label out there.
+          (let e = edge_into from v (Control label) in
+          let only = outer_controls q v from label out ((new.0 v).1 there) in
+          (λ k. only.0 ((new.1 e).1 k), λ h. (new.1 e).0 (only.1 h)));
       directed = λ v t c d k h directs left.
           (let e = (new.1 (edge_into (Part v c) (Part t d) k)).1 h in
           let (says, says') = directed_ends q v t c d k e directs in

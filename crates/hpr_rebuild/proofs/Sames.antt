@@ -48,6 +48,10 @@ arrangement_same g h s issued p is = record {
       (λ k. (s.1 e).0 ((is.control label from t c).0 k), λ there. (is.control label from t c).1 ((s.1 e).1 there)));
   finals = λ x. (λ ends. (s.0 (Final x)).0 ((is.finals x).0 ends), λ there. (is.finals x).1 ((s.0 (Final x)).1 there));
   ascending = is.ascending;
+  outer = λ v from label out there.
+      (let e = edge_into from v (Control label) in
+      let only = is.outer v from label out ((s.0 v).1 there) in
+      (λ k. only.0 ((s.1 e).1 k), λ h. (s.1 e).0 (only.1 h)));
   directed = λ v t c d k there directs. is.directed v t c d k ((s.1 (edge_into (Part v c) (Part t d) k)).1 there) directs;
 }
 

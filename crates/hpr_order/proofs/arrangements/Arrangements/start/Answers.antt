@@ -10,6 +10,7 @@ use Rattle.hpr_order.specs.Limits.{AreOrdersOf}
 use Rattle.hpr_order.specs.Numbers.{AreItemsAt}
 use Rattle.hpr_order.proofs.Arranges.{orders_arranged, orders_programs}
 use Rattle.hpr_order.proofs.Coming.{coming_next, closed_graph, ranked_items}
+use Rattle.hpr_order.proofs.OuterControls.{outer_controls}
 use Rattle.hpr_order.proofs.Shapes.{vertex_of}
 use Rattle.hpr_order.proofs.Sound.{IsGiven}
 use Rattle.hpr_order.proofs.arrangements.Arrangements.start.Goals as goal
@@ -31,6 +32,7 @@ invariant_of-result c =
       names = subst (All IsName) c.deref-5.ensures.value c.read_names.ensures;
       finals = c.in_ok-finals.ensures.names;
       order = c.in_ok-finals.ensures.ascending;
+      outer = outer_controls (graph_in g) c.requires.regions.possible;
     } in
     let found : AreOrdersOf (graph_in g) items orders = subst (λ z. AreOrdersOf (graph_in g) z orders) c.deref-3.ensures.value c.in_ok-later.ensures in
     let same : coming c.in_ok-next.next c.next_order.new.orders ≡ orders =
@@ -57,6 +59,7 @@ returns c =
       names = subst (All IsName) c.deref-5.ensures.value c.read_names.ensures;
       finals = c.in_ok-finals.ensures.names;
       order = c.in_ok-finals.ensures.ascending;
+      outer = outer_controls (graph_in g) c.requires.regions.possible;
     } in
     let found : AreOrdersOf (graph_in g) items orders = subst (λ z. AreOrdersOf (graph_in g) z orders) c.deref-3.ensures.value c.in_ok-later.ensures in
     let same : coming c.in_ok-next.next c.next_order.new.orders ≡ orders =
