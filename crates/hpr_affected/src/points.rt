@@ -27,7 +27,8 @@ pub fn affected(alloc: Global, variant: &Graph, base: &Graph) -> Result<Vec<usiz
 }
 
 /// The preserved points, by their numbers in the base, ascending: the vertices that all three graphs have
-/// with the same slice (Horwitz, Prins and Reps 1989). An Init vertex is none, which is our profile.
+/// with the same slice (Horwitz, Prins and Reps 1989). An Init vertex is none here, so that one
+/// stands in a merged graph only where a use of it does.
 ///
 /// Compares the slices at each vertex of the base, which takes two searches for each variant.
 pub fn preserved(alloc: Global, base: &Graph, a: &Graph, b: &Graph) -> Result<Vec<usize>, NoMemory>

@@ -56,7 +56,7 @@ fn push_edges(
 /// parts in preorder, the names of `end` in their order, and the names that the program takes from
 /// before it, ascending. Its edges are the control edges, the flow edges of each loop that carries
 /// them and of none, and the order edges. A loop encloses its own predicate, and a loop's predicate
-/// has no control edge to itself: both are our profile.
+/// has no control edge to itself, which some definitions give it.
 ///
 /// Refuses with `TooManyEdges` where the graph has more than `most_edges` edges, and only there, and
 /// with `Memory` where memory runs out.

@@ -1,6 +1,7 @@
 //! Commands, what takes them back, and why they are refused.
 //!
-//! Editing by commands on a tree, with tags that the editor keeps, is our profile.
+//! Commands change a tree, and the editor keeps the tags: Horwitz, Prins and Reps 1989 suppose such an
+//! editor, and leave its commands open.
 ghost use Rattle.std.specs.Prelude.{◌≡◌};
 ghost use Rattle.std.proofs.Common.{rules, ◌==◌};
 ghost use Rattle.std.specs.Cmp.Rules.{comparing};

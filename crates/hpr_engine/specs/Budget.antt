@@ -1,4 +1,4 @@
--- The budget of tries: where answers may differ, and which arrangements are tried (our profile).
+-- The budget of tries: where answers may differ, and which arrangements are tried. The 1989 paper has no budget.
 --
 -- AreTried base a b ps == the list has the arrangements of the merged graph, each once, in the order of the rank
 -- HasSearched r        == the answer is a program, or that no program has the merged graph

@@ -1,4 +1,4 @@
--- The limit on the graphs of programs (our profile).
+-- The limit on the graphs of programs, which the 1989 paper has not.
 --
 -- most_edges          == the most edges that the graph of a program may have
 -- HasTooManyEdges p   == the graph of the program p has more

@@ -16,8 +16,8 @@ use std::alloc::Global;
 /// The integration of two variants of a program with their base: the first arrangement, by the rank of
 /// the parts, whose graph is the merged graph (Horwitz, Prins and Reps 1989). Its finals are ascending,
 /// and each author has the greatest of its three issued numbers. At least one try is allowed; each
-/// arrangement whose graph is compared is one (the order, the limit on edges and the budget of tries
-/// are our profile's). It keeps the meaning of both variants: from each state on which base and both
+/// arrangement whose graph is compared is one (Horwitz, Prins and Reps 1989 leave the order open, and
+/// know no limit on edges and no budget). It keeps the meaning of both variants: from each state on which base and both
 /// variants end, it ends with what each variant changed and what all three agree on (Reps and Yang 1988).
 ///
 /// Refuses with `TooManyEdges` where a graph of the three programs has more than 1,000,000 edges, and

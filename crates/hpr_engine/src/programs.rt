@@ -22,7 +22,7 @@ pub const MOST_EDGES: usize = 1_000_000;
 
 /// The merged graph of two variants of a program and their base, where the variants don't interfere
 /// (Horwitz, Prins and Reps 1989). Each affected point has there the slice that it has in the graph of
-/// its variant. The limit on edges is our profile's.
+/// its variant. Theirs has no limit on edges.
 ///
 /// Refuses with `TooManyEdges` where a graph of the three has more than 1,000,000 edges, and names the
 /// first of base, A and B; else with `Interference` where there is a conflict, and lists all of them;

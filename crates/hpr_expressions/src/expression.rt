@@ -87,7 +87,7 @@ pub struct Context {
 /// A token can stand next exactly where the grammar of expressions lets it: operands are names,
 /// literals up to 9,223,372,036,854,775,807 and brackets, at most 256 of these in one another;
 /// there are at most 256 operators; and at most one comparison stands between two brackets, `and`s
-/// or `or`s. The operators and their levels are our profile.
+/// or `or`s.
 #[derive(Debug, Drop)]
 pub enum Reading {
     /// An operand, a prefix or an opening bracket must stand next.

@@ -45,7 +45,7 @@ impl Orders {
     /// Begins with all orders of the forest; none where what must come before its siblings goes round in a circle.
     ///
     /// An order has each item once. It is that of a walk down the forest: what stands under an item comes after it, and before what stands
-    /// elsewhere; siblings come after those that must come before them. The orders are in lexicographic order. Our profile.
+    /// elsewhere; siblings come after those that must come before them. The orders are in lexicographic order.
     /// An error is want of memory.
     pub fn start(alloc: Global, blocks: Blocks) -> Result<Orders, AllocError>
         ensures all { IfOk result (λ o. IsListOf LexLess (IsWhole (can_of blocks) (vec_len blocks.parents)) o) }

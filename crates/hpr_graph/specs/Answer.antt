@@ -1,4 +1,4 @@
--- The answer of an integration (Horwitz, Prins and Reps 1989; the two failures and the budget of tries are our profile's).
+-- The answer of an integration (Horwitz, Prins and Reps 1989, who have no budget of tries).
 --
 -- Answer                == all conflicts; a program; no program has the merged graph, which has so many parts; or the budget is spent
 -- Fits g p              == the graph of p is g

@@ -1,4 +1,5 @@
--- The arrangements of a graph: the programs that its parts and control edges allow (our profile).
+-- The arrangements of a graph: the programs that its parts and control edges allow. The 1989 paper orders the
+-- parts of a block by another method.
 --
 -- Directs kind             == an edge of this kind between two parts has its source to the left: an independent flow edge or an order edge
 -- edge_into v w k          == the edge from v into w of this kind

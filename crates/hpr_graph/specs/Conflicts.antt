@@ -1,4 +1,4 @@
--- Conflicts (Horwitz, Prins and Reps 1989; the edge that a conflict names is our profile's).
+-- Conflicts (Horwitz, Prins and Reps 1989, who name no edge for a conflict).
 --
 -- graph_on side a b        == the graph of that side
 -- IsAdded m g v e          == e lies in v's slice in m, not in v's slice in g, and ends in a vertex of the latter

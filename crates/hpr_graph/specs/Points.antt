@@ -3,7 +3,7 @@
 -- IsShared g h v         == h has the vertex v too, with the same slice
 -- IsAffected g base v    == v is a vertex of the variant's graph g that base's graph lacks or has with another slice
 -- IsInit v               == v is an Init vertex
--- IsPreserved base a b v == v is a vertex of all three graphs, with three equal slices; an Init vertex is none (our profile)
+-- IsPreserved base a b v == v is a vertex of all three graphs, with three equal slices; an Init vertex is none here
 -- merged base a b        == what the variants changed and what all three share: the union of the three slices
 use Rattle.std.specs.Prelude.{◌≡◌, ℕ, List}
 use Rattle.hpr_graph.specs.declared.vertex.Vertex.{Vertex}

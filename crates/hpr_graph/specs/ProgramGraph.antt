@@ -1,5 +1,5 @@
 -- The dependence graph of a program (Horwitz, Prins and Reps 1989). A loop encloses its own predicate, and a while predicate has no control
--- edge to itself: both are our profile.
+-- edge to itself, which some definitions give it.
 --
 -- Defines tree x v a         == the vertex v defines x at the point a: Init(x) at Enter, an assignment at its part
 -- Reads tree x v a           == the vertex v uses x at the point a: a part by its expression, Final(x) at Exit

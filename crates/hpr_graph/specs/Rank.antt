@@ -1,4 +1,4 @@
--- The rank of the parts of three programs: the order in which arrangements are tried (our profile).
+-- The rank of the parts of three programs: the order in which arrangements are tried. The 1989 paper leaves it open.
 --
 -- parts_of tree      == the parts of a program as vertices, in preorder
 -- IsPutIn v next xs ys == ys is xs with v immediately before `next`, or at the end where there is no next; a vertex that is listed stays

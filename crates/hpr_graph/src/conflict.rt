@@ -10,7 +10,7 @@ pub enum Side {
 
 /// An affected point of one variant that hasn't its slice in the merged graph (Horwitz, Prins and Reps
 /// 1989), with an edge that shows it: the least edge that the merged graph adds to the slice and that
-/// ends in one of its vertices (our profile). Conflicts compare by side, then by point, then by edge.
+/// ends in one of its vertices (they name none). Conflicts compare by side, then by point, then by edge.
 #[derive(Debug, PartialEq, Eq, PartialOrd, Ord, Drop)]
 pub struct Conflict {
     pub side: Side,

@@ -3,7 +3,7 @@
 //! points, the merged graph and conflicts.
 //!
 //! The graphs are the program dependence graphs of Horwitz, Prins and Reps (1989), the slices those of
-//! Reps and Yang (1988). Where our profile differs, the files of specs/ say so.
+//! Reps and Yang (1988). Where a definition differs from theirs, its file of specs/ says so.
 #![tactic(auto)]
 
 mod conflict;

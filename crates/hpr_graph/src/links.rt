@@ -8,8 +8,8 @@ use crate::{Link, LinkKind};
 use hpr_syntax::NoMemory;
 use std::alloc::Global;
 
-/// The number there of the vertex with the number `at`, or none where it has none there. (Our profile: the definitions
-/// know vertices, and no numbers.)
+/// The number there of the vertex with the number `at`, or none where it has none there. The definitions
+/// know vertices, and no numbers.
 pub fn number_at(numbers: &[Option<usize>], at: usize) -> Option<usize>
     ensures { result ≡ number_at numbers.now at }
 {
@@ -20,7 +20,7 @@ pub fn number_at(numbers: &[Option<usize>], at: usize) -> Option<usize>
     }
 }
 
-/// The link by the numbers there, or none where one of its vertices has none there. (Our profile.)
+/// The link by the numbers there, or none where one of its vertices has none there.
 pub fn moved(link: Link, numbers: &[Option<usize>]) -> Option<Link>
     ensures { result ≡ moved numbers.now link }
 {
@@ -40,7 +40,7 @@ fn moved_kind(kind: LinkKind, numbers: &[Option<usize>]) -> Option<LinkKind>
     }
 }
 
-/// The links in ascending order, as `has_sorted` wants them. (Our profile.)
+/// The links in ascending order, as `has_sorted` wants them.
 pub fn sorted(alloc: Global, links: &[Link]) -> Result<Vec<Link>, NoMemory>
     ensures sorted { IfOk result (λ v. IsSorted ⟦<Link as Ord>⟧.cmp v.items) }
     ensures same { IfOk result (λ v. (l : Link) → Contains v.items l ↔ Contains links.now l) }
@@ -50,7 +50,7 @@ pub fn sorted(alloc: Global, links: &[Link]) -> Result<Vec<Link>, NoMemory>
     Ok(sorted)
 }
 
-/// Whether the link is one of these, which ascend. (Our profile.)
+/// Whether the link is one of these, which ascend.
 pub fn has_sorted(links: &[Link], link: Link) -> bool
     requires { IsSorted ⟦<Link as Ord>⟧.cmp links.now }
     ensures { IsTrue result ↔ Contains links.now link }

@@ -27,7 +27,7 @@ pub struct Merged {
 }
 
 /// The merged graph of two variants and their base, with the affected points of both and all conflicts
-/// (Horwitz, Prins and Reps 1989). The edge that a conflict names is our profile's.
+/// (Horwitz, Prins and Reps 1989, who name no edge for a conflict).
 ///
 /// The graphs are those of programs; of other graphs the answer is by the same definitions. Beside what
 /// the affected and the preserved points take, makes two searches for each affected point, looks each

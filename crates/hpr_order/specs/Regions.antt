@@ -1,4 +1,4 @@
--- Where the vertices of a graph stand: the control edge into each (Horwitz, Prins and Reps 1989), and what graphs have none (our profile).
+-- Where the vertices of a graph stand: the control edge into each (Horwitz, Prins and Reps 1989), and what graphs have none.
 --
 -- Allows from label to  == a control edge may go so: from Entry, labelled true, to a part, an Init or a Final vertex; from a loop, labelled true,
 --                          to a part; from a conditional, with either label, to a part

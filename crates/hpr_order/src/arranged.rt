@@ -14,7 +14,7 @@ use hpr_syntax::{Issued, Program};
 use std::alloc::Global;
 
 /// The arrangement of the graph with these issued numbers whose parts in preorder are the vertices with
-/// these numbers. There is one, and there is no other. Our profile. An error is want of memory.
+/// these numbers. There is one, and there is no other. An error is want of memory.
 pub fn arrange(
     alloc: Global,
     graph: &Graph,

@@ -66,7 +66,7 @@ impl Arrangements {
     /// in which no independent flow edge and no order edge between two parts goes from right to left. Of two
     /// arrangements the one is first whose part is first in the rank, where their preorders first differ.
     /// There is none where the parts break a limit of programs, or where what directs goes round in a
-    /// circle. Our profile. An error is want of memory.
+    /// circle. An error is want of memory.
     pub fn start(
         alloc: Global,
         graph: &Graph,

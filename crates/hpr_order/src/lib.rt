@@ -1,5 +1,5 @@
 //! The order in which the programs with a graph's parts and control edges are tried, and how the control
-//! edges of a graph make a tree (after Horwitz, Prins and Reps 1989; the order is our profile's).
+//! edges of a graph make a tree (after Horwitz, Prins and Reps 1989, who leave the order open).
 #![tactic(auto)]
 
 mod arranged;

@@ -13,7 +13,7 @@ use std::alloc::Global;
 /// end; then so those of the base. Where A is the base, A and B change places. Each part comes once: a
 /// part whose content changed under a kept tag is another one.
 ///
-/// Looks at each listed part once for each part of B and the base (our profile).
+/// Looks at each listed part once for each part of B and the base. Horwitz, Prins and Reps 1989 have no rank.
 pub fn rank(
     alloc: Global,
     a: &Program,

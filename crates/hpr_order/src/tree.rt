@@ -69,7 +69,7 @@ impl RegionTree {
 }
 
 /// The tree that the control edges of a graph make, in whatever graph they may. Looks at each edge a
-/// fixed number of times (Horwitz, Prins and Reps 1989 for the edges; the test is our profile's).
+/// fixed number of times (Horwitz, Prins and Reps 1989 for the edges).
 ///
 /// `TwoContents` comes exactly where a tag has two contents, with the least such tag. `Impossible` comes
 /// exactly where no tag has and some vertex other than Entry has not exactly one control edge into it, or

@@ -63,7 +63,7 @@ fn put_names(out: &mut Vec<u8>, names: &[Name]) -> Result<(), NoMemory>
 
 /// The canonical text of a program: its lines `program` and `issued`, a line for each part and for
 /// each `else`, `fi` and `od`, indented by two spaces a level, and the line `end(..)`. It fails only
-/// for want of memory. The text is our profile.
+/// for want of memory.
 pub fn text_of(alloc: Global, program: &Program) -> Result<Vec<u8>, NoMemory>
     ensures { IfOk result (λ v. v.items ≡ text program.now) }
 {

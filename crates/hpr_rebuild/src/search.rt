@@ -100,7 +100,7 @@ fn first_fitting(
 /// The first arrangement whose graph is this one (Horwitz, Prins and Reps 1989), with these issued
 /// numbers. Arrangements are the programs that the graph's parts and control edges allow, in the order
 /// of the ranks of their parts. Each that is made and judged is one try, of which at least one is
-/// allowed (our profile).
+/// allowed.
 ///
 /// The rank has every part of the graph and nothing twice. Each part's serial is at least 1 and at most
 /// its author's issued number.

@@ -23,8 +23,7 @@ pub struct CommandRefusal {
 impl CommandRefusal {
     /// The message on it, where the script has this name.
     ///
-    /// It fails where memory runs out, also where that is why the command was refused. Messages are
-    /// our profile.
+    /// It fails where memory runs out, also where that is why the command was refused.
     pub fn message(&self, alloc: Global, script: &str) -> Result<String, AllocError>
         ensures text { IfOk result (λ text. string_bytes text ≡ command_text script.now self.now.number self.now.why) }
         ensures memory { IfOk result (λ text. self.now.why ≢ EditError.Memory) }
@@ -67,7 +66,7 @@ fn command_reason(alloc: Global, why: &EditError) -> Result<String, AllocError>
 /// this author's, which is at least 1.
 ///
 /// The first command that is refused ends it, by the causes of [`EditError`] in their order or for
-/// want of memory. Scripts are our profile.
+/// want of memory.
 pub fn apply_script(
     alloc: Global,
     program: Program,

@@ -6,7 +6,7 @@ use crate::reasons::{about, shape_reason};
 use hpr_syntax::ShapeError;
 use std::alloc::{AllocError, Global};
 
-/// The longest file that is accepted, in bytes. The limit is our profile.
+/// The longest file that is accepted, in bytes.
 pub const MAX_FILE: usize = 4_194_304;
 
 /// Why a file is refused. A script is refused for its length or its syntax alone.

@@ -10,7 +10,7 @@ use std::alloc::Global;
 /// The conflicts of an integration: the line `interference N`, with their number, and a line
 /// `SIDE POINT: EDGE` for each, as they are listed. SIDE is `A` or `B`, POINT is the affected point as a
 /// vertex in brackets, and EDGE is the edge that shows the conflict. Each line ends with a newline. It
-/// fails only for want of memory. The text is our profile.
+/// fails only for want of memory.
 pub fn conflicts_text(alloc: Global, conflicts: &[Conflict]) -> Result<Vec<u8>, NoMemory>
     ensures { IfOk result (λ text. text.items ≡ conflicts_text conflicts.now) }
 {

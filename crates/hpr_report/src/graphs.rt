@@ -11,7 +11,7 @@ use hpr_print::content_text;
 use std::alloc::Global;
 
 /// A vertex in brackets: `[entry]`, `[init NAME]`, `[final NAME]`, and for a part its tag and what it
-/// says, as `[1.2 x := 1]`. It fails only for want of memory. The text is our profile.
+/// says, as `[1.2 x := 1]`. It fails only for want of memory.
 pub fn vertex_text(alloc: Global, vertex: &Vertex) -> Result<Vec<u8>, NoMemory>
     ensures { IfOk result (λ text. text.items ≡ vertex_text vertex.now) }
 {
@@ -65,7 +65,7 @@ fn content_words(alloc: Global, content: &Content) -> Result<String, NoMemory>
 
 /// An edge from its source to its target, each in brackets: `control LABEL FROM -> TO`,
 /// `flow NAME FROM -> TO`, `carried NAME FROM -> TO by LOOP`, `order FROM -> TO for USE`. It fails only
-/// for want of memory. The text is our profile.
+/// for want of memory.
 pub fn edge_text(alloc: Global, edge: &Edge) -> Result<Vec<u8>, NoMemory>
     ensures { IfOk result (λ text. text.items ≡ edge_text edge.now) }
 {
@@ -105,8 +105,7 @@ fn ends_words(alloc: Global, edge: &Edge) -> Result<String, NoMemory>
 }
 
 /// A graph: the line `vertices N` and a line for each vertex, the line `edges N` and a line for each
-/// edge, both in their order. Each line ends with a newline. It fails only for want of memory. The text
-/// is our profile.
+/// edge, both in their order. Each line ends with a newline. It fails only for want of memory.
 pub fn graph_text(alloc: Global, graph: &Graph) -> Result<Vec<u8>, NoMemory>
     ensures { IfOk result (λ text. IsGraphText (graph_in graph.now) text.items) }
 {

@@ -18,7 +18,7 @@ use std::alloc::{AllocError, Global};
 /// vertices' texts without their brackets, in order; its member `edges` is the array of the edges in
 /// order, each an object that names its vertices by their places in `vertices`, from 0: `from`, `to`,
 /// `kind`, and then `label`, `name`, `loop` or `for` as the kind wants. Members stand in ascending order
-/// of their keys. It fails only for want of memory. The form is our profile.
+/// of their keys. It fails only for want of memory. The form is defined here alone.
 pub fn graph_json(alloc: Global, graph: &Graph) -> Result<Vec<u8>, NoMemory>
     ensures { IfOk result (λ text. IsGraphJson (graph_in graph.now) text.items) }
 {

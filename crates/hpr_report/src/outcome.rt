@@ -11,7 +11,7 @@ use std::alloc::{AllocError, Global};
 
 /// How a run went: one line, with the count of its steps, and where it ended a line `NAME = VALUE`
 /// for each name of `end`, in its order. Each line ends with a newline. It fails only for want of
-/// memory. The text is our profile.
+/// memory.
 pub fn outcome_text(alloc: Global, outcome: &Outcome) -> Result<Vec<u8>, NoMemory>
     ensures { IfOk result (λ text. text.items ≡ outcome_text (outcome_of outcome.now)) }
 {

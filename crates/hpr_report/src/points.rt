@@ -10,7 +10,7 @@ use std::alloc::Global;
 
 /// The vertices with these numbers: the line `affected N` and a line for each, in their order. Each line
 /// ends with a newline, and a number that is listed twice is shown once. Each number is that of a vertex.
-/// It fails only for want of memory. The text is our profile.
+/// It fails only for want of memory.
 pub fn affected_text(alloc: Global, variant: &Graph, points: &[usize]) -> Result<Vec<u8>, NoMemory>
     requires { All (λ p. p < length variant.now.vertices) points.now }
     ensures { IfOk result (λ text. IsAffectedText (IsOneOf variant.now points.now) text.items) }

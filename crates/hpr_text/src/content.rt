@@ -194,7 +194,7 @@ impl ContentState {
 /// `name := expr`, `if expr` or `while expr`, with the limits of an expression. `Syntax` comes
 /// exactly where the bytes from `start` on begin with no content and `;`; its place is `start` and
 /// the length of the longest front of the bytes from there on that some further bytes complete.
-/// `Shape` never comes; `Memory` where memory ran out. The text of a content is our profile.
+/// `Shape` never comes; `Memory` where memory ran out.
 pub fn read_content(
     alloc: Global,
     bytes: &[u8],

@@ -64,7 +64,7 @@ fn built(alloc: Global, state: State) -> Result<Program, TextError>
 /// longest front that some further bytes complete; `Shape` exactly where they spell a tree that is
 /// no program, with the first test that it fails; `Memory` where memory ran out. Of an untagged text
 /// with more than 1,000 parts no part past these is kept, and the refusal has the number of them
-/// all. The rules of texts, and their limits, are our profile.
+/// all.
 pub fn parse(alloc: Global, bytes: &[u8], mode: Mode) -> Result<Program, TextError>
     requires author { HasAuthor mode }
     ensures spelled { IfOk result (λ p. Spells (form_of mode) bytes.now p) }

@@ -6,7 +6,7 @@ ghost use Rattle.hpr_walk.specs.Marks.{IsMarksOf};
 
 /// Rules that say which numbers may stand next behind the numbers placed so far.
 ///
-/// Our profile: the numbers are below `size`, and a whole list has `size` of them.
+/// The numbers are below `size`, and a whole list has `size` of them.
 pub trait Choices {
     // how many numbers a whole list has
     ghost size: { Self → ℕ };

@@ -14,7 +14,7 @@ use crate::tag::read_tag;
 use crate::trial::read_trial;
 use std::alloc::{AllocError, Global};
 
-/// What the words of a command line ask for. The commands are our profile.
+/// What the words of a command line ask for.
 #[derive(Drop)]
 pub enum Asked<'a> {
     /// `integrate BASE A B [--tries N]`: integrate two variants with their base, within a number of
