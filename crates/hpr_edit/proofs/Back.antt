@@ -15,18 +15,17 @@ use Rattle.hpr_syntax.specs.Rows.{content_of}
 use Rattle.hpr_syntax.specs.Issued.{issued_to}
 use Rattle.hpr_syntax.specs.Tree.{Tree}
 use Rattle.hpr_syntax.specs.Proper.{IsProperBody}
-use Rattle.hpr_syntax.specs.Shape.{IsProgram, shape, is_unissued, first_unissued, first_repeated_tag, first_deep, first_large, too_many, first_repeated, max_levels}
+use Rattle.hpr_syntax.specs.Shape.{IsProgram, is_unissued, first_unissued, first_repeated_tag, first_deep, first_large, too_many, first_repeated, max_levels}
 use Rattle.hpr_syntax.proofs.NoRefusal.{HasNoRefusal, no_refusal, shaped}
-use Rattle.hpr_edit.specs.declared.command.Place.{Place}
 use Rattle.hpr_edit.specs.declared.command.Command.{Command}
 use Rattle.hpr_edit.specs.declared.command.Command.TheVariants.{Insert, Delete, Move, Set, Wrap, Unwrap, Finals}
 use Rattle.hpr_edit.specs.declared.command.Inverse.{Inverse}
 use Rattle.hpr_edit.specs.declared.command.EditError.TheVariants.{SerialsSpent}
 use Rattle.hpr_edit.specs.InPlace.{one_if, times}
 use Rattle.hpr_edit.specs.Places.{joined, is_place, place_of}
-use Rattle.hpr_edit.specs.Changes.{at_part, at_place, gone, made, saying, wrapped, unwrapped}
-use Rattle.hpr_edit.specs.Edited.{Edited, becomes, edited, settled, next_tag, is_spent, same_kind, is_assignment, stands_in}
-use Rattle.hpr_edit.specs.Reverted.{reverted, body_back, finals_back, put_back, Undoes, IsPutBackIssued, Restores}
+use Rattle.hpr_edit.specs.Changes.{at_part, gone, made, saying, wrapped, unwrapped}
+use Rattle.hpr_edit.specs.Edited.{becomes, edited, settled, next_tag, is_spent, same_kind, is_assignment, stands_in}
+use Rattle.hpr_edit.specs.Reverted.{reverted, body_back, finals_back, put_back, Undoes, IsPutBackIssued}
 use Rattle.hpr_edit.proofs.Around.{plug, same_is, same_self, times_plug, times_before}
 use Rattle.hpr_edit.proofs.Placed.{PlacedIn, placed_in}
 use Rattle.hpr_edit.proofs.Tags.{count, counted, once, all_issued, issued_in, issued_bounds, bounds_issued}

@@ -1,5 +1,5 @@
 -- How the commands end: with the program that is settled, or with its refusal.
-use Rattle.std.proofs.Common.{◌≡◌, ℕ, ◌≤◌, Bool, true, false, cond, if◌then◌else◌, Option, Some, None, Result, Ok, Err, refl, ap, sym, ◌∙◌, subst, arith}
+use Rattle.std.proofs.Common.{◌≡◌, ℕ, ◌≤◌, Bool, true, false, cond, if◌then◌else◌, Option, Some, None, Err, refl, ap, sym, ◌∙◌, subst, arith}
 use Rattle.std.proofs.lemmas.Option.{same_Some}
 use Rattle.hpr_terms.specs.declared.tag.Tag.{Tag}
 use Rattle.hpr_syntax.specs.declared.tree.Stmt.{Stmt}
@@ -12,7 +12,7 @@ use Rattle.hpr_edit.specs.declared.command.Inverse.{Inverse}
 use Rattle.hpr_edit.specs.declared.command.EditError.{EditError}
 use Rattle.hpr_edit.specs.declared.command.EditError.TheVariants.{NoTag, IntoItself, NoPlace, KindDiffers, SerialsSpent, Shape, Memory}
 use Rattle.hpr_edit.specs.Changes.{at_part, gone}
-use Rattle.hpr_edit.specs.Edited.{Edited, becomes, refused, refuse, found, settled}
+use Rattle.hpr_edit.specs.Edited.{Edited, becomes, refuse, found, settled}
 use Rattle.hpr_edit.specs.InPlace.{times, Settles, Answers}
 use Rattle.hpr_edit.proofs.Tags.{once}
 

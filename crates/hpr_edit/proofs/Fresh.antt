@@ -1,5 +1,5 @@
 -- No tag is issued twice.
-use Rattle.std.proofs.Common.{◌≡◌, ◌≢◌, ℕ, ◌+◌, ◌<◌, ◌≤◌, max, Bool, true, false, not, None, List, [], ◌∷◌, ◌++◌, refl, ap, sym, ◌∙◌, subst, arith, eqb}
+use Rattle.std.proofs.Common.{◌≡◌, ◌≢◌, ℕ, ◌+◌, ◌<◌, ◌≤◌, Bool, true, false, not, None, List, [], ◌∷◌, ◌++◌, refl, ap, sym, ◌∙◌, subst, arith, eqb}
 use Rattle.std.specs.List.{AllByRecursion}
 use Rattle.std.proofs.lemmas.Bool.{eqb-true, eqb-false}
 use Rattle.hpr_terms.specs.declared.tag.Tag.{Tag}
@@ -13,10 +13,9 @@ use Rattle.hpr_edit.specs.declared.command.Command.{Command}
 use Rattle.hpr_edit.specs.declared.command.Command.TheVariants.{Insert, Delete, Move, Set, Wrap, Unwrap, Finals}
 use Rattle.hpr_edit.specs.declared.command.Inverse.{Inverse}
 use Rattle.hpr_edit.specs.declared.command.EditError.TheVariants.{SerialsSpent}
-use Rattle.hpr_edit.specs.InPlace.{times}
 use Rattle.hpr_edit.specs.Places.{is_place, place_of}
 use Rattle.hpr_edit.specs.Changes.{at_part, gone}
-use Rattle.hpr_edit.specs.Edited.{Edited, becomes, edited, settled, next_tag, is_spent, is_assignment, same_kind, stands_in, with_new}
+use Rattle.hpr_edit.specs.Edited.{becomes, edited, settled, next_tag, is_spent, is_assignment, same_kind, stands_in}
 use Rattle.hpr_edit.specs.Steps.{new_tags, Steps, none, command, revert, Apart, Fresh}
 use Rattle.hpr_edit.proofs.Around.{absent_found}
 use Rattle.hpr_edit.proofs.Undone.{refuse_is, found_is, FoundIs, settled_is}

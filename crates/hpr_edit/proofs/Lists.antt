@@ -1,5 +1,5 @@
 -- Blocks as lists of parts, and what the code does to the lists.
-use Rattle.std.proofs.Common.{◌≡◌, ℕ, zero, suc, ◌+◌, ◌≤◌, ◌<◌, Bool, true, false, List, [], ◌∷◌, ◌++◌, take, drop, length, get_or, refl, ap, sym, ◌∙◌, arith, subst, set, Option, Some, None, is_some, Bor, leb, min, ◌⊎◌, inl, inr}
+use Rattle.std.proofs.Common.{◌≡◌, ℕ, zero, suc, ◌+◌, ◌≤◌, ◌<◌, Bool, true, false, List, [], ◌∷◌, ◌++◌, take, drop, length, get_or, refl, ap, sym, ◌∙◌, arith, set, Option, Some, None, is_some, Bor, leb, min, ◌⊎◌, inl, inr}
 use Rattle.std.specs.Option.{option_copied}
 use Rattle.std.specs.List.{insert, remove}
 use Rattle.std.proofs.lemmas.Bool.{leb-true, leb-false}

@@ -1,7 +1,7 @@
 -- The parts that a command doesn't name keep tag and content, and their order.
-use Rattle.std.proofs.Common.{◌≡◌, ℕ, ◌+◌, ◌≤◌, Bool, true, false, not, ◌||◌, ◌⊎◌, inl, inr, cond, Option, Some, None, List, [], ◌∷◌, ◌++◌, map, refl, ap, sym, ◌∙◌, subst, arith}
+use Rattle.std.proofs.Common.{◌≡◌, ℕ, ◌+◌, ◌≤◌, Bool, true, false, not, ◌||◌, ◌⊎◌, inl, inr, Option, Some, None, List, [], ◌∷◌, ◌++◌, map, refl, ap, sym, ◌∙◌, subst, arith}
 use Rattle.std.specs.List.{list_any, filter}
-use Rattle.std.proofs.lemmas.List.{append_assoc, append-nil}
+use Rattle.std.proofs.lemmas.List.{append-nil}
 use Rattle.std.proofs.lemmas.List.Elements.{filter-append}
 use Rattle.hpr_terms.specs.declared.tag.Tag.{Tag}
 use Rattle.hpr_syntax.specs.declared.tree.Stmt.{Stmt}
@@ -22,7 +22,7 @@ use Rattle.hpr_edit.specs.declared.command.EditError.TheVariants.{SerialsSpent}
 use Rattle.hpr_edit.specs.InPlace.{one_if, times}
 use Rattle.hpr_edit.specs.Places.{joined, is_place, place_of}
 use Rattle.hpr_edit.specs.Changes.{at_part, at_place, gone, made, saying, wrapped, unwrapped}
-use Rattle.hpr_edit.specs.Edited.{Edited, becomes, edited, settled, next_tag, is_spent, same_kind, is_assignment, stands_in}
+use Rattle.hpr_edit.specs.Edited.{becomes, edited, settled, next_tag, is_spent, same_kind, is_assignment, stands_in}
 use Rattle.hpr_edit.specs.Rows.{told, is_other, others, tags_in, touched}
 use Rattle.hpr_edit.proofs.Around.{Around, here, past, first, second, inside, plug, same_self, same_is, times_plug, times_before}
 use Rattle.hpr_edit.proofs.Placed.{PlacedIn, placed_in}

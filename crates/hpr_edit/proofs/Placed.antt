@@ -1,17 +1,17 @@
 -- A change at a place changes what stands there alone.
-use Rattle.std.proofs.Common.{◌≡◌, ℕ, zero, suc, ◌+◌, ◌≤◌, ◌==◌, Bool, true, false, Option, Some, None, ◌⊎◌, refl, ap, sym, ◌∙◌, arith, cond, inl, inr, subst, not, nat_le}
+use Rattle.std.proofs.Common.{◌≡◌, ℕ, zero, suc, ◌+◌, ◌≤◌, Bool, true, false, Option, Some, None, ◌⊎◌, refl, ap, sym, ◌∙◌, arith, inl, inr, subst, nat_le}
 use Rattle.std.proofs.lemmas.Bool.{leb-true}
 use Rattle.hpr_terms.specs.declared.tag.Tag.{Tag}
 use Rattle.hpr_syntax.specs.declared.tree.Stmt.{Stmt}
 use Rattle.hpr_syntax.specs.declared.tree.Stmt.TheVariants.{Assign, If, While}
 use Rattle.hpr_syntax.specs.Body.{Body, done, assign, branch, loop}
 use Rattle.hpr_syntax.specs.BodyOf.{before}
-use Rattle.hpr_syntax.specs.Parts.{same_tag, tag_of, find_stmt}
+use Rattle.hpr_syntax.specs.Parts.{same_tag, find_stmt}
 use Rattle.hpr_syntax.specs.Rows.{Parent}
 use Rattle.hpr_edit.specs.declared.command.Place.{Place}
 use Rattle.hpr_edit.specs.Places.{width, block_in, block_in_found, block_at, is_within, is_place}
-use Rattle.hpr_edit.specs.InPlace.{one_if, times}
-use Rattle.hpr_edit.specs.Changes.{at_part, from, with_block, in_block, at_place}
+use Rattle.hpr_edit.specs.InPlace.{times}
+use Rattle.hpr_edit.specs.Changes.{at_part, from, with_block, at_place}
 use Rattle.hpr_edit.proofs.Around.{Around, here, past, first, second, inside, plug, into, plug_into, place_in, no_one, same_self, absent, times_before, times_plug, at_before, at_plug, times_head, FoundIn, found_in}
 
 -- what a place's change does to a part that has its block

@@ -1,5 +1,5 @@
 -- Each command is undone by its inverse.
-use Rattle.std.proofs.Common.{◌≡◌, ℕ, zero, suc, ◌+◌, ◌≤◌, ◌==◌, Bool, true, false, not, Option, Some, None, List, refl, ap, sym, ◌∙◌, arith, subst, add-one}
+use Rattle.std.proofs.Common.{◌≡◌, ℕ, ◌+◌, ◌≤◌, Bool, true, false, not, Option, Some, None, refl, ap, sym, ◌∙◌, arith, subst, add-one}
 use Rattle.hpr_terms.specs.declared.tag.Tag.{Tag}
 use Rattle.hpr_syntax.specs.declared.tree.Stmt.{Stmt}
 use Rattle.hpr_syntax.specs.declared.tree.Stmt.TheVariants.{Assign, If, While}
@@ -16,14 +16,13 @@ use Rattle.hpr_edit.specs.declared.command.Place.{Place}
 use Rattle.hpr_edit.specs.declared.command.Command.{Command}
 use Rattle.hpr_edit.specs.declared.command.Command.TheVariants.{Insert, Delete, Move, Set, Wrap, Unwrap, Finals}
 use Rattle.hpr_edit.specs.declared.command.Inverse.{Inverse}
-use Rattle.hpr_edit.specs.declared.command.Inverse.TheVariants.{Remove, PutBack, MoveBack, SetBack, Lift, Rewrap, FinalsBack}
 use Rattle.hpr_edit.specs.declared.command.EditError.{EditError}
 use Rattle.hpr_edit.specs.declared.command.EditError.TheVariants.{SerialsSpent}
 use Rattle.hpr_edit.specs.Places.{width, joined, is_place, place_of}
 use Rattle.hpr_edit.specs.InPlace.{times}
 use Rattle.hpr_edit.specs.Changes.{at_part, at_place, gone, made, first_block, second_block, saying, wrapped, unwrapped, firsts, later, rewrapped}
-use Rattle.hpr_edit.specs.Edited.{Edited, becomes, refused, refuse, found, settled, unless, edited, next_tag, is_spent, same_kind, is_assignment}
-use Rattle.hpr_edit.specs.Reverted.{reverted, moved, Restores}
+use Rattle.hpr_edit.specs.Edited.{Edited, becomes, refuse, found, settled, unless, edited, next_tag, is_spent, same_kind, is_assignment}
+use Rattle.hpr_edit.specs.Reverted.{moved, Restores}
 use Rattle.hpr_edit.proofs.Around.{Around, plug, place_in, same_self, same_is, times_before, times_plug, times_head, at_plug, find_plug, place_plug, FoundIn, found_in}
 use Rattle.hpr_edit.proofs.Placed.{change_at, PlacedIn, placed_in}
 use Rattle.hpr_edit.proofs.Tags.{once, next_is_new}

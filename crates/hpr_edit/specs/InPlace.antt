@@ -9,7 +9,7 @@
 -- Settles tree result    == the result is this tree where it is a program, and else its refusal; memory aside
 -- Located t body found   == what is found is the part with this tag and its place; nothing, where no part has the tag
 -- Answers edited result  == the result is the program and the inverse, or the refusal; memory aside
-use Rattle.std.specs.Prelude.{◌≡◌, ◌≢◌, ℕ, ◌+◌, Bool, true, false, if◌then◌else◌, Option, Some, None, is_some, Result}
+use Rattle.std.specs.Prelude.{◌≡◌, ℕ, ◌+◌, Bool, true, false, Option, Some, None, Result}
 use Rattle.std.proofs.Common.{Ok, Err, Bor}
 use Rattle.hpr_terms.specs.declared.tag.Tag.{Tag}
 use Rattle.hpr_syntax.specs.declared.tree.Stmt.{Stmt}

@@ -4,7 +4,7 @@
 -- others ts body            == the same of the parts with other tags than these
 -- touched p command author  == the tags of the parts that a command names, puts in or takes out; a part that is deleted or moved
 --                              goes with all that stands in it
-use Rattle.std.specs.Prelude.{ℕ, Bool, true, false, not, Option, Some, None, List, [], ◌∷◌, map, filter}
+use Rattle.std.specs.Prelude.{ℕ, Bool, not, Option, Some, None, List, [], ◌∷◌, map, filter}
 use Rattle.std.specs.List.{list_any}
 use Rattle.hpr_terms.specs.declared.tag.Tag.{Tag}
 use Rattle.hpr_syntax.specs.declared.tree.Stmt.{Stmt}

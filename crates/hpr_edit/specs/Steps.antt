@@ -12,7 +12,7 @@ use Rattle.hpr_syntax.specs.Parts.{find_stmt}
 use Rattle.hpr_syntax.specs.Issued.{Issued, issued_to}
 use Rattle.hpr_syntax.specs.Tree.{Tree}
 use Rattle.hpr_edit.specs.declared.command.Command.{Command}
-use Rattle.hpr_edit.specs.declared.command.Command.TheVariants.{Insert, Delete, Move, Set, Wrap, Unwrap, Finals}
+use Rattle.hpr_edit.specs.declared.command.Command.TheVariants.{Insert, Wrap}
 use Rattle.hpr_edit.specs.declared.command.Inverse.{Inverse}
 use Rattle.hpr_edit.specs.Edited.{edited, becomes, next_tag}
 use Rattle.hpr_edit.specs.Reverted.{reverted}

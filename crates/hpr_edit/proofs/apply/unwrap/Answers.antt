@@ -1,17 +1,12 @@
-use Rattle.std.proofs.Common.{◌≡◌, ◌≤◌, ◌+◌, ◌∙◌, Bool, true, false, not, sym, ap, subst, Some, Err}
-use Rattle.hpr_terms.specs.declared.tag.Tag.{Tag}
-use Rattle.hpr_syntax.specs.BodyOf.{before}
+use Rattle.std.proofs.Common.{◌∙◌, sym, ap}
 use Rattle.hpr_syntax.specs.Parts.{find_stmt}
 use Rattle.hpr_syntax.specs.Rows.{content_of}
-use Rattle.hpr_syntax.specs.Issued.{issued_to, raised}
-use Rattle.hpr_syntax.specs.Tree.{Tree}
-use Rattle.hpr_edit.specs.declared.command.Inverse.TheVariants.{PutBack, MoveBack, Lift, Rewrap}
-use Rattle.hpr_edit.specs.declared.command.EditError.TheVariants.{IntoItself, NoPlace, KindDiffers, SerialsSpent}
-use Rattle.hpr_edit.specs.Places.{width, is_place, place_of}
-use Rattle.hpr_edit.specs.Changes.{at_part, at_place, gone, first_block, second_block, wrapped, unwrapped}
-use Rattle.hpr_edit.specs.Edited.{becomes, refuse, settled, stands_in, is_assignment, is_spent, next_tag, with_new}
-use Rattle.hpr_edit.specs.InPlace.{times}
-use Rattle.hpr_edit.proofs.Ends.{once_taken, spare, found_ends, found_err, settled_ok, settled_err, passed, passed_err}
+use Rattle.hpr_edit.specs.declared.command.Inverse.TheVariants.{Rewrap}
+use Rattle.hpr_edit.specs.declared.command.EditError.TheVariants.{KindDiffers}
+use Rattle.hpr_edit.specs.Places.{width, place_of}
+use Rattle.hpr_edit.specs.Changes.{at_part, first_block, second_block, unwrapped}
+use Rattle.hpr_edit.specs.Edited.{becomes, refuse, settled, is_assignment}
+use Rattle.hpr_edit.proofs.Ends.{found_ends, found_err, settled_ok, settled_err, passed, passed_err}
 use Rattle.hpr_edit.proofs.apply.unwrap.Goals as goal
 
 pub returns-in-Ok : goal.returns-in-Ok

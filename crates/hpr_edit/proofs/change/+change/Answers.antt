@@ -1,7 +1,7 @@
-use Rattle.std.proofs.Common.{rules, ◌≡◌, ◌<◌, ◌≤◌, ◌+◌, ℕ, suc, refl, ap, sym, ◌∙◌, subst, arith, length, get_or, take, set, add-one, vec_len, true, false}
+use Rattle.std.proofs.Common.{rules, ◌≡◌, ◌<◌, ◌≤◌, ◌+◌, refl, ap, sym, ◌∙◌, subst, arith, length, get_or, take, add-one, true, false}
 use Rattle.std.proofs.lemmas.List.{get_or_default, take_all}
 use Rattle.hpr_syntax.specs.declared.tree.Stmt.TheVariants.{If}
-use Rattle.hpr_syntax.specs.Body.{Body, done}
+use Rattle.hpr_syntax.specs.Body.{done}
 use Rattle.hpr_syntax.specs.BodyOf.{before, body_of}
 use Rattle.hpr_syntax.specs.Parts.{tag_of, same_tag}
 use Rattle.hpr_edit.specs.Changes.{at_part}

@@ -1,6 +1,5 @@
-use Rattle.std.proofs.Common.{◌≡◌, ◌∙◌, ap}
+use Rattle.std.proofs.Common.{◌∙◌, ap}
 use Rattle.hpr_syntax.specs.Tree.{Tree}
-use Rattle.hpr_edit.specs.Reverted.{Undoes}
 use Rattle.hpr_edit.proofs.Back.{restored_body, restored_finals}
 use Rattle.hpr_edit.proofs.editor.Editor.revert.Goals as goal
 
