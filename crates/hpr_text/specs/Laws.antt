@@ -2,8 +2,8 @@
 --
 -- goes_read          == where an expression reads the token, the program goes on in it
 -- is_token_machine l == the laws of a machine of tokens hold for `next l`
-use Rattle.std.proofs.Common.{◌≡◌, ℕ, ◌≤◌, ◌^◌, List, length, Bool, true, false, cond, nat_lt, nat_le, ◌&&◌, Option, Some, None, is_some, refl, sym, ap, subst, ◌∙◌, arith}
-use Rattle.std.proofs.lemmas.Bool.{ltb-true, lt-ltb, le-leb, le-ltb}
+use Rattle.std.proofs.Common.{◌≡◌, ℕ, ◌≤◌, ◌^◌, List, length, Bool, true, false, nat_lt, nat_le, ◌&&◌, Option, Some, None, is_some, refl, sym, ap, subst, ◌∙◌, arith}
+use Rattle.std.proofs.lemmas.Bool.{le-leb, le-ltb}
 use Rattle.hpr_terms.specs.declared.tag.Tag.{Tag}
 use Rattle.hpr_terms.specs.declared.keyword.Keyword.TheVariants.{Then, Do}
 use Rattle.hpr_terms.specs.declared.token.Sign.{Sign}
