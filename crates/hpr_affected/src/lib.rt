@@ -10,6 +10,3 @@ mod points;
 
 pub use hpr_graph::{Graph, NoMemory};
 pub use points::{affected, preserved};
-
-#[cfg(test)]
-mod tests;

@@ -17,6 +17,3 @@ mod variables;
 
 pub use error::BuildError;
 pub use graph::graph_of;
-
-#[cfg(test)]
-mod tests;

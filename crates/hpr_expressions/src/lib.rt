@@ -13,6 +13,3 @@ mod pending;
 pub use expression::Reading;
 pub use hpr_scan::{Fault, TokenMachine};
 pub use hpr_terms::{Expr, Keyword, NoMemory, Sign, Token};
-
-#[cfg(test)]
-mod tests;

@@ -9,6 +9,3 @@ mod placing;
 
 pub use blocks::Blocks;
 pub use orders::Orders;
-
-#[cfg(test)]
-mod tests;

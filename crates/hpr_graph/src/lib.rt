@@ -24,8 +24,3 @@ pub use hpr_syntax::{Content, Name, NoMemory, Tag};
 pub use link::{Link, LinkKind};
 pub use order::compare_vertices;
 pub use vertex::{Vertex, same_vertex};
-
-#[cfg(test)]
-mod order_tests;
-#[cfg(test)]
-mod tests;

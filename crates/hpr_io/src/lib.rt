@@ -6,8 +6,6 @@ mod memory_shelf;
 mod memory_sink;
 mod steady_shelf;
 mod steady_sink;
-#[cfg(test)]
-mod tests;
 
 ghost use Rattle.std.specs.Prelude.{◌≡◌, ℕ, ◌<◌, ◌≤◌, Bool, List, length, take, vec_len, Option, IfOk, IfSome, OnOk, OnErr, IsErrOf, IsErr, IsTrue};
 ghost use Rattle.hpr_io.specs.Counts.{Counted};

@@ -10,6 +10,3 @@ mod tracing;
 
 pub use traced::{Instance, Origin, Read, Traced};
 pub use tracing::trace;
-
-#[cfg(test)]
-mod tests;

@@ -22,8 +22,3 @@ pub use arrangements::Arrangements;
 pub use hpr_graph::{Graph, NoMemory, Tag, Vertex};
 pub use ranking::rank;
 pub use tree::{OrderError, RegionTree, regions};
-
-#[cfg(test)]
-mod arrangement_tests;
-#[cfg(test)]
-mod tests;

@@ -15,6 +15,3 @@ pub use build::successors;
 pub use hpr_terms::{Name, NoMemory, Tag};
 pub use spot::Step;
 pub use succ::Succ;
-
-#[cfg(test)]
-mod tests;

@@ -6,8 +6,6 @@ mod contents;
 mod expressions;
 mod program;
 mod put;
-#[cfg(test)]
-mod tests;
 
 pub use contents::{content_text, expr_text};
 pub use program::text_of;

@@ -6,8 +6,6 @@ mod bits;
 pub mod laws;
 mod live;
 mod search;
-#[cfg(test)]
-mod tests;
 
 pub use bits::BitRow;
 pub use live::live_at_entry;

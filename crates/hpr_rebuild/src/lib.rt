@@ -13,6 +13,3 @@ pub use error::RebuildError;
 pub use hpr_graph::{Graph, Vertex};
 pub use hpr_syntax::{Issued, Program};
 pub use search::rebuild;
-
-#[cfg(test)]
-mod tests;

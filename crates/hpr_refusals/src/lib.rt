@@ -5,8 +5,6 @@ mod commands;
 mod files;
 pub mod laws;
 mod reasons;
-#[cfg(test)]
-mod tests;
 
 pub use commands::{CommandRefusal, apply_script};
 pub use files::{MAX_FILE, Refusal};

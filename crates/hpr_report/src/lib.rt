@@ -14,12 +14,3 @@ pub use objects::graph_json;
 pub use outcome::outcome_text;
 pub use points::affected_text;
 pub use table::table_text;
-
-#[cfg(test)]
-mod conflict_tests;
-#[cfg(test)]
-mod graph_tests;
-#[cfg(test)]
-mod table_tests;
-#[cfg(test)]
-mod tests;

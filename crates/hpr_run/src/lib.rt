@@ -9,6 +9,3 @@ mod values;
 pub use interpreter::{FinalValues, Outcome, final_values, run};
 pub use state::State;
 pub use values::{Fault, eval};
-
-#[cfg(test)]
-mod tests;

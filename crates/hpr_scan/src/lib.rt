@@ -9,10 +9,6 @@
 mod machine;
 mod reader;
 mod scanner;
-#[cfg(test)]
-mod tests;
-#[cfg(test)]
-mod toys;
 pub mod word;
 
 pub use machine::{Fault, FrontMachine, TokenMachine};

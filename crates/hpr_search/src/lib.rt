@@ -3,8 +3,6 @@
 
 mod digraph;
 mod search;
-#[cfg(test)]
-mod tests;
 
 pub use digraph::Digraph;
 pub use search::reachable;

@@ -10,6 +10,3 @@ mod sources;
 pub use hpr_graph::{Graph, NoMemory};
 pub use slices::{forward, slice};
 pub use sources::Sources;
-
-#[cfg(test)]
-mod tests;

@@ -16,6 +16,3 @@ pub use program::Program;
 pub use rows::{Content, Row, content_of, has_content, same_content};
 pub use shape::ShapeError;
 pub use tree::{Block, Stmt, defines, expr_of, uses};
-
-#[cfg(test)]
-mod tests;

@@ -16,6 +16,3 @@ pub use memory::NoMemory;
 pub use name::{Name, NameError, copy_names, is_name, is_name_byte, is_name_like};
 pub use tag::Tag;
 pub use token::{Sign, Token};
-
-#[cfg(test)]
-mod tests;

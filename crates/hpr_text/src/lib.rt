@@ -14,10 +14,6 @@ mod machine;
 mod places;
 mod reader;
 mod state;
-#[cfg(test)]
-mod tests;
-#[cfg(test)]
-mod untagged_tests;
 
 pub use content::read_content;
 pub use form::Mode;

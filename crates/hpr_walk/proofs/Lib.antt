@@ -2,4 +2,3 @@ pub mod Unique
 pub mod Lexicographic
 pub mod Leaves
 pub mod Marked
-mod Examples

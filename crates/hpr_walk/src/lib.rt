@@ -8,6 +8,3 @@ mod walk;
 
 pub use choices::Choices;
 pub use walk::{advance, descend};
-
-#[cfg(test)]
-mod tests;

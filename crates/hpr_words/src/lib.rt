@@ -15,8 +15,6 @@ pub mod laws;
 mod run;
 mod slice;
 mod tag;
-#[cfg(test)]
-mod tests;
 mod trial;
 
 pub use asked::{Asked, WordsError, read_words};

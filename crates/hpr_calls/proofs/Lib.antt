@@ -1,0 +1,2 @@
+mod ForestExample
+mod WalkExample

@@ -1,0 +1,111 @@
+//! Graphs that texts spell.
+use crate::row::{Row, tag_of};
+use hpr_build::graph_of;
+use hpr_graph::{Graph, Link, LinkKind, Vertex};
+use hpr_merge::merge;
+use hpr_terms::Name;
+use hpr_text::{Mode, parse, read_content};
+use std::alloc::Global;
+
+// `1.1 x := 1;`
+fn part(alloc: Global, text: &str) -> Option<Vertex> {
+    let (tag, content) = text.split_once(' ')?;
+    let tag = tag_of(tag)?;
+    let (content, _) = read_content(alloc, content.as_bytes(), 0).ok()?;
+    Some(Vertex::Part(tag, content))
+}
+
+/// The vertex of a line `entry`, `init x`, `part 1.1 x := 1;` or `final x`.
+pub fn vertex(alloc: Global, line: &str) -> Option<Vertex> {
+    if line == "entry" {
+        return Some(Vertex::Entry);
+    }
+    let (kind, rest) = line.split_once(' ')?;
+    match kind {
+        "init" => Some(Vertex::Init(Name::new(alloc, rest).ok()?)),
+        "part" => part(alloc, rest),
+        "final" => Some(Vertex::Final(Name::new(alloc, rest).ok()?)),
+        _ => None,
+    }
+}
+
+// `carried LOOP` or `order USE`
+fn numbered_kind(text: &str) -> Option<LinkKind> {
+    let (kind, number) = text.split_once(' ')?;
+    let number = number.parse().ok()?;
+    match kind {
+        "carried" => Some(LinkKind::Carried(number)),
+        "order" => Some(LinkKind::Order(number)),
+        _ => None,
+    }
+}
+
+fn kind(text: &str) -> Option<LinkKind> {
+    match text {
+        "control true" => Some(LinkKind::Control(true)),
+        "control false" => Some(LinkKind::Control(false)),
+        "independent" => Some(LinkKind::Independent),
+        _ => numbered_kind(text),
+    }
+}
+
+/// The target and the link of a line `TO FROM KIND`.
+pub fn link(line: &str) -> Option<(usize, Link)> {
+    let (to, rest) = line.split_once(' ')?;
+    let (from, text) = rest.split_once(' ')?;
+    let to = to.parse().ok()?;
+    let from = from.parse().ok()?;
+    let kind = kind(text)?;
+    Some((to, Link { from, kind }))
+}
+
+fn add_link(graph: &mut Graph, line: &str) -> Option<()> {
+    let (to, link) = link(line)?;
+    if graph.is_link(to, link) {
+        return graph.add_link(to, link).ok();
+    }
+    None
+}
+
+fn add_line(alloc: Global, graph: &mut Graph, line: &str) -> Option<()> {
+    match vertex(alloc, line) {
+        Some(vertex) => {
+            graph.add_vertex(vertex).ok()?;
+            Some(())
+        }
+        None => add_link(graph, line),
+    }
+}
+
+fn spelled(alloc: Global, text: &str) -> Option<Graph> {
+    let mut graph = Graph::empty(alloc);
+    for line in text.lines() {
+        add_line(alloc, &mut graph, line)?;
+    }
+    Some(graph)
+}
+
+// The graph of the program that a text spells, or else the graph that its lines spell.
+fn plain(alloc: Global, text: &str) -> Option<Graph> {
+    if text.starts_with("program") {
+        let program = parse(alloc, text.as_bytes(), Mode::Tagged).ok()?;
+        return graph_of(alloc, &program, 1000).ok();
+    }
+    spelled(alloc, text)
+}
+
+/// The graph of the text that the word at this place names; at `M` the merged graph of the texts BASE, A
+/// and B.
+pub fn graph(alloc: Global, row: Row<'_>, at: usize) -> Option<Graph> {
+    if row.word(at)? == "M" {
+        return merged(alloc, row);
+    }
+    plain(alloc, row.text(at)?)
+}
+
+fn merged(alloc: Global, row: Row<'_>) -> Option<Graph> {
+    let base = plain(alloc, row.named("BASE")?)?;
+    let a = plain(alloc, row.named("A")?)?;
+    let b = plain(alloc, row.named("B")?)?;
+    Some(merge(alloc, &base, &a, &b).ok()?.graph)
+}

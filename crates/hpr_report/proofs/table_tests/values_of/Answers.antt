@@ -1,8 +1,0 @@
-use Rattle.std.proofs.Common.{sym, ap, ◌∙◌}
-use Rattle.hpr_run.specs.Outcomes.{outcome_of}
-use Rattle.hpr_report.proofs.OneTable.{ended_single_valued}
-use Rattle.hpr_report.proofs.table_tests.values_of.Goals as goal
-
-pub returns-in-Ends : goal.returns-in-Ends
-returns-in-Ends c =
-    ended_single_valued c.in_ok-program.program c.args.state.now 1 c.in-Ends.steps c.in-Ends.finals (sym c.in_ok-finals.ensures ∙ ap outcome_of c.in-Ends.is)
