@@ -69,7 +69,7 @@ fn changing(alloc: Global, asked: &Asked<'_>) -> Option<String> {
 }
 
 /// `WORD..`: what the words ask for.
-pub fn call(alloc: Global, row: Row<'_>) -> Option<String> {
+pub(crate) fn call(alloc: Global, row: Row<'_>) -> Option<String> {
     match read_words(alloc, row.rest(1)) {
         Ok(asked) => variants(alloc, &asked),
         Err(WordsError::Refused) => String::from_str(alloc, "refused\n").ok(),

@@ -11,7 +11,7 @@ use hpr_syntax::Program;
 use std::alloc::Global;
 
 /// Answers the call.
-pub fn call(alloc: Global, row: Row<'_>) -> Option<String> {
+pub(crate) fn call(alloc: Global, row: Row<'_>) -> Option<String> {
     match row.word(1)? {
         "script" => script(alloc, row),
         "apply" => applied(alloc, row),

@@ -32,7 +32,7 @@ fn integrated(
 }
 
 /// `BASE A B TRIES`: the integration of two variants with their base.
-pub fn call(alloc: Global, row: Row<'_>) -> Option<String> {
+pub(crate) fn call(alloc: Global, row: Row<'_>) -> Option<String> {
     let tries = row.word(4)?.parse().ok()?;
     let base = row.program(alloc, 1)?;
     let a = row.program(alloc, 2)?;

@@ -10,7 +10,7 @@ use std::alloc::Global;
 use std::cmp::Ordering;
 
 /// Answers the call.
-pub fn call(alloc: Global, row: Row<'_>) -> Option<String> {
+pub(crate) fn call(alloc: Global, row: Row<'_>) -> Option<String> {
     match row.word(1)? {
         "show" => show(alloc, row.bytes(2)?),
         "compare" => compare(alloc, row),
@@ -40,7 +40,7 @@ fn show(alloc: Global, bytes: &[u8]) -> Option<String> {
 }
 
 /// An ordering as a word.
-pub fn order_word(order: Ordering) -> &'static str {
+pub(crate) fn order_word(order: Ordering) -> &'static str {
     match order {
         Ordering::Less => "less",
         Ordering::Equal => "equal",

@@ -4,7 +4,7 @@ use hpr_io::{MemorySink, PutError, Sink, put_all};
 use std::alloc::Global;
 
 /// Answers the call.
-pub fn call(alloc: Global, row: Row<'_>) -> Option<String> {
+pub(crate) fn call(alloc: Global, row: Row<'_>) -> Option<String> {
     match row.word(1)? {
         "put" => put(alloc, row),
         "put-all" => put_whole(alloc, row),

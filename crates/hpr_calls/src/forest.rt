@@ -6,7 +6,7 @@ use hpr_forest::{Blocks, Orders};
 use std::alloc::{AllocError, Global};
 
 /// `free`, or which item comes before which: the first six orders.
-pub fn call(alloc: Global, row: Row<'_>) -> Option<String> {
+pub(crate) fn call(alloc: Global, row: Row<'_>) -> Option<String> {
     let blocks = match row.word(1)? {
         "free" => forest(alloc, false, false, false),
         "2-1" => forest(alloc, false, true, false),

@@ -11,7 +11,7 @@ use hpr_report::{graph_json, graph_text};
 use std::alloc::Global;
 
 /// Answers the call.
-pub fn call(alloc: Global, row: Row<'_>) -> Option<String> {
+pub(crate) fn call(alloc: Global, row: Row<'_>) -> Option<String> {
     match row.word(1)? {
         "build" => build(alloc, row),
         "add" => add(alloc, row.text(2)?),
@@ -37,7 +37,7 @@ fn shown(alloc: Global, row: Row<'_>) -> Option<String> {
 }
 
 /// A vertex as a graph's text spells it.
-pub fn vertex_line(alloc: Global, vertex: &Vertex) -> Option<String> {
+pub(crate) fn vertex_line(alloc: Global, vertex: &Vertex) -> Option<String> {
     match vertex {
         Vertex::Entry => String::from_str(alloc, "entry").ok(),
         Vertex::Init(name) => format!(in alloc; "init {}", name.text()).ok(),
@@ -86,7 +86,7 @@ fn rows(alloc: Global, graph: &Graph) -> Option<String> {
 }
 
 /// How large a graph is.
-pub fn counts(alloc: Global, graph: &Graph) -> Option<String> {
+pub(crate) fn counts(alloc: Global, graph: &Graph) -> Option<String> {
     let vertices = graph.vertex_count();
     let edges = graph.edge_count();
     format!(in alloc; "vertices {vertices}, edges {edges}\n").ok()

@@ -17,7 +17,7 @@ fn byte_for(letter: u8) -> u8 {
 
 /// Adds what a piece of a line spells: behind `\` stand `n`, `t`, `r`, `f`, `0` or `x` for the bytes 10,
 /// 9, 13, 12, 0 and 255, and anything else for itself.
-pub fn add_piece(bytes: &mut Vec<u8>, piece: &str) -> Option<()> {
+pub(crate) fn add_piece(bytes: &mut Vec<u8>, piece: &str) -> Option<()> {
     let mut escaped = false;
     for byte in piece.as_bytes() {
         if escaped {
@@ -56,7 +56,7 @@ fn add_times(alloc: Global, bytes: &mut Vec<u8>, times: u32, piece: &str) -> Opt
 }
 
 /// Begins a text: its name, and behind a blank what it begins with.
-pub fn begin(alloc: Global, texts: &mut Vec<Text>, line: &str) -> Option<()> {
+pub(crate) fn begin(alloc: Global, texts: &mut Vec<Text>, line: &str) -> Option<()> {
     let (name, piece) = match line.split_once(' ') {
         Some(pair) => pair,
         None => (line, ""),
@@ -68,7 +68,7 @@ pub fn begin(alloc: Global, texts: &mut Vec<Text>, line: &str) -> Option<()> {
 }
 
 /// Adds a line to the last text.
-pub fn add_line(texts: &mut Vec<Text>, piece: &str) -> Option<()> {
+pub(crate) fn add_line(texts: &mut Vec<Text>, piece: &str) -> Option<()> {
     let text = texts.last_mut()?;
     add_piece(&mut text.bytes, piece)?;
     text.bytes.push(b'\n').ok()
@@ -76,7 +76,7 @@ pub fn add_line(texts: &mut Vec<Text>, piece: &str) -> Option<()> {
 
 /// Adds to the last text a piece so many times: the number, and behind a blank the piece, in which `%` is
 /// the number of the time.
-pub fn add_repeated(alloc: Global, texts: &mut Vec<Text>, line: &str) -> Option<()> {
+pub(crate) fn add_repeated(alloc: Global, texts: &mut Vec<Text>, line: &str) -> Option<()> {
     let (times, piece) = line.split_once(' ')?;
     let text = texts.last_mut()?;
     add_times(alloc, &mut text.bytes, times.parse().ok()?, piece)

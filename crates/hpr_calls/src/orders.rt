@@ -19,7 +19,7 @@ use hpr_terms::NoMemory;
 use std::alloc::Global;
 
 /// Answers the call.
-pub fn call(alloc: Global, row: Row<'_>) -> Option<String> {
+pub(crate) fn call(alloc: Global, row: Row<'_>) -> Option<String> {
     match row.word(1)? {
         "rank" => ranked(alloc, row),
         "regions" => region_lines(alloc, &graph(alloc, row, 2)?),

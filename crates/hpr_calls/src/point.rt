@@ -8,7 +8,7 @@ use hpr_terms::Name;
 use std::alloc::Global;
 
 /// Answers the call.
-pub fn call(alloc: Global, row: Row<'_>) -> Option<String> {
+pub(crate) fn call(alloc: Global, row: Row<'_>) -> Option<String> {
     let program = row.program(alloc, 2)?;
     let succ = successors(alloc, &program).ok()?;
     answer(alloc, row, &succ)

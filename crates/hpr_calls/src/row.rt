@@ -31,12 +31,12 @@ fn text_named<'a>(texts: &'a [Text], name: &str) -> Option<&'a [u8]> {
 
 impl<'a> Row<'a> {
     /// The word at this place.
-    pub fn word(self, at: usize) -> Option<&'a str> {
+    pub(crate) fn word(self, at: usize) -> Option<&'a str> {
         Some(self.words.get(at)?.as_str())
     }
 
     /// The words from this place on.
-    pub fn rest(self, at: usize) -> &'a [String] {
+    pub(crate) fn rest(self, at: usize) -> &'a [String] {
         match self.words.get(at..) {
             Some(rest) => rest,
             None => &[],
@@ -44,38 +44,38 @@ impl<'a> Row<'a> {
     }
 
     /// The number that stands at this place.
-    pub fn number(self, at: usize) -> Option<usize> {
+    pub(crate) fn number(self, at: usize) -> Option<usize> {
         self.word(at)?.parse().ok()
     }
 
     /// The bytes of the text that the word at this place names.
-    pub fn bytes(self, at: usize) -> Option<&'a [u8]> {
+    pub(crate) fn bytes(self, at: usize) -> Option<&'a [u8]> {
         text_named(self.texts, self.word(at)?)
     }
 
     /// The text that the word at this place names.
-    pub fn text(self, at: usize) -> Option<&'a str> {
+    pub(crate) fn text(self, at: usize) -> Option<&'a str> {
         std::str::from_utf8(self.bytes(at)?).ok()
     }
 
     /// The text with this name.
-    pub fn named(self, name: &str) -> Option<&'a str> {
+    pub(crate) fn named(self, name: &str) -> Option<&'a str> {
         std::str::from_utf8(text_named(self.texts, name)?).ok()
     }
 
     /// The name that stands at this place.
-    pub fn name(self, alloc: Global, at: usize) -> Option<Name> {
+    pub(crate) fn name(self, alloc: Global, at: usize) -> Option<Name> {
         Name::new(alloc, self.word(at)?).ok()
     }
 
     /// The program that the text spells which the word at this place names.
-    pub fn program(self, alloc: Global, at: usize) -> Option<Program> {
+    pub(crate) fn program(self, alloc: Global, at: usize) -> Option<Program> {
         parse(alloc, self.bytes(at)?, Mode::Tagged).ok()
     }
 }
 
 /// The tag that a word spells.
-pub fn tag_of(word: &str) -> Option<Tag> {
+pub(crate) fn tag_of(word: &str) -> Option<Tag> {
     let (author, serial) = word.split_once('.')?;
     let author = author.parse().ok()?;
     let serial = serial.parse().ok()?;
@@ -83,12 +83,12 @@ pub fn tag_of(word: &str) -> Option<Tag> {
 }
 
 /// The bytes as a text.
-pub fn string(bytes: Vec<u8>) -> Option<String> {
+pub(crate) fn string(bytes: Vec<u8>) -> Option<String> {
     String::from_utf8(bytes).ok()
 }
 
 /// These numbers, a blank before each, in a line.
-pub fn number_line(alloc: Global, title: &str, numbers: &[usize]) -> Option<String> {
+pub(crate) fn number_line(alloc: Global, title: &str, numbers: &[usize]) -> Option<String> {
     let mut line = String::from_str(alloc, title).ok()?;
     for number in numbers {
         push_number(alloc, &mut line, *number)?;

@@ -12,7 +12,7 @@ use hpr_terms::NoMemory;
 use std::alloc::Global;
 
 /// Answers the call.
-pub fn call(alloc: Global, row: Row<'_>) -> Option<String> {
+pub(crate) fn call(alloc: Global, row: Row<'_>) -> Option<String> {
     match row.word(1)? {
         "run" => run_line(alloc, row),
         "trace" => traced(alloc, row),

@@ -25,7 +25,7 @@ impl Digraph for Halves {
 }
 
 /// `POINT POINT`: the points that are reached from these.
-pub fn call(alloc: Global, row: Row<'_>) -> Option<String> {
+pub(crate) fn call(alloc: Global, row: Row<'_>) -> Option<String> {
     let first = row.number(1)?.min(7);
     let second = row.number(2)?.min(7);
     let marks = reachable(alloc, &Halves, &[first, second]).ok()?;

@@ -13,7 +13,7 @@ use hpr_slice::{forward, slice};
 use std::alloc::Global;
 
 /// Answers the call.
-pub fn call(alloc: Global, row: Row<'_>) -> Option<String> {
+pub(crate) fn call(alloc: Global, row: Row<'_>) -> Option<String> {
     match row.word(1)? {
         "at" => slice_at(alloc, row),
         "forward" => reached(alloc, row),

@@ -16,7 +16,7 @@ fn part(alloc: Global, text: &str) -> Option<Vertex> {
 }
 
 /// The vertex of a line `entry`, `init x`, `part 1.1 x := 1;` or `final x`.
-pub fn vertex(alloc: Global, line: &str) -> Option<Vertex> {
+pub(crate) fn vertex(alloc: Global, line: &str) -> Option<Vertex> {
     if line == "entry" {
         return Some(Vertex::Entry);
     }
@@ -50,7 +50,7 @@ fn kind(text: &str) -> Option<LinkKind> {
 }
 
 /// The target and the link of a line `TO FROM KIND`.
-pub fn link(line: &str) -> Option<(usize, Link)> {
+pub(crate) fn link(line: &str) -> Option<(usize, Link)> {
     let (to, rest) = line.split_once(' ')?;
     let (from, text) = rest.split_once(' ')?;
     let to = to.parse().ok()?;
@@ -96,7 +96,7 @@ fn plain(alloc: Global, text: &str) -> Option<Graph> {
 
 /// The graph of the text that the word at this place names; at `M` the merged graph of the texts BASE, A
 /// and B.
-pub fn graph(alloc: Global, row: Row<'_>, at: usize) -> Option<Graph> {
+pub(crate) fn graph(alloc: Global, row: Row<'_>, at: usize) -> Option<Graph> {
     if row.word(at)? == "M" {
         return merged(alloc, row);
     }

@@ -11,7 +11,7 @@ fn set(alloc: Global, state: &mut State, word: &str) -> Option<()> {
 }
 
 /// The state that words `name=value` tell.
-pub fn read_state(alloc: Global, words: &[String]) -> Option<State> {
+pub(crate) fn read_state(alloc: Global, words: &[String]) -> Option<State> {
     let mut state = State::new(alloc);
     for word in words {
         set(alloc, &mut state, word.as_str())?;

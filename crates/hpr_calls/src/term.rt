@@ -4,7 +4,7 @@ use hpr_terms::{Name, copy_names, is_name, is_name_like, names};
 use std::alloc::Global;
 
 /// Answers the call.
-pub fn call(alloc: Global, row: Row<'_>) -> Option<String> {
+pub(crate) fn call(alloc: Global, row: Row<'_>) -> Option<String> {
     match row.word(1)? {
         "names" => name_lines(alloc, row.rest(2)),
         "order" => order(alloc, row),

@@ -7,7 +7,7 @@ use hpr_text::{Mode, TextError, parse, read_content};
 use std::alloc::Global;
 
 /// Answers the call.
-pub fn call(alloc: Global, row: Row<'_>) -> Option<String> {
+pub(crate) fn call(alloc: Global, row: Row<'_>) -> Option<String> {
     match row.word(1)? {
         "print" => print(alloc, row),
         "sizes" => sizes(alloc, row),

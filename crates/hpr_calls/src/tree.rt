@@ -11,7 +11,7 @@ use hpr_terms::{Binary, Expr, Literal, Name, Operand, Tag};
 use std::alloc::Global;
 
 /// Answers the call.
-pub fn call(alloc: Global, row: Row<'_>) -> Option<String> {
+pub(crate) fn call(alloc: Global, row: Row<'_>) -> Option<String> {
     match row.word(1)? {
         "rows" => rows(alloc, row),
         "find" => find(alloc, row),
@@ -23,7 +23,7 @@ pub fn call(alloc: Global, row: Row<'_>) -> Option<String> {
 }
 
 /// What a content says, as a text.
-pub fn content_string(alloc: Global, content: &Content) -> Option<String> {
+pub(crate) fn content_string(alloc: Global, content: &Content) -> Option<String> {
     string(content_text(alloc, content).ok()?)
 }
 

@@ -83,7 +83,7 @@ fn put_lists(alloc: Global, out: &mut String, blocked: bool) -> Result<(), Alloc
 }
 
 /// `open` or `blocked`: the first four lists.
-pub fn call(alloc: Global, row: Row<'_>) -> Option<String> {
+pub(crate) fn call(alloc: Global, row: Row<'_>) -> Option<String> {
     let blocked = row.word(1)? == "blocked";
     let mut out = String::new(alloc);
     put_lists(alloc, &mut out, blocked).ok()?;

@@ -62,7 +62,7 @@ fn over_steady_sinks(alloc: Global, shelf: SteadyShelf, words: &[String]) -> Opt
 }
 
 /// What the call with the words of a line comes to. The case has no files afterwards.
-pub fn ending(alloc: Global, case: &mut Case, line: &str) -> Option<String> {
+pub(crate) fn ending(alloc: Global, case: &mut Case, line: &str) -> Option<String> {
     let words = words(alloc, line)?;
     let files = std::mem::replace(&mut case.files, Vec::new(alloc));
     match case.steady {

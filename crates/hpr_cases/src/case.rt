@@ -30,7 +30,7 @@ pub struct Case {
 
 impl Case {
     /// A case without files, where nothing fails.
-    pub fn new(alloc: Global) -> Case {
+    pub(crate) fn new(alloc: Global) -> Case {
         Case {
             files: Vec::new(alloc),
             failing: Vec::new(alloc),
@@ -42,7 +42,7 @@ impl Case {
     }
 
     /// Takes a line that makes no call.
-    pub fn take_line(&mut self, alloc: Global, line: &str) -> Option<()> {
+    pub(crate) fn take_line(&mut self, alloc: Global, line: &str) -> Option<()> {
         match line.as_bytes().first() {
             Some(b'@') => self.begin_file(alloc, line.strip_prefix("@ ")?),
             Some(b'+') => self.go_on(alloc, line.strip_prefix("+ ")?),

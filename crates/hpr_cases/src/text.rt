@@ -10,7 +10,7 @@ fn digit(byte: u8) -> u8 {
 }
 
 /// The bytes of the text, where `\HH` is one byte. A `\` at the end is none.
-pub fn unescaped(alloc: Global, text: &str) -> Result<Vec<u8>, AllocError> {
+pub(crate) fn unescaped(alloc: Global, text: &str) -> Result<Vec<u8>, AllocError> {
     let mut bytes = Vec::new(alloc);
     let mut left: u8 = 0;
     let mut value: u8 = 0;
@@ -32,12 +32,12 @@ pub fn unescaped(alloc: Global, text: &str) -> Result<Vec<u8>, AllocError> {
 }
 
 /// The word that a piece of a line spells.
-pub fn word(alloc: Global, text: &str) -> Option<String> {
+pub(crate) fn word(alloc: Global, text: &str) -> Option<String> {
     String::from_utf8(unescaped(alloc, text).ok()?).ok()
 }
 
 /// The words of a line.
-pub fn words(alloc: Global, line: &str) -> Option<Vec<String>> {
+pub(crate) fn words(alloc: Global, line: &str) -> Option<Vec<String>> {
     let mut words = Vec::new(alloc);
     for piece in line.split_whitespace() {
         words.push(word(alloc, piece)?).ok()?;
@@ -46,7 +46,7 @@ pub fn words(alloc: Global, line: &str) -> Option<Vec<String>> {
 }
 
 /// The numbers of a line.
-pub fn numbers(alloc: Global, line: &str) -> Option<Vec<u64>> {
+pub(crate) fn numbers(alloc: Global, line: &str) -> Option<Vec<u64>> {
     let mut numbers = Vec::new(alloc);
     for piece in line.split_whitespace() {
         numbers.push(piece.parse::<u64>().ok()?).ok()?;
@@ -73,7 +73,7 @@ fn push_numbered(
 }
 
 /// Puts the text behind the bytes for each number from `first` to `last`.
-pub fn push_repeated(
+pub(crate) fn push_repeated(
     alloc: Global,
     bytes: &mut Vec<u8>,
     text: &[u8],
