@@ -1,4 +1,4 @@
-use Rattle.std.proofs.Common.{◌≡◌, List, Contains, sym, subst}
+use Rattle.std.proofs.Common.{List, Contains, sym, subst}
 use Rattle.std.proofs.lemmas.List.{take_all}
 use Rattle.hpr_graph.specs.declared.vertex.Vertex.{Vertex}
 use Rattle.hpr_graph.proofs.Lists.{taken_more}

@@ -1,4 +1,4 @@
-use Rattle.std.proofs.Common.{◌≡◌, List, Contains, refl, sym, subst}
+use Rattle.std.proofs.Common.{List, Contains, refl, sym, subst}
 use Rattle.hpr_graph.specs.declared.vertex.Vertex.{Vertex}
 use Rattle.hpr_graph.specs.declared.vertex.Vertex.TheVariants.{Part}
 use Rattle.hpr_graph.specs.Graphs.{IsOnce}
