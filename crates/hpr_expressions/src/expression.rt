@@ -7,6 +7,7 @@ ghost use Rattle.hpr_syntax.specs.Shape.{max_operators};
 ghost use Rattle.hpr_syntax.specs.Grammar.{max_brackets};
 ghost use Rattle.hpr_expressions.specs.Expression as expression;
 ghost use Rattle.hpr_expressions.specs.Pending as pending;
+ghost use Rattle.hpr_expressions.specs.Private.Leads.{Leads, reading_of};
 
 use crate::pending::Pending;
 use hpr_scan::{Fault, TokenMachine};
@@ -97,180 +98,176 @@ pub enum Reading {
     After(Context, Expr),
 }
 
-fn counted(mut context: Context) -> Result<Reading, Fault>
-    ensures { Steps (expression.counted context context.here) result }
+// The reading in a context: an operand with this value was read, or one must stand next.
+fn behind(context: Context, value: Option<Expr>) -> Reading
+    ensures { result ≡ reading_of context value }
 {
-    if !context.counts() {
-        return Err(Fault::Refused);
-    }
-    context.count += 1;
-    Ok(Reading::Before(context))
-}
-
-fn opened(alloc: Global, context: Context) -> Result<Reading, Fault>
-    ensures { Steps (expression.open_next context) result }
-{
-    if !context.opens() {
-        return Err(Fault::Refused);
-    }
-    let Context {
-        mut outer,
-        here,
-        count,
-    } = context;
-    outer.push(here)?;
-    Ok(Reading::Before(Context {
-        outer,
-        here: Pending::new(alloc),
-        count,
-    }))
-}
-
-fn literal(context: Context, number: u64) -> Result<Reading, Fault>
-    ensures { Steps (expression.operand_next context (tokens.Number number)) result }
-{
-    let Some(literal) = Literal::new(number) else {
-        return Err(Fault::Refused);
-    };
-    Ok(Reading::After(context, Expr::Num(literal)))
-}
-
-fn prefix(mut context: Context, op: Unary) -> Result<Reading, Fault>
-    ensures { Steps (expression.counted context (pending.with_prefix context.here op)) result }
-{
-    context.here.prefix(op)?;
-    counted(context)
-}
-
-fn word_before(context: Context, keyword: Keyword) -> Result<Reading, Fault>
-    ensures { Steps (expression.operand_next context (tokens.Word keyword)) result }
-{
-    if !matches!(keyword, Keyword::Not) {
-        return Err(Fault::Refused);
-    }
-    prefix(context, Unary::Not)
-}
-
-fn sign_before(alloc: Global, context: Context, sign: Sign) -> Result<Reading, Fault>
-    ensures { Steps (expression.operand_next context (tokens.Mark sign)) result }
-{
-    match sign {
-        Sign::Open => opened(alloc, context),
-        Sign::Minus => prefix(context, Unary::Neg),
-        _ => Err(Fault::Refused),
+    match value {
+        Some(value) => Reading::After(context, value),
+        None => Reading::Before(context),
     }
 }
 
-fn operand_next(alloc: Global, context: Context, token: Token) -> Result<Reading, Fault>
-    ensures { Steps (expression.operand_next context token) result }
-{
-    match token {
-        Token::Number(number) => literal(context, number),
-        Token::Name(name) => Ok(Reading::After(context, Expr::Var(name))),
-        Token::Mark(sign) => sign_before(alloc, context, sign),
-        Token::Word(keyword) => word_before(context, keyword),
+// Each of these takes a token, or what one stands for, in place. It answers the value of the operand that was read
+// then, or none, where an operand must stand next. What a refusal leaves is of no use.
+impl Context {
+    fn counted(&mut self) -> Result<Option<Expr>, Fault>
+        ensures { Leads (expression.counted self.old self.old.here) self.new result }
+    {
+        if !self.counts() {
+            return Err(Fault::Refused);
+        }
+        self.count += 1;
+        Ok(None)
     }
-}
 
-fn join_or(alloc: Global, mut context: Context, value: Expr) -> Result<Reading, Fault>
-    ensures { Steps (expression.counted context (pending.with_or context.here Binary.Or value)) result }
-{
-    context.here.join_or(alloc, Binary::Or, value)?;
-    counted(context)
-}
-
-fn join_and(alloc: Global, mut context: Context, value: Expr) -> Result<Reading, Fault>
-    ensures { Steps (expression.counted context (pending.with_and context.here Binary.And value)) result }
-{
-    context.here.join_and(alloc, Binary::And, value)?;
-    counted(context)
-}
-
-fn compare(alloc: Global, mut context: Context, op: Binary, value: Expr) -> Result<Reading, Fault>
-    ensures { Steps (expression.compare_next context.here.compared context op value) result }
-{
-    if context.here.compared.is_some() {
-        return Err(Fault::Refused);
+    fn open(&mut self, alloc: Global) -> Result<Option<Expr>, Fault>
+        ensures { Leads (expression.open_next self.old) self.new result }
+    {
+        if !self.opens() {
+            return Err(Fault::Refused);
+        }
+        let outside = std::mem::replace(&mut self.here, Pending::new(alloc));
+        self.outer.push(outside)?;
+        Ok(None)
     }
-    context.here.compare(alloc, op, value)?;
-    counted(context)
-}
 
-fn add(alloc: Global, mut context: Context, op: Binary, value: Expr) -> Result<Reading, Fault>
-    ensures { Steps (expression.counted context (pending.with_sum context.here op value)) result }
-{
-    context.here.add(alloc, op, value)?;
-    counted(context)
-}
+    fn prefix(&mut self, op: Unary) -> Result<Option<Expr>, Fault>
+        ensures { Leads (expression.counted self.old (pending.with_prefix self.old.here op)) self.new result }
+    {
+        self.here.prefix(op)?;
+        self.counted()
+    }
 
-fn multiply(alloc: Global, mut context: Context, op: Binary, value: Expr) -> Result<Reading, Fault>
-    ensures { Steps (expression.counted context (pending.with_term context.here op value)) result }
-{
-    context.here.multiply(alloc, op, value)?;
-    counted(context)
-}
-
-fn close(alloc: Global, mut context: Context, value: Expr) -> Result<Reading, Fault>
-    ensures { Steps (expression.close_next context.outer context.here context.count value) result }
-{
-    let whole = context.here.whole(alloc, value)?;
-    match context.outer.pop() {
-        None => Err(Fault::Refused),
-        Some(outside) => {
-            context.here = outside;
-            Ok(Reading::After(context, whole))
+    fn literal(&mut self, number: u64) -> Result<Option<Expr>, Fault>
+        ensures { Leads (expression.operand_next self.old (tokens.Number number)) self.new result }
+    {
+        match Literal::new(number) {
+            Some(literal) => Ok(Some(Expr::Num(literal))),
+            None => Err(Fault::Refused),
         }
     }
-}
 
-fn word_next(
-    alloc: Global,
-    context: Context,
-    value: Expr,
-    keyword: Keyword,
-) -> Result<Reading, Fault>
-    ensures { Steps (expression.operator_next context value (tokens.Word keyword)) result }
-{
-    match keyword {
-        Keyword::Or => join_or(alloc, context, value),
-        Keyword::And => join_and(alloc, context, value),
-        _ => Err(Fault::Refused),
+    fn word_before(&mut self, keyword: Keyword) -> Result<Option<Expr>, Fault>
+        ensures { Leads (expression.operand_next self.old (tokens.Word keyword)) self.new result }
+    {
+        match keyword {
+            Keyword::Not => self.prefix(Unary::Not),
+            _ => Err(Fault::Refused),
+        }
     }
-}
 
-fn sign_next(alloc: Global, context: Context, value: Expr, sign: Sign) -> Result<Reading, Fault>
-    ensures { Steps (expression.operator_next context value (tokens.Mark sign)) result }
-{
-    match sign {
-        Sign::Equal => compare(alloc, context, Binary::Equal, value),
-        Sign::Differ => compare(alloc, context, Binary::Differ, value),
-        Sign::Less => compare(alloc, context, Binary::Less, value),
-        Sign::LessEqual => compare(alloc, context, Binary::LessEqual, value),
-        Sign::Greater => compare(alloc, context, Binary::Greater, value),
-        Sign::GreaterEqual => compare(alloc, context, Binary::GreaterEqual, value),
-        Sign::Plus => add(alloc, context, Binary::Add, value),
-        Sign::Minus => add(alloc, context, Binary::Sub, value),
-        Sign::Star => multiply(alloc, context, Binary::Mul, value),
-        Sign::Slash => multiply(alloc, context, Binary::Div, value),
-        Sign::Percent => multiply(alloc, context, Binary::Rem, value),
-        Sign::Close => close(alloc, context, value),
-        _ => Err(Fault::Refused),
+    fn sign_before(&mut self, alloc: Global, sign: Sign) -> Result<Option<Expr>, Fault>
+        ensures { Leads (expression.operand_next self.old (tokens.Mark sign)) self.new result }
+    {
+        match sign {
+            Sign::Open => self.open(alloc),
+            Sign::Minus => self.prefix(Unary::Neg),
+            _ => Err(Fault::Refused),
+        }
     }
-}
 
-fn operator_next(
-    alloc: Global,
-    context: Context,
-    value: Expr,
-    token: Token,
-) -> Result<Reading, Fault>
-    ensures { Steps (expression.operator_next context value token) result }
-{
-    match token {
-        Token::Word(keyword) => word_next(alloc, context, value, keyword),
-        Token::Mark(sign) => sign_next(alloc, context, value, sign),
-        Token::Name(_) => Err(Fault::Refused),
-        Token::Number(_) => Err(Fault::Refused),
+    fn operand_next(&mut self, alloc: Global, token: Token) -> Result<Option<Expr>, Fault>
+        ensures { Leads (expression.operand_next self.old token) self.new result }
+    {
+        match token {
+            Token::Number(number) => self.literal(number),
+            Token::Name(name) => Ok(Some(Expr::Var(name))),
+            Token::Mark(sign) => self.sign_before(alloc, sign),
+            Token::Word(keyword) => self.word_before(keyword),
+        }
+    }
+
+    fn join_or(&mut self, alloc: Global, value: Expr) -> Result<Option<Expr>, Fault>
+        ensures { Leads (expression.counted self.old (pending.with_or self.old.here Binary.Or value)) self.new result }
+    {
+        self.here.join_or(alloc, Binary::Or, value)?;
+        self.counted()
+    }
+
+    fn join_and(&mut self, alloc: Global, value: Expr) -> Result<Option<Expr>, Fault>
+        ensures { Leads (expression.counted self.old (pending.with_and self.old.here Binary.And value)) self.new result }
+    {
+        self.here.join_and(alloc, Binary::And, value)?;
+        self.counted()
+    }
+
+    fn compare(&mut self, alloc: Global, op: Binary, value: Expr) -> Result<Option<Expr>, Fault>
+        ensures { Leads (expression.compare_next self.old.here.compared self.old op value) self.new result }
+    {
+        if self.here.compared.is_some() {
+            return Err(Fault::Refused);
+        }
+        self.here.compare(alloc, op, value)?;
+        self.counted()
+    }
+
+    fn add(&mut self, alloc: Global, op: Binary, value: Expr) -> Result<Option<Expr>, Fault>
+        ensures { Leads (expression.counted self.old (pending.with_sum self.old.here op value)) self.new result }
+    {
+        self.here.add(alloc, op, value)?;
+        self.counted()
+    }
+
+    fn multiply(&mut self, alloc: Global, op: Binary, value: Expr) -> Result<Option<Expr>, Fault>
+        ensures { Leads (expression.counted self.old (pending.with_term self.old.here op value)) self.new result }
+    {
+        self.here.multiply(alloc, op, value)?;
+        self.counted()
+    }
+
+    fn close(&mut self, alloc: Global, value: Expr) -> Result<Option<Expr>, Fault>
+        ensures { Leads (expression.close_next self.old.outer self.old.here self.old.count value) self.new result }
+    {
+        let whole = self.here.whole(alloc, value)?;
+        match self.outer.pop() {
+            Some(outside) => {
+                self.here = outside;
+                Ok(Some(whole))
+            }
+            None => Err(Fault::Refused),
+        }
+    }
+
+    fn word_next(&mut self, alloc: Global, value: Expr, keyword: Keyword) -> Result<Option<Expr>, Fault>
+        ensures { Leads (expression.operator_next self.old value (tokens.Word keyword)) self.new result }
+    {
+        match keyword {
+            Keyword::Or => self.join_or(alloc, value),
+            Keyword::And => self.join_and(alloc, value),
+            _ => Err(Fault::Refused),
+        }
+    }
+
+    fn sign_next(&mut self, alloc: Global, value: Expr, sign: Sign) -> Result<Option<Expr>, Fault>
+        ensures { Leads (expression.operator_next self.old value (tokens.Mark sign)) self.new result }
+    {
+        match sign {
+            Sign::Equal => self.compare(alloc, Binary::Equal, value),
+            Sign::Differ => self.compare(alloc, Binary::Differ, value),
+            Sign::Less => self.compare(alloc, Binary::Less, value),
+            Sign::LessEqual => self.compare(alloc, Binary::LessEqual, value),
+            Sign::Greater => self.compare(alloc, Binary::Greater, value),
+            Sign::GreaterEqual => self.compare(alloc, Binary::GreaterEqual, value),
+            Sign::Plus => self.add(alloc, Binary::Add, value),
+            Sign::Minus => self.add(alloc, Binary::Sub, value),
+            Sign::Star => self.multiply(alloc, Binary::Mul, value),
+            Sign::Slash => self.multiply(alloc, Binary::Div, value),
+            Sign::Percent => self.multiply(alloc, Binary::Rem, value),
+            Sign::Close => self.close(alloc, value),
+            _ => Err(Fault::Refused),
+        }
+    }
+
+    fn operator_next(&mut self, alloc: Global, value: Expr, token: Token) -> Result<Option<Expr>, Fault>
+        ensures { Leads (expression.operator_next self.old value token) self.new result }
+    {
+        match token {
+            Token::Word(keyword) => self.word_next(alloc, value, keyword),
+            Token::Mark(sign) => self.sign_next(alloc, value, sign),
+            Token::Name(_) => Err(Fault::Refused),
+            Token::Number(_) => Err(Fault::Refused),
+        }
     }
 }
 
@@ -350,8 +347,14 @@ impl TokenMachine for Reading {
     #[tactic(auto, unfolding(crate::specs::Expression::read))]
     fn step(self, alloc: Global, token: Token) -> Result<Reading, Fault> {
         match self {
-            Reading::Before(context) => operand_next(alloc, context, token),
-            Reading::After(context, value) => operator_next(alloc, context, value, token),
+            Reading::Before(mut context) => {
+                let value = context.operand_next(alloc, token)?;
+                Ok(behind(context, value))
+            }
+            Reading::After(mut context, value) => {
+                let value = context.operator_next(alloc, value, token)?;
+                Ok(behind(context, value))
+            }
         }
     }
 
