@@ -229,7 +229,12 @@ impl Context {
         }
     }
 
-    fn word_next(&mut self, alloc: Global, value: Expr, keyword: Keyword) -> Result<Option<Expr>, Fault>
+    fn word_next(
+        &mut self,
+        alloc: Global,
+        value: Expr,
+        keyword: Keyword,
+    ) -> Result<Option<Expr>, Fault>
         ensures { Leads (expression.operator_next self.old value (tokens.Word keyword)) self.new result }
     {
         match keyword {
@@ -259,7 +264,12 @@ impl Context {
         }
     }
 
-    fn operator_next(&mut self, alloc: Global, value: Expr, token: Token) -> Result<Option<Expr>, Fault>
+    fn operator_next(
+        &mut self,
+        alloc: Global,
+        value: Expr,
+        token: Token,
+    ) -> Result<Option<Expr>, Fault>
         ensures { Leads (expression.operator_next self.old value token) self.new result }
     {
         match token {

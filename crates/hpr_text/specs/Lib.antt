@@ -8,3 +8,4 @@ pub mod Spelled
 pub mod Contents
 pub mod ContentMachine
 pub mod ContentLaws
+pub mod Private

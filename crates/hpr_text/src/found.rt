@@ -1,10 +1,10 @@
 //! What was read so far.
-ghost use Rattle.std.specs.Prelude.{◌≡◌, ◌≤◌, [], ◌∷◌, ◌++◌, length, nat_lt, is_some, IfOk, OnOk};
+ghost use Rattle.std.specs.Prelude.{◌≡◌, ◌≤◌, [], ◌∷◌, ◌++◌, length, nat_lt, is_some, OnOk};
 ghost use Rattle.hpr_syntax.specs.Body.{done};
 ghost use Rattle.hpr_syntax.specs.BodyOf.{before};
 ghost use Rattle.hpr_syntax.specs.Shape.{max_levels};
-ghost use Rattle.hpr_scan.specs.Steps.{Steps};
 ghost use Rattle.hpr_text.specs.Machine as machine;
+ghost use Rattle.hpr_text.specs.Private.InPlace.{InPlace};
 
 use crate::blocks::{Around, Begun, Blocks};
 use crate::form::Mode;
@@ -119,32 +119,23 @@ impl Found {
         }
     }
 
-    /// There is a header.
-    pub fn with_header(mut self) -> Found
-        ensures { result ≡ machine.with_header self }
-    {
-        self.has_header = true;
-        self
-    }
-
     /// The author's number is raised to the serial.
-    pub fn with_number(mut self, author: u32, serial: u32) -> Result<Found, NoMemory>
+    pub fn raise(&mut self, author: u32, serial: u32) -> Result<(), NoMemory>
         requires { 1 ≤ serial }
-        ensures { IfOk result (λ f. f ≡ machine.with_number author serial self) }
+        ensures { OnOk result (self.new ≡ machine.with_number author serial self.old) }
     {
-        self.issued.raise(author, serial)?;
-        Ok(self)
+        self.issued.raise(author, serial)
     }
 
     /// The number of the tag's author is raised to the tag's serial, unless there is a header.
-    pub fn with_tag(self, tag: Tag) -> Result<Found, NoMemory>
+    pub fn issue(&mut self, tag: Tag) -> Result<(), NoMemory>
         requires { 1 ≤ tag.serial }
-        ensures { IfOk result (λ f. f ≡ machine.with_tag tag self) }
+        ensures { OnOk result (self.new ≡ machine.with_tag tag self.old) }
     {
         if self.has_header {
-            Ok(self)
+            Ok(())
         } else {
-            self.with_number(tag.author, tag.serial)
+            self.raise(tag.author, tag.serial)
         }
     }
 
@@ -166,8 +157,8 @@ impl Found {
     }
 
     /// A part without a tag begins, and gets one. `Refused` comes exactly where it cannot begin.
-    pub fn begin(mut self) -> Result<(Found, Tag), Fault>
-        ensures { Steps (machine.part_begun machine.limit self) result }
+    pub fn begin(&mut self) -> Result<Tag, Fault>
+        ensures { InPlace (λ tag. (self.new, tag)) (machine.part_begun machine.limit self.old) result }
     {
         let Mode::Untagged(author) = self.mode else {
             return Err(Fault::Refused);
@@ -179,22 +170,22 @@ impl Found {
         // the parts past those that are kept have the last serial
         let serial = self.count.min(MAX_PARTS) as u32;
         let tag = Tag { author, serial };
-        Ok((self.with_tag(tag)?, tag))
+        self.issue(tag)?;
+        Ok(tag)
     }
 
     /// The part stands behind the others, unless more have begun than a program may have.
-    fn with_stmt(mut self, part: Stmt) -> Result<Found, NoMemory>
-        ensures { IfOk result (λ f. f ≡ machine.with_parts machine.limit self.parts (before part done) self) }
+    fn add_stmt(&mut self, part: Stmt) -> Result<(), NoMemory>
+        ensures { OnOk result (self.new ≡ machine.with_parts machine.limit self.old.parts (before part done) self.old) }
     {
-        push_kept(&mut self.parts, self.count, part)?;
-        Ok(self)
+        push_kept(&mut self.parts, self.count, part)
     }
 
     /// One more part, unless more have begun than a program may have.
-    pub fn with_part(self, tag: Tag, name: Name, value: Expr) -> Result<Found, NoMemory>
-        ensures { IfOk result (λ f. f ≡ machine.with_part machine.limit tag name value self) }
+    pub fn add_part(&mut self, tag: Tag, name: Name, value: Expr) -> Result<(), NoMemory>
+        ensures { OnOk result (self.new ≡ machine.with_part machine.limit tag name value self.old) }
     {
-        self.with_stmt(Stmt::Assign(tag, name, value))
+        self.add_stmt(Stmt::Assign(tag, name, value))
     }
 
     /// A block begins, and the parts so far stand before the part that has it.
@@ -207,75 +198,71 @@ impl Found {
     }
 
     /// The first block of a conditional begins.
-    pub fn in_then(mut self, alloc: Global, tag: Tag, test: Expr) -> Result<Found, NoMemory>
-        ensures { IfOk result (λ f. f ≡ machine.in_then tag test self) }
+    pub fn begin_then(&mut self, alloc: Global, tag: Tag, test: Expr) -> Result<(), NoMemory>
+        ensures { OnOk result (self.new ≡ machine.in_then tag test self.old) }
     {
         let around = self.around(alloc, tag, test);
-        self.blocks.push(Begun::Then(around))?;
-        Ok(self)
+        self.blocks.push(Begun::Then(around))
     }
 
     /// The block of a loop begins.
-    pub fn in_loop(mut self, alloc: Global, tag: Tag, test: Expr) -> Result<Found, NoMemory>
-        ensures { IfOk result (λ f. f ≡ machine.in_loop tag test self) }
+    pub fn begin_loop(&mut self, alloc: Global, tag: Tag, test: Expr) -> Result<(), NoMemory>
+        ensures { OnOk result (self.new ≡ machine.in_loop tag test self.old) }
     {
         let around = self.around(alloc, tag, test);
-        self.blocks.push(Begun::Loop(around))?;
-        Ok(self)
+        self.blocks.push(Begun::Loop(around))
     }
 
     /// The second block of a conditional begins. `Refused` comes exactly where it cannot.
-    pub fn at_else(mut self, alloc: Global) -> Result<Found, Fault>
-        ensures { Steps (machine.else_found self) result }
+    pub fn turn_to_else(&mut self, alloc: Global) -> Result<(), Fault>
+        ensures { InPlace (λ _. self.new) (machine.else_found self.old) result }
     {
         match self.blocks.pop() {
             Some(Begun::Then(around)) => {
                 let yes = mem::replace(&mut self.parts, Block::new(Vec::new(alloc)));
-                self.blocks.push(Begun::Else(around, yes))?;
-                Ok(self)
+                Ok(self.blocks.push(Begun::Else(around, yes))?)
             }
             _ => Err(Fault::Refused),
         }
     }
 
     /// A conditional ends. `Refused` comes exactly where it cannot.
-    pub fn at_fi(mut self, alloc: Global) -> Result<Found, Fault>
-        ensures { Steps (machine.fi_found machine.limit self) result }
+    pub fn end_conditional(&mut self, alloc: Global) -> Result<(), Fault>
+        ensures { InPlace (λ _. self.new) (machine.fi_found machine.limit self.old) result }
     {
         match self.blocks.pop() {
             Some(Begun::Then(Around { before, tag, test })) => {
                 let yes = mem::replace(&mut self.parts, before);
                 let no = Block::new(Vec::new(alloc));
-                Ok(self.with_stmt(Stmt::If(tag, test, yes, no))?)
+                Ok(self.add_stmt(Stmt::If(tag, test, yes, no))?)
             }
             Some(Begun::Else(around, yes)) => {
                 let Around { before, tag, test } = around;
                 let no = mem::replace(&mut self.parts, before);
-                Ok(self.with_stmt(Stmt::If(tag, test, yes, no))?)
+                Ok(self.add_stmt(Stmt::If(tag, test, yes, no))?)
             }
             _ => Err(Fault::Refused),
         }
     }
 
     /// A loop ends. `Refused` comes exactly where it cannot.
-    pub fn at_od(mut self) -> Result<Found, Fault>
-        ensures { Steps (machine.od_found machine.limit self) result }
+    pub fn end_loop(&mut self) -> Result<(), Fault>
+        ensures { InPlace (λ _. self.new) (machine.od_found machine.limit self.old) result }
     {
         match self.blocks.pop() {
             Some(Begun::Loop(Around { before, tag, test })) => {
                 let body = mem::replace(&mut self.parts, before);
-                Ok(self.with_stmt(Stmt::While(tag, test, body))?)
+                Ok(self.add_stmt(Stmt::While(tag, test, body))?)
             }
             _ => Err(Fault::Refused),
         }
     }
 
     /// One more name of `end`.
-    pub fn with_name(mut self, name: Name) -> Result<Found, NoMemory>
-        ensures { IfOk result (λ f. f ≡ machine.with_name name self) }
+    pub fn add_name(&mut self, name: Name) -> Result<(), NoMemory>
+        ensures { OnOk result (self.new ≡ machine.with_name name self.old) }
     {
-        self.names.push(name)?;
-        Ok(self)
+        self.names.push(name)
     }
 
     /// The issued numbers, the parts and the names of `end`.

@@ -4,7 +4,7 @@ ghost use Rattle.hpr_scan.specs.Steps.{Steps};
 ghost use Rattle.hpr_text.specs.Machine as machine;
 
 use crate::places::{
-    is_author, is_serial, next_at, takes_block, takes_expression_keyword, takes_expression_sign,
+    is_author, is_serial, takes_block, takes_expression_keyword, takes_expression_sign,
     takes_header, takes_tag,
 };
 use crate::state::{Place, State};
@@ -27,8 +27,9 @@ impl TokenMachine for State {
 
     #[tactic(auto, unfolding(crate::specs::Machine::next))]
     fn step(self, alloc: Global, token: Token) -> Result<State, Fault> {
-        let State { found, place } = self;
-        next_at(alloc, found, place, token)
+        let State { mut found, place } = self;
+        let place = found.next_at(alloc, place, token)?;
+        Ok(State { found, place })
     }
 
     #[tactic(auto, unfolding(crate::specs::Machine::next))]

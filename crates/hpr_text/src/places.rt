@@ -1,16 +1,15 @@
 //! Where a token leads, by the place of the grammar.
 ghost use Rattle.std.specs.Prelude.{◌≡◌, ◌^◌, nat_lt, nat_le, ◌&&◌, is_some};
-ghost use Rattle.hpr_scan.specs.Steps.{Steps};
 ghost use Rattle.hpr_text.specs.Machine as machine;
 ghost use Rattle.hpr_expressions.specs.Expression as expression;
-ghost use Rattle.hpr_text.specs.declared.state.Place.TheVariants.{AtPart};
+ghost use Rattle.hpr_text.specs.Private.InPlace.{InPlace};
 ghost use Rattle.hpr_text.specs.declared.state.Purpose.TheVariants.{Assign, Test, Guard};
 ghost use Rattle.hpr_terms.specs.declared.token.Token.TheVariants as tokens;
 
 use crate::blocks::Kind;
 use crate::form::Mode;
 use crate::found::Found;
-use crate::state::{Place, Purpose, State};
+use crate::state::{Place, Purpose};
 use hpr_expressions::Reading;
 use hpr_scan::{Fault, TokenMachine};
 use hpr_terms::{Keyword, Name, Sign, Tag, Token};
@@ -98,418 +97,372 @@ pub fn takes_expression_sign(
     }
 }
 
-fn start_next(found: Found, token: Token) -> Result<State, Fault>
-    ensures { Steps (machine.start_next found token) result }
-{
-    match token {
-        Token::Word(Keyword::Program) => Ok(State {
-            found,
-            place: Place::AfterProgram,
-        }),
-        _ => Err(Fault::Refused),
-    }
-}
-
-fn at_part(found: Found) -> State
-    ensures { result ≡ machine.state_at found AtPart }
-{
-    State {
-        found,
-        place: Place::AtPart,
-    }
-}
-
-fn tag_next(found: Found, number: u64) -> Result<State, Fault>
-    ensures { Steps (machine.tag_next found.mode found number) result }
-{
-    if takes_tag(&found, number) {
-        Ok(State {
-            found,
-            place: Place::AfterAuthor(number as u32),
-        })
-    } else {
-        Err(Fault::Refused)
-    }
-}
-
-fn first_next(alloc: Global, found: Found, token: Token) -> Result<State, Fault>
-    ensures { Steps (machine.first_next (machine.part_begun machine.limit found) token) result }
-{
-    let (found, tag) = found.begin()?;
-    colon_next(alloc, found, tag, token)
-}
-
-fn parts_end(found: Found) -> Result<State, Fault>
-    ensures { Steps (machine.ends_parts found.blocks found) result }
-{
-    if found.blocks.len() == 0 {
-        Ok(State {
-            found,
-            place: Place::AfterEnd,
-        })
-    } else {
-        Err(Fault::Refused)
-    }
-}
-
-fn block_next(alloc: Global, found: Found, keyword: Keyword) -> Result<State, Fault>
-    ensures { Steps (machine.part_next machine.limit found (tokens.Word keyword)) result }
-{
-    match keyword {
-        Keyword::If => first_next(alloc, found, Token::Word(keyword)),
-        Keyword::While => first_next(alloc, found, Token::Word(keyword)),
-        Keyword::End => parts_end(found),
-        Keyword::Else => Ok(at_part(found.at_else(alloc)?)),
-        Keyword::Fi => Ok(at_part(found.at_fi(alloc)?)),
-        Keyword::Od => Ok(at_part(found.at_od()?)),
-        _ => Err(Fault::Refused),
-    }
-}
-
-fn part_next(alloc: Global, found: Found, token: Token) -> Result<State, Fault>
-    ensures { Steps (machine.part_next machine.limit found token) result }
-{
-    match token {
-        Token::Number(number) => tag_next(found, number),
-        Token::Word(keyword) => block_next(alloc, found, keyword),
-        Token::Name(name) => first_next(alloc, found, Token::Name(name)),
-        Token::Mark(_) => Err(Fault::Refused),
-    }
-}
-
-fn header_next(found: Found) -> Result<State, Fault>
-    ensures { Steps (machine.header_next found.mode found) result }
-{
-    match found.mode {
-        Mode::Tagged => Ok(State {
-            found: found.with_header(),
-            place: Place::BeforePair,
-        }),
-        Mode::Untagged(_) => Err(Fault::Refused),
-    }
-}
-
-fn program_next(alloc: Global, found: Found, token: Token) -> Result<State, Fault>
-    ensures { Steps (machine.program_next machine.limit found token) result }
-{
-    match token {
-        Token::Word(Keyword::Issued) => header_next(found),
-        _ => part_next(alloc, found, token),
-    }
-}
-
-fn before_pair_next(found: Found, token: Token) -> Result<State, Fault>
-    ensures { Steps (machine.before_pair_next found token) result }
-{
-    match token {
-        Token::Number(number) => {
-            if is_author(number) {
-                Ok(State {
-                    found,
-                    place: Place::AfterPairAuthor(number as u32),
-                })
-            } else {
-                Err(Fault::Refused)
-            }
+// Each of these takes a token in place, and answers the place behind it. What a refusal leaves is of no use.
+impl Found {
+    fn start_next(&mut self, token: Token) -> Result<Place, Fault>
+        ensures { InPlace (machine.state_at self.new) (machine.start_next self.old token) result }
+    {
+        match token {
+            Token::Word(Keyword::Program) => Ok(Place::AfterProgram),
+            _ => Err(Fault::Refused),
         }
-        _ => Err(Fault::Refused),
     }
-}
 
-fn pair_author_next(found: Found, author: u32, token: Token) -> Result<State, Fault>
-    ensures { Steps (machine.pair_author_next found author token) result }
-{
-    match token {
-        Token::Mark(Sign::Colon) => Ok(State {
-            found,
-            place: Place::AfterPairColon(author),
-        }),
-        _ => Err(Fault::Refused),
-    }
-}
-
-fn pair_colon_next(found: Found, author: u32, token: Token) -> Result<State, Fault>
-    ensures { Steps (machine.pair_colon_next found author token) result }
-{
-    match token {
-        Token::Number(number) => {
-            if is_serial(number) {
-                Ok(State {
-                    found: found.with_number(author, number as u32)?,
-                    place: Place::AfterPair,
-                })
-            } else {
-                Err(Fault::Refused)
-            }
+    fn tag_next(&mut self, number: u64) -> Result<Place, Fault>
+        ensures { InPlace (machine.state_at self.new) (machine.tag_next self.old.mode self.old number) result }
+    {
+        if takes_tag(self, number) {
+            Ok(Place::AfterAuthor(number as u32))
+        } else {
+            Err(Fault::Refused)
         }
-        _ => Err(Fault::Refused),
     }
-}
 
-fn pair_next(alloc: Global, found: Found, token: Token) -> Result<State, Fault>
-    ensures { Steps (machine.pair_next machine.limit found token) result }
-{
-    match token {
-        Token::Mark(Sign::Comma) => Ok(State {
-            found,
-            place: Place::BeforePair,
-        }),
-        _ => part_next(alloc, found, token),
+    fn first_next(&mut self, alloc: Global, token: Token) -> Result<Place, Fault>
+        ensures { InPlace (machine.state_at self.new) (machine.first_next (machine.part_begun machine.limit self.old) token) result }
+    {
+        let tag = self.begin()?;
+        self.colon_next(alloc, tag, token)
     }
-}
 
-fn author_next(found: Found, author: u32, token: Token) -> Result<State, Fault>
-    ensures { Steps (machine.author_next found author token) result }
-{
-    match token {
-        Token::Mark(Sign::Dot) => Ok(State {
-            found,
-            place: Place::AfterDot(author),
-        }),
-        _ => Err(Fault::Refused),
+    fn parts_end(&mut self) -> Result<Place, Fault>
+        ensures { InPlace (machine.state_at self.new) (machine.ends_parts self.old.blocks self.old) result }
+    {
+        if self.blocks.len() == 0 {
+            Ok(Place::AfterEnd)
+        } else {
+            Err(Fault::Refused)
+        }
     }
-}
 
-fn dot_next(found: Found, author: u32, token: Token) -> Result<State, Fault>
-    ensures { Steps (machine.dot_next found author token) result }
-{
-    match token {
-        Token::Number(number) => {
-            if is_serial(number) {
+    fn else_next(&mut self, alloc: Global) -> Result<Place, Fault>
+        ensures { InPlace (machine.state_at self.new) (machine.at_part (machine.else_found self.old)) result }
+    {
+        self.turn_to_else(alloc)?;
+        Ok(Place::AtPart)
+    }
+
+    fn fi_next(&mut self, alloc: Global) -> Result<Place, Fault>
+        ensures { InPlace (machine.state_at self.new) (machine.at_part (machine.fi_found machine.limit self.old)) result }
+    {
+        self.end_conditional(alloc)?;
+        Ok(Place::AtPart)
+    }
+
+    fn od_next(&mut self) -> Result<Place, Fault>
+        ensures { InPlace (machine.state_at self.new) (machine.at_part (machine.od_found machine.limit self.old)) result }
+    {
+        self.end_loop()?;
+        Ok(Place::AtPart)
+    }
+
+    fn block_next(&mut self, alloc: Global, keyword: Keyword) -> Result<Place, Fault>
+        ensures { InPlace (machine.state_at self.new) (machine.part_next machine.limit self.old (tokens.Word keyword)) result }
+    {
+        match keyword {
+            Keyword::If => self.first_next(alloc, Token::Word(keyword)),
+            Keyword::While => self.first_next(alloc, Token::Word(keyword)),
+            Keyword::End => self.parts_end(),
+            Keyword::Else => self.else_next(alloc),
+            Keyword::Fi => self.fi_next(alloc),
+            Keyword::Od => self.od_next(),
+            _ => Err(Fault::Refused),
+        }
+    }
+
+    fn part_next(&mut self, alloc: Global, token: Token) -> Result<Place, Fault>
+        ensures { InPlace (machine.state_at self.new) (machine.part_next machine.limit self.old token) result }
+    {
+        match token {
+            Token::Number(number) => self.tag_next(number),
+            Token::Word(keyword) => self.block_next(alloc, keyword),
+            Token::Name(name) => self.first_next(alloc, Token::Name(name)),
+            Token::Mark(_) => Err(Fault::Refused),
+        }
+    }
+
+    fn header_next(&mut self) -> Result<Place, Fault>
+        ensures { InPlace (machine.state_at self.new) (machine.header_next self.old.mode self.old) result }
+    {
+        match self.mode {
+            Mode::Tagged => {
+                self.has_header = true;
+                Ok(Place::BeforePair)
+            }
+            Mode::Untagged(_) => Err(Fault::Refused),
+        }
+    }
+
+    fn program_next(&mut self, alloc: Global, token: Token) -> Result<Place, Fault>
+        ensures { InPlace (machine.state_at self.new) (machine.program_next machine.limit self.old token) result }
+    {
+        match token {
+            Token::Word(Keyword::Issued) => self.header_next(),
+            _ => self.part_next(alloc, token),
+        }
+    }
+
+    fn before_pair_next(&mut self, token: Token) -> Result<Place, Fault>
+        ensures { InPlace (machine.state_at self.new) (machine.before_pair_next self.old token) result }
+    {
+        match token {
+            Token::Number(number) if is_author(number) => Ok(Place::AfterPairAuthor(number as u32)),
+            _ => Err(Fault::Refused),
+        }
+    }
+
+    fn pair_author_next(&mut self, author: u32, token: Token) -> Result<Place, Fault>
+        ensures { InPlace (machine.state_at self.new) (machine.pair_author_next self.old author token) result }
+    {
+        match token {
+            Token::Mark(Sign::Colon) => Ok(Place::AfterPairColon(author)),
+            _ => Err(Fault::Refused),
+        }
+    }
+
+    fn pair_colon_next(&mut self, author: u32, token: Token) -> Result<Place, Fault>
+        ensures { InPlace (machine.state_at self.new) (machine.pair_colon_next self.old author token) result }
+    {
+        match token {
+            Token::Number(number) if is_serial(number) => {
+                self.raise(author, number as u32)?;
+                Ok(Place::AfterPair)
+            }
+            _ => Err(Fault::Refused),
+        }
+    }
+
+    fn pair_next(&mut self, alloc: Global, token: Token) -> Result<Place, Fault>
+        ensures { InPlace (machine.state_at self.new) (machine.pair_next machine.limit self.old token) result }
+    {
+        match token {
+            Token::Mark(Sign::Comma) => Ok(Place::BeforePair),
+            _ => self.part_next(alloc, token),
+        }
+    }
+
+    fn author_next(&mut self, author: u32, token: Token) -> Result<Place, Fault>
+        ensures { InPlace (machine.state_at self.new) (machine.author_next self.old author token) result }
+    {
+        match token {
+            Token::Mark(Sign::Dot) => Ok(Place::AfterDot(author)),
+            _ => Err(Fault::Refused),
+        }
+    }
+
+    fn dot_next(&mut self, author: u32, token: Token) -> Result<Place, Fault>
+        ensures { InPlace (machine.state_at self.new) (machine.dot_next self.old author token) result }
+    {
+        match token {
+            Token::Number(number) if is_serial(number) => {
                 let tag = Tag {
                     author,
                     serial: number as u32,
                 };
-                Ok(State {
-                    found: found.with_tag(tag)?,
-                    place: Place::AfterSerial(tag),
-                })
-            } else {
-                Err(Fault::Refused)
+                self.issue(tag)?;
+                Ok(Place::AfterSerial(tag))
             }
+            _ => Err(Fault::Refused),
         }
-        _ => Err(Fault::Refused),
     }
-}
 
-fn serial_next(found: Found, tag: Tag, token: Token) -> Result<State, Fault>
-    ensures { Steps (machine.serial_next found tag token) result }
-{
-    match token {
-        Token::Mark(Sign::Colon) => Ok(State {
-            found,
-            place: Place::AfterColon(tag),
-        }),
-        _ => Err(Fault::Refused),
-    }
-}
-
-fn colon_next(alloc: Global, found: Found, tag: Tag, token: Token) -> Result<State, Fault>
-    ensures { Steps (machine.colon_next found tag token) result }
-{
-    match token {
-        Token::Name(name) => Ok(State {
-            found,
-            place: Place::AfterTarget(tag, name),
-        }),
-        Token::Word(Keyword::If) => Ok(State {
-            found,
-            place: Place::InExpression(Purpose::Test(tag), Reading::start(alloc)),
-        }),
-        Token::Word(Keyword::While) => Ok(State {
-            found,
-            place: Place::InExpression(Purpose::Guard(tag), Reading::start(alloc)),
-        }),
-        _ => Err(Fault::Refused),
-    }
-}
-
-fn target_next(
-    alloc: Global,
-    found: Found,
-    tag: Tag,
-    name: Name,
-    token: Token,
-) -> Result<State, Fault>
-    ensures { Steps (machine.target_next found tag name token) result }
-{
-    match token {
-        Token::Mark(Sign::Becomes) => Ok(State {
-            found,
-            place: Place::InExpression(Purpose::Assign(tag, name), Reading::start(alloc)),
-        }),
-        _ => Err(Fault::Refused),
-    }
-}
-
-fn expression_goes_on(
-    alloc: Global,
-    found: Found,
-    purpose: Purpose,
-    reading: Reading,
-    token: Token,
-) -> Result<State, Fault>
-    ensures { Steps (machine.goes_on found purpose (expression.read reading token)) result }
-{
-    let reading = reading.step(alloc, token)?;
-    Ok(State {
-        found,
-        place: Place::InExpression(purpose, reading),
-    })
-}
-
-fn value_next(
-    alloc: Global,
-    found: Found,
-    tag: Tag,
-    name: Name,
-    reading: Reading,
-    token: Token,
-) -> Result<State, Fault>
-    ensures { Steps (machine.expression_next machine.limit found (Assign tag name) reading token) result }
-{
-    match token {
-        Token::Mark(Sign::Semicolon) => {
-            let value = reading.ended(alloc)?;
-            Ok(at_part(found.with_part(tag, name, value)?))
+    fn serial_next(&mut self, tag: Tag, token: Token) -> Result<Place, Fault>
+        ensures { InPlace (machine.state_at self.new) (machine.serial_next self.old tag token) result }
+    {
+        match token {
+            Token::Mark(Sign::Colon) => Ok(Place::AfterColon(tag)),
+            _ => Err(Fault::Refused),
         }
-        _ => expression_goes_on(alloc, found, Purpose::Assign(tag, name), reading, token),
     }
-}
 
-fn test_next(
-    alloc: Global,
-    found: Found,
-    tag: Tag,
-    reading: Reading,
-    token: Token,
-) -> Result<State, Fault>
-    ensures { Steps (machine.expression_next machine.limit found (Test tag) reading token) result }
-{
-    match token {
-        Token::Word(Keyword::Then) => {
-            let test = reading.ended(alloc)?;
-            Ok(at_part(found.in_then(alloc, tag, test)?))
+    fn colon_next(&mut self, alloc: Global, tag: Tag, token: Token) -> Result<Place, Fault>
+        ensures { InPlace (machine.state_at self.new) (machine.colon_next self.old tag token) result }
+    {
+        match token {
+            Token::Name(name) => Ok(Place::AfterTarget(tag, name)),
+            Token::Word(Keyword::If) => Ok(Place::InExpression(
+                Purpose::Test(tag),
+                Reading::start(alloc),
+            )),
+            Token::Word(Keyword::While) => Ok(Place::InExpression(
+                Purpose::Guard(tag),
+                Reading::start(alloc),
+            )),
+            _ => Err(Fault::Refused),
         }
-        _ => expression_goes_on(alloc, found, Purpose::Test(tag), reading, token),
     }
-}
 
-fn guard_next(
-    alloc: Global,
-    found: Found,
-    tag: Tag,
-    reading: Reading,
-    token: Token,
-) -> Result<State, Fault>
-    ensures { Steps (machine.expression_next machine.limit found (Guard tag) reading token) result }
-{
-    match token {
-        Token::Word(Keyword::Do) => {
-            let test = reading.ended(alloc)?;
-            Ok(at_part(found.in_loop(alloc, tag, test)?))
+    fn target_next(
+        &mut self,
+        alloc: Global,
+        tag: Tag,
+        name: Name,
+        token: Token,
+    ) -> Result<Place, Fault>
+        ensures { InPlace (machine.state_at self.new) (machine.target_next self.old tag name token) result }
+    {
+        match token {
+            Token::Mark(Sign::Becomes) => Ok(Place::InExpression(
+                Purpose::Assign(tag, name),
+                Reading::start(alloc),
+            )),
+            _ => Err(Fault::Refused),
         }
-        _ => expression_goes_on(alloc, found, Purpose::Guard(tag), reading, token),
     }
-}
 
-fn expression_next(
-    alloc: Global,
-    found: Found,
-    purpose: Purpose,
-    reading: Reading,
-    token: Token,
-) -> Result<State, Fault>
-    ensures { Steps (machine.expression_next machine.limit found purpose reading token) result }
-{
-    match purpose {
-        Purpose::Assign(tag, name) => value_next(alloc, found, tag, name, reading, token),
-        Purpose::Test(tag) => test_next(alloc, found, tag, reading, token),
-        Purpose::Guard(tag) => guard_next(alloc, found, tag, reading, token),
+    fn expression_goes_on(
+        &mut self,
+        alloc: Global,
+        purpose: Purpose,
+        reading: Reading,
+        token: Token,
+    ) -> Result<Place, Fault>
+        ensures { InPlace (machine.state_at self.new) (machine.goes_on self.old purpose (expression.read reading token)) result }
+    {
+        let reading = reading.step(alloc, token)?;
+        Ok(Place::InExpression(purpose, reading))
     }
-}
 
-fn end_next(found: Found, token: Token) -> Result<State, Fault>
-    ensures { Steps (machine.end_next found token) result }
-{
-    match token {
-        Token::Mark(Sign::Open) => Ok(State {
-            found,
-            place: Place::AfterOpen,
-        }),
-        _ => Err(Fault::Refused),
-    }
-}
-
-fn open_next(found: Found, token: Token) -> Result<State, Fault>
-    ensures { Steps (machine.open_next found token) result }
-{
-    match token {
-        Token::Name(name) => Ok(State {
-            found: found.with_name(name)?,
-            place: Place::AfterName,
-        }),
-        Token::Mark(Sign::Close) => Ok(State {
-            found,
-            place: Place::AtEnd,
-        }),
-        _ => Err(Fault::Refused),
-    }
-}
-
-fn name_next(found: Found, token: Token) -> Result<State, Fault>
-    ensures { Steps (machine.name_next found token) result }
-{
-    match token {
-        Token::Mark(Sign::Comma) => Ok(State {
-            found,
-            place: Place::AfterComma,
-        }),
-        Token::Mark(Sign::Close) => Ok(State {
-            found,
-            place: Place::AtEnd,
-        }),
-        _ => Err(Fault::Refused),
-    }
-}
-
-fn comma_next(found: Found, token: Token) -> Result<State, Fault>
-    ensures { Steps (machine.comma_next found token) result }
-{
-    match token {
-        Token::Name(name) => Ok(State {
-            found: found.with_name(name)?,
-            place: Place::AfterName,
-        }),
-        _ => Err(Fault::Refused),
-    }
-}
-
-/// The state after the token at this place. `Refused` comes exactly where the token cannot stand
-/// there.
-pub fn next_at(alloc: Global, found: Found, place: Place, token: Token) -> Result<State, Fault>
-    ensures { Steps (machine.next_at machine.limit found place token) result }
-{
-    match place {
-        Place::Start => start_next(found, token),
-        Place::AfterProgram => program_next(alloc, found, token),
-        Place::BeforePair => before_pair_next(found, token),
-        Place::AfterPairAuthor(author) => pair_author_next(found, author, token),
-        Place::AfterPairColon(author) => pair_colon_next(found, author, token),
-        Place::AfterPair => pair_next(alloc, found, token),
-        Place::AtPart => part_next(alloc, found, token),
-        Place::AfterAuthor(author) => author_next(found, author, token),
-        Place::AfterDot(author) => dot_next(found, author, token),
-        Place::AfterSerial(tag) => serial_next(found, tag, token),
-        Place::AfterColon(tag) => colon_next(alloc, found, tag, token),
-        Place::AfterTarget(tag, name) => target_next(alloc, found, tag, name, token),
-        Place::InExpression(purpose, reading) => {
-            expression_next(alloc, found, purpose, reading, token)
+    fn value_next(
+        &mut self,
+        alloc: Global,
+        tag: Tag,
+        name: Name,
+        reading: Reading,
+        token: Token,
+    ) -> Result<Place, Fault>
+        ensures { InPlace (machine.state_at self.new) (machine.expression_next machine.limit self.old (Assign tag name) reading token) result }
+    {
+        match token {
+            Token::Mark(Sign::Semicolon) => {
+                let value = reading.ended(alloc)?;
+                self.add_part(tag, name, value)?;
+                Ok(Place::AtPart)
+            }
+            _ => self.expression_goes_on(alloc, Purpose::Assign(tag, name), reading, token),
         }
-        Place::AfterEnd => end_next(found, token),
-        Place::AfterOpen => open_next(found, token),
-        Place::AfterName => name_next(found, token),
-        Place::AfterComma => comma_next(found, token),
-        Place::AtEnd => Err(Fault::Refused),
+    }
+
+    fn test_next(
+        &mut self,
+        alloc: Global,
+        tag: Tag,
+        reading: Reading,
+        token: Token,
+    ) -> Result<Place, Fault>
+        ensures { InPlace (machine.state_at self.new) (machine.expression_next machine.limit self.old (Test tag) reading token) result }
+    {
+        match token {
+            Token::Word(Keyword::Then) => {
+                let test = reading.ended(alloc)?;
+                self.begin_then(alloc, tag, test)?;
+                Ok(Place::AtPart)
+            }
+            _ => self.expression_goes_on(alloc, Purpose::Test(tag), reading, token),
+        }
+    }
+
+    fn guard_next(
+        &mut self,
+        alloc: Global,
+        tag: Tag,
+        reading: Reading,
+        token: Token,
+    ) -> Result<Place, Fault>
+        ensures { InPlace (machine.state_at self.new) (machine.expression_next machine.limit self.old (Guard tag) reading token) result }
+    {
+        match token {
+            Token::Word(Keyword::Do) => {
+                let test = reading.ended(alloc)?;
+                self.begin_loop(alloc, tag, test)?;
+                Ok(Place::AtPart)
+            }
+            _ => self.expression_goes_on(alloc, Purpose::Guard(tag), reading, token),
+        }
+    }
+
+    fn expression_next(
+        &mut self,
+        alloc: Global,
+        purpose: Purpose,
+        reading: Reading,
+        token: Token,
+    ) -> Result<Place, Fault>
+        ensures { InPlace (machine.state_at self.new) (machine.expression_next machine.limit self.old purpose reading token) result }
+    {
+        match purpose {
+            Purpose::Assign(tag, name) => self.value_next(alloc, tag, name, reading, token),
+            Purpose::Test(tag) => self.test_next(alloc, tag, reading, token),
+            Purpose::Guard(tag) => self.guard_next(alloc, tag, reading, token),
+        }
+    }
+
+    fn end_next(&mut self, token: Token) -> Result<Place, Fault>
+        ensures { InPlace (machine.state_at self.new) (machine.end_next self.old token) result }
+    {
+        match token {
+            Token::Mark(Sign::Open) => Ok(Place::AfterOpen),
+            _ => Err(Fault::Refused),
+        }
+    }
+
+    fn open_next(&mut self, token: Token) -> Result<Place, Fault>
+        ensures { InPlace (machine.state_at self.new) (machine.open_next self.old token) result }
+    {
+        match token {
+            Token::Mark(Sign::Close) => Ok(Place::AtEnd),
+            _ => self.comma_next(token),
+        }
+    }
+
+    fn name_next(&mut self, token: Token) -> Result<Place, Fault>
+        ensures { InPlace (machine.state_at self.new) (machine.name_next self.old token) result }
+    {
+        match token {
+            Token::Mark(Sign::Comma) => Ok(Place::AfterComma),
+            Token::Mark(Sign::Close) => Ok(Place::AtEnd),
+            _ => Err(Fault::Refused),
+        }
+    }
+
+    fn comma_next(&mut self, token: Token) -> Result<Place, Fault>
+        ensures { InPlace (machine.state_at self.new) (machine.comma_next self.old token) result }
+    {
+        match token {
+            Token::Name(name) => {
+                self.add_name(name)?;
+                Ok(Place::AfterName)
+            }
+            _ => Err(Fault::Refused),
+        }
+    }
+
+    /// The place after the token at this place. `Refused` comes exactly where the token cannot stand
+    /// there.
+    pub fn next_at(&mut self, alloc: Global, place: Place, token: Token) -> Result<Place, Fault>
+        ensures { InPlace (machine.state_at self.new) (machine.next_at machine.limit self.old place token) result }
+    {
+        match place {
+            Place::Start => self.start_next(token),
+            Place::AfterProgram => self.program_next(alloc, token),
+            Place::BeforePair => self.before_pair_next(token),
+            Place::AfterPairAuthor(author) => self.pair_author_next(author, token),
+            Place::AfterPairColon(author) => self.pair_colon_next(author, token),
+            Place::AfterPair => self.pair_next(alloc, token),
+            Place::AtPart => self.part_next(alloc, token),
+            Place::AfterAuthor(author) => self.author_next(author, token),
+            Place::AfterDot(author) => self.dot_next(author, token),
+            Place::AfterSerial(tag) => self.serial_next(tag, token),
+            Place::AfterColon(tag) => self.colon_next(alloc, tag, token),
+            Place::AfterTarget(tag, name) => self.target_next(alloc, tag, name, token),
+            Place::InExpression(purpose, reading) => self.expression_next(
+                alloc, purpose, reading, token,
+            ),
+            Place::AfterEnd => self.end_next(token),
+            Place::AfterOpen => self.open_next(token),
+            Place::AfterName => self.name_next(token),
+            Place::AfterComma => self.comma_next(token),
+            Place::AtEnd => Err(Fault::Refused),
+        }
     }
 }
