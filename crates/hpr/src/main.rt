@@ -1,9 +1,7 @@
 //! The program: real files and streams, and the top call over them.
 #![tactic(auto)]
 
-mod edges;
-
-use edges::{FileShelf, StdSink};
+use hpr_system::{FileShelf, StdSink};
 use std::io;
 use std::process::ExitCode;
 

@@ -1,4 +1,6 @@
 //! Real files and streams, which tell nothing of their content. Nothing is proved of what the system itself does.
+#![tactic(auto)]
+
 ghost use Rattle.std.specs.Prelude.{◌≡◌, ◌<◌, ◌≤◌, ◌↔◌, true, None, length, take, vec_len, IfOk, IfErr, IfSome, IsErr, IsErrOf};
 ghost use Rattle.std.specs.IoError.{error_kind};
 ghost use Rattle.hpr_io.specs.Counts.{Counted};
