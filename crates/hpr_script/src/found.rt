@@ -45,8 +45,7 @@ impl Commands {
         Ok(Commands { commands })
     }
 
-    /// The commands.
-    pub fn into_vec(self) -> Vec<Command>
+    fn into_vec(self) -> Vec<Command>
         ensures { result.items ≡ self }
     {
         let Commands { commands } = self;
@@ -55,12 +54,21 @@ impl Commands {
 }
 
 /// What was read so far.
-#[derive(Drop)]
 pub struct Found {
     /// The commands whose `;` was read.
     pub commands: Commands,
     /// The names of `finals`, while they are read.
     pub names: FinalNames,
+}
+
+/// All of it is dropped in one call.
+impl Drop for Found {
+    fn drop(self) {
+        let Found {
+            commands: _,
+            names: _,
+        } = self;
+    }
 }
 
 fn no_names(alloc: Global) -> FinalNames
@@ -88,6 +96,14 @@ impl Found {
             commands: Commands::new(alloc),
             names: no_names(alloc),
         }
+    }
+
+    /// The commands that were read.
+    pub fn into_commands(self) -> Vec<Command>
+        ensures { result.items ≡ self.commands }
+    {
+        let Found { commands, names: _ } = self;
+        commands.into_vec()
     }
 
     fn with_command(self, command: Command) -> Result<Found, NoMemory>

@@ -214,7 +214,7 @@ fn ended(reader: Reader, place: usize) -> Result<Vec<Command>, ScriptError>
     match begun {
         Begun::InWord(_) => Err(ScriptError::Syntax { place }),
         Begun::Gap | Begun::Comment => match stage {
-            Stage::AtCommand => Ok(found.commands.into_vec()),
+            Stage::AtCommand => Ok(found.into_commands()),
             _ => Err(ScriptError::Syntax { place }),
         },
     }
