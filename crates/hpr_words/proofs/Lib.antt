@@ -18,8 +18,8 @@ pub mod TagLemmas
 pub mod OtherLemmas
 pub mod PlainLemmas
 pub mod RangeLemmas
-pub mod AskedLemmas
 pub mod PlaceLemmas
 pub mod RunPlaceLemmas
 pub mod TrialPlaceLemmas
-mod OneMore
+pub mod NameLemmas
+pub mod AskedLemmas

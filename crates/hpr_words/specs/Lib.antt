@@ -3,3 +3,4 @@ pub mod Commands
 pub mod Taken
 pub mod Asked
 pub mod Plain
+pub mod Private

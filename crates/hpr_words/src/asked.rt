@@ -4,14 +4,9 @@ ghost use Rattle.hpr_words.specs.Asked.{request};
 ghost use Rattle.hpr_words.specs.Request.{IsInRange};
 ghost use Rattle.hpr_words.specs.Taken.{taken};
 
-use crate::affected::read_affected;
-use crate::edit::read_edit;
-use crate::graph::read_graph;
-use crate::integrate::read_integrate;
-use crate::run::read_run;
-use crate::slice::read_slice;
-use crate::tag::read_tag;
-use crate::trial::read_trial;
+use crate::arguments::parse;
+use crate::commands::CommandName;
+use clap::error::ErrorKind;
 use std::alloc::{AllocError, Global};
 
 /// What the words of a command line ask for.
@@ -96,6 +91,22 @@ impl From<AllocError> for WordsError {
     }
 }
 
+impl From<clap::Error> for WordsError {
+    ghost use Rattle.std.specs.Prelude.{◌≡◌};
+    ghost use Rattle.clap.specs.Words.{kind_of};
+    ghost use Rattle.clap.specs.declared.error.kind.ErrorKind.TheVariants.{OutOfMemory};
+    ghost use Rattle.hpr_words.specs.declared.asked.WordsError.TheVariants.{Refused};
+
+    ghost from_gives = { λ error e. e ≡ Refused → ¬ (kind_of error ≡ OutOfMemory) };
+
+    fn from(error: clap::Error) -> WordsError {
+        if error.kind() == ErrorKind::OutOfMemory {
+            return WordsError::Memory;
+        }
+        WordsError::Refused
+    }
+}
+
 /// What the words ask for, without the program's name. The first one picks the command, which takes
 /// the words as `clap` does: `--tries=7` and `+7` too, and any name behind `--`.
 ///
@@ -107,18 +118,8 @@ pub fn read_words<'a>(alloc: Global, words: &'a [String]) -> Result<Asked<'a>, W
     ensures in_range { IfOk result (λ a. IsInRange (request a)) }
     ensures refused { IsErrOf result WordsError.Refused → taken (map string_bytes words.entry.now) ≡ None }
 {
-    match words.first() {
-        Some(command) => match command.as_str() {
-            "integrate" => read_integrate(alloc, words),
-            "run" => read_run(alloc, words),
-            "graph" => read_graph(alloc, words),
-            "slice" => read_slice(alloc, words),
-            "affected" => read_affected(alloc, words),
-            "trial" => read_trial(alloc, words),
-            "edit" => read_edit(alloc, words),
-            "tag" => read_tag(alloc, words),
-            _ => Err(WordsError::Refused),
-        },
-        None => Err(WordsError::Refused),
-    }
+    let name = words.first().ok_or(WordsError::Refused)?.as_str();
+    let command = CommandName::named(name).ok_or(WordsError::Refused)?;
+    let matches = parse(alloc, name, command.arguments(), words)?;
+    command.asked(alloc, &matches)
 }

@@ -5,16 +5,10 @@
 //! `trial BASE A B [STATE..] [--steps N]`, `edit FILE SCRIPT --author N` and `tag FILE --author N`.
 #![tactic(auto)]
 
-mod affected;
 mod arguments;
 mod asked;
-mod edit;
-mod graph;
-mod integrate;
+mod commands;
+mod found;
 pub mod laws;
-mod run;
-mod slice;
-mod tag;
-mod trial;
 
 pub use asked::{Asked, WordsError, read_words};

@@ -1,6 +1,6 @@
 use Rattle.std.proofs.Common.{arith}
 use Rattle.hpr_words.proofs.NumberLemmas.{number_of-Ok, number_of-Err}
-use Rattle.hpr_words.proofs.arguments.number_of.Goals as goal
+use Rattle.hpr_words.proofs.found.number_of.Goals as goal
 
 pub returns-else-from-number : goal.returns-else-from-number
 returns-else-from-number c =
