@@ -1,5 +1,5 @@
 -- What the words ask for, by the command that the first of them names.
-use Rattle.std.proofs.Common.{◌≡◌, ◌∙◌, true, false, List, [], ◌∷◌, Option, Some, None, Result, Ok, Err, IfOk, cond, inl, inr, refl, rules, slice_get, sym, ap, subst, unwrap_or}
+use Rattle.std.proofs.Common.{◌≡◌, ◌∙◌, true, false, List, [], ◌∷◌, Some, None, Result, Ok, Err, IfOk, cond, inl, inr, refl, rules, slice_get, sym, ap, subst, unwrap_or}
 use Rattle.std.specs.Result.{IsErrAnd, IsErrOf}
 use Rattle.clap.proofs.WalkLemmas.{both}
 use Rattle.clap.specs.Kinds.{HasKind, Kinds}
@@ -10,7 +10,7 @@ use Rattle.clap.specs.declared.error.kind.ErrorKind.TheVariants.{OutOfMemory}
 use Rattle.clap.specs.declared.parser.matches.ArgMatches.{ArgMatches}
 use Rattle.hpr_words.specs.Asked.{request}
 use Rattle.hpr_words.specs.Private.Commands.{Reads, app_of_command, asked_in, command_named}
-use Rattle.hpr_words.specs.Request.{IsInRange, Request, Text}
+use Rattle.hpr_words.specs.Request.{IsInRange, Text}
 use Rattle.hpr_words.specs.Taken.{taken, taken_by}
 use Rattle.hpr_words.specs.declared.asked.Asked.{Asked}
 use Rattle.hpr_words.specs.declared.asked.WordsError.{WordsError}

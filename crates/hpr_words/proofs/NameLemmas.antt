@@ -1,10 +1,9 @@
 -- The command that a word names, and what it makes of the words.
-use Rattle.std.proofs.Common.{◌≡◌, ◌∙◌, Bool, true, false, cond, List, ◌∷◌, Option, Some, None, refl, sym, ap, subst, codes, unwrap_or, bytes_eq}
+use Rattle.std.proofs.Common.{◌≡◌, Bool, true, false, cond, List, ◌∷◌, Option, Some, None, refl, sym, ap, subst, unwrap_or, bytes_eq}
 use Rattle.clap.specs.Words.{is_simple_and_free}
-use Rattle.hpr_words.specs.Private.Commands.{app_of_command, app_with, asked_in, command_named, name_of}
+use Rattle.hpr_words.specs.Private.Commands.{app_of_command, asked_in, command_named, name_of}
 use Rattle.hpr_words.specs.Request.{IsInRange, Request, Text}
 use Rattle.hpr_words.specs.Taken.{taken, taken_by}
-use Rattle.hpr_words.specs.declared.arguments.Argument.{Argument}
 use Rattle.hpr_words.specs.declared.commands.CommandName.{CommandName}
 use Rattle.hpr_words.specs.declared.commands.CommandName.TheVariants.{Affected, Edit, Graph, Integrate, Run, Slice, Tag, Trial}
 use Rattle.hpr_words.proofs.PieceLemmas.{none_some}
