@@ -1,7 +1,7 @@
 //! Real files and streams, which tell nothing of their content. Nothing is proved of what the system itself does.
 #![tactic(auto)]
 
-ghost use Rattle.std.specs.Prelude.{◌≡◌, ◌<◌, ◌≤◌, ◌↔◌, true, None, length, take, vec_len, IfOk, IfErr, IfSome, IsErr, IsErrOf};
+ghost use Rattle.std.specs.Prelude.{◌≡◌, ◌<◌, ◌≤◌, ◌↔◌, true, None, length, take, vec_len, IfOk, IfErr, IfSome, IsErr, IsErrOf, IsTrue};
 ghost use Rattle.std.specs.IoError.{error_kind};
 ghost use Rattle.hpr_io.specs.Counts.{Counted};
 ghost use Rattle.std.specs.Io.KnownBytes.{ReadConsumes, WriteAppends};
@@ -123,12 +123,22 @@ fn read_some<R: Read>(reader: &mut R, buffer: &mut [u8]) -> io::Result<usize>
     ensures bytes { ReadConsumes (R.remaining reader.old) (R.remaining reader.new) result buffer.new }
 {
     for _ in 1..TRIES {
-        match reader.read(buffer) {
-            Err(error) if error.kind() == ErrorKind::Interrupted => {}
-            answer => return answer,
+        let answer = reader.read(buffer);
+        if !is_interrupted(&answer) {
+            return answer;
         }
     }
     reader.read(buffer)
+}
+
+// Whether a read or a write failed by an interruption, so that it is made again.
+fn is_interrupted(answer: &io::Result<usize>) -> bool
+    ensures { IsTrue result → IsErr answer.now }
+{
+    match answer {
+        Ok(_) => false,
+        Err(error) => error.kind() == ErrorKind::Interrupted,
+    }
 }
 
 // Want of memory in the system is want of memory here, and every other error is a failed read.
@@ -197,9 +207,9 @@ fn write_some<W: Write>(stream: &mut W, piece: &[u8]) -> io::Result<usize>
     ensures bytes { WriteAppends (W.contents stream.old) (W.contents stream.new) result piece.now }
 {
     for _ in 1..TRIES {
-        match stream.write(piece) {
-            Err(error) if error.kind() == ErrorKind::Interrupted => {}
-            answer => return answer,
+        let answer = stream.write(piece);
+        if !is_interrupted(&answer) {
+            return answer;
         }
     }
     stream.write(piece)

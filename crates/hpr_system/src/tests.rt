@@ -7,58 +7,73 @@ use std::io::{ErrorKind, Read, Write};
 use std::test::Fail;
 use std::{fs, io};
 
-// What is fetched of a real file with this name that holds `hello`.
-fn fetched(rt: &HostRuntime, name: &str, most: usize) -> Result<Vec<u8>, Fail> {
+// Whether these bytes are fetched of a real file with this name that holds `hello`.
+fn fetches(rt: &HostRuntime, name: &str, most: usize, front: &[u8]) -> Result<bool, Fail> {
     fs::write(rt, name, "hello")?;
-    let mut shelf = FileShelf::new(rt);
-    let bytes = shelf.fetch(rt.alloc(), name, most);
+    let is_front = match FileShelf::new(rt).fetch(rt.alloc(), name, most) {
+        Ok(bytes) => bytes.as_slice() == front,
+        Err(_) => false,
+    };
     fs::remove_file(rt, name)?;
-    Ok(bytes?)
+    Ok(is_front)
 }
 
 #[test]
 fn fetches_a_whole_file(rt: HostRuntime) -> Result<(), Fail> {
-    let bytes = fetched(&rt, "hpr_whole_test.tmp", 9)?;
-    assert_eq!(rt; bytes.as_slice(), b"hello".as_slice());
+    assert!(rt; fetches(&rt, "hpr_whole_test.tmp", 9, b"hello")?);
     Ok(())
 }
 
 #[test]
 fn fetches_the_front_of_a_file(rt: HostRuntime) -> Result<(), Fail> {
-    let bytes = fetched(&rt, "hpr_front_test.tmp", 2)?;
-    assert_eq!(rt; bytes.as_slice(), b"he".as_slice());
+    assert!(rt; fetches(&rt, "hpr_front_test.tmp", 2, b"he")?);
     Ok(())
+}
+
+// Whether a fetch of this file fails.
+fn fails(rt: &HostRuntime, shelf: &mut FileShelf<'_, HostRuntime>, name: &str) -> bool {
+    matches!(shelf.fetch(rt.alloc(), name, 9), Err(FetchError::Failed))
 }
 
 #[test]
 fn counts_failed_fetches(rt: HostRuntime) {
     let mut shelf = FileShelf::new(&rt);
-    let absent = shelf.fetch(rt.alloc(), "hpr_absent_test.tmp", 9).err();
-    let folder = shelf.fetch(rt.alloc(), ".", 9).err();
-    assert!(rt; absent == Some(FetchError::Failed) && folder == Some(FetchError::Failed));
+    assert!(rt; fails(&rt, &mut shelf, "hpr_absent_test.tmp"));
+    assert!(rt; fails(&rt, &mut shelf, "."));
     assert_eq!(rt; shelf.faults, 2);
+}
+
+// Whether a new file of this name takes two pieces.
+fn takes_two(rt: &HostRuntime, name: &str) -> io::Result<bool> {
+    let mut sink = StdSink::new(fs::create(rt, name)?);
+    let done = put_all(&mut sink, b"hel").is_ok() && put_all(&mut sink, b"lo").is_ok();
+    Ok(done && sink.faults == 0)
 }
 
 #[test]
 fn puts_to_a_real_file(rt: HostRuntime) -> Result<(), Fail> {
     let name = "hpr_put_test.tmp";
-    let mut sink = StdSink::new(fs::create(&rt, name)?);
-    let done = put_all(&mut sink, b"hel").is_ok() && put_all(&mut sink, b"lo").is_ok();
+    assert!(rt; takes_two(&rt, name)?);
     let text = fs::read_to_string(&rt, name)?;
     fs::remove_file(&rt, name)?;
-    assert!(rt; done && sink.faults == 0);
     assert_eq!(rt; text.as_str(), "hello");
     Ok(())
+}
+
+// Whether a put to this file, which is open to be read, fails and is counted.
+fn counts_put(rt: &HostRuntime, name: &str) -> io::Result<bool> {
+    let mut closed = StdSink::new(fs::open(rt, name)?);
+    let refused = closed.put(b"x");
+    Ok(refused == Err(PutError::Failed) && closed.faults == 1)
 }
 
 #[test]
 fn counts_a_failed_put(rt: HostRuntime) -> Result<(), Fail> {
     let name = "hpr_closed_test.tmp";
     fs::write(&rt, name, "")?;
-    let mut closed = StdSink::new(fs::open(&rt, name)?);
-    let refused = closed.put(b"x");
+    let is_counted = counts_put(&rt, name)?;
     fs::remove_file(&rt, name)?;
-    assert!(rt; refused == Err(PutError::Failed) && closed.faults == 1);
+    assert!(rt; is_counted);
     Ok(())
 }
 
