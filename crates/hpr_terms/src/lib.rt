@@ -1,5 +1,5 @@
-//! The words of the language: names, keywords, tags, literals, expressions and tokens, with their
-//! equality and their total order, and the definitions that say what they are.
+//! The words of the language: names, keywords, tags, literals, expressions and tokens, and the
+//! definitions that say what they are. Names, tags, literals and expressions have a total order.
 #![tactic(auto)]
 
 mod expr;

@@ -6,7 +6,7 @@ use crate::keyword::Keyword;
 use crate::name::Name;
 
 /// A sign of one or two bytes.
-#[derive(Clone, Copy, Debug, PartialEq, Eq, PartialOrd, Ord)]
+#[derive(Clone, Copy, PartialEq, Eq)]
 pub enum Sign {
     Colon,
     Becomes,
@@ -57,7 +57,7 @@ impl Sign {
 }
 
 /// A token of a text: a keyword, a name, a number or a sign.
-#[derive(Debug, PartialEq, Eq, PartialOrd, Ord, Drop)]
+#[derive(Drop)]
 pub enum Token {
     Word(Keyword),
     Name(Name),
