@@ -94,12 +94,25 @@ pub struct Operand {
 ///
 /// Expressions compare by the declared order of variants and fields.
 #[cycle(expr)]
-#[derive(Debug, PartialEq, Eq, PartialOrd, Ord, Drop)]
+#[derive(Debug, PartialEq, Eq, PartialOrd, Ord)]
 pub enum Expr {
     Num(Literal),
     Var(Name),
     Prefix(Unary, Operand),
     Infix(Binary, Operand, Operand),
+}
+
+// By hand, so that each way out of a function that holds an expression is one call.
+impl Drop for Expr {
+    #[cycle(expr_drop)]
+    fn drop(self) {
+        match self {
+            Expr::Num(_) => {}
+            Expr::Var(_) => {}
+            Expr::Prefix(_, _) => {}
+            Expr::Infix(_, _, _) => {}
+        }
+    }
 }
 
 impl Model for Operand {
