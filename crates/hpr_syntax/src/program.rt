@@ -26,11 +26,22 @@ use std::marker::Model;
 /// A contract sees it as the plain tree of the three. Its names are names, its numbers are in
 /// range, and it has none of the faults that [`ShapeError`] names. Programs compare by the three in
 /// order.
-#[derive(Debug, Drop)]
+#[derive(Debug)]
 pub struct Program {
     issued: Issued,
     body: Block,
     finals: Vec<Name>,
+}
+
+// By hand, so that each way out of a function that holds a program is one call.
+impl Drop for Program {
+    fn drop(self) {
+        let Program {
+            issued: _,
+            body: _,
+            finals: _,
+        } = self;
+    }
 }
 
 impl Model for Program {

@@ -36,7 +36,7 @@ impl Content {
 }
 
 /// A part by itself, with where it stands.
-#[derive(Debug, PartialEq, Eq, PartialOrd, Ord, Drop)]
+#[derive(Drop)]
 pub struct Row {
     pub tag: Tag,
     /// The part whose block it stands in, with the branch, which is true for a conditional's first

@@ -171,24 +171,49 @@ impl Stmt {
         ensures { IfOk result (λ s. s ≡ self.now) }
     {
         match self {
-            Stmt::Assign(tag, name, value) => Ok(Stmt::Assign(
-                *tag,
-                name.copy(alloc)?,
-                value.copy(alloc)?,
-            )),
-            Stmt::If(tag, test, yes, no) => Ok(Stmt::If(
-                *tag,
-                test.copy(alloc)?,
-                yes.copy(alloc)?,
-                no.copy(alloc)?,
-            )),
-            Stmt::While(tag, test, body) => Ok(Stmt::While(
-                *tag,
-                test.copy(alloc)?,
-                body.copy(alloc)?,
-            )),
+            Stmt::Assign(tag, name, value) => assignment(alloc, *tag, name, value),
+            Stmt::If(tag, test, yes, no) => {
+                let yes = yes.copy(alloc)?;
+                let no = no.copy(alloc)?;
+                conditional(alloc, *tag, test, yes, no)
+            }
+            Stmt::While(tag, test, body) => {
+                let body = body.copy(alloc)?;
+                repetition(alloc, *tag, test, body)
+            }
         }
     }
+}
+
+/// The assignment with copies of the name and the value.
+fn assignment(alloc: Global, tag: Tag, name: &Name, value: &Expr) -> Result<Stmt, NoMemory>
+    ensures { IfOk result (λ s. s ≡ Stmt.Assign tag name.now value.now) }
+{
+    let name = name.copy(alloc)?;
+    let value = value.copy(alloc)?;
+    Ok(Stmt::Assign(tag, name, value))
+}
+
+/// The conditional of these blocks, with a copy of the test.
+fn conditional(
+    alloc: Global,
+    tag: Tag,
+    test: &Expr,
+    yes: Block,
+    no: Block,
+) -> Result<Stmt, NoMemory>
+    ensures { IfOk result (λ s. s ≡ Stmt.If tag test.now yes no) }
+{
+    let test = test.copy(alloc)?;
+    Ok(Stmt::If(tag, test, yes, no))
+}
+
+/// The loop of this block, with a copy of the test.
+fn repetition(alloc: Global, tag: Tag, test: &Expr, body: Block) -> Result<Stmt, NoMemory>
+    ensures { IfOk result (λ s. s ≡ Stmt.While tag test.now body) }
+{
+    let test = test.copy(alloc)?;
+    Ok(Stmt::While(tag, test, body))
 }
 
 /// The expression of a part: the value that it assigns, or what it tests.
