@@ -2,6 +2,8 @@
 ghost use Rattle.std.specs.Prelude.{◌≡◌, ◌+◌, ◌<◌, ◌^◌, ◌++◌, ◌∷◌, [], vec_len, IfOk, OnOk, if◌then◌else◌};
 ghost use Rattle.hpr_syntax.specs.Body.{done, part_count};
 ghost use Rattle.hpr_syntax.specs.BodyOf.{before};
+ghost use Rattle.hpr_syntax.specs.Parts.{tag_of};
+ghost use Rattle.hpr_syntax.specs.Rows.{content_of};
 ghost use Rattle.hpr_paths.specs.Spots.{enter, exit, part};
 ghost use Rattle.hpr_paths.specs.Roles.{role_of};
 ghost use Rattle.hpr_paths.specs.Successors.{first_step, step_to, spot_of, spots_of, spots};
@@ -9,7 +11,7 @@ ghost use Rattle.hpr_paths.specs.Successors.{first_step, step_to, spot_of, spots
 use crate::spot::{Role, Spot, Step};
 use crate::succ::Succ;
 use hpr_syntax::{Block, Content, Program, Stmt, content_of};
-use hpr_terms::{NoMemory, copy_names};
+use hpr_terms::{Name, NoMemory, copy_names};
 use std::alloc::Global;
 
 /// The points of a program with the pairs of points that may follow one another.
@@ -28,20 +30,29 @@ pub fn successors(alloc: Global, program: &Program) -> Result<Succ, NoMemory>
 fn all_spots(alloc: Global, program: &Program) -> Result<Vec<Spot>, NoMemory>
     ensures { IfOk result (λ v. v.items ≡ spots program.now) }
 {
+    let mut spots = Vec::new(alloc);
+    push_program(alloc, program, &mut spots)?;
+    Ok(spots)
+}
+
+/// Puts Enter, the parts and Exit on the empty list.
+fn push_program(alloc: Global, program: &Program, into: &mut Vec<Spot>) -> Result<(), NoMemory>
+    requires { into.old.items ≡ [] }
+    ensures { OnOk result (into.new.items ≡ spots program.now) }
+{
     let end = step_to(program.part_count() + 1);
     let body = program.body();
-    let mut spots = Vec::new(alloc);
-    push_spot(
-        alloc,
-        &mut spots,
-        &[first_step(body, 1, end)],
-        &[],
-        Role::Enter,
-    )?;
-    push_block(alloc, body, end, &[], &mut spots)?;
-    let finals = copy_names(alloc, program.finals())?;
-    push_spot(alloc, &mut spots, &[], &[], Role::Exit(finals))?;
-    Ok(spots)
+    push_spot(alloc, into, &[first_step(body, 1, end)], &[], Role::Enter)?;
+    push_block(alloc, body, end, &[], into)?;
+    push_exit(alloc, program.finals(), into)
+}
+
+/// Puts Exit with the names of `end` behind the points.
+fn push_exit(alloc: Global, finals: &[Name], spots: &mut Vec<Spot>) -> Result<(), NoMemory>
+    ensures { OnOk result (spots.new.items ≡ spots.old.items ++ spot_of [] [] (exit finals.now) ∷ []) }
+{
+    let finals = copy_names(alloc, finals)?;
+    push_spot(alloc, spots, &[], &[], Role::Exit(finals))
 }
 
 /// The step to this point, by no back edge.
@@ -78,6 +89,7 @@ fn nest_with(alloc: Global, nest: &[usize], inner: usize) -> Result<Vec<usize>, 
     Ok(inside)
 }
 
+/// Puts a point behind the points.
 fn push_spot(
     alloc: Global,
     spots: &mut Vec<Spot>,
@@ -88,10 +100,30 @@ fn push_spot(
     ensures spot { OnOk result (spots.new.items ≡ spots.old.items ++ spot_of next.now nest.now (role_of role) ∷ []) }
     ensures len { OnOk result (vec_len spots.new ≡ vec_len spots.old + 1) }
 {
-    let next = Vec::from_slice(alloc, next)?;
-    let nest = Vec::from_slice(alloc, nest)?;
-    spots.push(Spot { next, nest, role })?;
+    let mut spot = Spot {
+        next: Vec::new(alloc),
+        nest: Vec::new(alloc),
+        role,
+    };
+    spot.next.extend_from_slice(next)?;
+    spot.nest.extend_from_slice(nest)?;
+    spots.push(spot)?;
     Ok(())
+}
+
+/// Puts a part by itself behind the points.
+fn push_part(
+    alloc: Global,
+    spots: &mut Vec<Spot>,
+    next: &[Step],
+    nest: &[usize],
+    stmt: &Stmt,
+) -> Result<(), NoMemory>
+    ensures spot { OnOk result (spots.new.items ≡ spots.old.items ++ spot_of next.now nest.now (part (tag_of stmt.now) (content_of stmt.now)) ∷ []) }
+    ensures len { OnOk result (vec_len spots.new ≡ vec_len spots.old + 1) }
+{
+    let content = content_of(alloc, stmt)?;
+    push_spot(alloc, spots, next, nest, Role::Part(stmt.tag(), content))
 }
 
 /// Puts the parts of a block behind the points.
@@ -132,13 +164,12 @@ fn push_stmt(
     ensures len { OnOk result (vec_len spots.new ≡ vec_len spots.old + part_count (before stmt.now done)) }
 {
     let first = spots.len();
-    let role = Role::Part(stmt.tag(), content_of(alloc, stmt)?);
     match stmt {
-        Stmt::Assign(_, _, _) => push_spot(alloc, spots, &[after], nest, role),
+        Stmt::Assign(_, _, _) => push_part(alloc, spots, &[after], nest, stmt),
         Stmt::If(_, _, yes, no) => {
             let into_yes = first_step(yes, first + 1, after);
             let into_no = first_step(no, first + 1 + yes.part_count(), after);
-            push_spot(alloc, spots, &[into_yes, into_no], nest, role)?;
+            push_part(alloc, spots, &[into_yes, into_no], nest, stmt)?;
             push_block(alloc, yes, after, nest, spots)?;
             push_block(alloc, no, after, nest, spots)
         }
@@ -148,12 +179,12 @@ fn push_stmt(
                 back: true,
             };
             let inside = nest_with(alloc, nest, first)?;
-            push_spot(
+            push_part(
                 alloc,
                 spots,
                 &[first_step(body, first + 1, again), after],
                 &inside,
-                role,
+                stmt,
             )?;
             push_block(alloc, body, again, &inside, spots)
         }

@@ -6,14 +6,14 @@ use std::marker::Model;
 /// A step from a point: where it leads, and whether it is the back edge of a loop.
 ///
 /// A back edge leads to the predicate of the loop.
-#[derive(Clone, Copy, Debug, PartialEq, Eq, PartialOrd, Ord)]
+#[derive(Clone, Copy)]
 pub struct Step {
     pub to: usize,
     pub back: bool,
 }
 
 /// What stands at a point.
-#[derive(Debug, Drop)]
+#[derive(Drop)]
 pub(crate) enum Role {
     Enter,
     Part(Tag, Content),
@@ -22,11 +22,21 @@ pub(crate) enum Role {
 }
 
 /// A point: its steps, the loops that enclose it from the outermost on, and what stands there.
-#[derive(Debug, Drop)]
 pub(crate) struct Spot {
     pub(crate) next: Vec<Step>,
     pub(crate) nest: Vec<usize>,
     pub(crate) role: Role,
+}
+
+// By hand, so that each way out of a function that holds a point is one call.
+impl Drop for Spot {
+    fn drop(self) {
+        let Spot {
+            next: _,
+            nest: _,
+            role: _,
+        } = self;
+    }
 }
 
 impl Model for Spot {

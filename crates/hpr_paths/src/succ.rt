@@ -14,7 +14,7 @@ use std::marker::Model;
 /// loop stands for its predicate.
 ///
 /// A contract sees them as the list of what is known of each.
-#[derive(Debug, Drop)]
+#[derive(Drop)]
 pub struct Succ {
     spots: Vec<Spot>,
 }
