@@ -1,12 +1,9 @@
 -- What a list contains after one more turn.
-use Rattle.std.proofs.Common.{◌≡◌, ℕ, ◌+◌, ◌<◌, ◌≤◌, Bool, List, [], ◌∷◌, ◌++◌, length, take, get_or, Contains, IsTrue, ◌↔◌, ◌⊎◌, inl, inr, sym, subst, arith}
-use Rattle.std.proofs.lemmas.Bool.{cases_eq}
+use Rattle.std.proofs.Common.{◌≡◌, ℕ, ◌+◌, ◌<◌, ◌≤◌, Bool, List, [], ◌∷◌, ◌++◌, length, take, get_or, Contains, IsTrue, ◌↔◌, ◌⊎◌, inl, inr, sym, subst, arith, false}
+use Rattle.std.proofs.lemmas.Bool.{cases_eq, both_ways}
 use Rattle.std.proofs.lemmas.List.{take_more, take_all}
 use Rattle.std.proofs.lemmas.List.Elements.{Contains-push, Contains-push_cases, Contains-append_left}
-
--- some number below n has P
-abbrev pub Below : (ℕ → Type 0) → ℕ → Type 0
-Below P n = (p : ℕ) × (p < n) × P p
+pub use Rattle.hpr_reach.specs.Live.{Below}
 
 pub below_split : (P : ℕ → Type 0) (n : ℕ) → Below P (n + 1) ↔ (Below P n ⊎ P n)
 below_split P n = (
@@ -18,6 +15,19 @@ pub pushed : {X : Type 0} (xs : List X) (y x : X) → Contains (xs ++ y ∷ []) 
 pushed {X} xs y x = (
   (λ h. Contains-push_cases xs y x h),
   (λ h. elim h [ inl was ↦ Contains-append_left xs (y ∷ []) x was | inr e ↦ subst (λ (z : X). Contains (xs ++ y ∷ []) z) e (Contains-push xs y) ]),
+)
+
+-- a list that took y where the test holds
+pub pushed_if : {X : Type 0} (xs : List X) (y x : X) (t : Bool) → IsTrue t → Contains (xs ++ y ∷ []) x ↔ (Contains xs x ⊎ (IsTrue t × (y ≡ x)))
+pushed_if xs y x t on = (
+  (λ h. elim ((pushed xs y x).0 h) [ inl o ↦ inl o | inr e ↦ inr (on, e) ]),
+  (λ h. elim h [ inl o ↦ (pushed xs y x).1 (inl o) | inr e ↦ (pushed xs y x).1 (inr e.1) ]),
+)
+
+pub kept_if : {X : Type 0} (xs : List X) (y x : X) (t : Bool) → t ≡ false → Contains xs x ↔ (Contains xs x ⊎ (IsTrue t × (y ≡ x)))
+kept_if xs y x t off = (
+  (λ h. inl h),
+  (λ h. elim h [ inl o ↦ o | inr e ↦ absurd (both_ways t off e.0) ]),
 )
 
 pub taken_more : {X : Type 0} (xs : List X) (i : ℕ) (y x : X) → i < length xs → y ≡ get_or xs i y → Contains (take (i + 1) xs) x ↔ (Contains (take i xs) x ⊎ (y ≡ x))
@@ -52,6 +62,12 @@ taken_whole xs i x A O P l h = rw (take_all i xs l) at h
 
 -- the names of a point that is marked, and of one that isn't
 module _ (new old : Type 0) (M U D : Type 0) where
+  pub used_turn : (used : Type 0) → used ↔ U → new ↔ (old ⊎ (used × D)) → new ↔ (old ⊎ (U × D))
+  used_turn used uses is = (
+    (λ h. elim (is.0 h) [ inl o ↦ inl o | inr k ↦ inr (uses.0 k.0, k.1) ]),
+    (λ h. elim h [ inl o ↦ is.1 (inl o) | inr k ↦ is.1 (inr (uses.1 k.0, k.1)) ]),
+  )
+
   pub marked_turn : (used : Type 0) → M → used ↔ U → new ↔ (old ⊎ (used × D)) → new ↔ (old ⊎ (M × U × D))
   marked_turn used m uses is = (
     (λ h. elim (is.0 h) [ inl o ↦ inl o | inr k ↦ inr (m, uses.0 k.0, k.1) ]),

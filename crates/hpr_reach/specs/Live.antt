@@ -2,11 +2,15 @@
 --
 -- IsDefined spots x      == some point defines x
 -- IsLive spots x         == an undisturbed path for x goes from Enter to a point that uses x
+-- Below P n              == some number below n has P
 -- IsUsedAfterAll spots x == some path goes from Enter to a point that uses x, whatever is defined in between
-use Rattle.std.specs.Prelude.{◌≡◌, ℕ, Some, List}
+use Rattle.std.specs.Prelude.{◌≡◌, ℕ, ◌<◌, Some, List}
 use Rattle.hpr_paths.specs.declared.spot.Step.{Step}
 use Rattle.hpr_paths.specs.Spots.{Spot, defined_at, UsesAt}
 use Rattle.hpr_paths.specs.Numbers.{NumberPath, NumberUndisturbed}
+
+abbrev pub Below : (ℕ → Type 0) → ℕ → Type 0
+Below P n = (p : ℕ) × (p < n) × P p
 
 abbrev pub IsDefined : List Spot → List ℕ → Type 0
 IsDefined spots x = (p : ℕ) × (defined_at spots p ≡ Some x)

@@ -7,7 +7,7 @@ use std::marker::Model;
 /// A row with a bit for each point of a program: the points that are marked.
 ///
 /// A contract sees it as the list of its bits.
-#[derive(Debug, Drop)]
+#[derive(Drop)]
 pub struct BitRow {
     marks: Vec<bool>,
 }

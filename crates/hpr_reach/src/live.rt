@@ -1,24 +1,35 @@
 //! Names whose value from before the program is used.
-ghost use Rattle.std.specs.Prelude.{◌≡◌, ◌↔◌, ◌⊎◌, ◌<◌, ℕ, Some, List, [], Contains, IfOk, OnOk, IsTrue, length};
+ghost use Rattle.std.specs.Prelude.{◌≡◌, ◌↔◌, ◌⊎◌, ◌<◌, ◌++◌, ℕ, Some, List, [], ◌∷◌, Contains, IfOk, OnOk, IsTrue, length};
 ghost use Rattle.std.specs.List.Sorted.{IsStrictlySortedBy};
 ghost use Rattle.std.specs.Cmp.Lexicographic.{slice_cmp};
 ghost use Rattle.std.specs.Ordering.{nat_cmp};
-ghost use Rattle.hpr_paths.specs.Spots.{defined_at};
-ghost use Rattle.hpr_reach.specs.Live.{IsDefined, IsLive, IsUsedAfterAll};
+ghost use Rattle.hpr_search.specs.Marks.{IsMarked};
+ghost use Rattle.hpr_paths.specs.Spots.{defined_at, UsesAt};
+ghost use Rattle.hpr_reach.specs.Live.{Below, IsDefined, IsLive, IsUsedAfterAll};
 
+use crate::bits::BitRow;
 use crate::search::{reach, reach_past};
 use hpr_paths::{Name, NoMemory, Succ};
 use hpr_terms::names::{in_order, is_among};
 use std::alloc::Global;
+
+/// Puts a copy of the name behind the names.
+fn push_copy(alloc: Global, name: &Name, into: &mut Vec<Name>) -> Result<(), NoMemory>
+    ensures { OnOk result (into.new.items ≡ into.old.items ++ name.now ∷ []) }
+{
+    into.push(name.copy(alloc)?)?;
+    Ok(())
+}
 
 /// Puts a copy of the name behind the names where the test holds.
 fn push_if(alloc: Global, test: bool, name: &Name, into: &mut Vec<Name>) -> Result<(), NoMemory>
     ensures { OnOk result ((x : List ℕ) → Contains into.new.items x ↔ (Contains into.old.items x ⊎ (IsTrue test × (name.now ≡ x)))) }
 {
     if test {
-        into.push(name.copy(alloc)?)?;
+        push_copy(alloc, name, into)
+    } else {
+        Ok(())
     }
-    Ok(())
 }
 
 /// Puts the name that the point defines behind the names, if it defines one.
@@ -41,6 +52,7 @@ fn push_defined(
 fn defined_names(alloc: Global, succ: &Succ) -> Result<Vec<Name>, NoMemory>
     ensures ascending { IfOk result (λ v. IsStrictlySortedBy (slice_cmp nat_cmp) v.items) }
     ensures exact { IfOk result (λ v. (x : List ℕ) → Contains v.items x ↔ IsDefined succ.now x) }
+    ensures entered { 0 < length succ.now }
 {
     let mut names = Vec::new(alloc);
     for point in 0..succ.points() {
@@ -65,36 +77,74 @@ fn push_others(
     Ok(())
 }
 
+/// Puts the names that the point uses, but for the defined ones, behind the others.
+fn push_undefined(
+    alloc: Global,
+    succ: &Succ,
+    point: usize,
+    defined: &[Name],
+    into: &mut Vec<Name>,
+) -> Result<(), NoMemory>
+    requires point { point < length succ.now }
+    requires defined { IsStrictlySortedBy (slice_cmp nat_cmp) defined.now }
+    ensures { OnOk result ((x : List ℕ) → Contains into.new.items x ↔ (Contains into.old.items x ⊎ (UsesAt succ.now point x × ¬ Contains defined.now x))) }
+{
+    let used = succ.used_names(point)?;
+    push_others(alloc, used.as_slice(), defined, into)
+}
+
+/// The same of each marked point.
+fn push_marked(
+    alloc: Global,
+    succ: &Succ,
+    row: &BitRow,
+    defined: &[Name],
+    into: &mut Vec<Name>,
+) -> Result<(), NoMemory>
+    requires none { into.old.items ≡ [] }
+    requires defined { IsStrictlySortedBy (slice_cmp nat_cmp) defined.now }
+    ensures { OnOk result ((x : List ℕ) → Contains into.new.items x ↔ Below (λ p. IsMarked row.now p × UsesAt succ.now p x × ¬ Contains defined.now x) (length succ.now)) }
+{
+    for point in 0..succ.points() {
+        if row.has(point) {
+            push_undefined(alloc, succ, point, defined, into)?;
+        }
+    }
+    Ok(())
+}
+
 /// The names that no point defines, and that a point uses to which some path from Enter goes. One
 /// search serves them all.
 fn undefined_names(alloc: Global, succ: &Succ, defined: &[Name]) -> Result<Vec<Name>, NoMemory>
-    requires { IsStrictlySortedBy (slice_cmp nat_cmp) defined.now }
+    requires entered { 0 < length succ.now }
+    requires defined { IsStrictlySortedBy (slice_cmp nat_cmp) defined.now }
     ensures { IfOk result (λ v. (x : List ℕ) → Contains v.items x ↔ (IsUsedAfterAll succ.now x × ¬ Contains defined.now x)) }
 {
-    let points = succ.points();
     let row = reach_past(alloc, succ, 0, None, &[])?;
     let mut names = Vec::new(alloc);
-    for point in 0..points {
-        if row.has(point) {
-            let used = succ.used_names(point)?;
-            push_others(alloc, used.as_slice(), defined, &mut names)?;
+    push_marked(alloc, succ, &row, defined, &mut names)?;
+    Ok(names)
+}
+
+/// Whether a marked point uses the name.
+fn is_used(succ: &Succ, row: &BitRow, name: &Name) -> bool
+    ensures { IsTrue result ↔ Below (λ p. IsMarked row.now p × UsesAt succ.now p name.now) (length succ.now) }
+{
+    for point in 0..succ.points() {
+        if row.has(point) && succ.uses(point, name) {
+            return true;
         }
     }
-    Ok(names)
+    false
 }
 
 /// Whether the name is live at Enter.
 fn is_live(alloc: Global, succ: &Succ, name: &Name) -> Result<bool, NoMemory>
+    requires { 0 < length succ.now }
     ensures { IfOk result (λ live. IsTrue live ↔ IsLive succ.now name.now) }
 {
-    let points = succ.points();
     let row = reach(alloc, succ, 0, name, 0)?;
-    for point in 0..points {
-        if row.has(point) && succ.uses(point, name) {
-            return Ok(true);
-        }
-    }
-    Ok(false)
+    Ok(is_used(succ, &row, name))
 }
 
 /// Puts those of the names that are live at Enter behind the others.
@@ -104,6 +154,7 @@ fn push_live(
     names: &[Name],
     into: &mut Vec<Name>,
 ) -> Result<(), NoMemory>
+    requires { 0 < length succ.now }
     ensures { OnOk result ((x : List ℕ) → Contains into.new.items x ↔ (Contains into.old.items x ⊎ (Contains names.now x × IsLive succ.now x))) }
 {
     for name in names {

@@ -1,12 +1,12 @@
-use Rattle.std.proofs.Common.{Bool, List, sym, subst, arith}
-use Rattle.hpr_search.specs.Marks.{IsMarked}
-use Rattle.hpr_reach.proofs.Lives.{mark_of_live}
+use Rattle.hpr_reach.proofs.Lives.{live_of_mark, mark_of_live}
 use Rattle.hpr_reach.proofs.live.is_live.Goals as goal
 
 pub returns : goal.returns
 returns c = (
-  (λ t. absurd cc),
+  (λ t.
+      let b = c.is_used.ensures.0 t in
+      live_of_mark c.args.succ.now c.args.name.now b.0 ((c.in_ok-row.ensures b.0).0 b.2.0) b.2.1),
   (λ live.
       let m = mark_of_live c.args.succ.now c.args.name.now c.in_ok-row.row c.in_ok-row.ensures live in
-      absurd (c.loop-point.invariant m.0 (omega (arith, m.1, c.loop-point-test.false, c.points-points.ensures.points)) (subst (λ (r : List Bool). IsMarked r m.0) (sym c.row.view_is) m.2) m.3)),
+      c.is_used.ensures.1 (m.0, m.1, (m.2, m.3))),
 )

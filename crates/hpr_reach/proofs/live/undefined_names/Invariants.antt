@@ -1,8 +1,0 @@
-use Rattle.std.proofs.Common.{◌↔◌, ℕ, List, Contains}
-use Rattle.hpr_search.specs.Marks.{IsMarked}
-use Rattle.hpr_paths.specs.Spots.{UsesAt}
-use Rattle.hpr_reach.proofs.Grown.{Below}
-use Rattle.hpr_reach.proofs.live.undefined_names.Given as goal
-
-abbrev pub invariant-loop-point : goal.invariant-loop-point
-invariant-loop-point l = (x : List ℕ) → Contains l.names.items x ↔ Below (λ p. IsMarked l.row-inside.marks.items p × UsesAt l.succ p x × ¬ Contains l.defined x) l.point
