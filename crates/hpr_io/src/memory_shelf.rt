@@ -69,12 +69,7 @@ impl Shelf for MemoryShelf {
         let call = self.calls;
         self.calls = call.saturating_add(1);
         match file_bytes(self.files.as_slice(), name) {
-            Some(bytes) if !self.failing.contains(&call) => {
-                let Ok(front) = front_of(alloc, bytes, most) else {
-                    return Err(FetchError::Memory);
-                };
-                Ok(front)
-            }
+            Some(bytes) if !self.failing.contains(&call) => front_of(alloc, bytes, most),
             _ => {
                 self.faults = self.faults.saturating_add(1);
                 Err(FetchError::Failed)
