@@ -7,7 +7,6 @@ ghost use Rattle.hpr_forest.specs.Blocks.{forest_in, row_at, parent_at};
 use hpr_walk::Choices;
 
 /// A forest of items, numbered from 0, by tables: what each stands under, what stands under it, and which of its siblings must come before it.
-#[derive(Drop)]
 pub struct Blocks {
     pub parents: Vec<Option<usize>>,
     pub children: Vec<Vec<usize>>,
@@ -15,6 +14,17 @@ pub struct Blocks {
     ghost rows: { vec_len children ≡ vec_len parents },
     ghost befores: { vec_len before ≡ vec_len parents },
     ghost forest: { IsForest (forest_in parents.items children.items before.items) },
+}
+
+// By hand, so that each way out of a function that holds a forest is one call.
+impl Drop for Blocks {
+    fn drop(self) {
+        let Blocks {
+            parents: _,
+            children: _,
+            before: _,
+        } = self;
+    }
 }
 
 impl Blocks {

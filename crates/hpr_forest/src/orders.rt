@@ -13,13 +13,25 @@ use std::marker::Model;
 /// The orders of a forest that are still to come, in lexicographic order.
 ///
 /// Keeps the next order alone, and so takes no more memory however many there are.
-#[derive(Drop)]
 pub struct Orders {
     blocks: Blocks,
     placed: Vec<usize>,
     marks: Vec<bool>,
     more: bool,
     alloc: Global,
+}
+
+// By hand, so that each way out of a function that holds orders is one call.
+impl Drop for Orders {
+    fn drop(self) {
+        let Orders {
+            blocks: _,
+            placed: _,
+            marks: _,
+            more: _,
+            alloc: _,
+        } = self;
+    }
 }
 
 impl Model for Orders {
