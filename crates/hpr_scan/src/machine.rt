@@ -9,7 +9,7 @@ use hpr_terms::{Keyword, NoMemory, Sign, Token};
 use std::alloc::{AllocError, AllocFailed, Global};
 
 /// Why a machine did not go on.
-#[derive(Clone, Copy, Debug, PartialEq, Eq, PartialOrd, Ord)]
+#[derive(Clone, Copy, Debug, PartialEq, Eq)]
 pub enum Fault {
     /// The token, or the byte, cannot stand here.
     Refused,

@@ -9,7 +9,7 @@ use crate::scanner::Scanner;
 use std::alloc::Global;
 
 /// Why there is no machine after the bytes of a text.
-#[derive(Clone, Copy, Debug, PartialEq, Eq, PartialOrd, Ord)]
+#[derive(Clone, Copy, Debug, PartialEq, Eq)]
 pub enum Refusal {
     /// The bytes are no text. The first `place` bytes are the front of some text, and no longer
     /// front is.

@@ -15,7 +15,7 @@ use hpr_terms::{Sign, Token, is_name_byte};
 use std::alloc::Global;
 
 /// What has begun before the next byte.
-#[derive(Debug, Drop)]
+#[derive(Drop)]
 pub enum Lex {
     /// Nothing.
     Gap,

@@ -12,7 +12,7 @@ use std::alloc::{AllocError, Global};
 use std::marker::Model;
 
 /// The letters of a word that has begun. A contract sees them as a list of bytes.
-#[derive(Debug, Drop)]
+#[derive(Drop)]
 pub struct Letters {
     text: String,
 }
