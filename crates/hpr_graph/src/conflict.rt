@@ -2,7 +2,7 @@
 use crate::{Edge, Vertex};
 
 /// One of the two variants.
-#[derive(Clone, Copy, Debug, PartialEq, Eq, PartialOrd, Ord)]
+#[derive(Clone, Copy)]
 pub enum Side {
     A,
     B,
@@ -10,10 +10,20 @@ pub enum Side {
 
 /// An affected point of one variant that hasn't its slice in the merged graph (Horwitz, Prins and Reps
 /// 1989), with an edge that shows it: the least edge that the merged graph adds to the slice and that
-/// ends in one of its vertices (they name none). Conflicts compare by side, then by point, then by edge.
-#[derive(Debug, PartialEq, Eq, PartialOrd, Ord, Drop)]
+/// ends in one of its vertices (they name none).
 pub struct Conflict {
     pub side: Side,
     pub point: Vertex,
     pub edge: Edge,
+}
+
+/// A conflict is dropped in one call.
+impl Drop for Conflict {
+    fn drop(self) {
+        let Conflict {
+            side: _,
+            point: _,
+            edge: _,
+        } = self;
+    }
 }

@@ -3,7 +3,7 @@ use crate::Vertex;
 use hpr_syntax::Name;
 
 /// What kind of dependence an edge is (Horwitz, Prins and Reps 1989).
-#[derive(Debug, PartialEq, Eq, PartialOrd, Ord, Drop)]
+#[derive(PartialEq, Eq, PartialOrd, Ord)]
 pub enum Kind {
     /// The target runs where the test of the source comes out as this label; from Entry the label is
     /// true.
@@ -19,10 +19,33 @@ pub enum Kind {
     Order(Vertex),
 }
 
+/// A kind is dropped in one call.
+impl Drop for Kind {
+    fn drop(self) {
+        match self {
+            Kind::Control(_) => {}
+            Kind::Independent(_) => {}
+            Kind::Carried(_, _) => {}
+            Kind::Order(_) => {}
+        }
+    }
+}
+
 /// An edge of a dependence graph. Edges compare by target, then by source, then by kind.
-#[derive(Debug, PartialEq, Eq, PartialOrd, Ord, Drop)]
+#[derive(PartialEq, Eq, PartialOrd, Ord)]
 pub struct Edge {
     pub to: Vertex,
     pub from: Vertex,
     pub kind: Kind,
+}
+
+/// An edge is dropped in one call.
+impl Drop for Edge {
+    fn drop(self) {
+        let Edge {
+            to: _,
+            from: _,
+            kind: _,
+        } = self;
+    }
 }

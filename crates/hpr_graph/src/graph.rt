@@ -24,7 +24,6 @@ use std::marker::Model;
 /// The vertices have the numbers 0, 1, .. in the order of adding, and a vertex keeps its number. An edge
 /// is a link in the row of its target. A contract sees the vertices by number with their rows of links,
 /// and by these the two sets.
-#[derive(Debug, Drop)]
 pub struct Graph {
     vertices: Vec<Vertex>,
     links: Vec<Vec<Link>>,
@@ -44,6 +43,18 @@ impl Model for Graph {
     ghost view = { λ g. record { vertices = g.vertices.items; links = rows_of g.links.items } };
 
     ghost invariant = { λ g. IsCounted (record { vertices = g.vertices.items; links = rows_of g.links.items }) g.edges };
+}
+
+/// A graph is dropped in one call.
+impl Drop for Graph {
+    fn drop(self) {
+        let Graph {
+            vertices: _,
+            links: _,
+            edges: _,
+            alloc: _,
+        } = self;
+    }
 }
 
 impl Graph {

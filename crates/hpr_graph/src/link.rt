@@ -1,7 +1,7 @@
 //! The edges of a graph by the numbers of its vertices.
 
 /// The kind of an edge by numbers. The name of a flow edge is the one that its source defines.
-#[derive(Clone, Copy, Debug, PartialEq, Eq, PartialOrd, Ord)]
+#[derive(Clone, Copy, PartialEq, Eq, PartialOrd, Ord)]
 pub enum LinkKind {
     /// The label.
     Control(bool),
@@ -14,7 +14,7 @@ pub enum LinkKind {
 
 /// An edge of a graph, by the numbers of its source and of its loop or shared use. The row of links that it
 /// stands in tells its target.
-#[derive(Clone, Copy, Debug, PartialEq, Eq, PartialOrd, Ord)]
+#[derive(Clone, Copy, PartialEq, Eq, PartialOrd, Ord)]
 pub struct Link {
     pub from: usize,
     pub kind: LinkKind,

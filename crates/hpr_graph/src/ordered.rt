@@ -91,10 +91,18 @@ pub(crate) fn edge_at(
     requires { (e : Edge) × IsEdgeAt vertices.now to link e }
     ensures { IfOk result (λ e. IsEdgeAt vertices.now to link e) }
 {
-    let kind = kind_at(alloc, vertices, &vertices[link.from], link.kind)?;
-    let from = vertices[link.from].copy(alloc)?;
-    let to = vertices[to].copy(alloc)?;
+    let from = copy_at(alloc, vertices, link.from)?;
+    let kind = kind_at(alloc, vertices, &from, link.kind)?;
+    let to = copy_at(alloc, vertices, to)?;
     Ok(Edge { to, from, kind })
+}
+
+/// A copy of the vertex with this number.
+fn copy_at(alloc: Global, vertices: &[Vertex], at: usize) -> Result<Vertex, NoMemory>
+    requires { at < length vertices.now }
+    ensures { IfOk result (λ v. slice_get vertices.now at ≡ Some v) }
+{
+    vertices[at].copy(alloc)
 }
 
 /// The kind of an edge from this vertex.
@@ -109,13 +117,12 @@ fn kind_at(
 {
     match kind {
         LinkKind::Control(label) => Ok(Kind::Control(label)),
-        LinkKind::Independent => name_from(alloc, from).map(Kind::Independent),
+        LinkKind::Independent => Ok(Kind::Independent(name_from(alloc, from)?)),
         LinkKind::Carried(w) => {
-            let name = name_from(alloc, from)?;
-            let around = vertices[w].copy(alloc)?;
-            Ok(Kind::Carried(name, around))
+            let around = copy_at(alloc, vertices, w)?;
+            Ok(Kind::Carried(name_from(alloc, from)?, around))
         }
-        LinkKind::Order(u) => vertices[u].copy(alloc).map(Kind::Order),
+        LinkKind::Order(u) => Ok(Kind::Order(copy_at(alloc, vertices, u)?)),
     }
 }
 

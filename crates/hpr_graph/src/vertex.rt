@@ -11,7 +11,7 @@ use std::alloc::Global;
 /// tag is another vertex.
 ///
 /// Vertices compare by the declared order of variants and fields.
-#[derive(Debug, PartialEq, Eq, PartialOrd, Ord, Drop)]
+#[derive(PartialEq, Eq, PartialOrd, Ord)]
 pub enum Vertex {
     /// Where the program begins.
     Entry,
@@ -21,6 +21,18 @@ pub enum Vertex {
     Part(Tag, Content),
     /// The value of a name after the program.
     Final(Name),
+}
+
+/// A vertex is dropped in one call.
+impl Drop for Vertex {
+    fn drop(self) {
+        match self {
+            Vertex::Entry => {}
+            Vertex::Init(_) => {}
+            Vertex::Part(_, _) => {}
+            Vertex::Final(_) => {}
+        }
+    }
 }
 
 impl Vertex {
@@ -41,9 +53,9 @@ impl Vertex {
     {
         match self {
             Vertex::Entry => Ok(Vertex::Entry),
-            Vertex::Init(name) => name.copy(alloc).map(Vertex::Init),
-            Vertex::Part(tag, content) => content.copy(alloc).map(|copy| Vertex::Part(*tag, copy)),
-            Vertex::Final(name) => name.copy(alloc).map(Vertex::Final),
+            Vertex::Init(name) => Ok(Vertex::Init(name.copy(alloc)?)),
+            Vertex::Part(tag, content) => Ok(Vertex::Part(*tag, content.copy(alloc)?)),
+            Vertex::Final(name) => Ok(Vertex::Final(name.copy(alloc)?)),
         }
     }
 }
