@@ -21,7 +21,6 @@ use std::marker::Model;
 /// in the order of their ranks.
 ///
 /// A contract sees the list of these programs. It takes no more memory however many there are.
-#[derive(Drop)]
 pub struct Arrangements {
     items: Vec<Item>,
     issued: Issued,
@@ -44,6 +43,20 @@ impl Model for Arrangements {
     ghost view = { λ a. programs_of a.items.items a.issued a.finals.items (coming a.next a.later) };
 
     ghost invariant = { λ a. IsSearching a.items.items a.issued a.finals.items (coming a.next a.later) };
+}
+
+/// What is still to come is dropped in one call.
+impl Drop for Arrangements {
+    fn drop(self) {
+        let Arrangements {
+            items: _,
+            issued: _,
+            finals: _,
+            next: _,
+            later: _,
+            alloc: _,
+        } = self;
+    }
 }
 
 /// Takes the next order.

@@ -15,17 +15,35 @@ use hpr_terms::copy_names;
 use std::alloc::Global;
 
 /// What stands so far in the two blocks of an item, the last part first.
-#[derive(Drop)]
 pub struct Branches {
     pub first: Vec<Stmt>,
     pub second: Vec<Stmt>,
 }
 
+/// Both blocks are dropped in one call.
+impl Drop for Branches {
+    fn drop(self) {
+        let Branches {
+            first: _,
+            second: _,
+        } = self;
+    }
+}
+
 /// What stands so far at the top and in the blocks of each item, the last part first.
-#[derive(Drop)]
 pub struct Pending {
     pub top: Vec<Stmt>,
     pub branches: Vec<Branches>,
+}
+
+/// All blocks are dropped in one call.
+impl Drop for Pending {
+    fn drop(self) {
+        let Pending {
+            top: _,
+            branches: _,
+        } = self;
+    }
 }
 
 impl Pending {
@@ -45,6 +63,13 @@ impl Pending {
             top: Vec::new(alloc),
             branches,
         })
+    }
+
+    /// Takes what stands at the top, as a block.
+    fn take_top(&mut self, alloc: Global) -> Block
+        ensures { result ≡ body_at self.old None }
+    {
+        block_of(std::mem::replace(&mut self.top, Vec::new(alloc)))
     }
 
     /// Takes what stands in the first block of an item, as a block.
@@ -122,7 +147,7 @@ fn block_in(alloc: Global, items: &[Item], order: &[usize]) -> Result<Block, NoM
         at -= 1;
         put_item(alloc, items, order[at], &mut pending)?;
     }
-    Ok(block_of(pending.top))
+    Ok(pending.take_top(alloc))
 }
 
 /// Puts the item before what stands in its slot, with its blocks.

@@ -6,7 +6,7 @@ ghost use Rattle.hpr_order.specs.Lifting.{AreLevels, IsUnder, IsLift, IsPairOver
 use crate::item::Item;
 
 /// What must be so where one item must stand to the left of another.
-#[derive(Clone, Copy, Debug, PartialEq, Eq)]
+#[derive(Clone, Copy)]
 pub enum Lift {
     /// It always is: the one is the other, or the other stands under it.
     Always,

@@ -17,7 +17,7 @@ use std::cmp::Ordering;
 use std::marker::Model;
 
 /// Why the control edges of a graph are those of no program.
-#[derive(Debug, PartialEq, Eq, PartialOrd, Ord, Drop)]
+#[derive(Drop)]
 pub enum OrderError {
     /// The least tag that has two contents.
     TwoContents(Tag),
@@ -44,7 +44,7 @@ impl From<NoMemory> for OrderError {
 ///
 /// A contract sees, for each number, the number of the vertex that controls it, with the label of the
 /// edge; none for Entry.
-#[derive(Debug, Drop)]
+#[derive(Drop)]
 pub struct RegionTree {
     parents: Vec<Option<(usize, bool)>>,
 }
