@@ -2,7 +2,7 @@
 use hpr_terms::NoMemory;
 
 /// Why there is no graph of a program.
-#[derive(Clone, Copy, Debug, PartialEq, Eq)]
+#[derive(Clone, Copy)]
 pub enum BuildError {
     /// The graph has more edges than are allowed.
     TooManyEdges,

@@ -20,7 +20,7 @@ use std::alloc::Global;
 
 /// A vertex that defines a name, by its number, with the point where it does: a part at its own, an
 /// initial definition at Enter.
-#[derive(Clone, Copy, Debug, PartialEq, Eq)]
+#[derive(Clone, Copy)]
 struct Source {
     number: usize,
     point: usize,

@@ -15,14 +15,14 @@ use std::alloc::{AllocError, Global};
 
 /// How a value comes to a use: without the back edge of a loop that encloses both ends, or with
 /// that of the loop at this point, which encloses both.
-#[derive(Clone, Copy, Debug, PartialEq, Eq)]
+#[derive(Clone, Copy)]
 pub(crate) enum FlowKind {
     Independent,
     Carried(usize),
 }
 
 /// A flow edge from a definition, by the point that uses the value.
-#[derive(Clone, Copy, Debug, PartialEq, Eq)]
+#[derive(Clone, Copy)]
 pub(crate) struct Flow {
     pub(crate) to: usize,
     pub(crate) kind: FlowKind,
@@ -31,10 +31,16 @@ pub(crate) struct Flow {
 /// What a definition reaches where the back edges of the outermost loops around it are cut: for
 /// each number of loops the place of its row. A number that cuts no more than the one before has
 /// the same row.
-#[derive(Drop)]
 struct CutRows {
     rows: Vec<BitRow>,
     places: Vec<usize>,
+}
+
+/// The rows and their places are dropped in one call.
+impl Drop for CutRows {
+    fn drop(self) {
+        let CutRows { rows: _, places: _ } = self;
+    }
 }
 
 fn is_marked(marks: &[bool], point: usize) -> bool

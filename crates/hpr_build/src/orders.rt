@@ -11,7 +11,7 @@ use hpr_terms::NoMemory;
 use std::alloc::Global;
 
 /// Two definitions, the left one first.
-#[derive(Clone, Copy, Debug, PartialEq, Eq)]
+#[derive(Clone, Copy)]
 pub(crate) struct Ordered {
     pub(crate) left: usize,
     pub(crate) right: usize,

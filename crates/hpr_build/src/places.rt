@@ -13,14 +13,14 @@ use std::marker::Model;
 
 /// The control parent of a part: the conditional or loop at the point, with the branch, which is
 /// true for a loop's body.
-#[derive(Clone, Copy, Debug, PartialEq, Eq)]
+#[derive(Clone, Copy)]
 pub(crate) struct Parent {
     pub(crate) point: usize,
     pub(crate) label: bool,
 }
 
 /// The points from one up to, but not with, another.
-#[derive(Clone, Copy, Debug, PartialEq, Eq)]
+#[derive(Clone, Copy)]
 pub(crate) struct Span {
     pub(crate) from: usize,
     pub(crate) to: usize,
@@ -28,12 +28,23 @@ pub(crate) struct Span {
 
 /// A part with its control parent, none for a top part, and with the second branch of each
 /// conditional that has the part in its first.
-#[derive(Debug, Drop)]
 pub(crate) struct Place {
     pub(crate) tag: Tag,
     pub(crate) content: Content,
     pub(crate) parent: Option<Parent>,
     pub(crate) others: Vec<Span>,
+}
+
+/// A place is dropped in one call.
+impl Drop for Place {
+    fn drop(self) {
+        let Place {
+            tag: _,
+            content: _,
+            parent: _,
+            others: _,
+        } = self;
+    }
 }
 
 impl Model for Place {
@@ -76,8 +87,8 @@ fn push_place(
     ensures place { OnOk result (places.new.items ≡ places.old.items ++ place_of (tag_of stmt.now) (content_of stmt.now) parent others.now ∷ []) }
     ensures len { OnOk result (vec_len places.new ≡ vec_len places.old + 1) }
 {
-    let content = content_of(alloc, stmt)?;
     let others = Vec::from_slice(alloc, others)?;
+    let content = content_of(alloc, stmt)?;
     places.push(Place {
         tag: stmt.tag(),
         content,

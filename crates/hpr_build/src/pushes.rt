@@ -9,7 +9,7 @@ use crate::error::BuildError;
 use hpr_graph::{Graph, Link};
 
 /// A link with the number of its target.
-#[derive(Clone, Copy, Debug, PartialEq, Eq)]
+#[derive(Clone, Copy)]
 pub(crate) struct NewLink {
     pub(crate) to: usize,
     pub(crate) link: Link,

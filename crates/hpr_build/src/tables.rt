@@ -17,7 +17,6 @@ use std::alloc::Global;
 /// What is known of a program: its points, its parts, the names that it takes from before it, the
 /// names that it uses, the vertices of its graph, and the number of Exit's point, which is that of
 /// the vertex of the first name of `end`.
-#[derive(Drop)]
 pub(crate) struct Tables<'a> {
     pub(crate) program: &'a Program,
     pub(crate) succ: Succ,
@@ -26,6 +25,21 @@ pub(crate) struct Tables<'a> {
     pub(crate) variables: Variables,
     pub(crate) vertices: Vec<Vertex>,
     pub(crate) exit: usize,
+}
+
+/// All tables are dropped in one call.
+impl Drop for Tables<'_> {
+    fn drop(self) {
+        let Tables {
+            program: _,
+            succ: _,
+            places: _,
+            inits: _,
+            variables: _,
+            vertices: _,
+            exit: _,
+        } = self;
+    }
 }
 
 /// Puts the vertices of the parts behind the others.

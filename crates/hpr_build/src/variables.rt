@@ -14,11 +14,21 @@ use std::alloc::Global;
 
 /// The names that points use, in order, each with the points that assign it and those that use it,
 /// ascending.
-#[derive(Drop)]
 pub(crate) struct Variables {
     pub(crate) names: Vec<Name>,
     pub(crate) definitions: Vec<Vec<usize>>,
     pub(crate) users: Vec<Vec<usize>>,
+}
+
+/// The names and both tables are dropped in one call.
+impl Drop for Variables {
+    fn drop(self) {
+        let Variables {
+            names: _,
+            definitions: _,
+            users: _,
+        } = self;
+    }
 }
 
 /// Puts the point behind the row at the place.
