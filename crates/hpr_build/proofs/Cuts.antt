@@ -1,12 +1,13 @@
 -- Rows one by one: with each number of loops cut, and through the back edge of each loop.
-use Rattle.std.proofs.Common.{◌≡◌, ℕ, ◌+◌, ◌<◌, Bool, Option, None, List, [], ◌∷◌, ◌++◌, length, get_or, inl, inr, sym, ap, ◌∙◌, subst, arith, below_more}
+use Rattle.std.proofs.Common.{◌≡◌, ◌↔◌, ℕ, ◌+◌, ◌<◌, Bool, IsTrue, Option, None, List, [], ◌∷◌, ◌++◌, length, get_or, inl, inr, sym, ap, ◌∙◌, subst, arith, below_more}
 use Rattle.std.proofs.Math.Seq.{get_or-append_seam}
 use Rattle.std.proofs.lemmas.List.{get_or_append_left, get_or_default}
 use Rattle.hpr_paths.specs.Spots.{Spot, nest_at}
-use Rattle.hpr_reach.specs.Flows.{ComesRound}
+use Rattle.hpr_search.specs.Marks.{IsMarked}
+use Rattle.hpr_reach.specs.Flows.{ComesRound, GoesOn}
 use Rattle.hpr_reach.proofs.Grown.{taken_more}
 use Rattle.hpr_reach.proofs.Flows.{carried_parts}
-use Rattle.hpr_build.specs.Flows.{CutsTo, AreCuts, CarriesTo, AreCarries}
+use Rattle.hpr_build.specs.Flows.{CutsTo, AreCuts, IsCarriedBy, CarriesTo, AreCarries}
 
 pub last_place : {X : Type 0} (xs xs' : List X) (x d : X) (n : ℕ) → length xs ≡ n → xs' ≡ xs ++ x ∷ [] → get_or xs' n d ≡ x
 last_place {X} xs xs' x d n len is = ap (λ (ys : List X). get_or ys n d) is ∙ sym (ap (λ (k : ℕ). get_or (xs ++ x ∷ []) k d) len) ∙ get_or-append_seam xs x [] d
@@ -49,3 +50,12 @@ module _ (spots : List Spot) (x : List ℕ) (d : ℕ) where
 
   pub carries_more : (n : ℕ) (rows rows' : List (Option (List Bool))) (row : Option (List Bool)) → length rows ≡ n → rows' ≡ rows ++ row ∷ [] → AreCarries spots x d n rows → CarriesTo spots x d (get_or Nest n 0) row → AreCarries spots x d (n + 1) rows'
   carries_more n rows rows' row len is before here = places_more (λ i r. CarriesTo spots x d (get_or Nest i 0) r) rows rows' row None n len is before here
+
+  -- what is kept of one loop, by its place in a list of the loops around
+  pub carried_here : (ws : List ℕ) (n : ℕ) (round : List Bool) (comes : Bool) (row : Option (List Bool)) → ws ≡ Nest → IsTrue comes ↔ IsMarked round (get_or ws n 0)
+      → ((w : ℕ) → IsMarked round w ↔ ComesRound spots x w d) → ((u : ℕ) → IsCarriedBy row (get_or ws n 0) u ↔ (IsTrue comes × GoesOn spots x (get_or ws n 0) u)) → CarriesTo spots x d (get_or Nest n 0) row
+  carried_here ws n round comes row is marked rounds exact =
+      subst (λ (xs : List ℕ). CarriesTo spots x d (get_or xs n 0) row) is (λ u. (
+        λ h. (let (t, on) = (exact u).0 h in ((rounds (get_or ws n 0)).0 (marked.0 t), on)),
+        λ (comes_round, on). (exact u).1 (marked.1 ((rounds (get_or ws n 0)).1 comes_round), on),
+      ))

@@ -5,6 +5,7 @@ pub mod UserFlows
 pub mod FlowTags
 pub mod Pairs
 pub mod PlaceIn
+pub mod PlaceTurns
 pub mod PlaceLaws
 pub mod PartedLaws
 pub mod InOrder

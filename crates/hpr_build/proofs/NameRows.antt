@@ -1,5 +1,5 @@
 -- Rows of points, one for each name.
-use Rattle.std.proofs.Common.{◌≡◌, ℕ, ◌+◌, ◌<◌, ◌≤◌, Some, List, [], ◌∷◌, ◌++◌, Vec, Global, length, take, get_or, Contains, slice_get, ◌⊎◌, ◌↔◌, inl, inr, sym, ap, ◌∙◌, subst, arith}
+use Rattle.std.proofs.Common.{◌≡◌, ℕ, zero, suc, ◌+◌, ◌<◌, ◌≤◌, Some, List, [], ◌∷◌, ◌++◌, Vec, Global, length, take, get_or, Contains, slice_get, ◌⊎◌, ◌↔◌, inl, inr, refl, sym, ap, ◌∙◌, subst, arith}
 use Rattle.std.proofs.lemmas.Bool.{cases_eq}
 use Rattle.hpr_reach.proofs.Grown.{pushed, taken_more}
 use Rattle.hpr_reach.proofs.Lists.{contains_none}
@@ -80,3 +80,13 @@ all_points P n m p A l within is = ((λ h. (is.0 h).1), (λ h. is.1 (let k = wit
 pub whole_rows : (P : ℕ → List ℕ → Type 0) (names : List (List ℕ)) (rows : List (Vec ℕ Global)) (n m : ℕ) → m ≤ n → ((p : ℕ) (x : List ℕ) → P p x → p < m)
     → ((i : ℕ) (x : List ℕ) → slice_get names i ≡ Some x → (p : ℕ) → Contains (points_at rows i) p ↔ ((p < n) × P p x)) → (i : ℕ) (x : List ℕ) → slice_get names i ≡ Some x → (p : ℕ) → Contains (points_at rows i) p ↔ P p x
 whole_rows P names rows n m l within are i x get p = all_points (λ q. P q x) n m p (Contains (points_at rows i) p) l (within p x) (are i x get p)
+
+-- an empty row more
+pub rows_blank : (rows rows' : List (Vec ℕ Global)) (row : Vec ℕ Global) → row.items ≡ [] → rows' ≡ rows ++ row ∷ [] → ((i : ℕ) → points_at rows i ≡ []) → (i : ℕ) → points_at rows' i ≡ []
+rows_blank rows rows' row none is before i = ap (λ (rs : List (Vec ℕ Global)). points_at rs i) is ∙ go rows i before
+  where
+    go : (rs : List (Vec ℕ Global)) (k : ℕ) → ((j : ℕ) → points_at rs j ≡ []) → points_at (rs ++ row ∷ []) k ≡ []
+    go [] zero b = none
+    go [] (suc k) b = refl
+    go (r ∷ rs) zero b = b 0
+    go (r ∷ rs) (suc k) b = go rs k (λ j. b (suc j))

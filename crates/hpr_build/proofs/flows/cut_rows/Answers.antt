@@ -1,4 +1,4 @@
-use Rattle.std.proofs.Common.{◌≡◌, ◌+◌, ◌-◌, ◌<◌, ◌↔◌, ℕ, [], List, IsTrue, length, get_or, vec_len, subst, arith}
+use Rattle.std.proofs.Common.{◌≡◌, ◌+◌, ◌-◌, ◌<◌, ◌↔◌, ℕ, [], List, IsTrue, length, get_or, vec_len, ap, subst, arith}
 use Rattle.hpr_search.specs.Marks.{IsMarked}
 use Rattle.hpr_paths.specs.Spots.{nest_at}
 use Rattle.hpr_build.specs.Flows.{CutsTo}
@@ -23,3 +23,12 @@ loop-i-preserved c = record {
   last = omega (arith, c.in_ok-add_row.ensures.last, last_place c.loop-i.places.items c.push-in-loop-i.new.self.items c.in_ok-add_row.field-0 0 (c.loop-i.i + 1) (omega (arith, c.loop-i.invariant.count)) c.in_ok-push-3.ensures.items);
   exact = cuts_more c.args.succ.now c.args.name.now c.args.from (c.loop-i.i + 1) c.in_ok-add_row.field-0 c.loop-i.rows.items c.add_row.new.rows.items c.loop-i.places.items c.push-in-loop-i.new.self.items (omega (arith, c.loop-i.invariant.count)) c.in_ok-push-3.ensures.items c.loop-i.invariant.exact c.in_ok-add_row.ensures.kept (omega (arith, c.in_ok-add_row.ensures.last)) c.in_ok-add_row.ensures.row;
 }
+
+pub add_row-requires-clause-cut : goal.add_row-requires-clause-cut
+add_row-requires-clause-cut c = omega (arith, c.loop-i-test.true, ap length c.nest-nest.ensures.nest)
+
+pub returns-clause-count : goal.returns-clause-count
+returns-clause-count c = omega (arith, c.loop-i.invariant.count, c.loop-i-test.false, c.loop-i.auto.i-end, ap length c.nest-nest.ensures.nest)
+
+pub returns-clause-exact : goal.returns-clause-exact
+returns-clause-exact c = λ k l. c.loop-i.invariant.exact k (omega (arith, l, c.loop-i.invariant.count))

@@ -1,4 +1,4 @@
-use Rattle.std.proofs.Common.{◌⊎◌, ◌↔◌, ◌+◌, ◌<◌, ℕ, [], Bool, Option, List, Contains, length, vec_len, get_or, take, sym, subst, arith}
+use Rattle.std.proofs.Common.{◌⊎◌, ◌↔◌, ◌+◌, ◌<◌, ℕ, [], Bool, Option, List, Contains, length, vec_len, get_or, take, sym, ap, subst, arith}
 use Rattle.std.proofs.lemmas.List.{take_all, get_or_default}
 use Rattle.hpr_paths.specs.Spots.{nest_at}
 use Rattle.hpr_reach.specs.Flows.{PartsAt}
@@ -36,3 +36,20 @@ loop-user-preserved c =
 pub returns-clause-exact : goal.returns-clause-exact
 returns-clause-exact c = λ f.
     subst (λ (xs : List ℕ). Contains c.loop-user.flows.items f ↔ (Contains xs f.to × IsFlowAt c.args.succ.now c.args.name.now c.args.from f.to f.kind)) (take_all c.loop-user.user-index c.args.users.now (omega (arith, c.loop-user-test.false))) (c.loop-user.invariant.exact f)
+
+pub cut_row-requires-clause-place : goal.cut_row-requires-clause-place
+cut_row-requires-clause-place c = omega (arith, c.common_count-common.ensures.left, ap length c.nest-nest.ensures.nest, c.in_ok-cuts.ensures.count)
+
+pub cut_row-requires-clause-row : goal.cut_row-requires-clause-row
+cut_row-requires-clause-row c =
+    let low : c.common_count-common.result < vec_len c.in_ok-cuts.cuts.places = omega (arith, c.common_count-common.ensures.left, ap length c.nest-nest.ensures.nest, c.in_ok-cuts.ensures.count) in
+    omega (arith, (c.in_ok-cuts.ensures.exact c.common_count-common.result low).0)
+
+pub push_flows-requires-clause-carries : goal.push_flows-requires-clause-carries
+push_flows-requires-clause-carries c = omega (arith, c.common_count-common.ensures.left, ap length c.nest-nest.ensures.nest, c.in_ok-carries.ensures.count, c.deref-in-loop-user.ensures.len)
+
+pub push_flows-requires-clause-nest : goal.push_flows-requires-clause-nest
+push_flows-requires-clause-nest c = c.common_count-common.ensures.left
+
+pub returns-clause-once : goal.returns-clause-once
+returns-clause-once c = c.loop-user.invariant.once
