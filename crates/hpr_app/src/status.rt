@@ -1,7 +1,7 @@
 //! How a call ends.
 
 /// How a call of the program ended. The program exits with its number.
-#[derive(Clone, Copy, Debug, PartialEq, Eq, PartialOrd, Ord)]
+#[derive(Clone, Copy)]
 pub enum Status {
     /// The command did what it is for.
     Done,

@@ -12,7 +12,7 @@ use hpr_terms::{Name, Tag};
 use std::marker::Model;
 
 /// A block of a program, and a place in it.
-#[derive(Clone, Copy, Debug, PartialEq, Eq, PartialOrd, Ord)]
+#[derive(Clone, Copy)]
 pub struct Place {
     /// The part whose block it is. The bool is true for a loop's body and for the first block of a
     /// conditional, and false for its second. The top block has none.
@@ -22,7 +22,7 @@ pub struct Place {
 }
 
 /// The names of `end` in their order. A contract sees their list.
-#[derive(Debug, Drop)]
+#[derive(Drop)]
 pub struct FinalNames {
     names: Vec<Name>,
 }
@@ -74,7 +74,7 @@ impl Eq for FinalNames {
 }
 
 /// One change of a program. A new part gets the next serial of the editor's author.
-#[derive(Debug, PartialEq, Eq, Drop)]
+#[derive(Drop)]
 pub enum Command {
     /// A new part with this content stands at the place. A conditional or a loop has empty blocks.
     Insert(Place, Content),
@@ -96,7 +96,7 @@ pub enum Command {
 }
 
 /// What takes one command back.
-#[derive(Debug, PartialEq, Eq, Drop)]
+#[derive(Drop)]
 pub enum Inverse {
     /// Of an insert: the new part goes.
     Remove(Tag),
@@ -116,7 +116,7 @@ pub enum Inverse {
 }
 
 /// Why a command is refused: the first of these that holds.
-#[derive(Debug, PartialEq, Eq, Drop)]
+#[derive(Drop)]
 pub enum EditError {
     /// No part has the tag that the command names.
     NoTag(Tag),

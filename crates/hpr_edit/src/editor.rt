@@ -16,7 +16,7 @@ use std::marker::Model;
 ///
 /// A contract sees the two. Tags are issued for good: no command and no revert makes an author's
 /// issued number less.
-#[derive(Debug, Drop)]
+#[derive(Drop)]
 pub struct Editor {
     program: Program,
     author: u32,

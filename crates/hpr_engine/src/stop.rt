@@ -3,7 +3,7 @@ use hpr_graph::Conflict;
 use hpr_syntax::NoMemory;
 
 /// One of the three programs.
-#[derive(Clone, Copy, Debug, PartialEq, Eq)]
+#[derive(Clone, Copy, Debug)]
 pub enum Which {
     Base,
     A,
@@ -11,7 +11,7 @@ pub enum Which {
 }
 
 /// Why an integration stops without a program.
-#[derive(Debug, PartialEq, Drop)]
+#[derive(Drop)]
 pub enum Stop {
     /// The graph of this program has more edges than are allowed.
     TooManyEdges(Which),

@@ -22,7 +22,7 @@ const MAX_BRACKETS: usize = 256;
 const MAX_OPERATORS: usize = 256;
 
 /// What waits outside of each open bracket. A contract sees the list, the innermost one first.
-#[derive(Debug, Drop)]
+#[derive(Drop)]
 pub struct Brackets {
     outside: Vec<Pending>,
 }
@@ -76,7 +76,7 @@ impl Brackets {
 
 /// What stands before an operand: the brackets around it, what waits in the innermost one, and how
 /// many operators there are.
-#[derive(Debug, Drop)]
+#[derive(Drop)]
 pub struct Context {
     outer: Brackets,
     here: Pending,
@@ -89,7 +89,7 @@ pub struct Context {
 /// literals up to 9,223,372,036,854,775,807 and brackets, at most 256 of these in one another;
 /// there are at most 256 operators; and at most one comparison stands between two brackets, `and`s
 /// or `or`s.
-#[derive(Debug, Drop)]
+#[derive(Drop)]
 pub enum Reading {
     /// An operand, a prefix or an opening bracket must stand next.
     Before(Context),

@@ -8,14 +8,14 @@ use std::alloc::Global;
 use std::marker::Model;
 
 /// A left operand, and the sign behind it.
-#[derive(Debug, Drop)]
+#[derive(Drop)]
 pub struct Left {
     pub op: Binary,
     pub left: Expr,
 }
 
 /// Prefixes that wait for their operand. A contract sees their list, the last one first.
-#[derive(Debug, Drop)]
+#[derive(Drop)]
 pub struct Prefixes {
     ops: Vec<Unary>,
 }
@@ -56,7 +56,6 @@ impl Prefixes {
 }
 
 /// What waits for an operand: at each level a left operand, if there is one, and the prefixes.
-#[derive(Debug)]
 pub struct Pending {
     pub ors: Option<Left>,
     pub ands: Option<Left>,

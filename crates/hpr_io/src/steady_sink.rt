@@ -6,7 +6,7 @@ use crate::{PutError, Sink};
 /// Takes every piece whole, keeps no bytes and tells none.
 ///
 /// No call fails, so its count of failures is always 0.
-#[derive(Clone, Copy, Debug, Default, PartialEq, Eq, Drop)]
+#[derive(Clone, Copy, Drop)]
 pub struct SteadySink;
 
 impl SteadySink {

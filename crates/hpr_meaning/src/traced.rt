@@ -3,7 +3,7 @@ use hpr_run::Outcome;
 use hpr_syntax::{Name, Tag};
 
 /// Where the value of a name comes from.
-#[derive(Clone, Copy, Debug, PartialEq, Eq, PartialOrd, Ord)]
+#[derive(Clone, Copy)]
 pub enum Origin {
     /// No step before defined the name: the value is that of the first state.
     Initial,
@@ -12,7 +12,7 @@ pub enum Origin {
 }
 
 /// A name that a step reads.
-#[derive(Debug, Drop)]
+#[derive(Drop)]
 pub struct Read {
     pub name: Name,
     pub value: i64,
@@ -20,7 +20,7 @@ pub struct Read {
 }
 
 /// A finished step of a run: an assignment, or an evaluation of a predicate (Reps and Yang 1988).
-#[derive(Debug, Drop)]
+#[derive(Drop)]
 pub struct Instance {
     /// The part.
     pub tag: Tag,
@@ -34,7 +34,7 @@ pub struct Instance {
 }
 
 /// A run, step by step.
-#[derive(Debug, Drop)]
+#[derive(Drop)]
 pub struct Traced {
     /// The finished steps in their order. A faulting step is none.
     pub items: Vec<Instance>,

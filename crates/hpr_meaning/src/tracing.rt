@@ -17,7 +17,7 @@ use hpr_syntax::{Block, Expr, NoMemory, Program, Stmt, Tag};
 use std::alloc::Global;
 
 // Why a run goes no further.
-#[derive(Debug, Drop)]
+#[derive(Drop)]
 enum Stop {
     Faulty(Tag, Fault),
     Spent,

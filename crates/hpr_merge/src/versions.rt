@@ -14,7 +14,7 @@ use hpr_slice::slice;
 use std::alloc::Global;
 
 /// What becomes of three versions of a program.
-#[derive(Debug, Drop)]
+#[derive(Drop)]
 pub struct Merged {
     /// The merged graph: what the variants changed and what all three share.
     pub graph: Graph,

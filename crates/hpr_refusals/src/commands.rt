@@ -12,7 +12,7 @@ use hpr_syntax::{Program, ShapeError};
 use std::alloc::{AllocError, Global};
 
 /// The first command of a script that is refused.
-#[derive(Debug, PartialEq, Eq, Drop)]
+#[derive(Drop)]
 pub struct CommandRefusal {
     /// Its number: the first command of a script has number 1.
     pub number: usize,

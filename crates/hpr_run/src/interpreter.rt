@@ -15,7 +15,7 @@ use std::marker::Model;
 /// Names with their numbers, in an order.
 ///
 /// A contract sees them as the list of the pairs.
-#[derive(Debug, Drop)]
+#[derive(Drop)]
 pub struct FinalValues {
     list: Vec<(Name, i64)>,
 }
@@ -38,7 +38,7 @@ impl FinalValues {
 }
 
 /// How a run goes. A step is one assignment or one evaluation of a predicate.
-#[derive(Debug, Drop)]
+#[derive(Drop)]
 pub enum Outcome {
     /// The program ended after so many steps, with these numbers of the names of `end`, in its order.
     Ends { finals: FinalValues, steps: u64 },
@@ -49,7 +49,7 @@ pub enum Outcome {
 }
 
 // Why a run goes no further.
-#[derive(Debug, Drop)]
+#[derive(Drop)]
 enum Stop {
     Faulty(Tag, Fault),
     Spent,

@@ -7,7 +7,7 @@ use crate::state::State;
 use hpr_syntax::{Binary, Expr, Operand, Unary};
 
 /// Why an expression has no number.
-#[derive(Clone, Copy, Debug, PartialEq, Eq, PartialOrd, Ord)]
+#[derive(Clone, Copy, Debug, PartialEq, Eq)]
 pub enum Fault {
     /// A result leaves the range of i64; `/` and `%` of the least i64 by -1 among them.
     Overflow,

@@ -14,7 +14,7 @@ use std::marker::Model;
 /// For each author, the greatest serial that was ever issued to it; an author without one has 0.
 ///
 /// A contract sees the pairs of author and number, ascending by author, each number at least 1.
-#[derive(Debug, Drop)]
+#[derive(Drop)]
 pub struct Issued {
     rows: Vec<(u32, u32)>,
 }

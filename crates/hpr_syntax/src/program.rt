@@ -26,7 +26,6 @@ use std::marker::Model;
 /// A contract sees it as the plain tree of the three. Its names are names, its numbers are in
 /// range, and it has none of the faults that [`ShapeError`] names. Programs compare by the three in
 /// order.
-#[derive(Debug)]
 pub struct Program {
     issued: Issued,
     body: Block,

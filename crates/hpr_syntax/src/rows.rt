@@ -9,7 +9,7 @@ use hpr_terms::{Expr, Name, NoMemory, Tag};
 use std::alloc::Global;
 
 /// What a part says, without its tag and without the parts that stand in it.
-#[derive(Debug, PartialEq, Eq, PartialOrd, Ord, Drop)]
+#[derive(PartialEq, Eq, PartialOrd, Ord, Drop)]
 pub enum Content {
     /// The name takes the value.
     Assign(Name, Expr),

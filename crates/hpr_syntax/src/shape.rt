@@ -15,7 +15,7 @@ use std::alloc::Global;
 use std::collections::BTreeSet;
 
 /// Why a tree is no program.
-#[derive(Debug, PartialEq, Eq, PartialOrd, Ord, Drop)]
+#[derive(Drop)]
 pub enum ShapeError {
     /// The first part, in preorder, whose tag stands earlier.
     DuplicateTag(Tag),

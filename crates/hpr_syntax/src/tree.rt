@@ -22,14 +22,14 @@ use std::marker::Model;
 ///
 /// Blocks compare by their statements in order, the shorter first where it begins the longer.
 #[cycle(tree)]
-#[derive(Debug, Drop)]
+#[derive(Drop)]
 pub struct Block {
     pub stmts: Vec<Stmt>,
 }
 
 /// A part and what stands in it.
 #[cycle(tree)]
-#[derive(Debug, PartialEq, Eq, PartialOrd, Ord, Drop)]
+#[derive(PartialEq, Eq, PartialOrd, Ord, Drop)]
 pub enum Stmt {
     /// The name takes the value.
     Assign(Tag, Name, Expr),

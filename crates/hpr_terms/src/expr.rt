@@ -18,14 +18,14 @@ use std::cmp::Ordering;
 use std::marker::Model;
 
 /// An operator of one operand.
-#[derive(Clone, Copy, Debug, PartialEq, Eq, PartialOrd, Ord)]
+#[derive(Clone, Copy, PartialEq, Eq, PartialOrd, Ord)]
 pub enum Unary {
     Neg,
     Not,
 }
 
 /// An operator of two operands.
-#[derive(Clone, Copy, Debug, PartialEq, Eq, PartialOrd, Ord)]
+#[derive(Clone, Copy, PartialEq, Eq, PartialOrd, Ord)]
 pub enum Binary {
     Or,
     And,
@@ -43,7 +43,7 @@ pub enum Binary {
 }
 
 /// A literal, 0 to `i64::MAX`. A contract sees it as that number.
-#[derive(Clone, Copy, Debug, PartialEq, Eq, PartialOrd, Ord)]
+#[derive(Clone, Copy, PartialEq, Eq, PartialOrd, Ord)]
 pub struct Literal {
     value: u64,
 }
@@ -85,7 +85,7 @@ impl Literal {
 /// An expression that stands in another, on the heap. A contract sees it as a plain tree, with no
 /// pointer in it.
 #[cycle(expr)]
-#[derive(Debug, Drop)]
+#[derive(Drop)]
 pub struct Operand {
     inner: Box<Expr>,
 }
@@ -94,7 +94,7 @@ pub struct Operand {
 ///
 /// Expressions compare by the declared order of variants and fields.
 #[cycle(expr)]
-#[derive(Debug, PartialEq, Eq, PartialOrd, Ord)]
+#[derive(PartialEq, Eq, PartialOrd, Ord)]
 pub enum Expr {
     Num(Literal),
     Var(Name),

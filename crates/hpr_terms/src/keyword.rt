@@ -4,7 +4,7 @@ ghost use Rattle.std.specs.Str.{bytes_eq};
 ghost use Rattle.hpr_terms.specs.Keywords.{keyword_text, keyword_of};
 
 /// A word that no name may be.
-#[derive(Clone, Copy, PartialEq, Eq)]
+#[derive(Clone, Copy)]
 pub enum Keyword {
     Program,
     Issued,

@@ -37,7 +37,7 @@ impl From<AllocError> for NameError {
 /// A name: 1 to 64 ASCII letters, digits and `_`, not beginning with a digit, and no keyword.
 ///
 /// A contract sees a name as its bytes. Names compare by their bytes.
-#[derive(Debug, Drop)]
+#[derive(Drop)]
 pub struct Name {
     text: String,
 }

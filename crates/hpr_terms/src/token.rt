@@ -6,7 +6,7 @@ use crate::keyword::Keyword;
 use crate::name::Name;
 
 /// A sign of one or two bytes.
-#[derive(Clone, Copy, PartialEq, Eq)]
+#[derive(Clone, Copy)]
 pub enum Sign {
     Colon,
     Becomes,

@@ -1,7 +1,7 @@
 //! Which texts are read.
 
 /// Which texts are read.
-#[derive(Clone, Copy, Debug, PartialEq, Eq, PartialOrd, Ord)]
+#[derive(Clone, Copy)]
 pub enum Mode {
     /// Each part has its tag, and there may be a header.
     Tagged,

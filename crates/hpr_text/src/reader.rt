@@ -15,7 +15,7 @@ use hpr_syntax::{Program, ShapeError};
 use std::alloc::Global;
 
 /// Why a text is not read.
-#[derive(Debug, PartialEq, Eq, PartialOrd, Ord, Drop)]
+#[derive(Drop)]
 pub enum TextError {
     /// The bytes spell no tree. Their longest front that some further bytes complete to a text has
     /// this many bytes.
