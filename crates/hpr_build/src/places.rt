@@ -49,7 +49,7 @@ impl Drop for Place {
 
 impl Model for Place {
     ghost use Rattle.hpr_build.specs.Places as plain;
-    ghost use Rattle.hpr_build.specs.PlaceCode.{place_coded};
+    ghost use Rattle.hpr_build.specs.Private.PlaceCode.{place_coded};
 
     ghost Value = { plain.Place };
 

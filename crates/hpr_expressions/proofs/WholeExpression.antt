@@ -11,7 +11,7 @@ use Rattle.hpr_terms.specs.declared.token.Token.{Token}
 use Rattle.hpr_terms.specs.declared.token.Token.TheVariants.{Name, Number, Mark}
 use Rattle.hpr_terms.specs.Term.{Term, num, var, prefix, infix', operators}
 use Rattle.hpr_terms.specs.TermOf.{term_of}
-use Rattle.hpr_terms.specs.ExprCode.{expr_of, expr_of-term_of}
+use Rattle.hpr_terms.specs.Private.ExprCode.{expr_of, expr_of-term_of}
 use Rattle.hpr_syntax.specs.Shape.{max_operators}
 use Rattle.hpr_syntax.specs.Grammar as grammar
 use Rattle.hpr_syntax.specs.Grammar.{max_brackets, expr, conj, comp, sum, term, atom, expr_conj, conj_comp, comp_sum, sum_term, term_prefixed, prefixed_atom, Joins, Compares, Prefixes, SpellsTerm, SpellsExpr}

@@ -30,7 +30,7 @@ pub struct Brackets {
 impl Model for Brackets {
     ghost use Rattle.std.specs.Prelude.{List, reverse};
     ghost use Rattle.std.specs.Coded.{codes};
-    ghost use Rattle.hpr_terms.specs.TermCode.{term_coded};
+    ghost use Rattle.hpr_terms.specs.Private.TermCode.{term_coded};
     ghost use Rattle.hpr_expressions.specs.declared.pending.Pending.{Pending};
 
     ghost Value = { List Pending };

@@ -1,5 +1,5 @@
 pub mod Spots
-pub mod SpotCode
 pub mod Roles
 pub mod Successors
 pub mod Numbers
+pub mod Private

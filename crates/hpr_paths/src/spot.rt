@@ -41,7 +41,7 @@ impl Drop for Spot {
 
 impl Model for Spot {
     ghost use Rattle.hpr_paths.specs.Spots as spots;
-    ghost use Rattle.hpr_paths.specs.SpotCode.{spot_coded};
+    ghost use Rattle.hpr_paths.specs.Private.SpotCode.{spot_coded};
 
     ghost Value = { spots.Spot };
 

@@ -24,7 +24,7 @@ impl Model for Succ {
     ghost use Rattle.hpr_paths.specs.Spots.{Spot};
     ghost use Rattle.hpr_paths.specs.Successors.{AreSpots};
     ghost use Rattle.std.specs.Coded.{coded_list};
-    ghost use Rattle.hpr_paths.specs.SpotCode.{spot_coded};
+    ghost use Rattle.hpr_paths.specs.Private.SpotCode.{spot_coded};
 
     ghost Value = { List Spot };
 

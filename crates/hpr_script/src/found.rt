@@ -18,7 +18,7 @@ pub struct Commands {
 impl Model for Commands {
     ghost use Rattle.std.specs.Prelude.{List};
     ghost use Rattle.std.specs.Coded.{codes};
-    ghost use Rattle.hpr_terms.specs.TermCode.{term_coded};
+    ghost use Rattle.hpr_terms.specs.Private.TermCode.{term_coded};
     ghost use Rattle.hpr_edit.specs.declared.command.Command.{Command};
 
     ghost Value = { List Command };

@@ -7,9 +7,10 @@ use Rattle.hpr_terms.specs.declared.tag.Tag.{Tag}
 use Rattle.hpr_syntax.specs.declared.tree.Stmt.{Stmt}
 use Rattle.hpr_syntax.specs.declared.tree.Stmt.TheVariants.{Assign, If, While}
 use Rattle.hpr_terms.specs.declared.expr.Expr.{Expr}
-use Rattle.hpr_terms.specs.Term.{term_code}
+use Rattle.hpr_terms.specs.TermOrder.{term_code}
 use Rattle.hpr_terms.specs.TermOf.{term_of}
-use Rattle.hpr_syntax.specs.Body.{Body, done, assign, branch, loop, body_code, block_code}
+use Rattle.hpr_syntax.specs.Body.{Body, done, assign, branch, loop}
+use Rattle.hpr_syntax.specs.BodyOrder.{body_code, block_code}
 use Rattle.hpr_syntax.specs.BodyOf.{body_of}
 use Rattle.hpr_terms.specs.contracts.expr.ExprOrd.TheImpl as ords
 use Rattle.hpr_terms.specs.contracts.expr.ExprPartialOrd.TheImpl as partials

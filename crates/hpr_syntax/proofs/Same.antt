@@ -3,8 +3,8 @@ use Rattle.std.proofs.Common.{◌≡◌, ℕ, ◌==◌, ◌&&◌, Bool, true, fa
 use Rattle.std.specs.Cmp.Lexicographic.{pointwise, same_text}
 use Rattle.std.proofs.lemmas.Bool.{eqb-true, eq-eqb}
 use Rattle.std.proofs.lemmas.Cmp.{nat_list_eq_equiv}
-use Rattle.hpr_syntax.specs.Body.{block_code}
-use Rattle.hpr_syntax.specs.BodyCode.{body_inj}
+use Rattle.hpr_syntax.specs.BodyOrder.{block_code}
+use Rattle.hpr_syntax.specs.Private.BodyCode.{body_inj}
 use Rattle.hpr_syntax.specs.Tree.{Tree}
 use Rattle.hpr_syntax.specs.Comparisons.{same_pair, same_issued, same_block, same_names, same_tree}
 

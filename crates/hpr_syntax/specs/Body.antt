@@ -1,17 +1,11 @@
 -- Blocks as plain trees: a list of statements, in which each statement has what stands in it.
 --
--- Body               == the parts of a block: `done` is none, and each other begins with a part
--- depth body         == how many levels of blocks there are
--- part_count body    == how many parts there are
--- tag_code t rest    == the tag as numbers, and then these
--- body_code b next   == the block as numbers in preorder, and then these
--- block_code b       == the block as numbers
-use Rattle.std.specs.Prelude.{ℕ, ◌+◌, List, [], ◌∷◌, max}
+-- Body             == the parts of a block: `done` is none, and each other begins with a part
+-- depth body       == how many levels of blocks there are
+-- part_count body  == how many parts there are
+use Rattle.std.specs.Prelude.{ℕ, ◌+◌, List, max}
 use Rattle.hpr_terms.specs.declared.tag.Tag.{Tag}
 use Rattle.hpr_terms.specs.declared.expr.Expr.{Expr}
-use Rattle.hpr_terms.specs.Term.{term_code}
-use Rattle.hpr_terms.specs.Term.{name_code}
-use Rattle.hpr_terms.specs.TermOf.{term_of}
 
 pub data Body : Type 0 where
   done : Body
@@ -32,16 +26,3 @@ part_count done = 0
 part_count (assign t x e rest) = part_count rest + 1
 part_count (branch t e a b rest) = part_count a + part_count b + part_count rest + 1
 part_count (loop t e b rest) = part_count b + part_count rest + 1
-
-abbrev pub tag_code : Tag → List ℕ → List ℕ
-tag_code t rest = t.author ∷ t.serial ∷ rest
-
--- a block as numbers
-abbrev pub body_code : Body → List ℕ → List ℕ
-body_code done next = 0 ∷ next
-body_code (assign t x e rest) next = 1 ∷ tag_code t (name_code x (term_code (term_of e) (body_code rest next)))
-body_code (branch t e a b rest) next = 2 ∷ tag_code t (term_code (term_of e) (body_code a (body_code b (body_code rest next))))
-body_code (loop t e b rest) next = 3 ∷ tag_code t (term_code (term_of e) (body_code b (body_code rest next)))
-
-abbrev pub block_code : Body → List ℕ
-block_code b = body_code b []

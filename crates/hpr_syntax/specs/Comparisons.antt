@@ -17,7 +17,8 @@ use Rattle.std.specs.Ordering.{nat_cmp, on, then_cmp, eq_of_both, eq_by_cmp, as_
 use Rattle.std.specs.Cmp.{IsTotalOrder, IsPartialOrder, IsEquivalence, IsPartialEquivalence, partial_equiv_from_equiv, both_tied, unsigned_ties, po}
 use Rattle.std.specs.Cmp.Rules.{comparing}
 use Rattle.std.specs.Cmp.Lexicographic.{pointwise, slice_cmp, lists_ties, texts_ties}
-use Rattle.hpr_syntax.specs.Body.{Body, block_code}
+use Rattle.hpr_syntax.specs.Body.{Body}
+use Rattle.hpr_syntax.specs.BodyOrder.{block_code}
 use Rattle.hpr_syntax.specs.Tree.{Tree}
 
 abbrev pub same_pair : ℕ × ℕ → ℕ × ℕ → Bool

@@ -1,7 +1,6 @@
 pub mod Body
+pub mod BodyOrder
 pub mod BodyOf
-pub mod BodyCode
-pub mod BodyFalls
 pub mod Parts
 pub mod Rows
 pub mod Issued
@@ -22,3 +21,4 @@ pub mod Value
 pub mod Run
 pub mod Meaning
 pub mod Comparisons
+pub mod Private

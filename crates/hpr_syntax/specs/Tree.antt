@@ -5,7 +5,7 @@
 use Rattle.std.specs.Prelude.{ℕ, List, refl}
 use Rattle.std.specs.Coded.{Coded, code_by, coded×, coded_ℕ, coded_list}
 use Rattle.hpr_syntax.specs.Body.{Body}
-use Rattle.hpr_syntax.specs.BodyCode.{body_coded}
+use Rattle.hpr_syntax.specs.Private.BodyCode.{body_coded}
 
 pub record Tree : Type 0 where
   pub issued : List (ℕ × ℕ)

@@ -9,7 +9,8 @@ ghost use Rattle.std.proofs.Common.{rules, ◌==◌};
 ghost use Rattle.std.specs.Cmp.Rules.{comparing};
 ghost use Rattle.std.specs.Cmp.Lexicographic.{pointwise, slice_cmp};
 ghost use Rattle.std.specs.Ordering.{nat_cmp, as_partial_cmp, on};
-ghost use Rattle.hpr_syntax.specs.Body.{Body, done, part_count, block_code};
+ghost use Rattle.hpr_syntax.specs.Body.{Body, done, part_count};
+ghost use Rattle.hpr_syntax.specs.BodyOrder.{block_code};
 ghost use Rattle.hpr_syntax.specs.BodyOf.{body_of, before};
 ghost use Rattle.hpr_syntax.specs.Parts.{tag_of, find_stmt, expr_of, defines};
 
@@ -41,7 +42,7 @@ pub enum Stmt {
 
 impl Model for Block {
     ghost use Rattle.hpr_syntax.specs.Body.{Body, depth};
-    ghost use Rattle.hpr_syntax.specs.BodyCode.{body_coded};
+    ghost use Rattle.hpr_syntax.specs.Private.BodyCode.{body_coded};
 
     ghost Value = { Body };
 
@@ -53,7 +54,7 @@ impl Model for Block {
 
     ghost size = { depth };
 
-    ghost use Rattle.hpr_syntax.specs.BodyFalls.{depth_falls};
+    ghost use Rattle.hpr_syntax.specs.Private.BodyFalls.{depth_falls};
 
     ghost size_decreases = { λ b h. depth_falls b.stmts.items };
 }

@@ -10,7 +10,8 @@ use Rattle.hpr_terms.specs.declared.expr.Unary.{Unary}
 use Rattle.hpr_terms.specs.declared.expr.Unary.TheVariants as unary
 use Rattle.hpr_terms.specs.declared.expr.Binary.{Binary}
 use Rattle.hpr_terms.specs.declared.expr.Binary.TheVariants as binary
-use Rattle.hpr_terms.specs.Term.{Term, num, var, prefix, infix', unary_rank, binary_rank, name_code, term_code, code_of}
+use Rattle.hpr_terms.specs.Term.{Term, num, var, prefix, infix'}
+use Rattle.hpr_terms.specs.TermOrder.{unary_rank, binary_rank, name_code, term_code, code_of}
 use Rattle.hpr_terms.specs.TermOf.{term_of}
 use Rattle.hpr_terms.specs.contracts.expr.ExprPartialEq.TheImpl as eqs
 use Rattle.hpr_terms.specs.contracts.expr.ExprOrd.TheImpl as ords

@@ -3,9 +3,9 @@ use Rattle.std.proofs.Common.{◌≡◌, ℕ, ◌==◌, Bool, true, List, [], �
 use Rattle.std.specs.Cmp.Lexicographic.{pointwise, same_text}
 use Rattle.std.proofs.lemmas.Cmp.{nat_list_eq_equiv}
 use Rattle.hpr_terms.specs.declared.expr.Expr.{Expr}
-use Rattle.hpr_terms.specs.Term.{code_of}
+use Rattle.hpr_terms.specs.TermOrder.{code_of}
 use Rattle.hpr_terms.specs.TermOf.{term_of}
-use Rattle.hpr_terms.specs.ExprCode.{expr_inj}
+use Rattle.hpr_terms.specs.Private.ExprCode.{expr_inj}
 use Rattle.hpr_terms.specs.contracts.expr.ExprPartialEq.TheImpl as eqs
 use Rattle.hpr_terms.proofs.Compare.{same, eq_codes}
 

@@ -1,9 +1,8 @@
 pub mod Keywords
 pub mod Names
 pub mod Term
+pub mod TermOrder
 pub mod TermOf
-pub mod TermCode
-pub mod TermFalls
 pub mod Tokens
 pub mod Uses
-pub mod ExprCode
+pub mod Private

@@ -7,7 +7,8 @@ ghost use Rattle.std.proofs.Common.{rules, ◌==◌};
 ghost use Rattle.std.specs.Cmp.Rules.{comparing};
 ghost use Rattle.std.specs.Cmp.Lexicographic.{slice_cmp, pointwise};
 ghost use Rattle.std.specs.Ordering.{nat_cmp, as_partial_cmp, on};
-ghost use Rattle.hpr_terms.specs.Term.{Term, operators, code_of};
+ghost use Rattle.hpr_terms.specs.Term.{Term, operators};
+ghost use Rattle.hpr_terms.specs.TermOrder.{code_of};
 ghost use Rattle.hpr_terms.specs.TermOf.{term_of};
 ghost use Rattle.hpr_terms.specs.Uses.{Uses, TermUses};
 
@@ -117,7 +118,7 @@ impl Drop for Expr {
 
 impl Model for Operand {
     ghost use Rattle.hpr_terms.specs.Term.{Term, levels};
-    ghost use Rattle.hpr_terms.specs.TermCode.{term_coded};
+    ghost use Rattle.hpr_terms.specs.Private.TermCode.{term_coded};
 
     ghost Value = { Term };
 
@@ -129,7 +130,7 @@ impl Model for Operand {
 
     ghost size = { levels };
 
-    ghost use Rattle.hpr_terms.specs.TermFalls.{depth_le-levels};
+    ghost use Rattle.hpr_terms.specs.Private.TermFalls.{depth_le-levels};
 
     ghost size_decreases = { λ a h. depth_le-levels a.inner.value };
 }

@@ -48,8 +48,8 @@ pub struct Blocks {
 impl Model for Blocks {
     ghost use Rattle.std.specs.Prelude.{List, reverse};
     ghost use Rattle.std.specs.Coded.{codes};
-    ghost use Rattle.hpr_terms.specs.TermCode.{term_coded};
-    ghost use Rattle.hpr_syntax.specs.BodyCode.{body_coded};
+    ghost use Rattle.hpr_terms.specs.Private.TermCode.{term_coded};
+    ghost use Rattle.hpr_syntax.specs.Private.BodyCode.{body_coded};
     ghost use Rattle.hpr_text.specs.declared.blocks.Begun.{Begun};
 
     ghost Value = { List Begun };

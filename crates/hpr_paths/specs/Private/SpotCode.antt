@@ -11,8 +11,8 @@ use Rattle.std.proofs.Common.{inl, inr, ap}
 use Rattle.std.specs.Coded.{Coded, code_by, coded×, coded⊎, coded_ℕ, coded_bool, coded_list}
 use Rattle.hpr_terms.specs.Term.{Term}
 use Rattle.hpr_terms.specs.TermOf.{term_of}
-use Rattle.hpr_terms.specs.TermCode.{term_coded}
-use Rattle.hpr_terms.specs.ExprCode.{expr_of, expr_of-term_of}
+use Rattle.hpr_terms.specs.Private.TermCode.{term_coded}
+use Rattle.hpr_terms.specs.Private.ExprCode.{expr_of, expr_of-term_of}
 use Rattle.hpr_syntax.specs.declared.rows.Content.{Content}
 use Rattle.hpr_syntax.specs.declared.rows.Content.TheVariants.{Assign, If, While}
 use Rattle.hpr_paths.specs.declared.spot.Step.{Step}

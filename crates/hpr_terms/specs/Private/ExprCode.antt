@@ -6,9 +6,10 @@
 use Rattle.std.proofs.Common.{◌≡◌, ℕ, List, refl, ap}
 use Rattle.hpr_terms.specs.declared.expr.Expr.{Expr}
 use Rattle.hpr_terms.specs.declared.expr.Expr.TheVariants.{Num, Var, Prefix, Infix}
-use Rattle.hpr_terms.specs.Term.{Term, num, var, prefix, infix', term_code}
+use Rattle.hpr_terms.specs.Term.{Term, num, var, prefix, infix'}
+use Rattle.hpr_terms.specs.TermOrder.{term_code}
 use Rattle.hpr_terms.specs.TermOf.{term_of}
-use Rattle.hpr_terms.specs.TermCode.{term_inj}
+use Rattle.hpr_terms.specs.Private.TermCode.{term_inj}
 
 abbrev pub expr_of : Term → Expr
 expr_of (num n) = Num n

@@ -6,11 +6,12 @@
 use Rattle.std.proofs.Common.{◌≡◌, ℕ, List, [], refl}
 use Rattle.std.specs.Coded.{Coded, coded_list, coded_ℕ}
 use Rattle.hpr_terms.specs.declared.tag.Tag.{Tag}
-use Rattle.hpr_terms.specs.Term.{name_code, term_code}
+use Rattle.hpr_terms.specs.TermOrder.{name_code, term_code}
 use Rattle.hpr_terms.specs.TermOf.{term_of}
-use Rattle.hpr_terms.specs.TermCode.{name_inj}
-pub use Rattle.hpr_terms.specs.ExprCode.{expr_inj}
-use Rattle.hpr_syntax.specs.Body.{Body, done, assign, branch, loop, tag_code, body_code}
+use Rattle.hpr_terms.specs.Private.TermCode.{name_inj}
+pub use Rattle.hpr_terms.specs.Private.ExprCode.{expr_inj}
+use Rattle.hpr_syntax.specs.Body.{Body, done, assign, branch, loop}
+use Rattle.hpr_syntax.specs.BodyOrder.{tag_code, body_code}
 
 pub tag_inj : (x y : Tag) (s t : List ℕ) → tag_code x s ≡ tag_code y t → (x ≡ y) × (s ≡ t)
 tag_inj x y s t p =

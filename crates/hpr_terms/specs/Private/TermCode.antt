@@ -11,7 +11,8 @@ use Rattle.hpr_terms.specs.declared.expr.Unary.{Unary}
 use Rattle.hpr_terms.specs.declared.expr.Unary.TheVariants.{Neg, Not}
 use Rattle.hpr_terms.specs.declared.expr.Binary.{Binary}
 use Rattle.hpr_terms.specs.declared.expr.Binary.TheVariants.{Or, And, Equal, Differ, Less, LessEqual, Greater, GreaterEqual, Add, Sub, Mul, Div, Rem}
-use Rattle.hpr_terms.specs.Term.{Term, num, var, prefix, infix', unary_rank, binary_rank, name_code, term_code}
+use Rattle.hpr_terms.specs.Term.{Term, num, var, prefix, infix'}
+use Rattle.hpr_terms.specs.TermOrder.{unary_rank, binary_rank, name_code, term_code}
 
 abbrev unary_back : ℕ → Unary
 unary_back zero = Neg
