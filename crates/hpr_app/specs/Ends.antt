@@ -5,14 +5,14 @@
 -- status_of r          == the status of a decision
 -- text_of r            == its text for `out`
 -- message_of r         == its message for `err`, if it has one
--- Says message err     == `err` took a prefix of the message, all of it where no put failed, and not all of it where one did
+-- Says message err     == `err` took all of the message where no put failed, and else a prefix of it, not all of it
 -- Decided s P .. err   == some decision r of P has the status s; no read and no write failed; `out` took the text of r, and `err` the message
 -- CutShort P .. err    == a write failed: `out` took a prefix of the text of some decision of P, and not all of it
 -- ReadFailed reads ..  == a read failed: `out` took nothing, and the message names a file that the call reads
 -- Ends s P reads ..    == the call ends with the status s in the one case that s stands for
 use Rattle.std.specs.Prelude.{◌≡◌, ◌<◌, ℕ, List, [], ◌++◌, Option, Some, None, codes}
 use Rattle.hpr_io.specs.Counts.{Rose}
-use Rattle.hpr_io.specs.Taken.{taken_then, TookPrefix, TookStrictPrefix}
+use Rattle.hpr_io.specs.Taken.{taken_then, TookStrictPrefix}
 use Rattle.hpr_app.specs.declared.answer.Kind.{Kind}
 use Rattle.hpr_app.specs.declared.answer.Kind.TheVariants as kind
 use Rattle.hpr_app.specs.declared.status.Status.{Status}
@@ -66,7 +66,6 @@ message_of (refuses message) = Some message
 message_of usage = Some usage_text
 
 pub record Says (message : List ℕ) (err : Change) : Type 0 where
-  pub prefix : TookPrefix err.old err.new message
   pub whole : (Rose err.before err.now → ⊥) → err.new ≡ taken_then err.old message
   pub cut : err.before < err.now → TookStrictPrefix err.old err.new message
 

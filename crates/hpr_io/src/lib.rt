@@ -10,7 +10,7 @@ mod steady_sink;
 ghost use Rattle.std.specs.Prelude.{◌≡◌, ℕ, ◌<◌, ◌≤◌, Bool, List, length, take, vec_len, Option, IfOk, IfSome, OnOk, OnErr, IsErrOf, IsErr, IsTrue};
 ghost use Rattle.hpr_io.specs.Counts.{Counted};
 ghost use Rattle.hpr_io.specs.Files.{Files, bytes_of};
-ghost use Rattle.hpr_io.specs.Taken.{taken_then, TookPrefix, TookStrictPrefix};
+ghost use Rattle.hpr_io.specs.Taken.{taken_then, TookStrictPrefix};
 
 pub use memory_shelf::MemoryShelf;
 pub use memory_sink::MemorySink;
@@ -85,7 +85,6 @@ pub trait Sink {
 /// `Failed` comes only where the sink's count of failures rose. The sink then took a first part of the bytes, maybe none.
 pub fn put_all<S: Sink>(sink: &mut S, bytes: &[u8]) -> Result<(), PutError>
     ensures all { OnOk result (S.taken sink.new ≡ taken_then (S.taken sink.old) bytes.now) }
-    ensures prefix { OnErr result (TookPrefix (S.taken sink.old) (S.taken sink.new) bytes.now) }
     ensures cut { OnErr result (TookStrictPrefix (S.taken sink.old) (S.taken sink.new) bytes.now) }
     ensures count { Counted (S.faults sink.old) (S.faults sink.new) (IsErr result) }
 {
