@@ -6,7 +6,7 @@ ghost use Rattle.hpr_edit.specs.Edited.{edited};
 ghost use Rattle.hpr_refusals.specs.Reasons.{command_reason, command_text};
 ghost use Rattle.hpr_refusals.specs.Applied.{applied, becomes, refused};
 
-use crate::reasons::{about, shape_reason, tag_name};
+use crate::reasons::{about, around_tag, shape_reason};
 use hpr_edit::{Command, EditError, Editor};
 use hpr_syntax::{Program, ShapeError};
 use std::alloc::{AllocError, Global};
@@ -43,19 +43,10 @@ fn command_reason(alloc: Global, why: &EditError) -> Result<String, AllocError>
     ensures shape { IfOk result (λ text. why.now ≢ EditError.Shape ShapeError.Memory) }
 {
     match why {
-        EditError::NoTag(tag) => {
-            let tag = tag_name(alloc, tag)?;
-            format!(in alloc; "no part {tag}")
-        }
-        EditError::IntoItself(tag) => {
-            let tag = tag_name(alloc, tag)?;
-            format!(in alloc; "part {tag} would stand in itself")
-        }
+        EditError::NoTag(tag) => around_tag(alloc, "no part ", tag, ""),
+        EditError::IntoItself(tag) => around_tag(alloc, "part ", tag, " would stand in itself"),
         EditError::NoPlace => String::from_str(alloc, "no such place"),
-        EditError::KindDiffers(tag) => {
-            let tag = tag_name(alloc, tag)?;
-            format!(in alloc; "part {tag} is of another kind")
-        }
+        EditError::KindDiffers(tag) => around_tag(alloc, "part ", tag, " is of another kind"),
         EditError::SerialsSpent => String::from_str(alloc, "serials are spent"),
         EditError::Shape(error) => shape_reason(alloc, error),
         EditError::Memory => Err(AllocError),

@@ -1,5 +1,5 @@
 //! What is said of a file, a word or a tree that is refused.
-ghost use Rattle.std.specs.Prelude.{◌≡◌, ◌≢◌, IfOk, string_bytes};
+ghost use Rattle.std.specs.Prelude.{◌≡◌, ◌≢◌, ◌++◌, IfOk, string_bytes};
 ghost use Rattle.hpr_syntax.specs.Print.{tag_text};
 ghost use Rattle.hpr_refusals.specs.Reasons.{about, shape_text};
 
@@ -28,21 +28,12 @@ pub(crate) fn shape_reason(alloc: Global, error: &ShapeError) -> Result<String, 
     ensures memory { IfOk result (λ text. error.now ≢ ShapeError.Memory) }
 {
     match error {
-        ShapeError::DuplicateTag(tag) => {
-            let tag = tag_name(alloc, tag)?;
-            format!(in alloc; "tag {tag} stands twice")
-        }
-        ShapeError::Unissued(tag) => {
-            let tag = tag_name(alloc, tag)?;
-            format!(in alloc; "tag {tag} was not issued")
-        }
-        ShapeError::TooDeep(tag) => {
-            let tag = tag_name(alloc, tag)?;
-            format!(in alloc; "part {tag} is nested deeper than 64")
-        }
+        ShapeError::DuplicateTag(tag) => around_tag(alloc, "tag ", tag, " stands twice"),
+        ShapeError::Unissued(tag) => around_tag(alloc, "tag ", tag, " was not issued"),
+        ShapeError::TooDeep(tag) => around_tag(alloc, "part ", tag, " is nested deeper than 64"),
         ShapeError::ExprTooLarge(tag) => {
-            let tag = tag_name(alloc, tag)?;
-            format!(in alloc; "expression of {tag} has more than 256 operators")
+            let behind = " has more than 256 operators";
+            around_tag(alloc, "expression of ", tag, behind)
         }
         ShapeError::TooManyParts(count) => { format!(in alloc; "{count} parts, more than 1000") }
         ShapeError::DuplicateFinal(name) => {
@@ -51,4 +42,17 @@ pub(crate) fn shape_reason(alloc: Global, error: &ShapeError) -> Result<String, 
         }
         ShapeError::Memory => Err(AllocError),
     }
+}
+
+/// A text with a tag in it.
+pub(crate) fn around_tag(
+    alloc: Global,
+    before: &str,
+    tag: &Tag,
+    behind: &str,
+) -> Result<String, AllocError>
+    ensures { IfOk result (λ text. string_bytes text ≡ before.now ++ tag_text tag.now ++ behind.now) }
+{
+    let tag = tag_name(alloc, tag)?;
+    format!(in alloc; "{before}{tag}{behind}")
 }
