@@ -1,41 +1,35 @@
 //! The arguments that commands have, and what `clap` finds of them in the words.
 ghost use Rattle.std.specs.Prelude.{◌≡◌, [], false, true, map, string_bytes, IfOk, IsErrOf};
-ghost use Rattle.hpr_words.specs.Private.Commands.{app_with, rule_of_argument, is_needed};
+ghost use Rattle.hpr_words.specs.Private.Commands.{app_with, rule_of_argument};
 ghost use Rattle.clap.specs.Walk.{is_empty};
 ghost use Rattle.clap.specs.Words.{app_of, fault_of, found_of, is_simple_and_free, rule_of, matches_of, rows_of};
+ghost use Rattle.clap.specs.declared.builder.value_parser.ValueParser.TheVariants.{Unsigned};
 
 use crate::asked::WordsError;
+use clap::builder::ValueParser;
 use clap::{Arg, ArgAction, ArgMatches, Command};
 use std::alloc::{AllocError, Global};
 
-/// An argument of a command, by its name.
+/// An argument of a command.
 #[derive(Clone, Copy)]
-pub enum Argument {
-    /// A positional of one word, which must be given.
-    Name(&'static str),
-    /// A positional of any number of words.
-    List(&'static str),
-    /// A positional of one word or more.
-    FilledList(&'static str),
-    /// An option whose value is a number from 1 to the given one.
-    Number(&'static str, u32),
-    /// An option as `Number`, which must be given.
-    NeededNumber(&'static str, u32),
-    /// A flag.
-    Flag(&'static str),
+pub struct Argument {
+    pub name: &'static str,
+    pub takes: Takes,
+    /// Whether it must be given.
+    pub is_needed: bool,
 }
 
-impl Argument {
-    fn is_needed(self) -> bool
-        ensures { result ≡ is_needed self }
-    {
-        match self {
-            Argument::Name(_) => true,
-            Argument::FilledList(_) => true,
-            Argument::NeededNumber(..) => true,
-            _ => false,
-        }
-    }
+/// What an argument takes.
+#[derive(Clone, Copy)]
+pub enum Takes {
+    /// One word, in its place.
+    Word,
+    /// Any number of words, in their place.
+    Words,
+    /// A number from 1 to the given one, behind `--NAME`.
+    Number(u32),
+    /// Nothing: it is the flag `--NAME`.
+    Nothing,
 }
 
 /// What the command of this name and these arguments finds in the words, of which the first is the
@@ -74,21 +68,18 @@ fn arg_of<'a>(alloc: Global, argument: Argument) -> Arg<'a>
     ensures rule { rule_of result ≡ rule_of_argument argument }
     ensures local { result.global ≡ false }
 {
-    let needed = argument.is_needed();
-    match argument {
-        Argument::Name(id) => Arg::new(alloc, id).required(needed),
-        Argument::List(id) | Argument::FilledList(id) => {
-            Arg::new(alloc, id)
-                .required(needed)
-                .action(ArgAction::Append)
-        }
-        Argument::Number(id, most) | Argument::NeededNumber(id, most) => Arg::new(alloc, id)
-            .required(needed)
-            .long(id)
-            .value_parser(clap::value_parser!(u64).range(1..=i64::from(most))),
-        Argument::Flag(id) => Arg::new(alloc, id)
-            .required(needed)
-            .long(id)
-            .action(ArgAction::SetTrue),
+    let arg = Arg::new(alloc, argument.name).required(argument.is_needed);
+    match argument.takes {
+        Takes::Word => arg,
+        Takes::Words => arg.action(ArgAction::Append),
+        Takes::Number(most) => arg.long(argument.name).value_parser(number_to(most)),
+        Takes::Nothing => arg.long(argument.name).action(ArgAction::SetTrue),
     }
+}
+
+/// A number from 1 to `most`, as `clap` has it.
+fn number_to<'a>(most: u32) -> ValueParser<'a>
+    ensures { result ≡ Unsigned 1 most }
+{
+    clap::value_parser!(u64).range(1..=i64::from(most))
 }

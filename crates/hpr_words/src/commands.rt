@@ -4,7 +4,7 @@ ghost use Rattle.hpr_words.specs.Private.Commands.{Reads, app_of_command, app_wi
 ghost use Rattle.hpr_words.specs.Taken.{affected_in, edit_in, graph_in, integrate_in, run_in, slice_in, tag_in, trial_in};
 ghost use Rattle.clap.specs.Words.{found_of, rows_of};
 
-use crate::arguments::Argument;
+use crate::arguments::{Argument, Takes};
 use crate::asked::{Asked, WordsError};
 use crate::found::{
     MOST_AUTHORS, MOST_STEPS, author_from, flag_from, list_from, name_from, number_from, steps_from,
@@ -15,6 +15,78 @@ use std::alloc::Global;
 const MOST_TRIES: u32 = 1_000_000_000;
 
 const DEFAULT_TRIES: u64 = 10_000;
+
+const BASE: Argument = Argument {
+    name: "base",
+    takes: Takes::Word,
+    is_needed: true,
+};
+
+const A: Argument = Argument {
+    name: "a",
+    takes: Takes::Word,
+    is_needed: true,
+};
+
+const B: Argument = Argument {
+    name: "b",
+    takes: Takes::Word,
+    is_needed: true,
+};
+
+const FILE: Argument = Argument {
+    name: "file",
+    takes: Takes::Word,
+    is_needed: true,
+};
+
+const SCRIPT: Argument = Argument {
+    name: "script",
+    takes: Takes::Word,
+    is_needed: true,
+};
+
+const STATES: Argument = Argument {
+    name: "state",
+    takes: Takes::Words,
+    is_needed: false,
+};
+
+const POINTS: Argument = Argument {
+    name: "point",
+    takes: Takes::Words,
+    is_needed: true,
+};
+
+const TRIES: Argument = Argument {
+    name: "tries",
+    takes: Takes::Number(MOST_TRIES),
+    is_needed: false,
+};
+
+const STEPS: Argument = Argument {
+    name: "steps",
+    takes: Takes::Number(MOST_STEPS),
+    is_needed: false,
+};
+
+const AUTHOR: Argument = Argument {
+    name: "author",
+    takes: Takes::Number(MOST_AUTHORS),
+    is_needed: true,
+};
+
+const TRACE: Argument = Argument {
+    name: "trace",
+    takes: Takes::Nothing,
+    is_needed: false,
+};
+
+const JSON: Argument = Argument {
+    name: "json",
+    takes: Takes::Nothing,
+    is_needed: false,
+};
 
 /// The commands by their names.
 #[derive(Clone, Copy)]
@@ -52,37 +124,14 @@ impl CommandName {
         ensures { app_with (name_of self) result.now ≡ app_of_command self }
     {
         match self {
-            CommandName::Integrate => &[
-                Argument::Name("base"),
-                Argument::Name("a"),
-                Argument::Name("b"),
-                Argument::Number("tries", MOST_TRIES),
-            ],
-            CommandName::Run => &[
-                Argument::Name("file"),
-                Argument::List("state"),
-                Argument::Number("steps", MOST_STEPS),
-                Argument::Flag("trace"),
-            ],
-            CommandName::Graph => &[Argument::Name("file"), Argument::Flag("json")],
-            CommandName::Slice => &[Argument::Name("file"), Argument::FilledList("point")],
-            CommandName::Affected => &[Argument::Name("base"), Argument::Name("a")],
-            CommandName::Trial => &[
-                Argument::Name("base"),
-                Argument::Name("a"),
-                Argument::Name("b"),
-                Argument::List("state"),
-                Argument::Number("steps", MOST_STEPS),
-            ],
-            CommandName::Edit => &[
-                Argument::Name("file"),
-                Argument::Name("script"),
-                Argument::NeededNumber("author", MOST_AUTHORS),
-            ],
-            CommandName::Tag => &[
-                Argument::Name("file"),
-                Argument::NeededNumber("author", MOST_AUTHORS),
-            ],
+            CommandName::Integrate => &[BASE, A, B, TRIES],
+            CommandName::Run => &[FILE, STATES, STEPS, TRACE],
+            CommandName::Graph => &[FILE, JSON],
+            CommandName::Slice => &[FILE, POINTS],
+            CommandName::Affected => &[BASE, A],
+            CommandName::Trial => &[BASE, A, B, STATES, STEPS],
+            CommandName::Edit => &[FILE, SCRIPT, AUTHOR],
+            CommandName::Tag => &[FILE, AUTHOR],
         }
     }
 

@@ -1,6 +1,6 @@
 -- The commands as rows of data: what each is called, takes and asks for.
 --
--- is_needed argument        == the argument must be given
+-- rule_of_taking takes name  == an argument that takes this, and need not be given, as `clap` has it
 -- rule_of_argument argument == the argument as `clap` has it
 -- app_with name arguments   == the command of this name and these arguments
 -- command_named name        == the command of this name, if there is one
@@ -11,29 +11,28 @@
 use Rattle.std.specs.Prelude.{◌≡◌, Bool, true, List, Option, Some, None, Result, MatchResult, codes, if◌then◌else◌}
 use Rattle.std.specs.List.{fold}
 use Rattle.std.specs.Str.{bytes_eq}
-use Rattle.clap.specs.Words.{App, Row, Rule, Text, new_app, with_rule}
+use Rattle.clap.specs.Words.{App, Row, Rule, Text, new_app, new_rule, with_rule}
 use Rattle.hpr_words.specs.Asked.{request}
-use Rattle.hpr_words.specs.Commands.{affected_app, edit_app, filled_list_rule, flag_rule, graph_app, integrate_app, list_rule, name_rule, number_rule, run_app, slice_app, tag_app, trial_app}
+use Rattle.hpr_words.specs.Commands.{affected_app, edit_app, flag_rule, graph_app, integrate_app, list_rule, number_rule, run_app, slice_app, tag_app, trial_app}
 use Rattle.hpr_words.specs.Request.{Request}
 use Rattle.hpr_words.specs.Taken.{affected_in, edit_in, graph_in, integrate_in, run_in, slice_in, tag_in, trial_in}
 use Rattle.hpr_words.specs.declared.arguments.Argument.{Argument}
-use Rattle.hpr_words.specs.declared.arguments.Argument.TheVariants.{FilledList, Flag, List as Words, Name, NeededNumber, Number}
+use Rattle.hpr_words.specs.declared.arguments.Takes.{Takes}
+use Rattle.hpr_words.specs.declared.arguments.Takes.TheVariants.{Nothing, Number, Word, Words}
 use Rattle.hpr_words.specs.declared.asked.Asked.{Asked}
 use Rattle.hpr_words.specs.declared.asked.WordsError.{WordsError}
 use Rattle.hpr_words.specs.declared.asked.WordsError.TheVariants.{Refused}
 use Rattle.hpr_words.specs.declared.commands.CommandName.{CommandName}
 use Rattle.hpr_words.specs.declared.commands.CommandName.TheVariants.{Affected, Edit, Graph, Integrate, Run, Slice, Tag, Trial}
 
-abbrev pub rule_of_argument : Argument → Rule
-rule_of_argument (Name id) = name_rule id.now
-rule_of_argument (Words id) = list_rule id.now
-rule_of_argument (FilledList id) = filled_list_rule id.now
-rule_of_argument (Number id most) = number_rule id.now most
-rule_of_argument (NeededNumber id most) = record (number_rule id.now most) { required = true }
-rule_of_argument (Flag id) = flag_rule id.now
+abbrev pub rule_of_taking : Takes → Text → Rule
+rule_of_taking Word id = new_rule id
+rule_of_taking Words id = list_rule id
+rule_of_taking (Number most) id = number_rule id most
+rule_of_taking Nothing id = flag_rule id
 
-abbrev pub is_needed : Argument → Bool
-is_needed argument = (rule_of_argument argument).required
+abbrev pub rule_of_argument : Argument → Rule
+rule_of_argument argument = record (rule_of_taking argument.takes argument.name.now) { required = argument.is_needed }
 
 abbrev pub app_with : Text → List Argument → App
 app_with name arguments = fold (λ app argument. with_rule app (rule_of_argument argument)) (new_app name) arguments
