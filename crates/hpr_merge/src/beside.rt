@@ -18,12 +18,23 @@ use std::marker::Model;
 /// compare their slices at many of them.
 ///
 /// A contract sees the two graphs.
-#[derive(Drop)]
 pub(crate) struct Beside<'a> {
     merged: &'a Graph,
     variant: &'a Graph,
     wide: Sources<'a>,
     narrow: Sources<'a>,
+}
+
+/// What was looked up is dropped in one call.
+impl Drop for Beside<'_> {
+    fn drop(self) {
+        let Beside {
+            merged: _,
+            variant: _,
+            wide: _,
+            narrow: _,
+        } = self;
+    }
 }
 
 impl<'a> Model for Beside<'a> {

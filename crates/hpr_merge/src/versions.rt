@@ -1,11 +1,17 @@
 //! Three versions of a program merged.
-ghost use Rattle.std.specs.Prelude.{IfOk};
+ghost use Rattle.std.specs.Prelude.{◌≡◌, ◌++◌, List, IfOk};
+ghost use Rattle.std.specs.Ordering.{nat_cmp};
+ghost use Rattle.hpr_graph.specs.declared.conflict.Conflict.{Conflict};
+ghost use Rattle.hpr_graph.specs.declared.conflict.Side.TheVariants as sides;
 ghost use Rattle.hpr_graph.specs.Graphs.{Same};
 ghost use Rattle.hpr_graph.specs.Numbered.{graph_in};
+ghost use Rattle.hpr_graph.specs.InOrder.{Ascends};
 ghost use Rattle.hpr_graph.specs.Slices.{slice_of};
 ghost use Rattle.hpr_graph.specs.Points.{IsAffected, IsPreserved, merged};
 ghost use Rattle.hpr_graph.specs.Conflicts.{AreConflicts};
 ghost use Rattle.hpr_affected.specs.Numbers.{AreNumbersOf};
+ghost use Rattle.hpr_slice.specs.Vertices.{IsOneOf};
+ghost use Rattle.hpr_merge.specs.SideConflicts.{AreSideConflicts};
 
 use crate::conflicts::conflicts_on;
 use hpr_affected::{affected, preserved};
@@ -40,19 +46,54 @@ pub fn merge(alloc: Global, base: &Graph, a: &Graph, b: &Graph) -> Result<Merged
 {
     let affected_a = affected(alloc, a, base)?;
     let affected_b = affected(alloc, b, base)?;
-    let part_a = slice(alloc, a, &affected_a)?;
-    let part_b = slice(alloc, b, &affected_b)?;
-    let shared = shared_part(alloc, base, a, b)?;
-    let graph = part_a.union(&part_b)?.union(&shared)?;
-    let mut conflicts = conflicts_on(alloc, Side::A, a, &affected_a, &graph)?;
-    let mut others = conflicts_on(alloc, Side::B, b, &affected_b, &graph)?;
-    conflicts.append(&mut others)?;
+    let graph = merged_graph(alloc, base, a, b, &affected_a, &affected_b)?;
+    let conflicts = both_conflicts(alloc, a, b, &affected_a, &affected_b, &graph)?;
     Ok(Merged {
         graph,
         affected_a,
         affected_b,
         conflicts,
     })
+}
+
+/// The merged graph, from the affected points of both variants.
+fn merged_graph(
+    alloc: Global,
+    base: &Graph,
+    a: &Graph,
+    b: &Graph,
+    affected_a: &[usize],
+    affected_b: &[usize],
+) -> Result<Graph, NoMemory>
+    requires a { AreNumbersOf a.now (IsAffected (graph_in a.now) (graph_in base.now)) affected_a.now }
+    requires b { AreNumbersOf b.now (IsAffected (graph_in b.now) (graph_in base.now)) affected_b.now }
+    ensures { IfOk result (λ g. Same (graph_in g) (merged (graph_in base.now) (graph_in a.now) (graph_in b.now))) }
+{
+    let part_a = slice(alloc, a, affected_a)?;
+    let part_b = slice(alloc, b, affected_b)?;
+    let shared = shared_part(alloc, base, a, b)?;
+    part_a.union(&part_b)?.union(&shared)
+}
+
+/// The conflicts of A at some of its points, and behind them those of B at some of its.
+fn both_conflicts(
+    alloc: Global,
+    a: &Graph,
+    b: &Graph,
+    points_a: &[usize],
+    points_b: &[usize],
+    graph: &Graph,
+) -> Result<Vec<Conflict>, NoMemory>
+    requires a { Ascends nat_cmp points_a.now }
+    requires b { Ascends nat_cmp points_b.now }
+    ensures { IfOk result (λ v. (cs ds : List Conflict) × (v.items ≡ cs ++ ds)
+        × AreSideConflicts (graph_in graph.now) (graph_in a.now) (IsOneOf a.now points_a.now) sides.A cs
+        × AreSideConflicts (graph_in graph.now) (graph_in b.now) (IsOneOf b.now points_b.now) sides.B ds) }
+{
+    let mut conflicts = conflicts_on(alloc, Side::A, a, points_a, graph)?;
+    let mut others = conflicts_on(alloc, Side::B, b, points_b, graph)?;
+    conflicts.append(&mut others)?;
+    Ok(conflicts)
 }
 
 /// The slice of the base at the preserved points.
