@@ -1,9 +1,9 @@
 -- Numbers and their places, levels, and the order that the edges of a graph ask of items.
-use Rattle.std.proofs.Common.{◌≡◌, ℕ, ◌+◌, ◌<◌, ◌≤◌, ◌⊎◌, ◌↔◌, inl, inr, Option, Some, None, List, [], ◌∷◌, ◌++◌, length, set, take, Contains, slice_get, refl, sym, ap, ◌∙◌, subst, arith}
+use Rattle.std.proofs.Common.{◌≡◌, ℕ, ◌+◌, ◌<◌, ◌≤◌, ◌⊎◌, ◌↔◌, inl, inr, Option, Some, None, List, [], ◌∷◌, ◌++◌, length, set, take, get_or, Contains, slice_get, refl, sym, ap, ◌∙◌, subst, arith}
 use Rattle.std.proofs.lemmas.Bool.{cases_eq}
 use Rattle.std.proofs.lemmas.List.{get_or-set_same, get_or-set_other, take_more}
 use Rattle.std.proofs.lemmas.List.Elements.{Contains-append_left, Contains-append_right, Contains-append_cases}
-use Rattle.std.proofs.lemmas.Option.{slice_get_within, get_or_from_slice_get}
+use Rattle.std.proofs.lemmas.Option.{slice_get_within, slice_get-get_or, get_or_from_slice_get}
 use Rattle.hpr_terms.specs.declared.tag.Tag.{Tag}
 use Rattle.hpr_syntax.specs.declared.rows.Content.{Content}
 use Rattle.hpr_graph.specs.declared.vertex.Vertex.{Vertex}
@@ -155,3 +155,9 @@ asked_more links index l s places e =
         | inr (d, a) ↦ (l, subst (λ z. Contains z l) (sym more) (Contains-append_right (take index links) (l ∷ []) l (in_first l [])), d, a)
       ]),
     )
+
+-- the number of a part is that of a vertex
+pub part_within : (g : Numbered) (numbers : List ℕ) → ArePartsOf g numbers → (k d : ℕ) → k < length numbers → get_or numbers k d < length g.vertices
+part_within g numbers parts k d l =
+    let (t, c, at) = parts.parts k (get_or numbers k d) (slice_get-get_or numbers k d l) in
+    slice_get_within g.vertices (get_or numbers k d) (Part t c) at

@@ -1,6 +1,7 @@
 //! The tables of the forest that the items make, with the order that is asked of siblings.
 ghost use Rattle.std.specs.Prelude.{◌≡◌, ℕ, ◌<◌, ◌↔◌, ◌⊎◌, true, false, Some, None, List, length, slice_get, Contains, IfOk, IfSome, IfNone, IsTrue, OnOk, vec_len, map, replicate};
 ghost use Rattle.hpr_graph.specs.Numbered.{graph_in};
+ghost use Rattle.hpr_forest.specs.Blocks.{row_at};
 ghost use Rattle.hpr_order.specs.Items.{AreItems, AreSlots, slot_at};
 ghost use Rattle.hpr_order.specs.Numbers.{ArePartsOf, AreItemsAt, AreAsked};
 ghost use Rattle.hpr_order.specs.Limits.{AreOrdersOf};
@@ -102,15 +103,51 @@ fn blocks_of(alloc: Global, items: &[Item], asked: &[Vec<bool>]) -> Result<Block
     requires siblings { AreMarkedSiblings items.now asked.now }
     ensures { IfOk result (λ b. AreTablesOf items.now asked.now b) }
 {
+    let parents = parents_of(alloc, items)?;
+    let children = child_rows(alloc, items)?;
+    let before = before_rows(alloc, items, asked)?;
+    Ok(Blocks::new(parents, children, before))
+}
+
+/// For each item the one under which it stands.
+fn parents_of(alloc: Global, items: &[Item]) -> Result<Vec<Option<usize>>, NoMemory>
+    ensures count { IfOk result (λ ps. vec_len ps ≡ length items.now) }
+    ensures parents { IfOk result (λ ps. (k : ℕ) → k < length items.now → slice_get ps.items k ≡ Some (parent_in items.now k)) }
+{
     let mut parents = Vec::new(alloc);
-    let mut children = Vec::new(alloc);
-    let mut before = Vec::new(alloc);
     for item in 0..items.len() {
         parents.push(parent_of(items, item))?;
-        children.push(children_of(alloc, items, item)?)?;
-        before.push(before_of(alloc, items, &asked[item], item)?)?;
     }
-    Ok(Blocks::new(parents, children, before))
+    Ok(parents)
+}
+
+/// For each item those that stand under it.
+fn child_rows(alloc: Global, items: &[Item]) -> Result<Vec<Vec<usize>>, NoMemory>
+    ensures count { IfOk result (λ rows. vec_len rows ≡ length items.now) }
+    ensures children { IfOk result (λ rows. (k : ℕ) → k < length items.now → (x : ℕ) → Contains (row_at (slice_get rows.items k)) x ↔ ((x < length items.now) × (parent_in items.now x ≡ Some k))) }
+{
+    let mut rows = Vec::new(alloc);
+    for item in 0..items.len() {
+        rows.push(children_of(alloc, items, item)?)?;
+    }
+    Ok(rows)
+}
+
+/// For each item those that must come before it.
+fn before_rows(
+    alloc: Global,
+    items: &[Item],
+    asked: &[Vec<bool>],
+) -> Result<Vec<Vec<usize>>, NoMemory>
+    requires { HasRows (length items.now) asked.now }
+    ensures count { IfOk result (λ rows. vec_len rows ≡ length items.now) }
+    ensures before { IfOk result (λ rows. (k : ℕ) → k < length items.now → (d : ℕ) → Contains (row_at (slice_get rows.items k)) d ↔ MustPrecede items.now (marks_in (slice_get asked.now k)) d k) }
+{
+    let mut rows = Vec::new(alloc);
+    for item in 0..items.len() {
+        rows.push(before_of(alloc, items, &asked[item], item)?)?;
+    }
+    Ok(rows)
 }
 
 /// The items that stand under an item.

@@ -1,11 +1,14 @@
-use Rattle.std.proofs.Common.{◌≡◌, ◌↔◌, ◌⊎◌, ℕ, sym, ap, subst, get_or, slice_get, Some, List, Contains}
+use Rattle.std.proofs.Common.{◌≡◌, ◌↔◌, ◌⊎◌, ℕ, sym, ap, subst, get_or, slice_get, Some, List, [], length, Contains, arith}
 use Rattle.std.proofs.lemmas.Option.{slice_get-get_or}
 use Rattle.hpr_graph.specs.declared.link.Link.{Link}
 use Rattle.hpr_graph.specs.Numbered.{row_items, row_of}
 use Rattle.hpr_order.specs.Numbers.{IsAskedBy}
-use Rattle.hpr_order.proofs.Marked.{asked_all}
+use Rattle.hpr_order.proofs.Marked.{asked_all, part_within}
 use Rattle.hpr_order.proofs.Steps.{pairs_more}
 use Rattle.hpr_order.proofs.numbers.asked_pairs.Goals as goal
+
+none_in : (p : ℕ × ℕ) → ¬ Contains [] p
+none_in p (i, l, e) = omega (arith, l)
 
 pub loop-place-preserved : goal.loop-place-preserved
 loop-place-preserved c =
@@ -21,3 +24,15 @@ pub returns : goal.returns
 returns c =
     asked_all c.args.graph.now c.vertices.ensures.numbered c.args.numbers.now c.requires.numbers c.in_ok-places.places.items c.in_ok-places.ensures c.args.items.now c.requires.items
     c.loop-place.pairs.items c.loop-place.place c.loop-place-test.false c.loop-place.invariant
+
+pub loop-place-init : goal.loop-place-init
+loop-place-init c = λ s t. (
+  λ h. absurd (none_in (s, t) (subst (λ (ps : List (ℕ × ℕ)). Contains ps (s, t)) c.new-pairs.ensures.items h)),
+  λ h. absurd (omega (arith, h.0)),
+)
+
+pub edges_into-requires : goal.edges_into-requires
+edges_into-requires c = part_within c.args.graph.now c.args.numbers.now c.requires.numbers c.loop-place.place 0 c.loop-place-test.true
+
+pub places_of-requires-clause-within : goal.places_of-requires-clause-within
+places_of-requires-clause-within c = λ k d l. omega (arith, part_within c.args.graph.now c.args.numbers.now c.requires.numbers k d l, ap length c.vertices.ensures.vertices)
