@@ -1,7 +1,7 @@
 -- What an option holds, members and places of lists, and lists in which nothing stands twice.
 use Rattle.std.proofs.Common.{◌≡◌, ◌≢◌, ℕ, zero, suc, ◌+◌, ◌<◌, ◌≤◌, ◌↔◌, ◌⊎◌, inl, inr, Option, Some, None, IsSome, List, [], ◌∷◌, ◌++◌, length, set, take, get_or, Contains, slice_get, refl, sym, ap, ◌∙◌, subst, arith, length-append}
 use Rattle.std.proofs.lemmas.Option.{slice_get-get_or, get_or_from_slice_get, slice_get_within}
-use Rattle.std.proofs.lemmas.List.{take_more}
+use Rattle.std.proofs.lemmas.List.{take_more, take_all}
 use Rattle.std.proofs.lemmas.List.Elements.{Contains-push, Contains-push_cases, Contains-append_left, Contains-append_right, Contains-append_cases}
 use Rattle.hpr_graph.specs.Graphs.{IsOnce}
 
@@ -30,6 +30,13 @@ module _ {X : Type 0} where
   -- what the code reads of a list that is another
   pub read_at : (xs ys : List X) (i : ℕ) (x : X) → xs ≡ ys → i < length xs → x ≡ get_or xs i x → slice_get ys i ≡ Some x
   read_at xs ys i x e l is = ap (λ zs. slice_get zs i) (sym e) ∙ slice_get-get_or xs i x l ∙ ap Some (sym is)
+
+  pub member_at : (xs : List X) (i : ℕ) (d : X) → i < length xs → Contains xs (get_or xs i d)
+  member_at xs i d l = contains_at xs i (get_or xs i d) (slice_get-get_or xs i d l)
+
+  -- the first i are all
+  pub taken_all : (xs : List X) (i : ℕ) (x : X) → length xs ≤ i → Contains xs x → Contains (take i xs) x
+  taken_all xs i x le = subst (λ (ys : List X). Contains ys x) (sym (take_all i xs le))
 
   pub in_none : (x : X) → ¬ Contains [] x
   in_none x h = omega (arith, h.1)

@@ -20,3 +20,10 @@ returns-clause-edges c =
     (λ there kept only.
     added_edges c.args.source.now c.args.target.now c.args.numbers.now c.requires.placed c.args.at c.args.to c.requires.number c.args.link c.in-Some.moved is
     c.push_new_link.new.self c.push_new_link.ensures.vertices there kept only)
+
+pub push_new_link-requires-clause-fresh : goal.push_new_link-requires-clause-fresh
+push_new_link-requires-clause-fresh c = λ there.
+    let is : moved c.args.numbers.now c.args.link ≡ Some c.in-Some.moved = sym c.in-Some.ensures in
+    let known = c.has_sorted.ensures.1 ((c.requires.known c.in-Some.moved is).1 there) in
+    let new = c.if-has_sorted.false in
+    absurd cc
