@@ -15,6 +15,7 @@ pub mod Ranked
 pub mod Climbs
 pub mod Built
 pub mod Marked
+pub mod Marking
 mod Rows
 mod Downs
 mod Leasts
