@@ -17,12 +17,23 @@ use std::marker::Model;
 /// A graph beside another, to compare their slices at many vertices.
 ///
 /// A contract sees the two graphs.
-#[derive(Drop)]
 pub(crate) struct Comparison<'a> {
     sources: Sources<'a>,
     others: Sources<'a>,
     there: OneWay,
     back: OneWay,
+}
+
+/// What was looked up is dropped in one call.
+impl Drop for Comparison<'_> {
+    fn drop(self) {
+        let Comparison {
+            sources: _,
+            others: _,
+            there: _,
+            back: _,
+        } = self;
+    }
 }
 
 impl<'a> Model for Comparison<'a> {

@@ -11,10 +11,19 @@ use std::alloc::Global;
 
 /// The vertices of a graph by their numbers in another, and for each the links into it that the other
 /// lacks.
-#[derive(Drop)]
 pub(crate) struct OneWay {
     pub(crate) numbers: Vec<Option<usize>>,
     pub(crate) rows: Vec<Vec<Link>>,
+}
+
+/// The numbers and the links are dropped in one call.
+impl Drop for OneWay {
+    fn drop(self) {
+        let OneWay {
+            numbers: _,
+            rows: _,
+        } = self;
+    }
 }
 
 /// What of the graph the other lacks. Looks each vertex up, and sorts the links into each.
