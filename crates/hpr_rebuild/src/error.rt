@@ -2,7 +2,7 @@
 use hpr_terms::NoMemory;
 
 /// Why there is no program with a graph.
-#[derive(Clone, Copy, Debug, PartialEq, Eq)]
+#[derive(Clone, Copy)]
 pub enum RebuildError {
     /// No program has the graph.
     NoProgram,
