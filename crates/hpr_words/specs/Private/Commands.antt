@@ -8,7 +8,7 @@
 -- app_of_command command    == the command as `clap` has it
 -- asked_in command rows     == the request of the command, whose arguments have these rows
 -- Reads asked result        == a result of what is asked for: that request, or refused where there is none, or want of memory
-use Rattle.std.specs.Prelude.{◌≡◌, Bool, true, List, Option, Some, None, Result, MatchResult, codes, if◌then◌else◌}
+use Rattle.std.specs.Prelude.{◌≡◌, List, Option, Some, None, Result, MatchResult, codes, if◌then◌else◌}
 use Rattle.std.specs.List.{fold}
 use Rattle.std.specs.Str.{bytes_eq}
 use Rattle.clap.specs.Words.{App, Row, Rule, Text, new_app, new_rule, with_rule}

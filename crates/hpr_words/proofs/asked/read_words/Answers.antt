@@ -3,7 +3,7 @@ use Rattle.std.proofs.lemmas.Option.{slice_get-map}
 use Rattle.std.specs.Option.{option_copied}
 use Rattle.clap.specs.Words.{found_of, is_simple_and_free, rows_of}
 use Rattle.hpr_words.specs.Private.Commands.{app_with}
-use Rattle.hpr_words.proofs.AskedLemmas.{reads_in_range, reads_refused, reads_taken, same_error, taken_not}
+use Rattle.hpr_words.proofs.AskedLemmas.{reads_in_range, reads_refused, reads_taken, same_error, taken_not, unnamed}
 use Rattle.hpr_words.proofs.NameLemmas.{is_simple, named_is}
 use Rattle.hpr_words.proofs.asked.read_words.Goals as goal
 
@@ -12,6 +12,11 @@ parse-requires c =
     let named = sym c.named.ensures ∙ c.in_ok-command.ensures.ok_part in
     let same = ap (λ name. app_with name c.arguments.result.now) (named_is c.as_str-name.result.now c.in_ok-command.command named) ∙ c.arguments.ensures in
     ap is_simple_and_free same ∙ is_simple c.in_ok-command.command
+
+pub returns-in_err-command-clause-refused : goal.returns-in_err-command-clause-refused
+returns-in_err-command-clause-refused c refused =
+    let first = slice_get-map string_bytes c.args.words.now 0 ∙ (ap (option_map string_bytes) (sym c.first.ensures.value ∙ ap option_copied c.in_ok-ok_or.ensures.ok_part) ∙ ap Some (sym c.as_str-name.ensures.value)) in
+    unnamed (map string_bytes c.args.words.now) c.as_str-name.result.now first (sym c.named.ensures ∙ c.in_err-command.ensures.ok_part)
 
 pub returns-in_err-matches-clause-refused : goal.returns-in_err-matches-clause-refused
 returns-in_err-matches-clause-refused c refused =
