@@ -117,18 +117,26 @@ fn write_stop<E: Sink>(stop: &Stop, err: &mut E) -> Status
     ensures status { result ≡ stop_status stop.now }
     ensures says { Says (stop_message stop.now) (record { before = E.faults err.old; now = E.faults err.new; old = E.taken err.old; new = E.taken err.new }) }
 {
+    write_message(message_of(stop), err);
+    status_of(stop)
+}
+
+fn message_of(stop: &Stop) -> &[u8]
+    ensures { result.now ≡ stop_message stop.now }
+{
     match stop {
-        Stop::Refused(message) => {
-            write_message(message.as_bytes(), err);
-            Status::Refused
-        }
-        Stop::ReadFault(message) => {
-            write_message(message.as_bytes(), err);
-            Status::ReadFault
-        }
-        Stop::Memory => {
-            write_message(b"hpr: no memory\n", err);
-            Status::Memory
-        }
+        Stop::Refused(message) => message.as_bytes(),
+        Stop::ReadFault(message) => message.as_bytes(),
+        Stop::Memory => b"hpr: no memory\n",
+    }
+}
+
+fn status_of(stop: &Stop) -> Status
+    ensures { result ≡ stop_status stop.now }
+{
+    match stop {
+        Stop::Refused(_) => Status::Refused,
+        Stop::ReadFault(_) => Status::ReadFault,
+        Stop::Memory => Status::Memory,
     }
 }
