@@ -1,5 +1,5 @@
 -- The derived comparisons of expressions against their codes.
-use Rattle.std.proofs.Common.{Some, ◌≡◌, ℕ, ◌==◌, ◌&&◌, Bool, true, false, List, [], ◌∷◌, refl, ap, sym, ◌∙◌}
+use Rattle.std.proofs.Common.{Option, Some, None, ◌≡◌, ℕ, ◌==◌, ◌&&◌, Bool, true, false, List, [], ◌∷◌, refl, ap, sym, ◌∙◌}
 use Rattle.std.specs.Cmp.Lexicographic.{slice_cmp, pointwise}
 use Rattle.std.specs.Ordering.{nat_cmp, ordering_then, partial_ordering_then}
 use Rattle.std.specs.declared.cmp.Ordering.{Ordering}
@@ -183,3 +183,30 @@ partial_codes (Infix op a b) (Infix op' a' b') =
     ∙ partial_then (nat_cmp (binary_rank op) (binary_rank op')) (ordering_then (order (code_of a) (code_of a')) (order (code_of b) (code_of b')))
     ∙ ap (λ r. Some (ordering_then (nat_cmp (binary_rank op) (binary_rank op')) r)) (sym (term_order a a' (term_code b []) (term_code b' [])))
 partial_codes _ _ = refl
+
+partial_then_assoc : (p x y : Option Ordering) → partial_ordering_then (partial_ordering_then p x) y ≡ partial_ordering_then p (partial_ordering_then x y)
+partial_then_assoc None x y = refl
+partial_then_assoc (Some Less) x y = refl
+partial_then_assoc (Some Equal) x y = refl
+partial_then_assoc (Some Greater) x y = refl
+
+-- what the derived order of expressions answers, from the answers at their parts
+abbrev pub part_order : Term → Term → Option Ordering
+part_order a b = Some (order (code_of a) (code_of b))
+
+pub prefix_partial : (op op' y y' : Unary) (a b : Term) (e f : Expr) (p r : Option Ordering) → e ≡ Prefix op a → f ≡ Prefix op' b
+    → p ≡ (unary_partials.ghosts).partial_cmp y y' → y ≡ op → y' ≡ op' → r ≡ partial_ordering_then p (part_order a b)
+    → r ≡ (partials.ghosts).partial_cmp e f
+prefix_partial op op' y y' a b e f p r is is' first yo yo' whole =
+    whole ∙ ap (λ x. partial_ordering_then x (part_order a b)) (first ∙ (λ i. (unary_partials.ghosts).partial_cmp (yo i) (yo' i)))
+    ∙ sym (λ i. (partials.ghosts).partial_cmp (is i) (is' i))
+
+pub infix_partial : (op op' y y' : Binary) (a b a' b' : Term) (e f : Expr) (p q r : Option Ordering) → e ≡ Infix op a b → f ≡ Infix op' a' b'
+    → p ≡ (binary_partials.ghosts).partial_cmp y y' → y ≡ op → y' ≡ op' → q ≡ partial_ordering_then p (part_order a a')
+    → r ≡ partial_ordering_then q (part_order b b')
+    → r ≡ (partials.ghosts).partial_cmp e f
+infix_partial op op' y y' a b a' b' e f p q r is is' first yo yo' second whole =
+    whole
+    ∙ ap (λ x. partial_ordering_then x (part_order b b')) (second ∙ ap (λ x. partial_ordering_then x (part_order a a')) (first ∙ (λ i. (binary_partials.ghosts).partial_cmp (yo i) (yo' i))))
+    ∙ partial_then_assoc ((binary_partials.ghosts).partial_cmp op op') (part_order a a') (part_order b b')
+    ∙ sym (λ i. (partials.ghosts).partial_cmp (is i) (is' i))
