@@ -4,7 +4,7 @@ ghost use Rattle.hpr_syntax.specs.Shape.{IsProgram};
 ghost use Rattle.hpr_graph.specs.Answer.{IsWithoutConflict, merged_of};
 ghost use Rattle.hpr_graph.specs.Conflicts.{AreConflicts};
 ghost use Rattle.hpr_graph.specs.Graphs.{Same};
-ghost use Rattle.hpr_graph.specs.Numbered.{graph_in};
+ghost use Rattle.hpr_graph.specs.Numbered.{IsNumbered, graph_in};
 ghost use Rattle.hpr_graph.specs.ProgramGraph.{graph_of};
 ghost use Rattle.hpr_engine.specs.Limit.{AreInLimit, HasTooManyEdges};
 ghost use Rattle.hpr_meaning.specs.UnionLaw.{KeepsSides};
@@ -57,6 +57,7 @@ pub fn merge_programs(
 /// The graph of a program, which is named where it has too many edges.
 fn limited_graph(alloc: Global, program: &Program, which: Which) -> Result<Graph, Stop>
     ensures graph { IfOk result (λ g. Same (graph_in g) (graph_of program.now)) }
+    ensures numbered { IfOk result (λ g. IsNumbered g) }
     ensures program { IfOk result (λ _. IsProgram program.now) }
     ensures within { IfOk result (λ _. ¬ HasTooManyEdges program.now) }
     ensures too_many { IfTooManyEdges result (λ named. (named ≡ which) × HasTooManyEdges program.now) }
@@ -65,7 +66,10 @@ fn limited_graph(alloc: Global, program: &Program, which: Which) -> Result<Graph
 {
     let _body = program.body();
     match graph_of(alloc, program, MOST_EDGES) {
-        Ok(graph) => Ok(graph),
+        Ok(graph) => {
+            let _vertices = graph.vertices();
+            Ok(graph)
+        }
         Err(BuildError::TooManyEdges) => Err(Stop::TooManyEdges(which)),
         Err(BuildError::Memory) => Err(Stop::Memory),
     }

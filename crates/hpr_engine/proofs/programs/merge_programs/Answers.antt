@@ -28,8 +28,8 @@ returns-then-is_empty-clause-kept c =
     kept c.args.base.now c.args.a.now c.args.b.now base a b c.in_ok-merged.merged.graph
     c.in_ok-base_graph.ensures.graph c.in_ok-a_graph.ensures.graph c.in_ok-b_graph.ensures.graph
     c.in_ok-base_graph.ensures.program c.in_ok-a_graph.ensures.program c.in_ok-b_graph.ensures.program
-    (subst IsNumbered c.base_graph.view_is c.base_graph.invariant.numbered) (subst IsNumbered c.a_graph.view_is c.a_graph.invariant.numbered)
-    (subst IsNumbered c.b_graph.view_is c.b_graph.invariant.numbered) c.vertices-vertices.ensures.numbered c.in_ok-merged.ensures.graph
+    c.in_ok-base_graph.ensures.numbered c.in_ok-a_graph.ensures.numbered c.in_ok-b_graph.ensures.numbered
+    c.vertices-vertices.ensures.numbered c.in_ok-merged.ensures.graph
     (none_listed (graph_in base) (graph_in a) (graph_in b) cs (nil_from_length cs (grind (arith, c.is_empty.ensures, c.if-is_empty.true))) c.in_ok-merged.ensures.conflicts)
 
 pub returns-clause-conflicts : goal.returns-clause-conflicts
