@@ -8,10 +8,16 @@ use std::alloc::{AllocError, Global};
 use std::marker::Model;
 
 /// For each number from 0 on the numbers to which a step leads from it.
-#[derive(Drop)]
 pub(crate) struct Rows {
     rows: Vec<Vec<usize>>,
     alloc: Global,
+}
+
+/// Rows are dropped in one call.
+impl Drop for Rows {
+    fn drop(self) {
+        let Rows { rows: _, alloc: _ } = self;
+    }
 }
 
 impl Model for Rows {

@@ -15,11 +15,21 @@ use std::marker::Model;
 /// for any number of searches.
 ///
 /// A contract sees the graph.
-#[derive(Drop)]
 pub struct Sources<'a> {
     graph: &'a Graph,
     rows: Rows,
     alloc: Global,
+}
+
+/// Sources are dropped in one call.
+impl Drop for Sources<'_> {
+    fn drop(self) {
+        let Sources {
+            graph: _,
+            rows: _,
+            alloc: _,
+        } = self;
+    }
 }
 
 impl<'a> Model for Sources<'a> {
