@@ -23,6 +23,7 @@ pub fn graph_json(alloc: Global, graph: &Graph) -> Result<Vec<u8>, NoMemory>
     ensures { IfOk result (λ text. IsGraphJson (graph_in graph.now) text.items) }
 {
     let graph = graph.in_order()?;
+    let _vertices = graph.vertices();
     let value = graph_value(alloc, &graph)?;
     let mut out = value.to_vec(alloc)?;
     out.push(b'\n')?;

@@ -1,4 +1,4 @@
-use Rattle.std.proofs.Common.{◌≡◌, ◌++◌, List, false, ap, ◌∙◌, codes, subst}
+use Rattle.std.proofs.Common.{◌≡◌, ◌++◌, List, false, ap, ◌∙◌, codes}
 use Rattle.serde_json.specs.View.{view}
 use Rattle.serde_json.specs.Written.{compact_text, has_float}
 use Rattle.hpr_graph.specs.declared.edge.Edge.{Edge}
@@ -13,7 +13,7 @@ pub returns : goal.returns
 returns c =
     let g = c.in_ok-graph.graph in
     let es : List Edge = edges_of g in
-    let numbered : IsNumbered g = subst IsNumbered c.graph.view_is c.graph.invariant.numbered in
+    let numbered : IsNumbered g = c.vertices-vertices.ensures.numbered in
     let are : AreEdgesOf (graph_in c.args.graph.now) es = edges_reordered c.args.graph.now g numbered (c.in_ok-graph.ensures).same (c.in_ok-graph.ensures).vertices (c.in_ok-graph.ensures).rows in
     let is : view c.in_ok-value.value ≡ graph_data g.vertices es = c.in_ok-value.ensures in
     let whole : has_float (view c.in_ok-value.value) ≡ false = ap has_float is ∙ graph_whole g.vertices es in
