@@ -1,78 +1,113 @@
 //! Calls of hpr_words.
+use crate::put::{Out, put, put_count, truth};
 use crate::row::Row;
 use hpr_words::{Asked, WordsError, read_words};
-use std::alloc::Global;
 
-// The words, each in brackets.
-fn listed(alloc: Global, words: &[&str]) -> Option<String> {
-    let mut out = String::new(alloc);
+// Puts the words, each in brackets.
+fn put_list(out: &mut Out, words: &[&str]) {
     for word in words {
-        let piece = format!(in alloc; " [{word}]").ok()?;
-        out.push_str(piece.as_str()).ok()?;
+        out.put_piece(" [");
+        out.put_piece(word);
+        out.put_piece("]");
     }
-    Some(out)
 }
 
-// The commands that read variants.
-fn variants(alloc: Global, asked: &Asked<'_>) -> Option<String> {
+// Puts a command and its files.
+fn put_files(out: &mut Out, command: &str, files: &[&str]) {
+    out.put_piece(command);
+    put_list(out, files);
+}
+
+fn put_integrate(out: &mut Out, files: &[&str], tries: u64) {
+    put_files(out, "integrate", files);
+    put_count(out, ", tries ", tries);
+}
+
+fn put_affected(out: &mut Out, files: &[&str]) {
+    put_files(out, "affected", files);
+    out.put_piece("\n");
+}
+
+fn put_trial(out: &mut Out, files: &[&str], states: &[&str], steps: u64) {
+    put_files(out, "trial", files);
+    put_files(out, ", states", states);
+    put_count(out, ", steps ", steps);
+}
+
+// Puts a command that reads variants.
+fn put_variants(out: &mut Out, asked: &Asked<'_>) {
     match asked {
-        Asked::Integrate { base, a, b, tries } => format!(in alloc;
-            "integrate [{base}] [{a}] [{b}], tries {tries}\n"
-        ).ok(),
-        Asked::Affected { base, a } => format!(in alloc; "affected [{base}] [{a}]\n").ok(),
+        Asked::Integrate { base, a, b, tries } => put_integrate(out, &[base, a, b], *tries),
+        Asked::Affected { base, a } => put_affected(out, &[base, a]),
         Asked::Trial {
             base,
             a,
             b,
             states,
             steps,
-        } => {
-            let states = listed(alloc, states)?;
-            format!(in alloc; "trial [{base}] [{a}] [{b}], states{states}, steps {steps}\n").ok()
-        }
-        _ => one_file(alloc, asked),
+        } => put_trial(out, &[base, a, b], states, *steps),
+        _ => put_one_file(out, asked),
     }
 }
 
-// The commands that show one file.
-fn one_file(alloc: Global, asked: &Asked<'_>) -> Option<String> {
+fn put_run(out: &mut Out, file: &str, states: &[&str], steps: u64, trace: bool) {
+    put_files(out, "run", &[file]);
+    put_files(out, ", states", states);
+    out.put_piece(", steps ");
+    out.put_number(steps);
+    put(out, &[", trace ", truth(trace), "\n"]);
+}
+
+fn put_graph(out: &mut Out, file: &str, json: bool) {
+    put_files(out, "graph", &[file]);
+    put(out, &[", json ", truth(json), "\n"]);
+}
+
+fn put_slice(out: &mut Out, file: &str, points: &[&str]) {
+    put_files(out, "slice", &[file]);
+    put_files(out, ", points", points);
+    out.put_piece("\n");
+}
+
+// Puts a command that shows one file.
+fn put_one_file(out: &mut Out, asked: &Asked<'_>) {
     match asked {
         Asked::Run {
             file,
             states,
             steps,
             trace,
-        } => {
-            let states = listed(alloc, states)?;
-            format!(in alloc; "run [{file}], states{states}, steps {steps}, trace {trace}\n").ok()
-        }
-        Asked::Graph { file, json } => format!(in alloc; "graph [{file}], json {json}\n").ok(),
-        Asked::Slice { file, points } => {
-            let points = listed(alloc, points)?;
-            format!(in alloc; "slice [{file}], points{points}\n").ok()
-        }
-        _ => changing(alloc, asked),
+        } => put_run(out, file, states, *steps, *trace),
+        Asked::Graph { file, json } => put_graph(out, file, *json),
+        Asked::Slice { file, points } => put_slice(out, file, points),
+        _ => put_change(out, asked),
     }
 }
 
-// The commands that change a file.
-fn changing(alloc: Global, asked: &Asked<'_>) -> Option<String> {
+fn put_author(out: &mut Out, command: &str, files: &[&str], author: u32) {
+    put_files(out, command, files);
+    put_count(out, ", author ", u64::from(author));
+}
+
+// Puts a command that changes a file.
+fn put_change(out: &mut Out, asked: &Asked<'_>) {
     match asked {
         Asked::Edit {
             file,
             script,
             author,
-        } => format!(in alloc; "edit [{file}] [{script}], author {author}\n").ok(),
-        Asked::Tag { file, author } => format!(in alloc; "tag [{file}], author {author}\n").ok(),
-        _ => None,
+        } => put_author(out, "edit", &[file, script], *author),
+        Asked::Tag { file, author } => put_author(out, "tag", &[file], *author),
+        _ => out.put_piece("another command\n"),
     }
 }
 
 /// `WORD..`: what the words ask for.
-pub(crate) fn call(alloc: Global, row: Row<'_>) -> Option<String> {
-    match read_words(alloc, row.rest(1)) {
-        Ok(asked) => variants(alloc, &asked),
-        Err(WordsError::Refused) => String::from_str(alloc, "refused\n").ok(),
-        Err(WordsError::Memory) => None,
+pub(crate) fn call(row: Row<'_>, out: &mut Out) -> Option<()> {
+    match read_words(row.alloc, row.rest(1)) {
+        Ok(asked) => put_variants(out, &asked),
+        Err(WordsError::Refused) => out.put_piece("refused\n"),
+        Err(WordsError::Memory) => out.cut(),
     }
+    Some(())
 }

@@ -2,57 +2,58 @@
 ghost use Rattle.std.specs.Prelude.{◌≡◌, ◌≤◌, ℕ, OnOk};
 ghost use Rattle.hpr_syntax.specs.Issued.{issued_to};
 
-use crate::row::{Row, string};
+use crate::put::{Out, put_count, put_message};
+use crate::row::Row;
+use crate::text::put_program;
 use hpr_edit::{Command, EditError, Editor};
-use hpr_print::text_of;
 use hpr_refusals::{Refusal, apply_script};
 use hpr_script::{ScriptError, read_script};
-use hpr_syntax::Program;
 use std::alloc::Global;
 
 /// Answers the call.
-pub(crate) fn call(alloc: Global, row: Row<'_>) -> Option<String> {
+pub(crate) fn call(row: Row<'_>, out: &mut Out) -> Option<()> {
     match row.word(1)? {
-        "script" => script(alloc, row),
-        "apply" => applied(alloc, row),
-        "back" => taken_back(alloc, row),
-        _ => None,
+        "script" => script(row, out),
+        _ => edit(row, out),
     }
 }
 
 // `script TEXT`: how many commands it has.
-fn script(alloc: Global, row: Row<'_>) -> Option<String> {
-    match read_script(alloc, row.bytes(2)?) {
-        Ok(commands) => format!(in alloc; "commands {}\n", commands.len()).ok(),
-        Err(ScriptError::Syntax { place }) => Refusal::Syntax { place }
-            .message(alloc, row.word(2)?)
-            .ok(),
-        Err(ScriptError::Memory) => None,
+fn script(row: Row<'_>, out: &mut Out) -> Option<()> {
+    let name = row.word(2)?;
+    let bytes = row.bytes(2)?;
+    match read_script(row.alloc, bytes) {
+        Ok(commands) => put_count(out, "commands ", commands.len() as u64),
+        Err(ScriptError::Syntax { place }) => {
+            put_message(out, Refusal::Syntax { place }.message(row.alloc, name))
+        }
+        Err(ScriptError::Memory) => out.cut(),
     }
+    Some(())
 }
 
-fn edited(
-    alloc: Global,
-    program: Program,
-    commands: &[Command],
-    author: u32,
-    name: &str,
-) -> Option<String> {
-    if author == 0 {
-        return None;
-    }
-    match apply_script(alloc, program, commands, author) {
-        Ok(edited) => string(text_of(alloc, &edited).ok()?),
-        Err(refusal) => refusal.message(alloc, name).ok(),
+// The calls of a program, a script and an author.
+fn edit(row: Row<'_>, out: &mut Out) -> Option<()> {
+    let bytes = row.bytes(3)?;
+    let commands = read_script(row.alloc, bytes).ok()?;
+    match row.word(1)? {
+        "apply" => applied(row, out, &commands),
+        _ => taken_back(row, out, &commands),
     }
 }
 
 // `apply PROGRAM SCRIPT AUTHOR`: the program that the commands make of it.
-fn applied(alloc: Global, row: Row<'_>) -> Option<String> {
-    let author = row.word(4)?.parse().ok()?;
-    let commands = read_script(alloc, row.bytes(3)?).ok()?;
-    let program = row.program(alloc, 2)?;
-    edited(alloc, program, &commands, author, row.word(3)?)
+fn applied(row: Row<'_>, out: &mut Out, commands: &[Command]) -> Option<()> {
+    let name = row.word(3)?;
+    let author = row.author(4)?;
+    if author == 0 {
+        return None;
+    }
+    match apply_script(row.alloc, row.program(2)?, commands, author) {
+        Ok(edited) => put_program(row.alloc, out, &edited),
+        Err(refusal) => put_message(out, refusal.message(row.alloc, name)),
+    }
+    Some(())
 }
 
 // Carries out the commands in their order, puts the text of what they make, and takes them back from the
@@ -61,7 +62,7 @@ fn there_and_back(
     alloc: Global,
     editor: &mut Editor,
     commands: &[Command],
-    out: &mut Vec<u8>,
+    out: &mut Out,
 ) -> Result<(), EditError>
     ensures body { OnOk result (editor.new.program.body ≡ editor.old.program.body) }
     ensures finals { OnOk result (editor.new.program.finals ≡ editor.old.program.finals) }
@@ -76,39 +77,26 @@ fn there_and_back(
                 Err(_) => return Err(EditError::Memory),
             }
         }
-        None => put_program(alloc, editor, out),
+        None => {
+            put_program(alloc, out, editor.program());
+            Ok(())
+        }
     }
 }
 
-fn put_program(alloc: Global, editor: &Editor, out: &mut Vec<u8>) -> Result<(), EditError> {
-    let text = text_of(alloc, editor.program())?;
-    match out.extend_from_slice(&text) {
-        Ok(()) => Ok(()),
-        Err(_) => Err(EditError::Memory),
-    }
-}
-
-fn there_and_back_text(
-    alloc: Global,
-    program: Program,
-    commands: &[Command],
-    author: u32,
-) -> Option<String> {
-    if author == 0 {
-        return None;
-    }
-    let mut editor = Editor::start(program, author);
-    let mut out = Vec::new(alloc);
-    there_and_back(alloc, &mut editor, commands, &mut out).ok()?;
-    put_program(alloc, &editor, &mut out).ok()?;
-    string(out)
+fn back(alloc: Global, out: &mut Out, editor: &mut Editor, commands: &[Command]) -> Option<()> {
+    there_and_back(alloc, editor, commands, out).ok()?;
+    put_program(alloc, out, editor.program());
+    Some(())
 }
 
 // `back PROGRAM SCRIPT AUTHOR`: the program that the commands make of it, and what is left where they are
 // taken back.
-fn taken_back(alloc: Global, row: Row<'_>) -> Option<String> {
-    let author = row.word(4)?.parse().ok()?;
-    let commands = read_script(alloc, row.bytes(3)?).ok()?;
-    let program = row.program(alloc, 2)?;
-    there_and_back_text(alloc, program, &commands, author)
+fn taken_back(row: Row<'_>, out: &mut Out, commands: &[Command]) -> Option<()> {
+    let author = row.author(4)?;
+    if author == 0 {
+        return None;
+    }
+    let mut editor = Editor::start(row.program(2)?, author);
+    back(row.alloc, out, &mut editor, commands)
 }

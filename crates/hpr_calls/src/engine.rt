@@ -1,41 +1,49 @@
 //! Calls of hpr_engine on three programs.
-use crate::row::{Row, string};
-use hpr_engine::{Program, Stop, integrate};
-use hpr_print::text_of;
+use crate::put::{Out, put, put_counted, put_made};
+use crate::row::Row;
+use crate::text::put_program;
+use hpr_engine::{Program, Stop, Which, integrate};
 use hpr_report::conflicts_text;
 use std::alloc::Global;
 
-fn stopped(alloc: Global, stop: &Stop) -> Option<String> {
-    match stop {
-        Stop::TooManyEdges(which) => format!(in alloc; "too many edges in {which:?}\n").ok(),
-        Stop::Interference(conflicts) => string(conflicts_text(alloc, conflicts).ok()?),
-        Stop::NoProgram(parts) => format!(in alloc; "no program of {parts} parts\n").ok(),
-        Stop::Spent => String::from_str(alloc, "spent\n").ok(),
-        Stop::Memory => None,
+fn which(program: Which) -> &'static str {
+    match program {
+        Which::Base => "Base",
+        Which::A => "A",
+        Which::B => "B",
     }
 }
 
-fn integrated(
-    alloc: Global,
-    base: &Program,
-    a: &Program,
-    b: &Program,
-    tries: u64,
-) -> Option<String> {
+fn put_stop(alloc: Global, out: &mut Out, stop: &Stop) {
+    match stop {
+        Stop::TooManyEdges(program) => put(out, &["too many edges in ", which(*program), "\n"]),
+        Stop::Interference(conflicts) => put_made(out, conflicts_text(alloc, conflicts)),
+        Stop::NoProgram(parts) => {
+            put_counted(out, "no program of ", *parts);
+            out.put_piece(" parts\n");
+        }
+        Stop::Spent => out.put_piece("spent\n"),
+        Stop::Memory => out.cut(),
+    }
+}
+
+fn answer(alloc: Global, out: &mut Out, programs: &[Program], tries: u64) -> Option<()> {
+    let [base, a, b] = programs else {
+        return None;
+    };
     if tries == 0 {
         return None;
     }
     match integrate(alloc, base, a, b, tries) {
-        Ok(merged) => string(text_of(alloc, &merged).ok()?),
-        Err(stop) => stopped(alloc, &stop),
+        Ok(merged) => put_program(alloc, out, &merged),
+        Err(stop) => put_stop(alloc, out, &stop),
     }
+    Some(())
 }
 
 /// `BASE A B TRIES`: the integration of two variants with their base.
-pub(crate) fn call(alloc: Global, row: Row<'_>) -> Option<String> {
-    let tries = row.word(4)?.parse().ok()?;
-    let base = row.program(alloc, 1)?;
-    let a = row.program(alloc, 2)?;
-    let b = row.program(alloc, 3)?;
-    integrated(alloc, &base, &a, &b, tries)
+pub(crate) fn call(row: Row<'_>, out: &mut Out) -> Option<()> {
+    let tries = row.count(4)?;
+    let programs = row.programs(1, 4)?;
+    answer(row.alloc, out, &programs, tries)
 }

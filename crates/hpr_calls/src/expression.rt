@@ -1,74 +1,95 @@
 //! Calls of hpr_expressions, of the expressions of hpr_terms, and of `eval`.
-use crate::row::{Row, string};
+use crate::put::{Out, put_comparison, put_count, put_made};
+use crate::row::Row;
 use crate::state::read_state;
 use hpr_expressions::Reading;
 use hpr_print::expr_text;
-use hpr_run::{Fault, eval};
+use hpr_run::{Fault, State, eval};
 use hpr_scan::{Refusal, read};
 use hpr_terms::Expr;
 use std::alloc::Global;
-use std::cmp::Ordering;
 
 /// Answers the call.
-pub(crate) fn call(alloc: Global, row: Row<'_>) -> Option<String> {
+pub(crate) fn call(row: Row<'_>, out: &mut Out) -> Option<()> {
     match row.word(1)? {
-        "show" => show(alloc, row.bytes(2)?),
-        "compare" => compare(alloc, row),
-        "eval" => value(alloc, row),
+        "show" => show(row, out),
+        "compare" => compare(row, out),
+        "eval" => value(row, out),
         _ => None,
     }
 }
 
-fn expression(alloc: Global, bytes: &[u8]) -> Option<Expr> {
-    let reading = read(alloc, Reading::start(alloc), bytes).ok()?;
-    reading.ended(alloc).ok()
+fn put_expression(alloc: Global, out: &mut Out, expr: &Expr) {
+    put_made(out, expr_text(alloc, expr));
+    out.put_piece("\n");
 }
 
-fn shown(alloc: Global, reading: Reading) -> Option<String> {
-    let expr = reading.ended(alloc).ok()?;
-    let text = string(expr_text(alloc, &expr).ok()?)?;
-    format!(in alloc; "{text}\n").ok()
+fn put_read(alloc: Global, out: &mut Out, reading: Reading) {
+    match reading.ended(alloc) {
+        Ok(expr) => put_expression(alloc, out, &expr),
+        Err(_) => out.cut(),
+    }
 }
 
 // `show TEXT`: the expression in its canonical form.
-fn show(alloc: Global, bytes: &[u8]) -> Option<String> {
-    match read(alloc, Reading::start(alloc), bytes) {
-        Ok(reading) => shown(alloc, reading),
-        Err(Refusal::Stuck { place }) => format!(in alloc; "stuck at {place}\n").ok(),
-        Err(Refusal::Memory) => None,
+fn show(row: Row<'_>, out: &mut Out) -> Option<()> {
+    let bytes = row.bytes(2)?;
+    match read(row.alloc, Reading::start(row.alloc), bytes) {
+        Ok(reading) => put_read(row.alloc, out, reading),
+        Err(Refusal::Stuck { place }) => put_count(out, "stuck at ", place as u64),
+        Err(Refusal::Memory) => out.cut(),
+    }
+    Some(())
+}
+
+fn reading(row: Row<'_>, at: usize) -> Option<Reading> {
+    let bytes = row.bytes(at)?;
+    read(row.alloc, Reading::start(row.alloc), bytes).ok()
+}
+
+fn expression(row: Row<'_>, at: usize) -> Option<Expr> {
+    reading(row, at)?.ended(row.alloc).ok()
+}
+
+fn is_copied(alloc: Global, expr: &Expr) -> bool {
+    match expr.copy(alloc) {
+        Ok(copy) => copy.is_same(expr),
+        Err(_) => false,
     }
 }
 
-/// An ordering as a word.
-pub(crate) fn order_word(order: Ordering) -> &'static str {
-    match order {
-        Ordering::Less => "less",
-        Ordering::Equal => "equal",
-        Ordering::Greater => "greater",
-    }
-}
-
-fn compared(alloc: Global, one: &Expr, other: &Expr) -> Option<String> {
-    let copied = one.copy(alloc).ok()?.is_same(one);
-    let order = order_word(one.cmp(other));
-    let same = one.is_same(other);
-    format!(in alloc; "{order}, same {same}, copied {copied}\n").ok()
+fn compared(row: Row<'_>, out: &mut Out, one: &Expr) -> Option<()> {
+    let copied = is_copied(row.alloc, one);
+    let other = expression(row, 3)?;
+    put_comparison(out, one.cmp(&other), one.is_same(&other), copied);
+    Some(())
 }
 
 // `compare TEXT TEXT`: the order of two expressions.
-fn compare(alloc: Global, row: Row<'_>) -> Option<String> {
-    let one = expression(alloc, row.bytes(2)?)?;
-    let other = expression(alloc, row.bytes(3)?)?;
-    compared(alloc, &one, &other)
+fn compare(row: Row<'_>, out: &mut Out) -> Option<()> {
+    let one = expression(row, 2)?;
+    compared(row, out, &one)
+}
+
+fn put_value(out: &mut Out, expr: &Expr, state: &State) {
+    match eval(expr, state) {
+        Ok(value) => {
+            out.put_value(value);
+            out.put_piece("\n");
+        }
+        Err(Fault::Overflow) => out.put_piece("overflow\n"),
+        Err(Fault::ZeroDivide) => out.put_piece("zero-divide\n"),
+    }
+}
+
+fn value_in(row: Row<'_>, out: &mut Out, expr: &Expr) -> Option<()> {
+    let state = read_state(row, 3)?;
+    put_value(out, expr, &state);
+    Some(())
 }
 
 // `eval TEXT STATE..`: the value.
-fn value(alloc: Global, row: Row<'_>) -> Option<String> {
-    let expr = expression(alloc, row.bytes(2)?)?;
-    let state = read_state(alloc, row.rest(3))?;
-    match eval(&expr, &state) {
-        Ok(value) => format!(in alloc; "{value}\n").ok(),
-        Err(Fault::Overflow) => String::from_str(alloc, "overflow\n").ok(),
-        Err(Fault::ZeroDivide) => String::from_str(alloc, "zero-divide\n").ok(),
-    }
+fn value(row: Row<'_>, out: &mut Out) -> Option<()> {
+    let expr = expression(row, 2)?;
+    value_in(row, out, &expr)
 }

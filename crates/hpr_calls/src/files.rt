@@ -1,26 +1,54 @@
 //! Calls of the sinks of hpr_io.
+use crate::put::{Out, put, put_bytes, put_counted};
 use crate::row::Row;
 use hpr_io::{MemorySink, PutError, Sink, put_all};
-use std::alloc::Global;
 
-/// Answers the call.
-pub(crate) fn call(alloc: Global, row: Row<'_>) -> Option<String> {
-    match row.word(1)? {
-        "put" => put(alloc, row),
-        "put-all" => put_whole(alloc, row),
-        _ => None,
-    }
+/// Answers the call: `put STEP ROOM FAILING PIECE..` says what each put answers, and what the sink took;
+/// `put-all` says the same, where all of each piece is put.
+pub(crate) fn call(row: Row<'_>, out: &mut Out) -> Option<()> {
+    let whole = row.word(1)? == "put-all";
+    let mut sink = sink(row)?;
+    put_answers(row, out, &mut sink, whole);
+    put_taken(out, sink.bytes());
+    Some(())
 }
 
-// The numbers of the calls that fail: `-`, or numbers with commas between them.
-fn failing(alloc: Global, word: &str) -> Option<Vec<u64>> {
-    let mut numbers = Vec::new(alloc);
-    if word != "-" {
-        for number in word.split(',') {
-            numbers.push(number.parse().ok()?).ok()?;
+fn push_number(numbers: &mut Vec<u64>, word: &str) -> Option<()> {
+    numbers.push(word.parse().ok()?).ok()
+}
+
+// Adds the numbers of the calls that fail: `-`, or numbers with commas between them.
+fn add_failing(failing: &mut Vec<u64>, word: &str) -> Option<()> {
+    if word == "-" {
+        return Some(());
+    }
+    for number in word.split(',') {
+        push_number(failing, number)?;
+    }
+    Some(())
+}
+
+// The sink of `STEP ROOM FAILING`.
+fn sink(row: Row<'_>) -> Option<MemorySink> {
+    let step = row.number(2)?;
+    let room = row.number(3)?;
+    if step == 0 {
+        return None;
+    }
+    let mut failing = Vec::new(row.alloc);
+    add_failing(&mut failing, row.word(4)?)?;
+    MemorySink::new(row.alloc, step, room, failing).ok()
+}
+
+fn put_answers(row: Row<'_>, out: &mut Out, sink: &mut MemorySink, whole: bool) {
+    out.put_piece("puts");
+    for word in row.rest(5) {
+        if whole {
+            put_whole(out, put_all(sink, piece(word.as_str())));
+        } else {
+            put_part(out, sink.put(piece(word.as_str())));
         }
     }
-    Some(numbers)
 }
 
 // A piece: `.` is the empty one.
@@ -31,58 +59,22 @@ fn piece(word: &str) -> &[u8] {
     word.as_bytes()
 }
 
-fn put_answer(alloc: Global, out: &mut String, answer: Result<usize, PutError>) -> Option<()> {
+fn put_part(out: &mut Out, answer: Result<usize, PutError>) {
     match answer {
-        Ok(taken) => {
-            let word = format!(in alloc; " {taken}").ok()?;
-            out.push_str(word.as_str()).ok()
-        }
-        Err(PutError::Failed) => out.push_str(" failed").ok(),
+        Ok(taken) => put_counted(out, " ", taken),
+        Err(PutError::Failed) => out.put_piece(" failed"),
     }
 }
 
-fn put_whole_answer(out: &mut String, answer: Result<(), PutError>) -> Option<()> {
+fn put_whole(out: &mut Out, answer: Result<(), PutError>) {
     match answer {
-        Ok(()) => out.push_str(" all").ok(),
-        Err(PutError::Failed) => out.push_str(" failed").ok(),
+        Ok(()) => out.put_piece(" all"),
+        Err(PutError::Failed) => out.put_piece(" failed"),
     }
 }
 
-// The sink of `STEP ROOM FAILING`.
-fn sink(alloc: Global, row: Row<'_>) -> Option<MemorySink> {
-    let step = row.number(2)?;
-    let room = row.number(3)?;
-    let failing = failing(alloc, row.word(4)?)?;
-    if step == 0 {
-        return None;
-    }
-    MemorySink::new(alloc, step, room, failing).ok()
-}
-
-fn put_taken(out: &mut String, bytes: &[u8]) -> Option<()> {
-    out.push_str(": ").ok()?;
-    out.push_str(std::str::from_utf8(bytes).ok()?).ok()?;
-    out.push('\n').ok()
-}
-
-// `put STEP ROOM FAILING PIECE..`: what each put answers, and what the sink took.
-fn put(alloc: Global, row: Row<'_>) -> Option<String> {
-    let mut sink = sink(alloc, row)?;
-    let mut out = String::from_str(alloc, "puts").ok()?;
-    for word in row.rest(5) {
-        put_answer(alloc, &mut out, sink.put(piece(word.as_str())))?;
-    }
-    put_taken(&mut out, sink.bytes())?;
-    Some(out)
-}
-
-// `put-all STEP ROOM FAILING PIECE..`: the same, where all of each piece is put.
-fn put_whole(alloc: Global, row: Row<'_>) -> Option<String> {
-    let mut sink = sink(alloc, row)?;
-    let mut out = String::from_str(alloc, "puts").ok()?;
-    for word in row.rest(5) {
-        put_whole_answer(&mut out, put_all(&mut sink, piece(word.as_str())))?;
-    }
-    put_taken(&mut out, sink.bytes())?;
-    Some(out)
+fn put_taken(out: &mut Out, bytes: &[u8]) {
+    out.put_piece(": ");
+    put_bytes(out, bytes);
+    out.put_piece("\n");
 }

@@ -1,12 +1,14 @@
 //! Calls of hpr_forest.
 ghost use Rattle.std.specs.Prelude.{◌≡◌, ℕ, Contains, IfOk};
 
-use crate::row::{Row, number_line};
+use crate::put::{Out, put_numbers};
+use crate::row::Row;
 use hpr_forest::{Blocks, Orders};
 use std::alloc::{AllocError, Global};
 
 /// `free`, or which item comes before which: the first six orders.
-pub(crate) fn call(alloc: Global, row: Row<'_>) -> Option<String> {
+pub(crate) fn call(row: Row<'_>, out: &mut Out) -> Option<()> {
+    let alloc = row.alloc;
     let blocks = match row.word(1)? {
         "free" => forest(alloc, false, false, false),
         "2-1" => forest(alloc, false, true, false),
@@ -14,7 +16,7 @@ pub(crate) fn call(alloc: Global, row: Row<'_>) -> Option<String> {
         "2-1,1-2" => forest(alloc, false, true, true),
         _ => return None,
     };
-    orders(alloc, blocks.ok()?)
+    put_orders(alloc, out, blocks.ok()?)
 }
 
 /// A row with the item, or an empty one.
@@ -49,19 +51,18 @@ fn forest(
     Ok(Blocks::new(parents, children, before))
 }
 
-fn put_order(alloc: Global, out: &mut String, order: &[usize]) -> Option<()> {
-    let line = number_line(alloc, "order", order)?;
-    out.push_str(line.as_str()).ok()
+fn put_next(out: &mut Out, orders: &mut Orders) -> Option<()> {
+    match orders.next_one().ok()? {
+        Some(order) => put_numbers(out, "order", &order),
+        None => out.put_piece("no more\n"),
+    }
+    Some(())
 }
 
-fn orders(alloc: Global, blocks: Blocks) -> Option<String> {
+fn put_orders(alloc: Global, out: &mut Out, blocks: Blocks) -> Option<()> {
     let mut orders = Orders::start(alloc, blocks).ok()?;
-    let mut out = String::new(alloc);
     for _ in 0..6 {
-        match orders.next_one().ok()? {
-            Some(order) => put_order(alloc, &mut out, &order)?,
-            None => out.push_str("no more\n").ok()?,
-        }
+        put_next(out, &mut orders)?;
     }
-    Some(out)
+    Some(())
 }

@@ -1,142 +1,170 @@
 //! Calls of hpr_graph and hpr_build on graphs, with their reports.
 ghost use Rattle.std.specs.Prelude.{◌<◌, length};
 
-use crate::expression::order_word;
-use crate::row::{Row, string};
-use crate::spelled::{graph, link, vertex};
-use crate::tree::content_string;
+use crate::put::{Out, order_word, put, put_count, put_counted, put_made, put_tag, truth};
+use crate::row::Row;
+use crate::spelled::{graph, graphs, link, vertex};
+use crate::tree::put_content;
 use hpr_build::{BuildError, graph_of};
 use hpr_graph::{Graph, Link, LinkKind, Vertex, compare_vertices, same_vertex};
 use hpr_report::{graph_json, graph_text};
+use hpr_syntax::{Content, Program};
+use hpr_terms::{NoMemory, Tag};
 use std::alloc::Global;
 
 /// Answers the call.
-pub(crate) fn call(alloc: Global, row: Row<'_>) -> Option<String> {
+pub(crate) fn call(row: Row<'_>, out: &mut Out) -> Option<()> {
     match row.word(1)? {
-        "build" => build(alloc, row),
-        "add" => add(alloc, row.text(2)?),
-        "links" => are_links(alloc, row),
-        "keep" => keep(alloc, row),
-        "union" => union(alloc, row),
-        "same" => same(alloc, row),
-        "compare" => compare(alloc, row.text(2)?),
-        _ => shown(alloc, row),
+        "build" => build(row, out),
+        "add" => add(row, out),
+        "compare" => compare(row, out),
+        "union" | "same" => both(row, out),
+        _ => one(row, out),
+    }
+}
+
+// The calls of one graph.
+fn one(row: Row<'_>, out: &mut Out) -> Option<()> {
+    let graph = graph(row, 2)?;
+    match row.word(1)? {
+        "links" => are_links(row, out, &graph),
+        "keep" => keep(row, out, &graph),
+        _ => shown(row, out, &graph),
     }
 }
 
 // The calls that show one graph.
-fn shown(alloc: Global, row: Row<'_>) -> Option<String> {
-    let graph = graph(alloc, row, 2)?;
+fn shown(row: Row<'_>, out: &mut Out, graph: &Graph) -> Option<()> {
     match row.word(1)? {
-        "text" => string(graph_text(alloc, &graph).ok()?),
-        "json" => string(graph_json(alloc, &graph).ok()?),
-        "rows" => rows(alloc, &graph),
-        "order" => rows(alloc, &graph.in_order().ok()?),
-        _ => None,
-    }
-}
-
-/// A vertex as a graph's text spells it.
-pub(crate) fn vertex_line(alloc: Global, vertex: &Vertex) -> Option<String> {
-    match vertex {
-        Vertex::Entry => String::from_str(alloc, "entry").ok(),
-        Vertex::Init(name) => format!(in alloc; "init {}", name.text()).ok(),
-        Vertex::Part(tag, content) => {
-            let content = content_string(alloc, content)?;
-            format!(in alloc; "part {}.{} {content}", tag.author, tag.serial).ok()
-        }
-        Vertex::Final(name) => format!(in alloc; "final {}", name.text()).ok(),
-    }
-}
-
-fn link_text(alloc: Global, link: Link) -> Option<String> {
-    let from = link.from;
-    match link.kind {
-        LinkKind::Control(label) => format!(in alloc; ", {from} control {label}").ok(),
-        LinkKind::Independent => format!(in alloc; ", {from} independent").ok(),
-        LinkKind::Carried(by) => format!(in alloc; ", {from} carried {by}").ok(),
-        LinkKind::Order(used) => format!(in alloc; ", {from} order {used}").ok(),
-    }
-}
-
-fn put_links(alloc: Global, out: &mut String, links: &[Link]) -> Option<()> {
-    for link in links {
-        let word = link_text(alloc, *link)?;
-        out.push_str(word.as_str()).ok()?;
-    }
-    out.push('\n').ok()
-}
-
-// The vertex with this number, and the edges into it.
-fn put_vertex(alloc: Global, out: &mut String, graph: &Graph, at: usize) -> Option<()>
-    requires { at < length graph.now.vertices }
-{
-    let line = vertex_line(alloc, graph.vertex(at))?;
-    out.push_str(line.as_str()).ok()?;
-    put_links(alloc, out, graph.edges_into(at))
-}
-
-// Each vertex in the order of the numbers, with the edges into it by numbers.
-fn rows(alloc: Global, graph: &Graph) -> Option<String> {
-    let mut out = String::new(alloc);
-    for at in 0..graph.vertex_count() {
-        put_vertex(alloc, &mut out, graph, at)?;
-    }
-    Some(out)
-}
-
-/// How large a graph is.
-pub(crate) fn counts(alloc: Global, graph: &Graph) -> Option<String> {
-    let vertices = graph.vertex_count();
-    let edges = graph.edge_count();
-    format!(in alloc; "vertices {vertices}, edges {edges}\n").ok()
-}
-
-// `build PROGRAM MOST`: the size of a graph that may have so many edges.
-fn build(alloc: Global, row: Row<'_>) -> Option<String> {
-    let program = row.program(alloc, 2)?;
-    match graph_of(alloc, &program, row.number(3)?) {
-        Ok(graph) => counts(alloc, &graph),
-        Err(BuildError::TooManyEdges) => String::from_str(alloc, "too many edges\n").ok(),
-        Err(BuildError::Memory) => None,
-    }
-}
-
-fn add_vertices(alloc: Global, out: &mut String, graph: &mut Graph, lines: &str) -> Option<()> {
-    for line in lines.lines() {
-        let number = graph.add_vertex(vertex(alloc, line)?).ok()?;
-        let word = format!(in alloc; " {number}").ok()?;
-        out.push_str(word.as_str()).ok()?;
+        "text" => put_graph(row.alloc, out, graph),
+        "json" => put_made(out, graph_json(row.alloc, graph)),
+        "rows" => put_rows(row.alloc, out, graph),
+        _ => put_ordered(row.alloc, out, graph),
     }
     Some(())
 }
 
-// `add VERTICES`: the numbers of vertices that are added to an empty graph, and its size.
-fn add(alloc: Global, lines: &str) -> Option<String> {
-    let mut graph = Graph::empty(alloc);
-    let mut out = String::from_str(alloc, "numbers").ok()?;
-    add_vertices(alloc, &mut out, &mut graph, lines)?;
-    let counts = counts(alloc, &graph)?;
-    out.push_str(", ").ok()?;
-    out.push_str(counts.as_str()).ok()?;
-    Some(out)
+fn put_ordered(alloc: Global, out: &mut Out, graph: &Graph) {
+    match graph.in_order() {
+        Ok(ordered) => put_rows(alloc, out, &ordered),
+        Err(_) => out.cut(),
+    }
 }
 
-fn put_bool(alloc: Global, out: &mut String, value: bool) -> Option<()> {
-    let word = format!(in alloc; " {value}").ok()?;
-    out.push_str(word.as_str()).ok()
+/// Puts the text of a graph.
+pub(crate) fn put_graph(alloc: Global, out: &mut Out, graph: &Graph) {
+    put_made(out, graph_text(alloc, graph));
+}
+
+fn put_part(alloc: Global, out: &mut Out, tag: Tag, content: &Content) {
+    out.put_piece("part ");
+    put_tag(out, tag);
+    out.put_piece(" ");
+    put_content(alloc, out, content);
+}
+
+/// Puts a vertex as a row spells it.
+pub(crate) fn put_vertex(alloc: Global, out: &mut Out, vertex: &Vertex) {
+    match vertex {
+        Vertex::Entry => out.put_piece("entry"),
+        Vertex::Init(name) => put(out, &["init ", name.text()]),
+        Vertex::Part(tag, content) => put_part(alloc, out, *tag, content),
+        Vertex::Final(name) => put(out, &["final ", name.text()]),
+    }
+}
+
+fn put_kind(out: &mut Out, kind: LinkKind) {
+    match kind {
+        LinkKind::Control(label) => put(out, &[" control ", truth(label)]),
+        LinkKind::Independent => out.put_piece(" independent"),
+        LinkKind::Carried(by) => put_counted(out, " carried ", by),
+        LinkKind::Order(used) => put_counted(out, " order ", used),
+    }
+}
+
+fn put_links(out: &mut Out, links: &[Link]) {
+    for link in links {
+        put_counted(out, ", ", link.from);
+        put_kind(out, link.kind);
+    }
+    out.put_piece("\n");
+}
+
+// Puts the vertex with this number, and the edges into it.
+fn put_row(alloc: Global, out: &mut Out, graph: &Graph, at: usize)
+    requires { at < length graph.now.vertices }
+{
+    put_vertex(alloc, out, graph.vertex(at));
+    put_links(out, graph.edges_into(at));
+}
+
+// Puts each vertex in the order of the numbers, with the edges into it by numbers.
+fn put_rows(alloc: Global, out: &mut Out, graph: &Graph) {
+    for at in 0..graph.vertex_count() {
+        put_row(alloc, out, graph, at);
+    }
+}
+
+/// Puts how large a graph is.
+pub(crate) fn put_counts(out: &mut Out, graph: &Graph) {
+    put_counted(out, "vertices ", graph.vertex_count());
+    put_count(out, ", edges ", graph.edge_count() as u64);
+}
+
+fn put_built(alloc: Global, out: &mut Out, program: &Program, most: usize) {
+    match graph_of(alloc, program, most) {
+        Ok(graph) => put_counts(out, &graph),
+        Err(BuildError::TooManyEdges) => out.put_piece("too many edges\n"),
+        Err(BuildError::Memory) => out.cut(),
+    }
+}
+
+// `build PROGRAM MOST`: the size of a graph that may have so many edges.
+fn build(row: Row<'_>, out: &mut Out) -> Option<()> {
+    let most = row.number(3)?;
+    let program = row.program(2)?;
+    put_built(row.alloc, out, &program, most);
+    Some(())
+}
+
+fn add_vertex(alloc: Global, out: &mut Out, graph: &mut Graph, line: &str) -> Option<()> {
+    let number = graph.add_vertex(vertex(alloc, line)?).ok()?;
+    put_counted(out, " ", number);
+    Some(())
+}
+
+fn add_vertices(alloc: Global, out: &mut Out, graph: &mut Graph, lines: &str) -> Option<()> {
+    out.put_piece("numbers");
+    for line in lines.lines() {
+        add_vertex(alloc, out, graph, line)?;
+    }
+    out.put_piece(", ");
+    put_counts(out, graph);
+    Some(())
+}
+
+// `add VERTICES`: the numbers of vertices that are added to an empty graph, and its size.
+fn add(row: Row<'_>, out: &mut Out) -> Option<()> {
+    let lines = row.text(2)?;
+    let mut graph = Graph::empty(row.alloc);
+    add_vertices(row.alloc, out, &mut graph, lines)
+}
+
+fn is_link(out: &mut Out, graph: &Graph, line: &str) -> Option<()> {
+    let (to, link) = link(line)?;
+    put(out, &[" ", truth(graph.is_link(to, link))]);
+    Some(())
 }
 
 // `links GRAPH LINKS`: which links are edges between vertices of the graph.
-fn are_links(alloc: Global, row: Row<'_>) -> Option<String> {
-    let graph = graph(alloc, row, 2)?;
-    let mut out = String::from_str(alloc, "links").ok()?;
-    for line in row.text(3)?.lines() {
-        let (to, link) = link(line)?;
-        put_bool(alloc, &mut out, graph.is_link(to, link))?;
+fn are_links(row: Row<'_>, out: &mut Out, graph: &Graph) -> Option<()> {
+    let lines = row.text(3)?;
+    out.put_piece("links");
+    for line in lines.lines() {
+        is_link(out, graph, line)?;
     }
-    out.push('\n').ok()?;
-    Some(out)
+    out.put_piece("\n");
+    Some(())
 }
 
 fn marks(alloc: Global, word: &str) -> Option<Vec<bool>> {
@@ -147,67 +175,95 @@ fn marks(alloc: Global, word: &str) -> Option<Vec<bool>> {
     Some(marks)
 }
 
-fn kept(alloc: Global, graph: &Graph, marks: &[bool]) -> Option<Graph> {
+fn put_kept(alloc: Global, out: &mut Out, graph: &Graph, marks: &[bool]) {
     if marks.len() == graph.vertex_count() {
-        return graph.restrict(marks).ok();
+        put_new(alloc, out, graph.restrict(marks));
     }
-    None
+}
+
+/// Puts the text of a graph that was made.
+pub(crate) fn put_new(alloc: Global, out: &mut Out, made: Result<Graph, NoMemory>) {
+    match made {
+        Ok(graph) => put_graph(alloc, out, &graph),
+        Err(_) => out.cut(),
+    }
 }
 
 // `keep GRAPH MARKS`: the graph of the marked vertices.
-fn keep(alloc: Global, row: Row<'_>) -> Option<String> {
-    let graph = graph(alloc, row, 2)?;
-    let marks = marks(alloc, row.word(3)?)?;
-    let kept = kept(alloc, &graph, &marks)?;
-    string(graph_text(alloc, &kept).ok()?)
+fn keep(row: Row<'_>, out: &mut Out, graph: &Graph) -> Option<()> {
+    let marks = marks(row.alloc, row.word(3)?)?;
+    put_kept(row.alloc, out, graph, &marks);
+    Some(())
 }
 
-// `union GRAPH GRAPH`: both together.
-fn union(alloc: Global, row: Row<'_>) -> Option<String> {
-    let one = graph(alloc, row, 2)?;
-    let other = graph(alloc, row, 3)?;
-    let both = one.union(&other).ok()?;
-    string(graph_text(alloc, &both).ok()?)
+fn put_same(out: &mut Out, one: &Graph, other: &Graph) {
+    let there = truth(one.same(other));
+    let back = truth(other.same(one));
+    put(out, &["same ", there, " ", back, "\n"]);
 }
 
-// `same GRAPH GRAPH`: whether both have the same vertices and edges.
-fn same(alloc: Global, row: Row<'_>) -> Option<String> {
-    let one = graph(alloc, row, 2)?;
-    let other = graph(alloc, row, 3)?;
-    let there = one.same(&other);
-    let back = other.same(&one);
-    format!(in alloc; "same {there} {back}\n").ok()
+fn of_two(row: Row<'_>, out: &mut Out, graphs: &[Graph]) -> Option<()> {
+    let [one, other] = graphs else {
+        return None;
+    };
+    match row.word(1)? {
+        "same" => put_same(out, one, other),
+        _ => put_new(row.alloc, out, one.union(other)),
+    }
+    Some(())
+}
+
+// `union GRAPH GRAPH`: both together; `same GRAPH GRAPH`: whether both have the same vertices and edges.
+fn both(row: Row<'_>, out: &mut Out) -> Option<()> {
+    let graphs = graphs(row, 2, 4)?;
+    of_two(row, out, &graphs)
+}
+
+fn push_vertex(alloc: Global, vertices: &mut Vec<Vertex>, line: &str) -> Option<()> {
+    vertices.push(vertex(alloc, line)?).ok()
 }
 
 fn vertices(alloc: Global, lines: &str) -> Option<Vec<Vertex>> {
     let mut vertices = Vec::new(alloc);
     for line in lines.lines() {
-        vertices.push(vertex(alloc, line)?).ok()?;
+        push_vertex(alloc, &mut vertices, line)?;
     }
     Some(vertices)
 }
 
-fn put_order(alloc: Global, out: &mut String, one: &Vertex, other: &Vertex) -> Option<()> {
-    let copied = same_vertex(&one.copy(alloc).ok()?, other);
-    let order = order_word(compare_vertices(one, other));
-    let sign = if copied { "same" } else { order };
-    out.push(' ').ok()?;
-    out.push_str(sign).ok()
+fn is_copied(alloc: Global, one: &Vertex, other: &Vertex) -> bool {
+    match one.copy(alloc) {
+        Ok(copy) => same_vertex(&copy, other),
+        Err(_) => false,
+    }
 }
 
-fn put_orders(alloc: Global, out: &mut String, one: &Vertex, others: &[Vertex]) -> Option<()> {
+fn put_order(alloc: Global, out: &mut Out, one: &Vertex, other: &Vertex) {
+    let order = order_word(compare_vertices(one, other));
+    let sign = if is_copied(alloc, one, other) {
+        "same"
+    } else {
+        order
+    };
+    put(out, &[" ", sign]);
+}
+
+fn put_orders(alloc: Global, out: &mut Out, one: &Vertex, others: &[Vertex]) {
     for other in others {
-        put_order(alloc, out, one, other)?;
+        put_order(alloc, out, one, other);
     }
-    out.push('\n').ok()
+    out.put_piece("\n");
+}
+
+fn put_all_orders(alloc: Global, out: &mut Out, vertices: &[Vertex]) {
+    for one in vertices {
+        put_orders(alloc, out, one, vertices);
+    }
 }
 
 // `compare VERTICES`: for each vertex how it stands to each of them.
-fn compare(alloc: Global, lines: &str) -> Option<String> {
-    let vertices = vertices(alloc, lines)?;
-    let mut out = String::new(alloc);
-    for one in &vertices {
-        put_orders(alloc, &mut out, one, &vertices)?;
-    }
-    Some(out)
+fn compare(row: Row<'_>, out: &mut Out) -> Option<()> {
+    let vertices = vertices(row.alloc, row.text(2)?)?;
+    put_all_orders(row.alloc, out, &vertices);
+    Some(())
 }

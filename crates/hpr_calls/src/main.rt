@@ -14,6 +14,7 @@ mod graph;
 mod lines;
 mod orders;
 mod point;
+mod put;
 mod row;
 mod running;
 mod search;
@@ -25,87 +26,89 @@ mod text;
 mod tree;
 mod walk;
 
-use crate::lines::{add_line, add_repeated, begin};
+use crate::lines::take_line;
+use crate::put::{Out, put};
 use crate::row::{Row, Text};
 use std::alloc::Global;
 use std::io;
 
+fn push_word(alloc: Global, words: &mut Vec<String>, word: &str) -> Option<()> {
+    words.push(String::from_str(alloc, word).ok()?).ok()
+}
+
 fn words_of(alloc: Global, line: &str) -> Option<Vec<String>> {
     let mut words = Vec::new(alloc);
     for word in line.split(' ') {
-        words.push(String::from_str(alloc, word).ok()?).ok()?;
+        push_word(alloc, &mut words, word)?;
     }
     Some(words)
 }
 
-// What the call with these words answers.
-fn answer(alloc: Global, row: Row<'_>) -> Option<String> {
+// Puts what the call with these words answers.
+fn answer(row: Row<'_>, out: &mut Out) -> Option<()> {
     match row.word(0)? {
-        "text" => text::call(alloc, row),
-        "expression" => expression::call(alloc, row),
-        "tree" => tree::call(alloc, row),
-        "term" => term::call(alloc, row),
-        "run" => running::call(alloc, row),
-        "point" => point::call(alloc, row),
-        _ => graph_answer(alloc, row),
+        "text" => text::call(row, out),
+        "expression" => expression::call(row, out),
+        "tree" => tree::call(row, out),
+        "term" => term::call(row, out),
+        "run" => running::call(row, out),
+        "point" => point::call(row, out),
+        "graph" => graph::call(row, out),
+        "slice" => slices::call(row, out),
+        _ => further_answer(row, out),
     }
 }
 
-// The calls of the layers that know graphs, and of those around the programs.
-fn graph_answer(alloc: Global, row: Row<'_>) -> Option<String> {
+// The calls of the upper layers, of those around the programs, and of the lowest.
+fn further_answer(row: Row<'_>, out: &mut Out) -> Option<()> {
     match row.word(0)? {
-        "graph" => graph::call(alloc, row),
-        "slice" => slices::call(alloc, row),
-        "order" => orders::call(alloc, row),
-        "integrate" => engine::call(alloc, row),
-        "edit" => edits::call(alloc, row),
-        "file" => files::call(alloc, row),
-        "words" => asking::call(alloc, row),
-        "search" => search::call(alloc, row),
-        "walk" => walk::call(alloc, row),
-        "forest" => forest::call(alloc, row),
+        "order" => orders::call(row, out),
+        "integrate" => engine::call(row, out),
+        "edit" => edits::call(row, out),
+        "file" => files::call(row, out),
+        "words" => asking::call(row, out),
+        "search" => search::call(row, out),
+        "walk" => walk::call(row, out),
+        "forest" => forest::call(row, out),
         _ => None,
     }
 }
 
-fn answer_line(alloc: Global, texts: &[Text], line: &str) -> Option<String> {
+fn answer_line(alloc: Global, texts: &[Text], out: &mut Out, line: &str) -> Option<()> {
     let words = words_of(alloc, line)?;
-    answer(
+    let row = Row {
         alloc,
-        Row {
-            words: &words,
-            texts,
-        },
-    )
+        words: &words,
+        texts,
+    };
+    answer(row, out)
 }
 
-// Takes a line that spells texts.
-fn take_line(alloc: Global, texts: &mut Vec<Text>, line: &str) -> Option<()> {
-    let (mark, rest) = line.split_once(' ')?;
-    match mark {
-        "@" => begin(alloc, texts, rest),
-        "+" => add_line(texts, rest),
-        "*" => add_repeated(alloc, texts, rest),
-        _ => None,
+fn take(alloc: Global, texts: &mut Vec<Text>, out: &mut Out, line: &str) -> Option<()> {
+    if line.starts_with("# ") {
+        *texts = Vec::new(alloc);
+        put(out, &[line, "\n"]);
+        return Some(());
+    }
+    match line.strip_prefix("$ ") {
+        Some(words) => answer_line(alloc, texts, out, words),
+        None => take_line(alloc, texts, line),
     }
 }
 
 fn main(rt: HostRuntime) -> io::Result<()> {
     let alloc = rt.alloc();
-    let mut texts: Vec<Text> = Vec::new(alloc);
+    let mut texts = Vec::new(alloc);
+    let mut out = Out::new(alloc);
     for line in rt.lines(alloc) {
         let line = line?;
-        if line.starts_with("# ") {
-            texts = Vec::new(alloc);
-            println!(rt; "{line}")?;
-        } else if let Some(words) = line.strip_prefix("$ ") {
-            match answer_line(alloc, &texts, words) {
-                Some(text) => print!(rt; "{text}")?,
-                None => println!(rt; "bad row")?,
-            }
-        } else if take_line(alloc, &mut texts, line.as_str()).is_none() {
-            println!(rt; "bad row")?;
+        if take(alloc, &mut texts, &mut out, line.as_str()).is_none() {
+            println!(rt; "bad row: {line}")?;
         }
     }
-    Ok(())
+    if out.is_cut() {
+        println!(rt; "memory ran out")?;
+    }
+    let text = out.text();
+    print!(rt; "{text}")
 }

@@ -7,87 +7,118 @@ ghost use Rattle.hpr_order.specs.Arranging.{IsPreorderOf};
 ghost use Rattle.hpr_order.specs.Regions.{AreRegionsOf};
 ghost use Rattle.hpr_rebuild.specs.Parts.{IsIssuedPart};
 
-use crate::graph::vertex_line;
-use crate::row::{Row, string};
-use crate::spelled::graph;
+use crate::graph::put_vertex;
+use crate::put::{Out, put, put_counted, put_tag, truth};
+use crate::row::Row;
+use crate::spelled::{graph, graphs};
+use crate::text::put_program;
 use hpr_graph::{Graph, Vertex};
+use hpr_merge::merge;
 use hpr_order::{Arrangements, OrderError, RegionTree, arrange, rank, regions};
-use hpr_print::text_of;
 use hpr_rebuild::{RebuildError, rebuild};
 use hpr_syntax::{Issued, Program};
 use hpr_terms::NoMemory;
 use std::alloc::Global;
 
 /// Answers the call.
-pub(crate) fn call(alloc: Global, row: Row<'_>) -> Option<String> {
+pub(crate) fn call(row: Row<'_>, out: &mut Out) -> Option<()> {
     match row.word(1)? {
-        "rank" => ranked(alloc, row),
-        "regions" => region_lines(alloc, &graph(alloc, row, 2)?),
-        "arrangements" => arrangements(alloc, row),
-        "arrange" => arranged(alloc, &graph(alloc, row, 2)?),
-        "rebuild" => found(alloc, row),
-        _ => None,
+        "rank" => ranked(row, out),
+        "merged" => merged(row, out),
+        _ => of_graph(row, out),
     }
 }
 
-fn put_line(alloc: Global, out: &mut String, vertex: &Vertex) -> Option<()> {
-    let line = vertex_line(alloc, vertex)?;
-    out.push_str(line.as_str()).ok()?;
-    out.push('\n').ok()
+// The calls of one graph.
+fn of_graph(row: Row<'_>, out: &mut Out) -> Option<()> {
+    let graph = graph(row, 2)?;
+    match row.word(1)? {
+        "regions" => put_regions(row.alloc, out, &graph),
+        "rebuild" => found(row, out, &graph)?,
+        _ => in_regions(row, out, &graph)?,
+    }
+    Some(())
+}
+
+fn put_vertices(alloc: Global, out: &mut Out, vertices: &[Vertex]) {
+    for vertex in vertices {
+        put_vertex(alloc, out, vertex);
+        out.put_piece("\n");
+    }
+}
+
+fn rank_of(alloc: Global, out: &mut Out, programs: &[Program]) -> Option<()> {
+    let [a, b, base] = programs else {
+        return None;
+    };
+    let vertices = rank(alloc, a, b, base).ok()?;
+    put_vertices(alloc, out, &vertices);
+    Some(())
 }
 
 // `rank A B BASE`: the parts by their rank.
-fn ranked(alloc: Global, row: Row<'_>) -> Option<String> {
-    let a = row.program(alloc, 2)?;
-    let b = row.program(alloc, 3)?;
-    let base = row.program(alloc, 4)?;
-    let vertices = rank(alloc, &a, &b, &base).ok()?;
-    let mut out = String::new(alloc);
-    for vertex in &vertices {
-        put_line(alloc, &mut out, vertex)?;
-    }
-    Some(out)
+fn ranked(row: Row<'_>, out: &mut Out) -> Option<()> {
+    let programs = row.programs(2, 5)?;
+    rank_of(row.alloc, out, &programs)
 }
 
-fn parents(alloc: Global, graph: &Graph, tree: &RegionTree) -> Option<String>
+fn put_parent(out: &mut Out, parent: Option<(usize, bool)>) {
+    match parent {
+        Some((source, label)) => {
+            put_counted(out, " ", source);
+            put(out, &[" ", truth(label), ","]);
+        }
+        None => out.put_piece(" none,"),
+    }
+}
+
+fn put_parents(out: &mut Out, graph: &Graph, tree: &RegionTree)
     requires { AreRegionsOf graph.now tree.now }
 {
-    let mut out = String::from_str(alloc, "parents").ok()?;
+    out.put_piece("parents");
     for at in 0..graph.vertex_count() {
-        put_parent(alloc, &mut out, tree.parent(at))?;
+        put_parent(out, tree.parent(at));
     }
-    out.push('\n').ok()?;
-    Some(out)
+    out.put_piece("\n");
 }
 
-fn put_parent(alloc: Global, out: &mut String, parent: Option<(usize, bool)>) -> Option<()> {
-    let word = match parent {
-        Some((source, label)) => format!(in alloc; " {source} {label},").ok()?,
-        None => String::from_str(alloc, " none,").ok()?,
-    };
-    out.push_str(word.as_str()).ok()
-}
-
-fn refusal(alloc: Global, error: &OrderError) -> Option<String> {
+fn put_refusal(alloc: Global, out: &mut Out, error: &OrderError) {
     match error {
-        OrderError::TwoContents(tag) => format!(in alloc;
-            "two contents of {}.{}\n",
-            tag.author, tag.serial
-        ).ok(),
-        OrderError::Impossible(vertex) => {
-            let line = vertex_line(alloc, vertex)?;
-            format!(in alloc; "impossible: {line}\n").ok()
+        OrderError::TwoContents(tag) => {
+            out.put_piece("two contents of ");
+            put_tag(out, *tag);
+            out.put_piece("\n");
         }
-        OrderError::Memory => None,
+        OrderError::Impossible(vertex) => {
+            out.put_piece("impossible: ");
+            put_vertex(alloc, out, vertex);
+            out.put_piece("\n");
+        }
+        OrderError::Memory => out.cut(),
     }
 }
 
 // `regions GRAPH`: what each vertex stands under, or why there is no tree.
-fn region_lines(alloc: Global, graph: &Graph) -> Option<String> {
+fn put_regions(alloc: Global, out: &mut Out, graph: &Graph) {
     match regions(alloc, graph) {
-        Ok(tree) => parents(alloc, graph, &tree),
-        Err(error) => refusal(alloc, &error),
+        Ok(tree) => put_parents(out, graph, &tree),
+        Err(error) => put_refusal(alloc, out, &error),
     }
+}
+
+fn merged_of(alloc: Global, out: &mut Out, graphs: &[Graph]) -> Option<()> {
+    let [base, a, b] = graphs else {
+        return None;
+    };
+    let merged = merge(alloc, base, a, b).ok()?;
+    put_regions(alloc, out, &merged.graph);
+    Some(())
+}
+
+// `merged BASE A B`: the same of the merged graph.
+fn merged(row: Row<'_>, out: &mut Out) -> Option<()> {
+    let graphs = graphs(row, 2, 5)?;
+    merged_of(row.alloc, out, &graphs)
 }
 
 fn raise(issued: &mut Issued, vertex: &Vertex) -> Option<()> {
@@ -146,30 +177,34 @@ fn begin(
     Ok(all)
 }
 
-fn put_program(alloc: Global, out: &mut String, program: &Program) -> Option<()> {
-    let text = string(text_of(alloc, program).ok()?)?;
-    out.push_str(text.as_str()).ok()
+fn next_one(alloc: Global, out: &mut Out, all: &mut Arrangements) -> Option<()> {
+    match all.next_one().ok()? {
+        Some(program) => put_program(alloc, out, &program),
+        None => out.put_piece("no more\n"),
+    }
+    Some(())
 }
 
-fn put_all(alloc: Global, out: &mut String, all: &mut Arrangements, most: usize) -> Option<()> {
+fn first(alloc: Global, out: &mut Out, all: &mut Arrangements, most: usize) -> Option<()> {
     for _ in 0..most {
-        match all.next_one().ok()? {
-            Some(program) => put_program(alloc, out, &program)?,
-            None => out.push_str("no more\n").ok()?,
-        }
+        next_one(alloc, out, all)?;
     }
     Some(())
 }
 
 // `arrangements GRAPH MOST`: the first arrangements, where the vertices stand by their rank.
-fn arrangements(alloc: Global, row: Row<'_>) -> Option<String> {
-    let graph = graph(alloc, row, 2)?;
-    let tree = regions(alloc, &graph).ok()?;
-    let issued = issued_of(alloc, &graph)?;
-    let mut all = begin(alloc, &graph, &tree, &issued).ok()?;
-    let mut out = String::new(alloc);
-    put_all(alloc, &mut out, &mut all, row.number(3)?)?;
-    Some(out)
+fn arrangements(
+    row: Row<'_>,
+    out: &mut Out,
+    graph: &Graph,
+    tree: &RegionTree,
+    issued: &Issued,
+) -> Option<()>
+    requires { AreRegionsOf graph.now tree.now }
+{
+    let most = row.number(3)?;
+    let mut all = begin(row.alloc, graph, tree, issued).ok()?;
+    first(row.alloc, out, &mut all, most)
 }
 
 fn next(all: &mut Arrangements) -> Result<Program, NoMemory>
@@ -213,11 +248,33 @@ fn made_again(
 }
 
 // `arrange GRAPH`: the first arrangement, made again from the numbers of its parts.
-fn arranged(alloc: Global, graph: &Graph) -> Option<String> {
-    let tree = regions(alloc, graph).ok()?;
-    let issued = issued_of(alloc, graph)?;
-    let again = made_again(alloc, graph, &tree, &issued).ok()?;
-    string(text_of(alloc, &again).ok()?)
+fn arranged(
+    alloc: Global,
+    out: &mut Out,
+    graph: &Graph,
+    tree: &RegionTree,
+    issued: &Issued,
+) -> Option<()>
+    requires { AreRegionsOf graph.now tree.now }
+{
+    let again = made_again(alloc, graph, tree, issued).ok()?;
+    put_program(alloc, out, &again);
+    Some(())
+}
+
+fn in_tree(row: Row<'_>, out: &mut Out, graph: &Graph, tree: &RegionTree) -> Option<()>
+    requires { AreRegionsOf graph.now tree.now }
+{
+    let issued = issued_of(row.alloc, graph)?;
+    match row.word(1)? {
+        "arrangements" => arrangements(row, out, graph, tree, &issued),
+        _ => arranged(row.alloc, out, graph, tree, &issued),
+    }
+}
+
+fn in_regions(row: Row<'_>, out: &mut Out, graph: &Graph) -> Option<()> {
+    let tree = regions(row.alloc, graph).ok()?;
+    in_tree(row, out, graph, &tree)
 }
 
 fn rebuilt(
@@ -234,21 +291,22 @@ fn rebuilt(
     Err(RebuildError::Memory)
 }
 
-fn rebuilt_text(alloc: Global, graph: &Graph, tries: u64) -> Option<String> {
+fn put_rebuilt(alloc: Global, out: &mut Out, graph: &Graph, issued: &Issued, tries: u64) {
     if tries == 0 {
-        return None;
+        return;
     }
-    let issued = issued_of(alloc, graph)?;
-    match rebuilt(alloc, graph, &issued, tries) {
-        Ok(program) => string(text_of(alloc, &program).ok()?),
-        Err(RebuildError::NoProgram) => String::from_str(alloc, "no program\n").ok(),
-        Err(RebuildError::Spent) => String::from_str(alloc, "spent\n").ok(),
-        Err(RebuildError::Memory) => None,
+    match rebuilt(alloc, graph, issued, tries) {
+        Ok(program) => put_program(alloc, out, &program),
+        Err(RebuildError::NoProgram) => out.put_piece("no program\n"),
+        Err(RebuildError::Spent) => out.put_piece("spent\n"),
+        Err(RebuildError::Memory) => out.cut(),
     }
 }
 
 // `rebuild GRAPH TRIES`: the program that is found, where the vertices stand by their rank.
-fn found(alloc: Global, row: Row<'_>) -> Option<String> {
-    let tries = row.word(3)?.parse().ok()?;
-    rebuilt_text(alloc, &graph(alloc, row, 2)?, tries)
+fn found(row: Row<'_>, out: &mut Out, graph: &Graph) -> Option<()> {
+    let tries = row.count(3)?;
+    let issued = issued_of(row.alloc, graph)?;
+    put_rebuilt(row.alloc, out, graph, &issued, tries);
+    Some(())
 }

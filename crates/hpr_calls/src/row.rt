@@ -14,19 +14,9 @@ pub struct Text {
 /// A call's words, and the texts of its row.
 #[derive(Clone, Copy)]
 pub struct Row<'a> {
+    pub alloc: Global,
     pub words: &'a [String],
     pub texts: &'a [Text],
-}
-
-/// The last text with this name.
-fn text_named<'a>(texts: &'a [Text], name: &str) -> Option<&'a [u8]> {
-    let mut found = None;
-    for text in texts {
-        if text.name.as_str() == name {
-            found = Some(text.bytes.as_slice());
-        }
-    }
-    found
 }
 
 impl<'a> Row<'a> {
@@ -48,9 +38,40 @@ impl<'a> Row<'a> {
         self.word(at)?.parse().ok()
     }
 
+    /// The count of tries or steps that stands at this place.
+    pub(crate) fn count(self, at: usize) -> Option<u64> {
+        self.word(at)?.parse().ok()
+    }
+
+    /// The author that stands at this place.
+    pub(crate) fn author(self, at: usize) -> Option<u32> {
+        self.word(at)?.parse().ok()
+    }
+
+    /// The tag that stands at this place.
+    pub(crate) fn tag(self, at: usize) -> Option<Tag> {
+        tag_of(self.word(at)?)
+    }
+
+    /// The name that stands at this place.
+    pub(crate) fn name(self, at: usize) -> Option<Name> {
+        Name::new(self.alloc, self.word(at)?).ok()
+    }
+
+    /// The last text with this name.
+    pub(crate) fn named(self, name: &str) -> Option<&'a [u8]> {
+        let mut found = None;
+        for text in self.texts {
+            if text.name.as_str() == name {
+                found = Some(text.bytes.as_slice());
+            }
+        }
+        found
+    }
+
     /// The bytes of the text that the word at this place names.
     pub(crate) fn bytes(self, at: usize) -> Option<&'a [u8]> {
-        text_named(self.texts, self.word(at)?)
+        self.named(self.word(at)?)
     }
 
     /// The text that the word at this place names.
@@ -58,19 +79,22 @@ impl<'a> Row<'a> {
         std::str::from_utf8(self.bytes(at)?).ok()
     }
 
-    /// The text with this name.
-    pub(crate) fn named(self, name: &str) -> Option<&'a str> {
-        std::str::from_utf8(text_named(self.texts, name)?).ok()
-    }
-
-    /// The name that stands at this place.
-    pub(crate) fn name(self, alloc: Global, at: usize) -> Option<Name> {
-        Name::new(alloc, self.word(at)?).ok()
-    }
-
     /// The program that the text spells which the word at this place names.
-    pub(crate) fn program(self, alloc: Global, at: usize) -> Option<Program> {
-        parse(alloc, self.bytes(at)?, Mode::Tagged).ok()
+    pub(crate) fn program(self, at: usize) -> Option<Program> {
+        parse(self.alloc, self.bytes(at)?, Mode::Tagged).ok()
+    }
+
+    /// The programs of the words from one place up to another.
+    pub(crate) fn programs(self, from: usize, to: usize) -> Option<Vec<Program>> {
+        let mut programs = Vec::new(self.alloc);
+        for at in from..to {
+            self.push_program(&mut programs, at)?;
+        }
+        Some(programs)
+    }
+
+    fn push_program(self, programs: &mut Vec<Program>, at: usize) -> Option<()> {
+        programs.push(self.program(at)?).ok()
     }
 }
 
@@ -80,24 +104,4 @@ pub(crate) fn tag_of(word: &str) -> Option<Tag> {
     let author = author.parse().ok()?;
     let serial = serial.parse().ok()?;
     Some(Tag { author, serial })
-}
-
-/// The bytes as a text.
-pub(crate) fn string(bytes: Vec<u8>) -> Option<String> {
-    String::from_utf8(bytes).ok()
-}
-
-/// These numbers, a blank before each, in a line.
-pub(crate) fn number_line(alloc: Global, title: &str, numbers: &[usize]) -> Option<String> {
-    let mut line = String::from_str(alloc, title).ok()?;
-    for number in numbers {
-        push_number(alloc, &mut line, *number)?;
-    }
-    line.push('\n').ok()?;
-    Some(line)
-}
-
-fn push_number(alloc: Global, line: &mut String, number: usize) -> Option<()> {
-    let word = format!(in alloc; " {number}").ok()?;
-    line.push_str(word.as_str()).ok()
 }

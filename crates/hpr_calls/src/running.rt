@@ -2,9 +2,10 @@
 ghost use Rattle.std.specs.Prelude.{IfOk};
 ghost use Rattle.hpr_report.specs.TableText.{IsSingleValued};
 
-use crate::row::{Row, string};
+use crate::put::{Out, put, put_counted, put_made, put_tag};
+use crate::row::Row;
 use crate::state::read_state;
-use hpr_meaning::{Instance, Origin, Read, trace};
+use hpr_meaning::{Instance, Origin, Read, Traced, trace};
 use hpr_report::{outcome_text, table_text};
 use hpr_run::{FinalValues, Outcome, State, run};
 use hpr_syntax::Program;
@@ -12,89 +13,96 @@ use hpr_terms::NoMemory;
 use std::alloc::Global;
 
 /// Answers the call.
-pub(crate) fn call(alloc: Global, row: Row<'_>) -> Option<String> {
+pub(crate) fn call(row: Row<'_>, out: &mut Out) -> Option<()> {
     match row.word(1)? {
-        "run" => run_line(alloc, row),
-        "trace" => traced(alloc, row),
-        "table" => table(alloc, row),
-        _ => None,
+        "table" => table(row, out),
+        _ => started(row, out),
     }
 }
 
-fn outcome_string(alloc: Global, outcome: &Outcome) -> Option<String> {
-    string(outcome_text(alloc, outcome).ok()?)
+// The calls of a program, a count of steps and a state.
+fn started(row: Row<'_>, out: &mut Out) -> Option<()> {
+    let program = row.program(2)?;
+    in_state(row, out, &program)
+}
+
+fn in_state(row: Row<'_>, out: &mut Out, program: &Program) -> Option<()> {
+    let most = row.count(3)?;
+    let state = read_state(row, 4)?;
+    match row.word(1)? {
+        "run" => put_run(row.alloc, out, program, &state, most),
+        _ => put_trace(row.alloc, out, program, &state, most),
+    }
+    Some(())
+}
+
+fn put_outcome(alloc: Global, out: &mut Out, outcome: &Outcome) {
+    put_made(out, outcome_text(alloc, outcome));
 }
 
 // `run PROGRAM STEPS STATE..`: how the run goes.
-fn run_line(alloc: Global, row: Row<'_>) -> Option<String> {
-    let most = row.word(3)?.parse().ok()?;
-    let state = read_state(alloc, row.rest(4))?;
-    let program = row.program(alloc, 2)?;
-    outcome_string(alloc, &run(alloc, &program, &state, most).ok()?)
+fn put_run(alloc: Global, out: &mut Out, program: &Program, state: &State, most: u64) {
+    match run(alloc, program, state, most) {
+        Ok(outcome) => put_outcome(alloc, out, &outcome),
+        Err(_) => out.cut(),
+    }
 }
 
-fn origin_word(alloc: Global, origin: Origin) -> Option<String> {
+fn put_origin(out: &mut Out, origin: Origin) {
     match origin {
-        Origin::Initial => String::from_str(alloc, "initial").ok(),
-        Origin::Instance(number) => format!(in alloc; "from {number}").ok(),
+        Origin::Initial => out.put_piece(" initial"),
+        Origin::Instance(number) => put_counted(out, " from ", number),
     }
 }
 
-fn put_read(alloc: Global, out: &mut String, read: &Read) -> Option<()> {
-    let origin = origin_word(alloc, read.origin)?;
-    let word = format!(in alloc; " {}={} {origin}", read.name.text(), read.value).ok()?;
-    out.push_str(word.as_str()).ok()
+fn put_read(out: &mut Out, read: &Read) {
+    put(out, &[" ", read.name.text(), "="]);
+    out.put_value(read.value);
+    put_origin(out, read.origin);
 }
 
-fn put_turns(alloc: Global, out: &mut String, turns: &[u64]) -> Option<()> {
-    for turn in turns {
-        let word = format!(in alloc; "{turn} ").ok()?;
-        out.push_str(word.as_str()).ok()?;
-    }
-    Some(())
-}
-
-fn put_reads(alloc: Global, out: &mut String, reads: &[Read]) -> Option<()> {
+fn put_reads(out: &mut Out, reads: &[Read]) {
     for read in reads {
-        put_read(alloc, out, read)?;
+        put_read(out, read);
     }
-    Some(())
 }
 
-// An item in one line: tag, turns, reads and number.
-fn put_item(alloc: Global, out: &mut String, item: &Instance) -> Option<()> {
-    let head = format!(in alloc; "{}.{} [ ", item.tag.author, item.tag.serial).ok()?;
-    out.push_str(head.as_str()).ok()?;
-    put_turns(alloc, out, &item.turns)?;
-    out.push(']').ok()?;
-    put_reads(alloc, out, &item.reads)?;
-    let end = format!(in alloc; " gives {}\n", item.value).ok()?;
-    out.push_str(end.as_str()).ok()
+fn put_turns(out: &mut Out, turns: &[u64]) {
+    for turn in turns {
+        out.put_number(*turn);
+        out.put_piece(" ");
+    }
 }
 
-fn put_items(alloc: Global, out: &mut String, items: &[Instance]) -> Option<()> {
+// Puts an item in one line: tag, turns, reads and number.
+fn put_item(out: &mut Out, item: &Instance) {
+    put_tag(out, item.tag);
+    out.put_piece(" [ ");
+    put_turns(out, &item.turns);
+    out.put_piece("]");
+    put_reads(out, &item.reads);
+    out.put_piece(" gives ");
+    out.put_value(item.value);
+    out.put_piece("\n");
+}
+
+fn put_items(out: &mut Out, items: &[Instance]) {
     for item in items {
-        put_item(alloc, out, item)?;
+        put_item(out, item);
     }
-    Some(())
 }
 
-// The items of a trace, and how the run goes.
-fn traced_lines(alloc: Global, program: &Program, state: &State, most: u64) -> Option<String> {
-    let traced = trace(alloc, program, state, most).ok()?;
-    let mut out = String::new(alloc);
-    put_items(alloc, &mut out, &traced.items)?;
-    let end = outcome_string(alloc, &traced.outcome)?;
-    out.push_str(end.as_str()).ok()?;
-    Some(out)
+fn put_traced(alloc: Global, out: &mut Out, traced: &Traced) {
+    put_items(out, &traced.items);
+    put_outcome(alloc, out, &traced.outcome);
 }
 
-// `trace PROGRAM STEPS STATE..`: the steps of the run.
-fn traced(alloc: Global, row: Row<'_>) -> Option<String> {
-    let most = row.word(3)?.parse().ok()?;
-    let state = read_state(alloc, row.rest(4))?;
-    let program = row.program(alloc, 2)?;
-    traced_lines(alloc, &program, &state, most)
+// `trace PROGRAM STEPS STATE..`: the steps of the run, and how it goes.
+fn put_trace(alloc: Global, out: &mut Out, program: &Program, state: &State, most: u64) {
+    match trace(alloc, program, state, most) {
+        Ok(traced) => put_traced(alloc, out, &traced),
+        Err(_) => out.cut(),
+    }
 }
 
 // The values with which a program ends from a state, whose names are given.
@@ -142,11 +150,15 @@ fn table_of_runs(
     table_of(alloc, &base, &a, &b, &merged)
 }
 
+fn put_table(alloc: Global, out: &mut Out, programs: &[Program]) {
+    if let [base, a, b, merged] = programs {
+        put_made(out, table_of_runs(alloc, base, a, b, merged));
+    }
+}
+
 // `table BASE A B MERGED`: the table of the final values of four programs.
-fn table(alloc: Global, row: Row<'_>) -> Option<String> {
-    let base = row.program(alloc, 2)?;
-    let a = row.program(alloc, 3)?;
-    let b = row.program(alloc, 4)?;
-    let merged = row.program(alloc, 5)?;
-    string(table_of_runs(alloc, &base, &a, &b, &merged).ok()?)
+fn table(row: Row<'_>, out: &mut Out) -> Option<()> {
+    let programs = row.programs(2, 6)?;
+    put_table(row.alloc, out, &programs);
+    Some(())
 }

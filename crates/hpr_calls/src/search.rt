@@ -1,7 +1,8 @@
 //! Calls of hpr_search, where each point leads to its half.
-use crate::row::{Row, number_line};
+use crate::put::{Out, put_marked};
+use crate::row::Row;
 use hpr_search::{Digraph, reachable};
-use std::alloc::{AllocError, Global};
+use std::alloc::AllocError;
 
 /// The points 0 to 7.
 #[derive(Drop)]
@@ -25,15 +26,10 @@ impl Digraph for Halves {
 }
 
 /// `POINT POINT`: the points that are reached from these.
-pub(crate) fn call(alloc: Global, row: Row<'_>) -> Option<String> {
+pub(crate) fn call(row: Row<'_>, out: &mut Out) -> Option<()> {
     let first = row.number(1)?.min(7);
     let second = row.number(2)?.min(7);
-    let marks = reachable(alloc, &Halves, &[first, second]).ok()?;
-    let mut reached = Vec::new(alloc);
-    for (at, mark) in marks.iter().enumerate() {
-        if *mark {
-            reached.push(at).ok()?;
-        }
-    }
-    number_line(alloc, "reached", &reached)
+    let marks = reachable(row.alloc, &Halves, &[first, second]).ok()?;
+    put_marked(out, "reached", &marks);
+    Some(())
 }

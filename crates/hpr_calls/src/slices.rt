@@ -1,34 +1,36 @@
 //! Calls of hpr_slice, hpr_affected and hpr_merge on graphs.
 ghost use Rattle.std.specs.Prelude.{◌↔◌, ◌<◌, All, IsTrue, length};
 
-use crate::graph::counts;
-use crate::row::{Row, number_line, string};
-use crate::spelled::graph;
+use crate::graph::{put_counts, put_new};
+use crate::put::{Out, put_count, put_made, put_marked, put_numbers};
+use crate::row::Row;
+use crate::spelled::{graph, graphs};
 use hpr_affected::{affected, preserved};
 use hpr_graph::Graph;
 use hpr_merge::{Merged, merge};
 use hpr_rebuild::part_count;
-use hpr_report::{affected_text, conflicts_text, graph_text};
+use hpr_report::{affected_text, conflicts_text};
 use hpr_slice::{forward, slice};
+use hpr_terms::NoMemory;
 use std::alloc::Global;
 
 /// Answers the call.
-pub(crate) fn call(alloc: Global, row: Row<'_>) -> Option<String> {
+pub(crate) fn call(row: Row<'_>, out: &mut Out) -> Option<()> {
     match row.word(1)? {
-        "at" => slice_at(alloc, row),
-        "forward" => reached(alloc, row),
-        "points" => shown_points(alloc, row),
-        "affected" => changed(alloc, row),
-        "preserved" => kept(alloc, row),
-        "merge" => merged(alloc, row),
-        _ => None,
+        "affected" => changed(row, out),
+        "preserved" | "merge" => of_three(row, out),
+        _ => at_points(row, out),
     }
+}
+
+fn push_number(numbers: &mut Vec<usize>, word: &str) -> Option<()> {
+    numbers.push(word.parse().ok()?).ok()
 }
 
 fn numbers(alloc: Global, words: &[String]) -> Option<Vec<usize>> {
     let mut numbers = Vec::new(alloc);
     for word in words {
-        numbers.push(word.as_str().parse().ok()?).ok()?;
+        push_number(&mut numbers, word.as_str())?;
     }
     Some(numbers)
 }
@@ -39,100 +41,88 @@ fn are_below(points: &[usize], count: usize) -> bool
     points.iter().all(|point| *point < count)
 }
 
-fn slice_text(alloc: Global, graph: &Graph, points: &[usize]) -> Option<String> {
+// Puts the title and the numbers that were found.
+fn put_found(out: &mut Out, title: &str, found: Result<Vec<usize>, NoMemory>) {
+    match found {
+        Ok(numbers) => put_numbers(out, title, &numbers),
+        Err(_) => out.cut(),
+    }
+}
+
+fn put_reached(out: &mut Out, reached: Result<Vec<bool>, NoMemory>) {
+    match reached {
+        Ok(marks) => put_marked(out, "marked", &marks),
+        Err(_) => out.cut(),
+    }
+}
+
+// `at GRAPH NUMBER..`: the slice at these vertices; `forward GRAPH NUMBER..`: the vertices that are
+// reached from these; `points GRAPH NUMBER..`: these vertices, as affected points are shown.
+fn from_points(row: Row<'_>, out: &mut Out, graph: &Graph, points: &[usize]) -> Option<()> {
     if !are_below(points, graph.vertex_count()) {
         return None;
     }
-    let part = slice(alloc, graph, points).ok()?;
-    string(graph_text(alloc, &part).ok()?)
-}
-
-// `at GRAPH NUMBER..`: the slice at these vertices.
-fn slice_at(alloc: Global, row: Row<'_>) -> Option<String> {
-    let graph = graph(alloc, row, 2)?;
-    let points = numbers(alloc, row.rest(3))?;
-    slice_text(alloc, &graph, &points)
-}
-
-fn marked(alloc: Global, marks: &[bool]) -> Option<String> {
-    let mut numbers = Vec::new(alloc);
-    for (at, mark) in marks.iter().enumerate() {
-        if *mark {
-            numbers.push(at).ok()?;
-        }
+    match row.word(1)? {
+        "at" => put_new(row.alloc, out, slice(row.alloc, graph, points)),
+        "forward" => put_reached(out, forward(row.alloc, graph, points)),
+        _ => put_made(out, affected_text(row.alloc, graph, points)),
     }
-    number_line(alloc, "marked", &numbers)
+    Some(())
 }
 
-fn reached_from(alloc: Global, graph: &Graph, points: &[usize]) -> Option<String> {
-    if !are_below(points, graph.vertex_count()) {
+fn at(row: Row<'_>, out: &mut Out, graph: &Graph) -> Option<()> {
+    let points = numbers(row.alloc, row.rest(3))?;
+    from_points(row, out, graph, &points)
+}
+
+fn at_points(row: Row<'_>, out: &mut Out) -> Option<()> {
+    let graph = graph(row, 2)?;
+    at(row, out, &graph)
+}
+
+fn of_two(row: Row<'_>, out: &mut Out, graphs: &[Graph]) -> Option<()> {
+    let [base, variant] = graphs else {
         return None;
-    }
-    let marks = forward(alloc, graph, points).ok()?;
-    marked(alloc, &marks)
-}
-
-// `forward GRAPH NUMBER..`: the vertices that are reached from these.
-fn reached(alloc: Global, row: Row<'_>) -> Option<String> {
-    let graph = graph(alloc, row, 2)?;
-    let points = numbers(alloc, row.rest(3))?;
-    reached_from(alloc, &graph, &points)
-}
-
-fn points_text(alloc: Global, graph: &Graph, points: &[usize]) -> Option<String> {
-    if !are_below(points, graph.vertex_count()) {
-        return None;
-    }
-    string(affected_text(alloc, graph, points).ok()?)
-}
-
-// `points GRAPH NUMBER..`: these vertices, as affected points are shown.
-fn shown_points(alloc: Global, row: Row<'_>) -> Option<String> {
-    let graph = graph(alloc, row, 2)?;
-    let points = numbers(alloc, row.rest(3))?;
-    points_text(alloc, &graph, &points)
+    };
+    put_found(out, "affected", affected(row.alloc, variant, base));
+    Some(())
 }
 
 // `affected BASE VARIANT`: the numbers of the variant's affected points.
-fn changed(alloc: Global, row: Row<'_>) -> Option<String> {
-    let base = graph(alloc, row, 2)?;
-    let variant = graph(alloc, row, 3)?;
-    let points = affected(alloc, &variant, &base).ok()?;
-    number_line(alloc, "affected", &points)
+fn changed(row: Row<'_>, out: &mut Out) -> Option<()> {
+    let graphs = graphs(row, 2, 4)?;
+    of_two(row, out, &graphs)
 }
 
-// `preserved BASE A B`: the numbers of base's preserved points.
-fn kept(alloc: Global, row: Row<'_>) -> Option<String> {
-    let base = graph(alloc, row, 2)?;
-    let a = graph(alloc, row, 3)?;
-    let b = graph(alloc, row, 4)?;
-    let points = preserved(alloc, &base, &a, &b).ok()?;
-    number_line(alloc, "preserved", &points)
+fn put_merged(alloc: Global, out: &mut Out, merged: &Merged) {
+    put_made(out, conflicts_text(alloc, &merged.conflicts));
+    put_numbers(out, "affected in A", &merged.affected_a);
+    put_numbers(out, "affected in B", &merged.affected_b);
+    put_counts(out, &merged.graph);
+    put_count(out, "parts ", part_count(&merged.graph) as u64);
 }
 
-fn put_merged(alloc: Global, out: &mut String, merged: &Merged) -> Option<()> {
-    let a = number_line(alloc, "affected in A", &merged.affected_a)?;
-    let b = number_line(alloc, "affected in B", &merged.affected_b)?;
-    let counts = counts(alloc, &merged.graph)?;
-    out.push_str(a.as_str()).ok()?;
-    out.push_str(b.as_str()).ok()?;
-    out.push_str(counts.as_str()).ok()
+fn put_merge(alloc: Global, out: &mut Out, merged: Result<Merged, NoMemory>) {
+    match merged {
+        Ok(merged) => put_merged(alloc, out, &merged),
+        Err(_) => out.cut(),
+    }
 }
 
-fn merged_text(alloc: Global, merged: &Merged) -> Option<String> {
-    let mut out = string(conflicts_text(alloc, &merged.conflicts).ok()?)?;
-    put_merged(alloc, &mut out, merged)?;
-    let parts = part_count(&merged.graph);
-    let line = format!(in alloc; "parts {parts}\n").ok()?;
-    out.push_str(line.as_str()).ok()?;
-    Some(out)
+fn of_all(row: Row<'_>, out: &mut Out, graphs: &[Graph]) -> Option<()> {
+    let [base, a, b] = graphs else {
+        return None;
+    };
+    match row.word(1)? {
+        "merge" => put_merge(row.alloc, out, merge(row.alloc, base, a, b)),
+        _ => put_found(out, "preserved", preserved(row.alloc, base, a, b)),
+    }
+    Some(())
 }
 
-// `merge BASE A B`: the conflicts, the affected points, and the size of the merged graph.
-fn merged(alloc: Global, row: Row<'_>) -> Option<String> {
-    let base = graph(alloc, row, 2)?;
-    let a = graph(alloc, row, 3)?;
-    let b = graph(alloc, row, 4)?;
-    let merged = merge(alloc, &base, &a, &b).ok()?;
-    merged_text(alloc, &merged)
+// `preserved BASE A B`: the numbers of base's preserved points; `merge BASE A B`: the conflicts, the
+// affected points, and the size of the merged graph.
+fn of_three(row: Row<'_>, out: &mut Out) -> Option<()> {
+    let graphs = graphs(row, 2, 5)?;
+    of_all(row, out, &graphs)
 }

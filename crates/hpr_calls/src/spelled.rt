@@ -2,9 +2,8 @@
 use crate::row::{Row, tag_of};
 use hpr_build::graph_of;
 use hpr_graph::{Graph, Link, LinkKind, Vertex};
-use hpr_merge::merge;
 use hpr_terms::Name;
-use hpr_text::{Mode, parse, read_content};
+use hpr_text::read_content;
 use std::alloc::Global;
 
 // `1.1 x := 1;`
@@ -67,12 +66,14 @@ fn add_link(graph: &mut Graph, line: &str) -> Option<()> {
     None
 }
 
+fn add_vertex(graph: &mut Graph, vertex: Vertex) -> Option<()> {
+    graph.add_vertex(vertex).ok()?;
+    Some(())
+}
+
 fn add_line(alloc: Global, graph: &mut Graph, line: &str) -> Option<()> {
     match vertex(alloc, line) {
-        Some(vertex) => {
-            graph.add_vertex(vertex).ok()?;
-            Some(())
-        }
+        Some(vertex) => add_vertex(graph, vertex),
         None => add_link(graph, line),
     }
 }
@@ -85,27 +86,30 @@ fn spelled(alloc: Global, text: &str) -> Option<Graph> {
     Some(graph)
 }
 
-// The graph of the program that a text spells, or else the graph that its lines spell.
-fn plain(alloc: Global, text: &str) -> Option<Graph> {
+fn of_program(row: Row<'_>, at: usize) -> Option<Graph> {
+    let program = row.program(at)?;
+    graph_of(row.alloc, &program, 1000).ok()
+}
+
+/// The graph of the text that the word at this place names: that of the program that it spells, or else
+/// the one that its lines spell.
+pub(crate) fn graph(row: Row<'_>, at: usize) -> Option<Graph> {
+    let text = row.text(at)?;
     if text.starts_with("program") {
-        let program = parse(alloc, text.as_bytes(), Mode::Tagged).ok()?;
-        return graph_of(alloc, &program, 1000).ok();
+        return of_program(row, at);
     }
-    spelled(alloc, text)
+    spelled(row.alloc, text)
 }
 
-/// The graph of the text that the word at this place names; at `M` the merged graph of the texts BASE, A
-/// and B.
-pub(crate) fn graph(alloc: Global, row: Row<'_>, at: usize) -> Option<Graph> {
-    if row.word(at)? == "M" {
-        return merged(alloc, row);
-    }
-    plain(alloc, row.text(at)?)
+fn push_graph(row: Row<'_>, graphs: &mut Vec<Graph>, at: usize) -> Option<()> {
+    graphs.push(graph(row, at)?).ok()
 }
 
-fn merged(alloc: Global, row: Row<'_>) -> Option<Graph> {
-    let base = plain(alloc, row.named("BASE")?)?;
-    let a = plain(alloc, row.named("A")?)?;
-    let b = plain(alloc, row.named("B")?)?;
-    Some(merge(alloc, &base, &a, &b).ok()?.graph)
+/// The graphs of the words from one place up to another.
+pub(crate) fn graphs(row: Row<'_>, from: usize, to: usize) -> Option<Vec<Graph>> {
+    let mut graphs = Vec::new(row.alloc);
+    for at in from..to {
+        push_graph(row, &mut graphs, at)?;
+    }
+    Some(graphs)
 }

@@ -1,4 +1,5 @@
 //! States that words tell.
+use crate::row::Row;
 use hpr_run::State;
 use hpr_terms::Name;
 use std::alloc::Global;
@@ -10,11 +11,11 @@ fn set(alloc: Global, state: &mut State, word: &str) -> Option<()> {
     state.set(Name::new(alloc, name).ok()?, value).ok()
 }
 
-/// The state that words `name=value` tell.
-pub(crate) fn read_state(alloc: Global, words: &[String]) -> Option<State> {
-    let mut state = State::new(alloc);
-    for word in words {
-        set(alloc, &mut state, word.as_str())?;
+/// The state that the words from this place on tell, each as `name=value`.
+pub(crate) fn read_state(row: Row<'_>, at: usize) -> Option<State> {
+    let mut state = State::new(row.alloc);
+    for word in row.rest(at) {
+        set(row.alloc, &mut state, word.as_str())?;
     }
     Some(state)
 }

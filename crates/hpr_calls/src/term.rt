@@ -1,15 +1,16 @@
 //! Calls of the names of hpr_terms.
+use crate::put::{Out, put, put_counted, put_names, truth};
 use crate::row::Row;
 use hpr_terms::{Name, copy_names, is_name, is_name_like, names};
 use std::alloc::Global;
 
 /// Answers the call.
-pub(crate) fn call(alloc: Global, row: Row<'_>) -> Option<String> {
+pub(crate) fn call(row: Row<'_>, out: &mut Out) -> Option<()> {
     match row.word(1)? {
-        "names" => name_lines(alloc, row.rest(2)),
-        "order" => order(alloc, row),
-        _ => None,
+        "names" => put_lines(row, out),
+        _ => order(row, out)?,
     }
+    Some(())
 }
 
 // Whether the text and a copy of the name are those of the name.
@@ -27,52 +28,78 @@ fn is_taken(alloc: Global, text: &str) -> bool {
     }
 }
 
-fn name_line(alloc: Global, text: &str) -> Option<String> {
-    let taken = is_taken(alloc, text);
-    let name = is_name(text.as_bytes());
-    let like = is_name_like(text.as_bytes());
-    format!(in alloc; "{text}: taken {taken}, a name {name}, like one {like}\n").ok()
+fn put_line(alloc: Global, out: &mut Out, text: &str) {
+    let taken = truth(is_taken(alloc, text));
+    let name = truth(is_name(text.as_bytes()));
+    let like = truth(is_name_like(text.as_bytes()));
+    out.put_piece(text);
+    put(
+        out,
+        &[
+            ": taken ",
+            taken,
+            ", a name ",
+            name,
+            ", like one ",
+            like,
+            "\n",
+        ],
+    );
 }
 
 // `names WORD..`: which words are names.
-fn name_lines(alloc: Global, words: &[String]) -> Option<String> {
-    let mut out = String::new(alloc);
-    for word in words {
-        let line = name_line(alloc, word.as_str())?;
-        out.push_str(line.as_str()).ok()?;
+fn put_lines(row: Row<'_>, out: &mut Out) {
+    for word in row.rest(2) {
+        put_line(row.alloc, out, word.as_str());
     }
-    Some(out)
+}
+
+fn push_name(alloc: Global, names: &mut Vec<Name>, word: &str) -> Option<()> {
+    names.push(Name::new(alloc, word).ok()?).ok()
 }
 
 fn names_of(alloc: Global, words: &[String]) -> Option<Vec<Name>> {
     let mut names = Vec::new(alloc);
     for word in words {
-        names.push(Name::new(alloc, word.as_str()).ok()?).ok()?;
+        push_name(alloc, &mut names, word.as_str())?;
     }
     Some(names)
 }
 
-fn ordered(alloc: Global, words: &[String], name: &Name) -> Option<String> {
-    let mixed = names_of(alloc, words)?;
-    let copied = copy_names(alloc, &mixed).ok()? == mixed;
-    let ascending = names::in_order(mixed).ok()?;
-    let among = names::is_among(&ascending, name);
-    let place = names::place_of(&ascending, name);
-    let mut out = format!(in alloc; "copied {copied}, among {among}, place {place:?}:").ok()?;
-    put_names(&mut out, &ascending)?;
-    Some(out)
+fn is_copied(alloc: Global, names: &Vec<Name>) -> bool {
+    match copy_names(alloc, names) {
+        Ok(copies) => copies == *names,
+        Err(_) => false,
+    }
 }
 
-fn put_names(out: &mut String, names: &[Name]) -> Option<()> {
-    for name in names {
-        out.push(' ').ok()?;
-        out.push_str(name.text()).ok()?;
+fn put_place(out: &mut Out, place: Option<usize>) {
+    match place {
+        Some(at) => {
+            put_counted(out, "Some(", at);
+            out.put_piece(")");
+        }
+        None => out.put_piece("None"),
     }
-    out.push('\n').ok()
+}
+
+fn put_order(out: &mut Out, names: Vec<Name>, name: &Name) -> Option<()> {
+    let ascending = names::in_order(names).ok()?;
+    let among = truth(names::is_among(&ascending, name));
+    put(out, &[", among ", among, ", place "]);
+    put_place(out, names::place_of(&ascending, name));
+    put_names(out, ":", &ascending);
+    Some(())
+}
+
+fn ordered(row: Row<'_>, out: &mut Out, name: &Name) -> Option<()> {
+    let names = names_of(row.alloc, row.rest(3))?;
+    put(out, &["copied ", truth(is_copied(row.alloc, &names))]);
+    put_order(out, names, name)
 }
 
 // `order NAME NAME..`: the further names in order, and where the first one stands among them.
-fn order(alloc: Global, row: Row<'_>) -> Option<String> {
-    let name = row.name(alloc, 2)?;
-    ordered(alloc, row.rest(3), &name)
+fn order(row: Row<'_>, out: &mut Out) -> Option<()> {
+    let name = row.name(2)?;
+    ordered(row, out, &name)
 }

@@ -1,105 +1,122 @@
 //! Calls of hpr_text and hpr_print, with the refusals of hpr_refusals.
-use crate::row::{Row, string};
-use hpr_print::{content_text, text_of};
+use crate::put::{Out, put_count, put_counted, put_made, put_message};
+use crate::row::Row;
+use crate::tree::put_content;
+use hpr_print::text_of;
 use hpr_refusals::Refusal;
 use hpr_syntax::{Content, Program};
 use hpr_text::{Mode, TextError, parse, read_content};
 use std::alloc::Global;
 
 /// Answers the call.
-pub(crate) fn call(alloc: Global, row: Row<'_>) -> Option<String> {
+pub(crate) fn call(row: Row<'_>, out: &mut Out) -> Option<()> {
     match row.word(1)? {
-        "print" => print(alloc, row),
-        "sizes" => sizes(alloc, row),
-        "fronts" => fronts(alloc, row),
-        "content" => content(alloc, row),
-        "long" => Refusal::Longer.message(alloc, row.word(2)?).ok(),
-        _ => None,
+        "print" => print(row, out),
+        "sizes" => sizes(row, out),
+        "fronts" => fronts(row, out),
+        "content" => content(row, out),
+        _ => long(row, out),
     }
 }
 
-// The program of a text: `tagged`, or the parts of an author.
-fn read(alloc: Global, form: &str, bytes: &[u8]) -> Option<Result<Program, TextError>> {
-    if form == "tagged" {
-        return Some(parse(alloc, bytes, Mode::Tagged));
-    }
-    let author: u32 = form.parse().ok()?;
-    if author == 0 {
-        return None;
-    }
-    Some(parse(alloc, bytes, Mode::Untagged(author)))
+// `long FILE`: the message on a file that is too long.
+fn long(row: Row<'_>, out: &mut Out) -> Option<()> {
+    let name = row.word(2)?;
+    put_message(out, Refusal::Longer.message(row.alloc, name));
+    Some(())
 }
 
-// The message on a text with this name.
-fn refusal(alloc: Global, name: &str, error: TextError) -> Option<String> {
+/// Puts the canonical text of a program.
+pub(crate) fn put_program(alloc: Global, out: &mut Out, program: &Program) {
+    put_made(out, text_of(alloc, program));
+}
+
+// The program of the text at 3 in the form at 2: `tagged`, or the author of the parts.
+fn read(row: Row<'_>, bytes: &[u8]) -> Result<Program, TextError> {
+    match row.author(2) {
+        Some(author) if author > 0 => parse(row.alloc, bytes, Mode::Untagged(author)),
+        _ => parse(row.alloc, bytes, Mode::Tagged),
+    }
+}
+
+fn refusal(error: TextError) -> Option<Refusal> {
     match error {
-        TextError::Syntax { place } => Refusal::Syntax { place }.message(alloc, name).ok(),
-        TextError::Shape(error) => Refusal::Shape(error).message(alloc, name).ok(),
+        TextError::Syntax { place } => Some(Refusal::Syntax { place }),
+        TextError::Shape(error) => Some(Refusal::Shape(error)),
         TextError::Memory => None,
     }
 }
 
-fn printed(alloc: Global, program: &Program) -> Option<String> {
-    string(text_of(alloc, program).ok()?)
+fn put_refusal(alloc: Global, out: &mut Out, name: &str, error: TextError) {
+    match refusal(error) {
+        Some(refusal) => put_message(out, refusal.message(alloc, name)),
+        None => out.cut(),
+    }
 }
 
 // `print FORM TEXT`: the canonical text.
-fn print(alloc: Global, row: Row<'_>) -> Option<String> {
-    match read(alloc, row.word(2)?, row.bytes(3)?)? {
-        Ok(program) => printed(alloc, &program),
-        Err(error) => refusal(alloc, row.word(3)?, error),
+fn print(row: Row<'_>, out: &mut Out) -> Option<()> {
+    let name = row.word(3)?;
+    let bytes = row.bytes(3)?;
+    match read(row, bytes) {
+        Ok(program) => put_program(row.alloc, out, &program),
+        Err(error) => put_refusal(row.alloc, out, name, error),
     }
+    Some(())
 }
 
-fn counted(alloc: Global, program: &Program) -> Option<String> {
-    let authors = program.issued().rows().len();
-    let parts = program.part_count();
-    let finals = program.finals().len();
-    format!(in alloc; "authors {authors}, parts {parts}, finals {finals}\n").ok()
+fn put_sizes(out: &mut Out, program: &Program) {
+    put_counted(out, "authors ", program.issued().rows().len());
+    put_counted(out, ", parts ", program.part_count());
+    put_count(out, ", finals ", program.finals().len() as u64);
 }
 
 // `sizes FORM TEXT`: how many authors, parts and final names there are.
-fn sizes(alloc: Global, row: Row<'_>) -> Option<String> {
-    match read(alloc, row.word(2)?, row.bytes(3)?)? {
-        Ok(program) => counted(alloc, &program),
-        Err(error) => refusal(alloc, row.word(3)?, error),
+fn sizes(row: Row<'_>, out: &mut Out) -> Option<()> {
+    let name = row.word(3)?;
+    let bytes = row.bytes(3)?;
+    match read(row, bytes) {
+        Ok(program) => put_sizes(out, &program),
+        Err(error) => put_refusal(row.alloc, out, name, error),
     }
+    Some(())
 }
 
-fn front(alloc: Global, bytes: &[u8]) -> Option<String> {
-    match parse(alloc, bytes, Mode::Tagged) {
-        Ok(_) => String::from_str(alloc, " read").ok(),
-        Err(TextError::Syntax { place }) => format!(in alloc; " {place}").ok(),
-        Err(_) => None,
+fn put_front(alloc: Global, out: &mut Out, front: &[u8]) {
+    match parse(alloc, front, Mode::Tagged) {
+        Ok(_) => out.put_piece(" read"),
+        Err(TextError::Syntax { place }) => put_counted(out, " ", place),
+        Err(_) => out.cut(),
     }
 }
 
 // `fronts TEXT`: the place of the refusal of each front of the text.
-fn fronts(alloc: Global, row: Row<'_>) -> Option<String> {
+fn fronts(row: Row<'_>, out: &mut Out) -> Option<()> {
     let bytes = row.bytes(2)?;
-    let mut line = String::from_str(alloc, "places").ok()?;
+    out.put_piece("places");
     for length in 0..=bytes.len() {
-        let word = front(alloc, bytes.get(..length)?)?;
-        line.push_str(word.as_str()).ok()?;
+        put_front(row.alloc, out, bytes.get(..length)?);
     }
-    line.push('\n').ok()?;
-    Some(line)
+    out.put_piece("\n");
+    Some(())
 }
 
-fn content_line(alloc: Global, content: &Content, at: usize) -> Option<String> {
-    let text = string(content_text(alloc, content).ok()?)?;
-    format!(in alloc; "{text}, its end at {at}\n").ok()
+fn put_read(alloc: Global, out: &mut Out, content: &Content, at: usize) {
+    put_content(alloc, out, content);
+    put_count(out, ", its end at ", at as u64);
 }
 
 // `content START TEXT`: the content from there on, and the place of its `;`.
-fn content(alloc: Global, row: Row<'_>) -> Option<String> {
+fn content(row: Row<'_>, out: &mut Out) -> Option<()> {
     let start = row.number(2)?;
+    let name = row.word(3)?;
     let bytes = row.bytes(3)?;
     if bytes.len() < start {
         return None;
     }
-    match read_content(alloc, bytes, start) {
-        Ok((content, at)) => content_line(alloc, &content, at),
-        Err(error) => refusal(alloc, row.word(3)?, error),
+    match read_content(row.alloc, bytes, start) {
+        Ok((content, at)) => put_read(row.alloc, out, &content, at),
+        Err(error) => put_refusal(row.alloc, out, name, error),
     }
+    Some(())
 }

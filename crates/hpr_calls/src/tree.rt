@@ -1,150 +1,213 @@
 //! Calls of hpr_syntax on the program of a text.
-use crate::expression::order_word;
-use crate::row::{Row, string, tag_of};
+use crate::put::{
+    Out, put, put_comparison, put_count, put_counted, put_made, put_message, put_tag, truth,
+};
+use crate::row::Row;
 use hpr_print::content_text;
 use hpr_refusals::Refusal;
 use hpr_syntax::{
-    Block, Content, Issued, Program, Row as Place, ShapeError, Stmt, content_of, defines, expr_of,
-    has_content, same_content, uses,
+    Block, Content, Issued, Program, Row as Place, Stmt, content_of, defines, expr_of, has_content,
+    same_content, uses,
 };
 use hpr_terms::{Binary, Expr, Literal, Name, Operand, Tag};
 use std::alloc::Global;
 
 /// Answers the call.
-pub(crate) fn call(alloc: Global, row: Row<'_>) -> Option<String> {
+pub(crate) fn call(row: Row<'_>, out: &mut Out) -> Option<()> {
     match row.word(1)? {
-        "rows" => rows(alloc, row),
-        "find" => find(alloc, row),
-        "uses" => part_uses(alloc, row),
-        "compare" => compare(alloc, row),
-        "sum" => sum(alloc, row),
+        "rows" => rows(row, out),
+        "find" => find(row, out),
+        "uses" => part_uses(row, out),
+        "compare" => compare(row, out),
+        "sum" => sum(row, out),
         _ => None,
     }
 }
 
-/// What a content says, as a text.
-pub(crate) fn content_string(alloc: Global, content: &Content) -> Option<String> {
-    string(content_text(alloc, content).ok()?)
+/// Puts what a content says.
+pub(crate) fn put_content(alloc: Global, out: &mut Out, content: &Content) {
+    put_made(out, content_text(alloc, content));
 }
 
-// Where the part stands.
-fn block_text(alloc: Global, parent: Option<(Tag, bool)>) -> Option<String> {
+// Puts the block that a part stands in.
+fn put_block(out: &mut Out, parent: Option<(Tag, bool)>) {
     match parent {
-        Some((tag, branch)) => format!(in alloc; "{}.{} {branch}", tag.author, tag.serial).ok(),
-        None => String::from_str(alloc, "top").ok(),
+        Some((tag, branch)) => {
+            put_tag(out, tag);
+            put(out, &[" ", truth(branch)]);
+        }
+        None => out.put_piece("top"),
     }
 }
 
-fn put_row(alloc: Global, out: &mut String, place: &Place) -> Option<()> {
-    let block = block_text(alloc, place.parent)?;
-    let content = content_string(alloc, &place.content)?;
-    let line = format!(in alloc;
-        "{}.{} in {block} at {}: {content}\n",
-        place.tag.author, place.tag.serial, place.at
-    )
-    .ok()?;
-    out.push_str(line.as_str()).ok()
+fn put_place(alloc: Global, out: &mut Out, place: &Place) {
+    put_tag(out, place.tag);
+    out.put_piece(" in ");
+    put_block(out, place.parent);
+    put_counted(out, " at ", place.at);
+    out.put_piece(": ");
+    put_content(alloc, out, &place.content);
+    out.put_piece("\n");
+}
+
+fn put_places(alloc: Global, out: &mut Out, places: &[Place]) {
+    for place in places {
+        put_place(alloc, out, place);
+    }
+}
+
+fn put_rows(alloc: Global, out: &mut Out, program: &Program) {
+    match program.preorder(alloc) {
+        Ok(places) => put_places(alloc, out, &places),
+        Err(_) => out.cut(),
+    }
 }
 
 // `rows PROGRAM`: the parts in preorder.
-fn rows(alloc: Global, row: Row<'_>) -> Option<String> {
-    let program = row.program(alloc, 2)?;
-    let places = program.preorder(alloc).ok()?;
-    let mut out = String::new(alloc);
-    for place in &places {
-        put_row(alloc, &mut out, place)?;
-    }
-    Some(out)
+fn rows(row: Row<'_>, out: &mut Out) -> Option<()> {
+    let program = row.program(2)?;
+    put_rows(row.alloc, out, &program);
+    Some(())
 }
 
-fn found(alloc: Global, stmt: &Stmt) -> Option<String> {
-    let content = content_of(alloc, stmt).ok()?;
-    let text = content_string(alloc, &content)?;
-    let says = has_content(stmt, &content);
-    let copied = same_content(&content.copy(alloc).ok()?, &content);
-    let tag = stmt.tag();
-    format!(in alloc;
-        "{}.{} {text}, says so {says}, copied {copied}\n",
-        tag.author, tag.serial
-    )
-    .ok()
+fn is_copied(alloc: Global, content: &Content) -> bool {
+    match content.copy(alloc) {
+        Ok(copy) => same_content(&copy, content),
+        Err(_) => false,
+    }
+}
+
+fn put_said(alloc: Global, out: &mut Out, stmt: &Stmt, content: &Content) {
+    let says = truth(has_content(stmt, content));
+    let copied = truth(is_copied(alloc, content));
+    put_content(alloc, out, content);
+    put(out, &[", says so ", says, ", copied ", copied, "\n"]);
+}
+
+fn put_found(alloc: Global, out: &mut Out, stmt: &Stmt) {
+    put_tag(out, stmt.tag());
+    out.put_piece(" ");
+    match content_of(alloc, stmt) {
+        Ok(content) => put_said(alloc, out, stmt, &content),
+        Err(_) => out.cut(),
+    }
+}
+
+fn put_part(alloc: Global, out: &mut Out, program: &Program, tag: Tag) {
+    match program.find(tag) {
+        Some(stmt) => put_found(alloc, out, stmt),
+        None => out.put_piece("no part\n"),
+    }
 }
 
 // `find PROGRAM TAG`: the part with the tag.
-fn find(alloc: Global, row: Row<'_>) -> Option<String> {
-    let tag = tag_of(row.word(3)?)?;
-    let program = row.program(alloc, 2)?;
-    match program.find(tag) {
-        Some(stmt) => found(alloc, stmt),
-        None => String::from_str(alloc, "no part\n").ok(),
+fn find(row: Row<'_>, out: &mut Out) -> Option<()> {
+    let tag = row.tag(3)?;
+    let program = row.program(2)?;
+    put_part(row.alloc, out, &program, tag);
+    Some(())
+}
+
+fn defined(stmt: &Stmt) -> &str {
+    match defines(stmt) {
+        Some(name) => name.text(),
+        None => "nothing",
     }
 }
 
-fn used(alloc: Global, stmt: &Stmt, name: &Name) -> Option<String> {
-    let word = match defines(stmt) {
-        Some(name) => name.text(),
-        None => "nothing",
-    };
-    let says = uses(stmt, name);
-    let expression = expr_of(stmt).uses(name);
-    format!(in alloc; "defines {word}, uses {says}, its expression {expression}\n").ok()
+fn put_uses(out: &mut Out, stmt: &Stmt, name: &Name) {
+    let says = truth(uses(stmt, name));
+    let expression = truth(expr_of(stmt).uses(name));
+    put(out, &["defines ", defined(stmt)]);
+    put(
+        out,
+        &[", uses ", says, ", its expression ", expression, "\n"],
+    );
+}
+
+fn used(row: Row<'_>, out: &mut Out, program: &Program) -> Option<()> {
+    let stmt = program.find(row.tag(3)?)?;
+    let name = row.name(4)?;
+    put_uses(out, stmt, &name);
+    Some(())
 }
 
 // `uses PROGRAM TAG NAME`: what the part defines, and whether it uses the name.
-fn part_uses(alloc: Global, row: Row<'_>) -> Option<String> {
-    let tag = tag_of(row.word(3)?)?;
-    let name = row.name(alloc, 4)?;
-    let program = row.program(alloc, 2)?;
-    used(alloc, program.find(tag)?, &name)
+fn part_uses(row: Row<'_>, out: &mut Out) -> Option<()> {
+    let program = row.program(2)?;
+    used(row, out, &program)
 }
 
-fn compared(alloc: Global, one: &Program, other: &Program) -> Option<String> {
-    let copied = one.copy(alloc).ok()?.is_same(one);
-    let order = order_word(one.cmp(other));
-    let same = one.is_same(other);
-    format!(in alloc; "{order}, same {same}, copied {copied}\n").ok()
+fn is_program_copied(alloc: Global, program: &Program) -> bool {
+    match program.copy(alloc) {
+        Ok(copy) => copy.is_same(program),
+        Err(_) => false,
+    }
+}
+
+fn compared(row: Row<'_>, out: &mut Out, one: &Program) -> Option<()> {
+    let copied = is_program_copied(row.alloc, one);
+    let other = row.program(3)?;
+    put_comparison(out, one.cmp(&other), one.is_same(&other), copied);
+    Some(())
 }
 
 // `compare PROGRAM PROGRAM`: the order of two programs.
-fn compare(alloc: Global, row: Row<'_>) -> Option<String> {
-    let one = row.program(alloc, 2)?;
-    let other = row.program(alloc, 3)?;
-    compared(alloc, &one, &other)
+fn compare(row: Row<'_>, out: &mut Out) -> Option<()> {
+    let one = row.program(2)?;
+    compared(row, out, &one)
+}
+
+fn one() -> Option<Expr> {
+    Some(Expr::Num(Literal::new(1)?))
+}
+
+fn plus_one(alloc: Global, sum: Expr) -> Option<Expr> {
+    let sum = Operand::new(alloc, sum).ok()?;
+    Some(Expr::Infix(Binary::Add, sum, Operand::new(alloc, one()?).ok()?))
 }
 
 // A sum of ones with so many operators.
-fn ones(alloc: Global, operators: u32) -> Option<Expr> {
-    let mut sum = Expr::Num(Literal::new(1)?);
+fn ones(alloc: Global, operators: u64) -> Option<Expr> {
+    let mut sum = one()?;
     for _ in 0..operators {
-        let one = Operand::new(alloc, Expr::Num(Literal::new(1)?)).ok()?;
-        sum = Expr::Infix(Binary::Add, Operand::new(alloc, sum).ok()?, one);
+        sum = plus_one(alloc, sum)?;
     }
     Some(sum)
 }
 
 // `1.1: x := SUM`
-fn assignment(alloc: Global, sum: Expr) -> Option<Block> {
+fn assignment(alloc: Global, sum: Expr) -> Option<Stmt> {
     let tag = Tag {
         author: 1,
         serial: 1,
     };
-    let name = Name::new(alloc, "x").ok()?;
+    Some(Stmt::Assign(tag, Name::new(alloc, "x").ok()?, sum))
+}
+
+fn block(alloc: Global, stmt: Stmt) -> Option<Block> {
     let mut stmts = Vec::new(alloc);
-    stmts.push(Stmt::Assign(tag, name, sum)).ok()?;
+    stmts.push(stmt).ok()?;
     Some(Block::new(stmts))
 }
 
-fn judged(alloc: Global, body: Block) -> Option<Result<Program, ShapeError>> {
+fn issued(alloc: Global) -> Option<Issued> {
     let mut issued = Issued::new(alloc);
     issued.raise(1, 1).ok()?;
-    Some(Program::new(alloc, issued, body, Vec::new(alloc)))
+    Some(issued)
+}
+
+fn put_judged(alloc: Global, out: &mut Out, issued: Issued, body: Block) {
+    match Program::new(alloc, issued, body, Vec::new(alloc)) {
+        Ok(program) => put_count(out, "parts ", program.part_count() as u64),
+        Err(error) => put_message(out, Refusal::Shape(error).message(alloc, "P")),
+    }
 }
 
 // `sum OPERATORS`: what comes of a program with a sum of so many operators.
-fn sum(alloc: Global, row: Row<'_>) -> Option<String> {
-    let body = assignment(alloc, ones(alloc, row.word(2)?.parse().ok()?)?)?;
-    match judged(alloc, body)? {
-        Ok(program) => format!(in alloc; "parts {}\n", program.part_count()).ok(),
-        Err(error) => Refusal::Shape(error).message(alloc, "P").ok(),
-    }
+fn sum(row: Row<'_>, out: &mut Out) -> Option<()> {
+    let sum = ones(row.alloc, row.count(2)?)?;
+    let body = block(row.alloc, assignment(row.alloc, sum)?)?;
+    put_judged(row.alloc, out, issued(row.alloc)?, body);
+    Some(())
 }

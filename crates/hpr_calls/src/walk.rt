@@ -2,7 +2,8 @@
 ghost use Rattle.std.specs.Prelude.{◌≡◌, ℕ, ◌<◌, true, false, cond, eqb, ltb, length, replicate, vec_len, IfOk};
 ghost use Rattle.hpr_walk.specs.Marks.{is_in, IsMarksOf};
 
-use crate::row::{Row, number_line};
+use crate::put::{Out, put_numbers};
+use crate::row::Row;
 use hpr_walk::{Choices, advance, descend};
 use std::alloc::{AllocError, Global};
 
@@ -52,41 +53,34 @@ fn blank_row(alloc: Global) -> Result<Vec<bool>, AllocError>
     vec![in alloc; false; 3]
 }
 
-fn put_list(alloc: Global, out: &mut String, placed: &[usize]) -> Result<(), AllocError> {
-    match number_line(alloc, "list", placed) {
-        Some(line) => out.push_str(line.as_str()),
-        None => Err(AllocError),
-    }
-}
-
 // Puts the lists, one after the other.
-fn put_lists(alloc: Global, out: &mut String, blocked: bool) -> Result<(), AllocError> {
+fn put_lists(alloc: Global, out: &mut Out, blocked: bool) -> Result<(), AllocError> {
     let example = Example { blocked };
     let mut marks = blank_row(alloc)?;
     let mut placed = Vec::with_capacity(alloc, 3)?;
     if !descend(&example, &mut marks, &mut placed) {
         return Ok(());
     }
-    put_list(alloc, out, &placed)?;
+    put_numbers(out, "list", &placed);
     if !advance(&example, &mut marks, &mut placed) {
         return Ok(());
     }
-    put_list(alloc, out, &placed)?;
+    put_numbers(out, "list", &placed);
     if !advance(&example, &mut marks, &mut placed) {
         return Ok(());
     }
-    put_list(alloc, out, &placed)?;
+    put_numbers(out, "list", &placed);
     if !advance(&example, &mut marks, &mut placed) {
         return Ok(());
     }
-    put_list(alloc, out, &placed)
+    put_numbers(out, "list", &placed);
+    Ok(())
 }
 
 /// `open` or `blocked`: the first four lists.
-pub(crate) fn call(alloc: Global, row: Row<'_>) -> Option<String> {
+pub(crate) fn call(row: Row<'_>, out: &mut Out) -> Option<()> {
     let blocked = row.word(1)? == "blocked";
-    let mut out = String::new(alloc);
-    put_lists(alloc, &mut out, blocked).ok()?;
-    out.push_str("that is all\n").ok()?;
-    Some(out)
+    put_lists(row.alloc, out, blocked).ok()?;
+    out.put_piece("that is all\n");
+    Some(())
 }
