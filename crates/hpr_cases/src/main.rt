@@ -18,32 +18,33 @@ mod call;
 mod case;
 mod text;
 
-use case::Case;
+use crate::call::tell;
+use crate::case::Case;
+use crate::text::put;
 use std::alloc::Global;
 use std::io;
 
-// What is printed for a line.
-fn answer(alloc: Global, case: &mut Case, line: &str) -> Option<String> {
+// Takes a line, and tells what it comes to.
+fn take(alloc: Global, case: &mut Case, line: &str, told: &mut String) -> Option<()> {
     if line.starts_with("# ") {
         *case = Case::new(alloc);
-        return format!(in alloc; "{line}\n").ok();
+        return put(told, &[line, "\n"]);
     }
-    if let Some(words) = line.strip_prefix("$ ") {
-        return call::ending(alloc, case, words);
+    match line.strip_prefix("$ ") {
+        Some(words) => tell(alloc, case, words, told),
+        None => case.take_line(alloc, line),
     }
-    case.take_line(alloc, line)?;
-    Some(String::new(alloc))
 }
 
 fn main(rt: HostRuntime) -> io::Result<()> {
     let alloc = rt.alloc();
     let mut case = Case::new(alloc);
+    let mut told = String::new(alloc);
     for line in rt.lines(alloc) {
         let line = line?;
-        match answer(alloc, &mut case, line.as_str()) {
-            Some(text) => print!(rt; "{text}")?,
-            None => println!(rt; "not read: {line}")?,
+        if take(alloc, &mut case, line.as_str(), &mut told).is_none() {
+            println!(rt; "not read: {line}")?;
         }
     }
-    Ok(())
+    print!(rt; "{told}")
 }

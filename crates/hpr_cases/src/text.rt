@@ -1,6 +1,14 @@
 //! The bytes and numbers that lines spell.
 use std::alloc::{AllocError, Global};
 
+/// Puts the pieces, one after the other.
+pub(crate) fn put(told: &mut String, pieces: &[&str]) -> Option<()> {
+    for piece in pieces {
+        told.push_str(piece).ok()?;
+    }
+    Some(())
+}
+
 fn digit(byte: u8) -> u8 {
     match byte {
         b'0'..=b'9' => byte - b'0',
@@ -40,9 +48,13 @@ pub(crate) fn word(alloc: Global, text: &str) -> Option<String> {
 pub(crate) fn words(alloc: Global, line: &str) -> Option<Vec<String>> {
     let mut words = Vec::new(alloc);
     for piece in line.split_whitespace() {
-        words.push(word(alloc, piece)?).ok()?;
+        push_word(alloc, &mut words, piece)?;
     }
     Some(words)
+}
+
+fn push_word(alloc: Global, words: &mut Vec<String>, piece: &str) -> Option<()> {
+    words.push(word(alloc, piece)?).ok()
 }
 
 /// The numbers of a line.
@@ -54,22 +66,26 @@ pub(crate) fn numbers(alloc: Global, line: &str) -> Option<Vec<u64>> {
     Some(numbers)
 }
 
-// Puts the text behind the bytes, with the number in the place of `$`.
+// Puts the text behind the bytes, with these digits in the place of `$`.
+fn push_with(bytes: &mut Vec<u8>, text: &[u8], digits: &[u8]) -> Result<(), AllocError> {
+    for byte in text {
+        if *byte == b'$' {
+            bytes.extend_from_slice(digits)?;
+        } else {
+            bytes.push(*byte)?;
+        }
+    }
+    Ok(())
+}
+
 fn push_numbered(
     alloc: Global,
     bytes: &mut Vec<u8>,
     text: &[u8],
     number: u64,
 ) -> Result<(), AllocError> {
-    for byte in text {
-        if *byte == b'$' {
-            let digits = format!(in alloc; "{number}")?;
-            bytes.extend_from_slice(digits.as_bytes())?;
-        } else {
-            bytes.push(*byte)?;
-        }
-    }
-    Ok(())
+    let digits = number.to_string(alloc)?;
+    push_with(bytes, text, digits.as_bytes())
 }
 
 /// Puts the text behind the bytes for each number from `first` to `last`.
