@@ -81,12 +81,12 @@ fn table_line(
     requires merged { IsSingleValued merged.now }
     ensures { IfOk result (λ text. (row : Row) × (row.name ≡ name.now) × IsRow base.now a.now b.now merged.now row × (string_bytes text ≡ table_line row)) }
 {
-    let base = cell_text(alloc, value_in(base, name))?;
-    let a = cell_text(alloc, value_in(a, name))?;
-    let b = cell_text(alloc, value_in(b, name))?;
-    let merged = cell_text(alloc, value_in(merged, name))?;
-    let name = name.text();
-    Ok(format!(in alloc; "{name}: {base} {a} {b} {merged}")?)
+    let mut line = String::from_str(alloc, name.text())?;
+    put_cell(&mut line, ": ", value_in(base, name))?;
+    put_cell(&mut line, " ", value_in(a, name))?;
+    put_cell(&mut line, " ", value_in(b, name))?;
+    put_cell(&mut line, " ", value_in(merged, name))?;
+    Ok(line)
 }
 
 /// The value of a name in a list, if the list has the name.
@@ -102,11 +102,13 @@ fn value_in(values: &[(Name, i64)], name: &Name) -> Option<i64>
     None
 }
 
-fn cell_text(alloc: Global, cell: Option<i64>) -> Result<String, AllocError>
-    ensures { IfOk result (λ text. string_bytes text ≡ cell_text cell) }
+/// Puts a cell behind a text.
+fn put_cell(line: &mut String, before: &str, cell: Option<i64>) -> Result<(), AllocError>
+    ensures { OnOk result (string_bytes line.new ≡ string_bytes line.old ++ before.now ++ cell_text cell) }
 {
+    line.push_str(before)?;
     match cell {
-        Some(value) => format!(in alloc; "{value}"),
-        None => String::from_str(alloc, "-"),
+        Some(value) => write!(line, "{value}"),
+        None => line.push_str("-"),
     }
 }

@@ -11,12 +11,9 @@ returns c =
       b = c.value_in-3.result;
       merged = c.value_in-4.result;
     } in
-    let of_base : string_bytes c.in_ok-base.base ≡ cell_text c.value_in.result = c.in_ok-base.ensures in
-    let of_a : string_bytes c.in_ok-a.a ≡ cell_text c.value_in-2.result = c.in_ok-a.ensures in
-    let of_b : string_bytes c.in_ok-b.b ≡ cell_text c.value_in-3.result = c.in_ok-b.ensures in
-    let of_merged : string_bytes c.in_ok-merged.merged ≡ cell_text c.value_in-4.result = c.in_ok-merged.ensures in
-    let text : string_bytes c.in_ok-format.field-0 ≡ table_line row =
-    simp append_assoc (rw (c.text-name.ensures.text, of_base, of_a, of_b, of_merged) at c.in_ok-format.ensures.ok) in (
+    let text : string_bytes c.put_cell-4.new.line ≡ table_line row =
+    rw (c.in_ok-put_cell-4.ensures, c.in_ok-put_cell-3.ensures, c.in_ok-put_cell-2.ensures, c.in_ok-put_cell.ensures, c.in_ok-line.ensures.ok, c.text.ensures.text)
+    (simp append_assoc) in (
       row,
       refl,
       record {
