@@ -1,6 +1,5 @@
 //! Calls of hpr_words.
-use crate::put::{Out, put, put_count, truth};
-use crate::row::Row;
+use hpr_rows::{Out, Row, put, put_count, truth};
 use hpr_words::{Asked, WordsError, read_words};
 
 // Puts the words, each in brackets.

@@ -2,11 +2,9 @@
 ghost use Rattle.std.specs.Prelude.{◌≡◌, ◌≤◌, ℕ, OnOk};
 ghost use Rattle.hpr_syntax.specs.Issued.{issued_to};
 
-use crate::put::{Out, put_count, put_message};
-use crate::row::Row;
-use crate::text::put_program;
 use hpr_edit::{Command, EditError, Editor};
 use hpr_refusals::{Refusal, apply_script};
+use hpr_rows::{Out, Row, put_count, put_message, put_program};
 use hpr_script::{ScriptError, read_script};
 use std::alloc::Global;
 

@@ -1,9 +1,8 @@
 //! Calls of hpr_expressions, of the expressions of hpr_terms, and of `eval`.
-use crate::put::{Out, put_comparison, put_count, put_made};
-use crate::row::Row;
 use crate::state::read_state;
 use hpr_expressions::Reading;
 use hpr_print::expr_text;
+use hpr_rows::{Out, Row, put_comparison, put_count, put_made};
 use hpr_run::{Fault, State, eval};
 use hpr_scan::{Refusal, read};
 use hpr_terms::Expr;

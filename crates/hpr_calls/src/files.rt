@@ -1,7 +1,6 @@
 //! Calls of the sinks of hpr_io.
-use crate::put::{Out, put, put_bytes, put_counted};
-use crate::row::Row;
 use hpr_io::{MemorySink, PutError, Sink, put_all};
+use hpr_rows::{Out, Row, put, put_bytes, put_counted};
 
 /// Answers the call: `put STEP ROOM FAILING PIECE..` says what each put answers, and what the sink took;
 /// `put-all` says the same, where all of each piece is put.

@@ -1,10 +1,9 @@
 //! Calls of hpr_paths and hpr_reach on the points of a program.
 ghost use Rattle.std.specs.Prelude.{◌<◌, length};
 
-use crate::put::{Out, put, put_counted, put_names, put_tag};
-use crate::row::Row;
 use hpr_paths::{Step, Succ, successors};
 use hpr_reach::{BitRow, live_at_entry, reach};
+use hpr_rows::{Out, Row, put, put_counted, put_names, put_tag};
 use hpr_syntax::Program;
 use hpr_terms::Name;
 use std::alloc::Global;

@@ -2,11 +2,10 @@
 ghost use Rattle.std.specs.Prelude.{IfOk};
 ghost use Rattle.hpr_report.specs.TableText.{IsSingleValued};
 
-use crate::put::{Out, put, put_counted, put_made, put_tag};
-use crate::row::Row;
 use crate::state::read_state;
 use hpr_meaning::{Instance, Origin, Read, Traced, trace};
 use hpr_report::{outcome_text, table_text};
+use hpr_rows::{Out, Row, put, put_counted, put_made, put_tag};
 use hpr_run::{FinalValues, Outcome, State, run};
 use hpr_syntax::Program;
 use hpr_terms::NoMemory;

@@ -1,5 +1,5 @@
 //! States that words tell.
-use crate::row::Row;
+use hpr_rows::Row;
 use hpr_run::State;
 use hpr_terms::Name;
 use std::alloc::Global;

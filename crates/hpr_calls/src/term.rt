@@ -1,6 +1,5 @@
 //! Calls of the names of hpr_terms.
-use crate::put::{Out, put, put_counted, put_names, truth};
-use crate::row::Row;
+use hpr_rows::{Out, Row, put, put_counted, put_names, truth};
 use hpr_terms::{Name, copy_names, is_name, is_name_like, names};
 use std::alloc::Global;
 

@@ -1,9 +1,7 @@
 //! Calls of hpr_text and hpr_print, with the refusals of hpr_refusals.
-use crate::put::{Out, put_count, put_counted, put_made, put_message};
-use crate::row::Row;
-use crate::tree::put_content;
 use hpr_print::text_of;
 use hpr_refusals::Refusal;
+use hpr_rows::{Out, Row, put_content, put_count, put_counted, put_made, put_message, put_program};
 use hpr_syntax::{Content, Program};
 use hpr_text::{Mode, TextError, parse, read_content};
 use std::alloc::Global;
@@ -24,11 +22,6 @@ fn long(row: Row<'_>, out: &mut Out) -> Option<()> {
     let name = row.word(2)?;
     put_message(out, Refusal::Longer.message(row.alloc, name));
     Some(())
-}
-
-/// Puts the canonical text of a program.
-pub(crate) fn put_program(alloc: Global, out: &mut Out, program: &Program) {
-    put_made(out, text_of(alloc, program));
 }
 
 // The program of the text at 3 in the form at 2: `tagged`, or the author of the parts.

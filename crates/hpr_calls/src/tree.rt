@@ -1,10 +1,10 @@
 //! Calls of hpr_syntax on the program of a text.
-use crate::put::{
-    Out, put, put_comparison, put_count, put_counted, put_made, put_message, put_tag, truth,
-};
-use crate::row::Row;
 use hpr_print::content_text;
 use hpr_refusals::Refusal;
+use hpr_rows::{
+    Out, Row, put, put_comparison, put_content, put_count, put_counted, put_made, put_message,
+    put_tag, truth,
+};
 use hpr_syntax::{
     Block, Content, Issued, Program, Row as Place, Stmt, content_of, defines, expr_of, has_content,
     same_content, uses,
@@ -22,11 +22,6 @@ pub(crate) fn call(row: Row<'_>, out: &mut Out) -> Option<()> {
         "sum" => sum(row, out),
         _ => None,
     }
-}
-
-/// Puts what a content says.
-pub(crate) fn put_content(alloc: Global, out: &mut Out, content: &Content) {
-    put_made(out, content_text(alloc, content));
 }
 
 // Puts the block that a part stands in.

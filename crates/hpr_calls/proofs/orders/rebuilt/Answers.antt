@@ -1,9 +1,0 @@
-use Rattle.std.proofs.Common.{List, Contains, refl, sym, subst}
-use Rattle.hpr_graph.specs.declared.vertex.Vertex.{Vertex}
-use Rattle.hpr_graph.specs.declared.vertex.Vertex.TheVariants.{Part}
-use Rattle.hpr_calls.proofs.orders.rebuilt.Goals as goal
-
-pub rebuild-requires-clause-issued : goal.rebuild-requires-clause-issued
-rebuild-requires-clause-issued c = λ t d h.
-    c.are_issued.ensures c.if-are_issued.true (Part t d)
-    (subst (λ (vs : List Vertex). Contains vs (Part t d)) (sym c.vertices.ensures.vertices) h) t d refl

@@ -1,0 +1,49 @@
+//! Calls of the layers that know graphs, of integrations, and of the searches below them, as rows.
+//! Its rows are those of hpr_rows.
+#![tactic(auto)]
+
+mod engine;
+mod forest;
+mod graph;
+mod orders;
+mod search;
+mod slices;
+mod spelled;
+mod walk;
+
+use hpr_rows::{Calls, Out, Row, take};
+use std::io;
+
+struct GraphCalls;
+
+impl Calls for GraphCalls {
+    fn answer(row: Row<'_>, out: &mut Out) -> Option<()> {
+        match row.word(0)? {
+            "graph" => graph::call(row, out),
+            "slice" => slices::call(row, out),
+            "order" => orders::call(row, out),
+            "integrate" => engine::call(row, out),
+            "search" => search::call(row, out),
+            "walk" => walk::call(row, out),
+            "forest" => forest::call(row, out),
+            _ => None,
+        }
+    }
+}
+
+fn main(rt: HostRuntime) -> io::Result<()> {
+    let alloc = rt.alloc();
+    let mut texts = Vec::new(alloc);
+    let mut out = Out::new(alloc);
+    for line in rt.lines(alloc) {
+        let line = line?;
+        if take::<GraphCalls>(alloc, &mut texts, &mut out, line.as_str()).is_none() {
+            println!(rt; "bad row: {line}")?;
+        }
+    }
+    if out.is_cut() {
+        println!(rt; "memory ran out")?;
+    }
+    let text = out.text();
+    print!(rt; "{text}")
+}

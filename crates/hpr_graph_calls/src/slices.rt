@@ -1,0 +1,127 @@
+//! Calls of hpr_slice, hpr_affected and hpr_merge on graphs.
+ghost use Rattle.std.specs.Prelude.{◌↔◌, ◌<◌, All, IsTrue, length};
+
+use crate::graph::{put_counts, put_new};
+use crate::spelled::{graph, graphs};
+use hpr_affected::{affected, preserved};
+use hpr_graph::Graph;
+use hpr_merge::{Merged, merge};
+use hpr_rebuild::part_count;
+use hpr_report::{affected_text, conflicts_text};
+use hpr_rows::{Out, Row, put_count, put_made, put_marked, put_numbers};
+use hpr_slice::{forward, slice};
+use hpr_terms::NoMemory;
+use std::alloc::Global;
+
+/// Answers the call.
+pub(crate) fn call(row: Row<'_>, out: &mut Out) -> Option<()> {
+    match row.word(1)? {
+        "affected" => changed(row, out),
+        "preserved" | "merge" => of_three(row, out),
+        _ => at_points(row, out),
+    }
+}
+
+fn push_number(numbers: &mut Vec<usize>, word: &str) -> Option<()> {
+    numbers.push(word.parse().ok()?).ok()
+}
+
+fn numbers(alloc: Global, words: &[String]) -> Option<Vec<usize>> {
+    let mut numbers = Vec::new(alloc);
+    for word in words {
+        push_number(&mut numbers, word.as_str())?;
+    }
+    Some(numbers)
+}
+
+fn are_below(points: &[usize], count: usize) -> bool
+    ensures { IsTrue result ↔ All (λ p. p < count) points.now }
+{
+    points.iter().all(|point| *point < count)
+}
+
+// Puts the title and the numbers that were found.
+fn put_found(out: &mut Out, title: &str, found: Result<Vec<usize>, NoMemory>) {
+    match found {
+        Ok(numbers) => put_numbers(out, title, &numbers),
+        Err(_) => out.cut(),
+    }
+}
+
+fn put_reached(out: &mut Out, reached: Result<Vec<bool>, NoMemory>) {
+    match reached {
+        Ok(marks) => put_marked(out, "marked", &marks),
+        Err(_) => out.cut(),
+    }
+}
+
+// `at GRAPH NUMBER..`: the slice at these vertices; `forward GRAPH NUMBER..`: the vertices that are
+// reached from these; `points GRAPH NUMBER..`: these vertices, as affected points are shown.
+fn from_points(row: Row<'_>, out: &mut Out, graph: &Graph, points: &[usize]) -> Option<()> {
+    if !are_below(points, graph.vertex_count()) {
+        return None;
+    }
+    match row.word(1)? {
+        "at" => put_new(row.alloc, out, slice(row.alloc, graph, points)),
+        "forward" => put_reached(out, forward(row.alloc, graph, points)),
+        _ => put_made(out, affected_text(row.alloc, graph, points)),
+    }
+    Some(())
+}
+
+fn at(row: Row<'_>, out: &mut Out, graph: &Graph) -> Option<()> {
+    let points = numbers(row.alloc, row.rest(3))?;
+    from_points(row, out, graph, &points)
+}
+
+fn at_points(row: Row<'_>, out: &mut Out) -> Option<()> {
+    let graph = graph(row, 2)?;
+    at(row, out, &graph)
+}
+
+fn of_two(row: Row<'_>, out: &mut Out, graphs: &[Graph]) -> Option<()> {
+    let [base, variant] = graphs else {
+        return None;
+    };
+    put_found(out, "affected", affected(row.alloc, variant, base));
+    Some(())
+}
+
+// `affected BASE VARIANT`: the numbers of the variant's affected points.
+fn changed(row: Row<'_>, out: &mut Out) -> Option<()> {
+    let graphs = graphs(row, 2, 4)?;
+    of_two(row, out, &graphs)
+}
+
+fn put_merged(alloc: Global, out: &mut Out, merged: &Merged) {
+    put_made(out, conflicts_text(alloc, &merged.conflicts));
+    put_numbers(out, "affected in A", &merged.affected_a);
+    put_numbers(out, "affected in B", &merged.affected_b);
+    put_counts(out, &merged.graph);
+    put_count(out, "parts ", part_count(&merged.graph) as u64);
+}
+
+fn put_merge(alloc: Global, out: &mut Out, merged: Result<Merged, NoMemory>) {
+    match merged {
+        Ok(merged) => put_merged(alloc, out, &merged),
+        Err(_) => out.cut(),
+    }
+}
+
+fn of_all(row: Row<'_>, out: &mut Out, graphs: &[Graph]) -> Option<()> {
+    let [base, a, b] = graphs else {
+        return None;
+    };
+    match row.word(1)? {
+        "merge" => put_merge(row.alloc, out, merge(row.alloc, base, a, b)),
+        _ => put_found(out, "preserved", preserved(row.alloc, base, a, b)),
+    }
+    Some(())
+}
+
+// `preserved BASE A B`: the numbers of base's preserved points; `merge BASE A B`: the conflicts, the
+// affected points, and the size of the merged graph.
+fn of_three(row: Row<'_>, out: &mut Out) -> Option<()> {
+    let graphs = graphs(row, 2, 5)?;
+    of_all(row, out, &graphs)
+}

@@ -1,0 +1,17 @@
+//! Rows of calls, which test programs read: the words of a call, the texts that they name, and what is printed.
+//!
+//! `# TITLE` begins a row, and is printed. `@ NAME PIECE` begins a text; `+ PIECE` adds a line to it, and
+//! `* TIMES PIECE` a piece so many times. `$ WORDS` makes a call, whose words may name the row's texts.
+#![tactic(auto)]
+
+mod lines;
+mod printing;
+mod taking;
+mod words;
+
+pub use printing::{
+    Out, order_word, put, put_bytes, put_comparison, put_content, put_count, put_counted, put_made,
+    put_marked, put_message, put_names, put_numbers, put_program, put_tag, truth,
+};
+pub use taking::{Calls, take};
+pub use words::{Row, Text, tag_of};
