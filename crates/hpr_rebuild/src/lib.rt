@@ -1,6 +1,6 @@
 //! The program that has a graph, if there is one: the arrangements of the graph are tried in their
-//! order (Horwitz, Prins and Reps 1989 for the graphs; the order and the budget of tries are our
-//! profile's).
+//! order (Horwitz, Prins and Reps 1989 for the graphs; they give the arrangements no order, and no
+//! budget of tries).
 #![tactic(auto)]
 
 mod count;

@@ -24,8 +24,8 @@ pub enum Refusal {
 impl Refusal {
     /// The message on the file with this name.
     ///
-    /// It fails where memory runs out, also where that is why there is no program. Messages are our
-    /// profile.
+    /// It fails where memory runs out, also where that is why there is no program. The form of
+    /// messages is defined here alone.
     pub fn message(&self, alloc: Global, file: &str) -> Result<String, AllocError>
         ensures text { IfOk result (λ text. string_bytes text ≡ refusal_text file.now self.now) }
         ensures memory { IfOk result (λ text. self.now ≢ Refusal.Shape ShapeError.Memory) }

@@ -12,8 +12,8 @@ use std::alloc::{AllocError, Global};
 /// The table of the final values of a base, its variants A and B, and the merged program: a line
 /// `NAME: BASE A B MERGED` for each name that stands in one of the lists, in the order of their bytes.
 /// Each of the four is the list's value of the name, or `-` where the list lacks the name. Each line ends
-/// with a newline. No name has two values in one list. It fails only for want of memory. The text is our
-/// profile.
+/// with a newline. No name has two values in one list. It fails only for want of memory. The form
+/// is defined here alone.
 pub fn table_text(
     alloc: Global,
     base: &[(Name, i64)],
