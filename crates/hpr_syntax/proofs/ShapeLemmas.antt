@@ -6,6 +6,9 @@ use Rattle.hpr_syntax.specs.declared.tree.Stmt.{Stmt}
 use Rattle.hpr_syntax.specs.declared.tree.Stmt.TheVariants.{Assign, If, While}
 use Rattle.hpr_syntax.specs.BodyOf.{before}
 use Rattle.hpr_syntax.specs.Parts.{tags_of}
+use Rattle.hpr_syntax.specs.Tree.{Tree}
+use Rattle.hpr_syntax.specs.Shape.{shape}
+use Rattle.hpr_syntax.specs.Refusals.{body_refusal, tag_refusal}
 
 count_then : (b : Body) (ts : List Tag) → length (tags_of b ts) ≡ part_count b + length ts
 count_then done ts = omega arith
@@ -27,3 +30,8 @@ pub tags_before : (s : Stmt) (rest : Body) → tags_of (before s rest) [] ≡ ta
 tags_before (Assign t x e) rest = refl
 tags_before (If t e a b) rest = ap (λ x. t ∷ x) (ap (tags_of a) (tags_append b [] (tags_of rest [])) ∙ tags_append a (tags_of b []) (tags_of rest []))
 tags_before (While t e b) rest = ap (λ x. t ∷ x) (tags_append b [] (tags_of rest []))
+
+-- the tests, cut into steps
+pub refused_by_tags : (t : Tree) → shape t ≡ tag_refusal t.issued (tags_of t.body []) t.body t.finals
+unfolding shape
+refused_by_tags t = rw (count_tags t.body) refl

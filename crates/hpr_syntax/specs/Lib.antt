@@ -7,6 +7,7 @@ pub mod Issued
 pub mod Tree
 pub mod Proper
 pub mod Shape
+pub mod Refusals
 pub mod Grammar
 pub mod Spelling
 pub mod Print

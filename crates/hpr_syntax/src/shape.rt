@@ -1,5 +1,6 @@
 //! The tests that a tree must pass to be a program.
 ghost use Rattle.std.specs.Prelude.{◌≡◌, ◌-◌, ◌++◌, ◌<◌, ◌^◌, IfOk, OnOk, [], if◌then◌else◌, Some, None, nat_le};
+ghost use Rattle.std.specs.Option.{option_copied};
 ghost use Rattle.std.specs.Str.{bytes_eq};
 ghost use Rattle.hpr_terms.specs.Term.{operators};
 ghost use Rattle.hpr_terms.specs.TermOf.{term_of};
@@ -7,6 +8,7 @@ ghost use Rattle.hpr_syntax.specs.Body.{done};
 ghost use Rattle.hpr_syntax.specs.BodyOf.{before};
 ghost use Rattle.hpr_syntax.specs.Parts.{tags_of, same_tag};
 ghost use Rattle.hpr_syntax.specs.Shape.{first_repeated, first_unissued, first_deep, first_large, is_large, left_after, shape};
+ghost use Rattle.hpr_syntax.specs.Refusals.{end_refusal, body_refusal, tag_refusal};
 
 use crate::issued::Issued;
 use crate::tree::{Block, Stmt, expr_of};
@@ -196,20 +198,75 @@ fn left_after(expr: &Expr, most: u32) -> Option<u32>
 }
 
 /// The first name that stands earlier.
-fn first_repeated_name(alloc: Global, names: &[Name]) -> Result<Option<Name>, NoMemory>
-    ensures { IfOk result (λ name. name ≡ first_repeated bytes_eq [] names.now) }
+fn first_repeated_name(alloc: Global, names: &[Name]) -> Result<Option<&Name>, NoMemory>
+    ensures { IfOk result (λ name. option_copied name ≡ first_repeated bytes_eq [] names.now) }
 {
     let mut seen = BTreeSet::new(alloc);
     for name in names {
-        if !seen.insert(name.copy(alloc)?)? {
-            return Ok(Some(name.copy(alloc)?));
+        let copy = name.copy(alloc)?;
+        if !seen.insert(copy)? {
+            return Ok(Some(name));
         }
     }
     Ok(None)
 }
 
+/// Why so many parts or these names of `end` make no program, if they don't.
+fn refusal_of_ends(
+    alloc: Global,
+    count: usize,
+    finals: &[Name],
+) -> Result<Option<ShapeError>, NoMemory>
+    ensures { IfOk result (λ e. e ≡ end_refusal count finals.now) }
+{
+    if count > 1000 {
+        return Ok(Some(ShapeError::TooManyParts(count)));
+    }
+    match first_repeated_name(alloc, finals)? {
+        Some(name) => Ok(Some(ShapeError::DuplicateFinal(name.copy(alloc)?))),
+        None => Ok(None),
+    }
+}
+
+/// Why this body, with so many parts, and these names of `end` make no program, if they don't.
+fn refusal_of_body(
+    alloc: Global,
+    count: usize,
+    body: &Block,
+    finals: &[Name],
+) -> Result<Option<ShapeError>, NoMemory>
+    ensures { IfOk result (λ e. e ≡ body_refusal count body.now finals.now) }
+{
+    if let Some(tag) = first_deep(body, 64) {
+        return Ok(Some(ShapeError::TooDeep(tag)));
+    }
+    if let Some(tag) = first_large(body) {
+        return Ok(Some(ShapeError::ExprTooLarge(tag)));
+    }
+    refusal_of_ends(alloc, count, finals)
+}
+
+/// Why these make no program, where the tags are the body's, if they don't.
+fn refusal_of_tags(
+    alloc: Global,
+    issued: &Issued,
+    tags: &[Tag],
+    body: &Block,
+    finals: &[Name],
+) -> Result<Option<ShapeError>, NoMemory>
+    ensures { IfOk result (λ e. e ≡ tag_refusal issued.now tags.now body.now finals.now) }
+{
+    if let Some(tag) = first_repeated(alloc, tags)? {
+        return Ok(Some(ShapeError::DuplicateTag(tag)));
+    }
+    if let Some(tag) = first_unissued(issued, tags) {
+        return Ok(Some(ShapeError::Unissued(tag)));
+    }
+    refusal_of_body(alloc, tags.len(), body, finals)
+}
+
 /// Why the tree of these three is no program, if it is none.
-#[tactic(auto, using(crate::proofs::ShapeLemmas::count_tags), unfolding(crate::specs::Shape::shape))]
+#[tactic(auto, using(crate::proofs::ShapeLemmas::refused_by_tags))]
 pub(crate) fn refusal(
     alloc: Global,
     issued: &Issued,
@@ -219,23 +276,5 @@ pub(crate) fn refusal(
     ensures { IfOk result (λ e. e ≡ shape (record { issued = issued.now; body = body.now; finals = finals.now })) }
 {
     let tags = tags(alloc, body)?;
-    if let Some(tag) = first_repeated(alloc, &tags)? {
-        return Ok(Some(ShapeError::DuplicateTag(tag)));
-    }
-    if let Some(tag) = first_unissued(issued, &tags) {
-        return Ok(Some(ShapeError::Unissued(tag)));
-    }
-    if let Some(tag) = first_deep(body, 64) {
-        return Ok(Some(ShapeError::TooDeep(tag)));
-    }
-    if let Some(tag) = first_large(body) {
-        return Ok(Some(ShapeError::ExprTooLarge(tag)));
-    }
-    if tags.len() > 1000 {
-        return Ok(Some(ShapeError::TooManyParts(tags.len())));
-    }
-    if let Some(name) = first_repeated_name(alloc, finals)? {
-        return Ok(Some(ShapeError::DuplicateFinal(name)));
-    }
-    Ok(None)
+    refusal_of_tags(alloc, issued, &tags, body, finals)
 }
