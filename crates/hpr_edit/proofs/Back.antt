@@ -11,7 +11,7 @@ use Rattle.hpr_syntax.specs.declared.rows.Content.TheVariants as content
 use Rattle.hpr_syntax.specs.Body.{Body, done, part_count}
 use Rattle.hpr_syntax.specs.BodyOf.{before}
 use Rattle.hpr_syntax.specs.Parts.{same_tag, tag_of, find_stmt, tags_of}
-use Rattle.hpr_syntax.specs.Rows.{content_of}
+use Rattle.hpr_syntax.specs.Rows.{content_of, made}
 use Rattle.hpr_syntax.specs.Issued.{issued_to}
 use Rattle.hpr_syntax.specs.Tree.{Tree}
 use Rattle.hpr_syntax.specs.Proper.{IsProperBody}
@@ -23,7 +23,7 @@ use Rattle.hpr_edit.specs.declared.command.Inverse.{Inverse}
 use Rattle.hpr_edit.specs.declared.command.EditError.TheVariants.{SerialsSpent}
 use Rattle.hpr_edit.specs.InPlace.{one_if, times}
 use Rattle.hpr_edit.specs.Places.{joined, is_place, place_of}
-use Rattle.hpr_edit.specs.Changes.{at_part, gone, made, saying, wrapped, unwrapped}
+use Rattle.hpr_edit.specs.Changes.{at_part, gone, saying, wrapped, unwrapped}
 use Rattle.hpr_edit.specs.Edited.{becomes, edited, settled, next_tag, is_spent, same_kind, is_assignment, stands_in}
 use Rattle.hpr_edit.specs.Reverted.{reverted, body_back, finals_back, put_back, Undoes, IsPutBackIssued}
 use Rattle.hpr_edit.proofs.Around.{plug, same_is, same_self, times_plug, times_before}

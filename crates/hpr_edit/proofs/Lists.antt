@@ -15,7 +15,8 @@ use Rattle.hpr_syntax.specs.Body.{Body, done, assign, branch, loop}
 use Rattle.hpr_syntax.specs.BodyOf.{before, body_of}
 use Rattle.hpr_syntax.specs.Parts.{same_tag, tag_of}
 use Rattle.hpr_edit.specs.Places.{width, joined}
-use Rattle.hpr_edit.specs.Changes.{at_part, from, made, saying, firsts, later, unwrapped, rewrapped}
+use Rattle.hpr_syntax.specs.Rows.{made}
+use Rattle.hpr_edit.specs.Changes.{at_part, from, saying, firsts, later, unwrapped, rewrapped}
 use Rattle.hpr_edit.specs.InPlace.{times, one_if, on_first, in_part, with_content}
 use Rattle.hpr_edit.proofs.Around.{absent, times_before, at_before, at_head}
 use Rattle.hpr_edit.proofs.Placed.{from_before}

@@ -12,7 +12,7 @@ use Rattle.hpr_syntax.specs.declared.rows.Content.TheVariants.{Assign, If, While
 use Rattle.hpr_syntax.specs.Body.{Body, done, assign, branch, loop}
 use Rattle.hpr_syntax.specs.BodyOf.{before}
 use Rattle.hpr_syntax.specs.Parts.{same_tag, tag_of, find_stmt, tags_of}
-use Rattle.hpr_syntax.specs.Rows.{Parent, rows_of, content_of}
+use Rattle.hpr_syntax.specs.Rows.{Parent, rows_of, content_of, made}
 use Rattle.hpr_syntax.specs.Tree.{Tree}
 use Rattle.hpr_syntax.specs.Shape.{IsProgram}
 use Rattle.hpr_edit.specs.declared.command.Command.{Command}
@@ -21,7 +21,7 @@ use Rattle.hpr_edit.specs.declared.command.Inverse.{Inverse}
 use Rattle.hpr_edit.specs.declared.command.EditError.TheVariants.{SerialsSpent}
 use Rattle.hpr_edit.specs.InPlace.{one_if, times}
 use Rattle.hpr_edit.specs.Places.{joined, is_place, place_of}
-use Rattle.hpr_edit.specs.Changes.{at_part, at_place, gone, made, saying, wrapped, unwrapped}
+use Rattle.hpr_edit.specs.Changes.{at_part, at_place, gone, saying, wrapped, unwrapped}
 use Rattle.hpr_edit.specs.Edited.{becomes, edited, settled, next_tag, is_spent, same_kind, is_assignment, stands_in}
 use Rattle.hpr_edit.specs.Rows.{told, is_other, others, tags_in, touched}
 use Rattle.hpr_edit.proofs.Around.{Around, here, past, first, second, inside, plug, same_self, same_is, times_plug, times_before}

@@ -8,7 +8,7 @@ use Rattle.hpr_syntax.specs.declared.rows.Content.TheVariants as content
 use Rattle.hpr_syntax.specs.Body.{Body, done, assign, branch, loop}
 use Rattle.hpr_syntax.specs.BodyOf.{before}
 use Rattle.hpr_syntax.specs.Parts.{same_tag, tag_of, find_stmt}
-use Rattle.hpr_syntax.specs.Rows.{content_of}
+use Rattle.hpr_syntax.specs.Rows.{content_of, made}
 use Rattle.hpr_syntax.specs.Tree.{Tree}
 use Rattle.hpr_syntax.specs.Shape.{IsProgram, shape}
 use Rattle.hpr_syntax.specs.declared.shape.ShapeError.{ShapeError}
@@ -20,7 +20,7 @@ use Rattle.hpr_edit.specs.declared.command.EditError.{EditError}
 use Rattle.hpr_edit.specs.declared.command.EditError.TheVariants.{SerialsSpent}
 use Rattle.hpr_edit.specs.Places.{width, joined, is_place, place_of}
 use Rattle.hpr_edit.specs.InPlace.{times}
-use Rattle.hpr_edit.specs.Changes.{at_part, at_place, gone, made, first_block, second_block, saying, wrapped, unwrapped, firsts, later, rewrapped}
+use Rattle.hpr_edit.specs.Changes.{at_part, at_place, gone, first_block, second_block, saying, wrapped, unwrapped, firsts, later, rewrapped}
 use Rattle.hpr_edit.specs.Edited.{Edited, becomes, refuse, found, settled, unless, edited, next_tag, is_spent, same_kind, is_assignment}
 use Rattle.hpr_edit.specs.Reverted.{moved, Restores}
 use Rattle.hpr_edit.proofs.Around.{Around, plug, place_in, same_self, same_is, times_before, times_plug, times_head, at_plug, find_plug, place_plug, FoundIn, found_in}

@@ -4,7 +4,6 @@
 -- from n f block         == `f rest` stands in place of the rest of a block from its place n on
 -- with_block w f part    == the part with one of its blocks changed by f
 -- at_place place f body  == `f rest` stands in place of what stands in a body from this place on
--- made t c a b           == the part with this tag that says this, with these blocks, as far as it has blocks
 -- first_block part       == a loop's body or a conditional's first block; an assignment's is empty
 -- second_block part      == a conditional's second block; of another part it is empty
 --
@@ -21,11 +20,10 @@ use Rattle.hpr_terms.specs.declared.tag.Tag.{Tag}
 use Rattle.hpr_syntax.specs.declared.tree.Stmt.{Stmt}
 use Rattle.hpr_syntax.specs.declared.tree.Stmt.TheVariants.{Assign, If, While}
 use Rattle.hpr_syntax.specs.declared.rows.Content.{Content}
-use Rattle.hpr_syntax.specs.declared.rows.Content.TheVariants as content
 use Rattle.hpr_syntax.specs.Body.{Body, done, assign, branch, loop}
 use Rattle.hpr_syntax.specs.BodyOf.{before}
 use Rattle.hpr_syntax.specs.Parts.{same_tag}
-use Rattle.hpr_syntax.specs.Rows.{Parent}
+use Rattle.hpr_syntax.specs.Rows.{Parent, made}
 use Rattle.hpr_edit.specs.declared.command.Place.{Place}
 use Rattle.hpr_edit.specs.Places.{joined}
 
@@ -58,11 +56,6 @@ in_block (Some p) f body = at_part p.0 (λ part rest. before (with_block p.1 f p
 -- a change at a place
 abbrev pub at_place : Place → (Body → Body) → Body → Body
 at_place place f body = in_block place.parent (from place.at f) body
-
-abbrev pub made : Tag → Content → Body → Body → Stmt
-made t (content.Assign x e) a b = Assign t x e
-made t (content.If e) a b = If t e a b
-made t (content.While e) a b = While t e a
 
 abbrev pub first_block : Stmt → Body
 first_block (Assign t x e) = done

@@ -19,7 +19,7 @@ use Rattle.hpr_syntax.specs.declared.shape.ShapeError.{ShapeError}
 use Rattle.hpr_syntax.specs.Body.{Body, done}
 use Rattle.hpr_syntax.specs.BodyOf.{before}
 use Rattle.hpr_syntax.specs.Parts.{find_stmt}
-use Rattle.hpr_syntax.specs.Rows.{Parent, content_of}
+use Rattle.hpr_syntax.specs.Rows.{Parent, content_of, made}
 use Rattle.hpr_syntax.specs.Issued.{Issued, issued_to, raised}
 use Rattle.hpr_syntax.specs.Tree.{Tree}
 use Rattle.hpr_syntax.specs.Shape.{shape}
@@ -31,7 +31,7 @@ use Rattle.hpr_edit.specs.declared.command.Inverse.TheVariants.{Remove, PutBack,
 use Rattle.hpr_edit.specs.declared.command.EditError.{EditError}
 use Rattle.hpr_edit.specs.declared.command.EditError.TheVariants.{NoTag, IntoItself, NoPlace, KindDiffers, SerialsSpent, Shape}
 use Rattle.hpr_edit.specs.Places.{width, is_place, place_of}
-use Rattle.hpr_edit.specs.Changes.{at_part, at_place, gone, made, first_block, second_block, saying, wrapped, unwrapped}
+use Rattle.hpr_edit.specs.Changes.{at_part, at_place, gone, first_block, second_block, saying, wrapped, unwrapped}
 
 pub data Edited : Type 0 where
   becomes : (tree : Tree) → (inverse : Inverse) → Edited

@@ -17,7 +17,7 @@ use Rattle.hpr_syntax.specs.declared.tree.Stmt.TheVariants.{Assign, If, While}
 use Rattle.hpr_syntax.specs.declared.rows.Content.{Content}
 use Rattle.hpr_syntax.specs.Body.{Body, done, assign, branch, loop}
 use Rattle.hpr_syntax.specs.BodyOf.{before}
-use Rattle.hpr_syntax.specs.Parts.{same_tag, find_stmt}
+use Rattle.hpr_syntax.specs.Parts.{tag_of, same_tag, find_stmt}
 use Rattle.hpr_syntax.specs.Tree.{Tree}
 use Rattle.hpr_syntax.specs.Shape.{IsProgram, shape}
 use Rattle.hpr_edit.specs.declared.change.Change.{Change}
@@ -30,7 +30,8 @@ use Rattle.hpr_edit.specs.declared.command.Inverse.{Inverse}
 use Rattle.hpr_edit.specs.declared.command.EditError.{EditError}
 use Rattle.hpr_edit.specs.declared.command.EditError.TheVariants.{NoTag, Shape, Memory}
 use Rattle.hpr_edit.specs.Places.{place_of}
-use Rattle.hpr_edit.specs.Changes.{at_part, from, with_block, made, gone, saying, wrapped, unwrapped, rewrapped}
+use Rattle.hpr_syntax.specs.Rows.{made}
+use Rattle.hpr_edit.specs.Changes.{at_part, from, with_block, first_block, second_block, gone, saying, wrapped, unwrapped, rewrapped}
 use Rattle.hpr_edit.specs.Edited.{Edited, becomes, refused, named}
 
 abbrev pub one_if : Bool → ℕ
@@ -66,9 +67,7 @@ in_part t f (If u e a b) = If u e (at_part t f a) (at_part t f b)
 in_part t f (While u e b) = While u e (at_part t f b)
 
 abbrev pub with_content : Content → Stmt → Stmt
-with_content c (Assign t x e) = made t c done done
-with_content c (If t e a b) = made t c a b
-with_content c (While t e b) = made t c b done
+with_content c part = made (tag_of part) c (first_block part) (second_block part)
 
 abbrev pub Settles : Tree → Result Tree EditError → Type 0
 Settles tree (Ok p) = (p ≡ tree) × IsProgram tree

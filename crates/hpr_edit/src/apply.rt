@@ -3,15 +3,15 @@ ghost use Rattle.std.specs.Prelude.{◌≡◌, ◌≤◌, None, Some, IfOk, OnOk
 ghost use Rattle.hpr_syntax.specs.Body.{done};
 ghost use Rattle.hpr_syntax.specs.BodyOf.{before};
 ghost use Rattle.hpr_syntax.specs.Issued.{raised};
-ghost use Rattle.hpr_syntax.specs.Rows.{content_of};
+ghost use Rattle.hpr_syntax.specs.Rows.{content_of, made};
 ghost use Rattle.hpr_syntax.specs.Shape.{IsProgram};
 ghost use Rattle.hpr_edit.specs.declared.command.Command.TheVariants.{Insert, Delete, Move, Set, Wrap, Unwrap, Finals};
 ghost use Rattle.hpr_edit.specs.Places.{width};
-ghost use Rattle.hpr_edit.specs.Changes.{at_part, at_place, first_block, made, second_block};
+ghost use Rattle.hpr_edit.specs.Changes.{at_part, at_place, first_block, second_block};
 ghost use Rattle.hpr_edit.specs.Edited.{edited, next_tag, is_spent, is_assignment, same_kind};
 ghost use Rattle.hpr_edit.specs.InPlace.{done_by, times, Located, Settles, Answers};
 
-use crate::change::{Change, Put, change_part, make, put_at_place};
+use crate::change::{Change, Put, change_part, put_at_place};
 use crate::command::{Command, EditError, FinalNames, Inverse, Place};
 use crate::places::{is_place, place_of, stands_in, width};
 use hpr_syntax::{Block, Content, Issued, NoMemory, Program, ShapeError, Stmt, content_of};
@@ -56,32 +56,11 @@ fn insert(
         return Err(EditError::SerialsSpent);
     };
     let mut body = program.body().copy(alloc)?;
-    put_new(alloc, &mut body, place, tag, content)?;
+    put_at_place(alloc, &mut body, place, Put::Round(tag, content, 0, 0))?;
     match settle_new(alloc, program, body, tag) {
         Ok(after) => Ok((after, Inverse::Remove(tag))),
         Err(why) => Err(why),
     }
-}
-
-/// Puts a new part with no parts in it at a place of a body, if there is such a place.
-fn put_new(
-    alloc: Global,
-    body: &mut Block,
-    place: Place,
-    tag: Tag,
-    content: &Content,
-) -> Result<(), NoMemory>
-    requires once { (t : Tag) → times t body.old ≤ 1 }
-    ensures { OnOk result (body.new ≡ at_place place (before (made tag content.now done done)) body.old) }
-{
-    let content = content.copy(alloc)?;
-    let part = make(
-        tag,
-        content,
-        Block::new(Vec::new(alloc)),
-        Block::new(Vec::new(alloc)),
-    );
-    put_at_place(alloc, body, place, Put::Part(&part))
 }
 
 /// Deletes a part and all that stands in it.

@@ -8,13 +8,15 @@ ghost use Rattle.hpr_syntax.specs.Body.{done};
 ghost use Rattle.hpr_syntax.specs.BodyOf.{before, body_of};
 ghost use Rattle.hpr_syntax.specs.Parts.{tag_of, same_tag};
 ghost use Rattle.hpr_edit.specs.Places.{joined};
-ghost use Rattle.hpr_edit.specs.Changes.{at_part, at_place, from, with_block, made, gone, saying, wrapped, unwrapped, firsts, later, rewrapped};
+ghost use Rattle.hpr_syntax.specs.Rows.{made};
+ghost use Rattle.hpr_edit.specs.Changes.{at_part, at_place, from, with_block, first_block, second_block, gone, saying, wrapped, unwrapped, firsts, later, rewrapped};
 ghost use Rattle.hpr_edit.specs.InPlace.{times, one_if, put_by, done_by, on_first, in_part, with_content};
 
 use crate::command::Place;
 use hpr_syntax::{Block, Content, NoMemory, Stmt};
 use hpr_terms::Tag;
 use std::alloc::Global;
+use std::mem;
 
 /// What is put at a place of a block.
 #[derive(Clone, Copy)]
@@ -102,7 +104,7 @@ fn act(alloc: Global, stmts: &mut Vec<Stmt>, at: usize, change: Change<'_>) -> R
         }
         Change::Say(content) => say_at(alloc, stmts, at, content),
         Change::Wrap(tag, content) => wrap_at(alloc, stmts, at, tag, content),
-        Change::Unwrap => unwrap_at(stmts, at),
+        Change::Unwrap => unwrap_at(alloc, stmts, at),
         Change::Put(branch, place, what) => put_at(alloc, stmts, at, branch, place, what),
     }
 }
@@ -125,10 +127,7 @@ fn say_at(
     requires { at < vec_len stmts.old }
     ensures { OnOk result (body_of stmts.new.items ≡ from at (on_first (saying content.now)) (body_of stmts.old.items)) }
 {
-    let content = content.copy(alloc)?;
-    let part = stmts.remove(at);
-    stmts.insert(at, say(alloc, part, content))?;
-    Ok(())
+    say(alloc, &mut stmts[at], content)
 }
 
 /// Puts a new part round the part at this place.
@@ -150,29 +149,50 @@ fn wrap_at(
 }
 
 /// Puts what stands in the part at this place there.
-fn unwrap_at(stmts: &mut Vec<Stmt>, at: usize) -> Result<(), NoMemory>
+fn unwrap_at(alloc: Global, stmts: &mut Vec<Stmt>, at: usize) -> Result<(), NoMemory>
     requires { at < vec_len stmts.old }
     ensures { OnOk result (body_of stmts.new.items ≡ from at (on_first unwrapped) (body_of stmts.old.items)) }
 {
-    let part = stmts.remove(at);
+    let mut part = stmts.remove(at);
     let mut rest = stmts.split_off(at)?;
-    pour(stmts, part)?;
+    pour(alloc, stmts, &mut part)?;
     stmts.append(&mut rest)?;
     Ok(())
 }
 
 /// Puts what stands in a part behind these parts.
-fn pour(stmts: &mut Vec<Stmt>, part: Stmt) -> Result<(), NoMemory>
-    ensures { OnOk result (body_of stmts.new.items ≡ joined (body_of stmts.old.items) (unwrapped part done)) }
+fn pour(alloc: Global, stmts: &mut Vec<Stmt>, part: &mut Stmt) -> Result<(), NoMemory>
+    ensures { OnOk result (body_of stmts.new.items ≡ joined (body_of stmts.old.items) (unwrapped part.old done)) }
+{
+    let (first, second) = take_blocks(alloc, part);
+    pour_block(stmts, first)?;
+    pour_block(stmts, second)
+}
+
+/// Takes the blocks of a part, as far as it has blocks.
+fn take_blocks(alloc: Global, part: &mut Stmt) -> (Block, Block)
+    ensures first { result.0 ≡ first_block part.old }
+    ensures second { result.1 ≡ second_block part.old }
 {
     match part {
-        Stmt::Assign(_, _, _) => Ok(()),
-        Stmt::If(_, _, yes, no) => {
-            pour_block(stmts, yes)?;
-            pour_block(stmts, no)
-        }
-        Stmt::While(_, _, body) => pour_block(stmts, body),
+        Stmt::Assign(_, _, _) => (empty(alloc), empty(alloc)),
+        Stmt::If(_, _, yes, no) => (take_block(alloc, yes), take_block(alloc, no)),
+        Stmt::While(_, _, body) => (take_block(alloc, body), empty(alloc)),
     }
+}
+
+/// Takes all parts of a block.
+fn take_block(alloc: Global, block: &mut Block) -> Block
+    ensures { result ≡ block.old }
+{
+    mem::replace(block, empty(alloc))
+}
+
+/// The block with no parts.
+fn empty(alloc: Global) -> Block
+    ensures { result ≡ done }
+{
+    Block::new(Vec::new(alloc))
 }
 
 /// Puts the parts of a block behind these.
@@ -283,38 +303,50 @@ fn enclose_at(
     requires { at ≤ vec_len stmts.old }
     ensures { OnOk result (body_of stmts.new.items ≡ from at (rewrapped tag content.now first second) (body_of stmts.old.items)) }
 {
-    let mut yes = stmts.split_off(at)?;
-    let mut no = cut(&mut yes, first)?;
-    let mut rest = cut(&mut no, second)?;
-    let content = content.copy(alloc)?;
-    stmts.push(make(tag, content, Block::new(yes), Block::new(no)))?;
+    let mut rest = stmts.split_off(at)?;
+    let part = take_enclosed(alloc, &mut rest, tag, content, first, second)?;
+    stmts.push(part)?;
     stmts.append(&mut rest)?;
     Ok(())
 }
 
-/// Keeps so many of the parts, or all if there are no more, and answers those behind them.
-fn cut(stmts: &mut Vec<Stmt>, count: usize) -> Result<Vec<Stmt>, NoMemory>
-    ensures kept { OnOk result (body_of stmts.new.items ≡ firsts count (body_of stmts.old.items)) }
-    ensures rest { IfOk result (λ rest. body_of rest.items ≡ later count (body_of stmts.old.items)) }
+/// Takes so many of the parts, and so many behind them, as the blocks of a part that says this.
+fn take_enclosed(
+    alloc: Global,
+    stmts: &mut Vec<Stmt>,
+    tag: Tag,
+    content: &Content,
+    first: usize,
+    second: usize,
+) -> Result<Stmt, NoMemory>
+    ensures part { IfOk result (λ part. part ≡ made tag content.now (firsts first (body_of stmts.old.items)) (firsts second (later first (body_of stmts.old.items)))) }
+    ensures rest { OnOk result (body_of stmts.new.items ≡ later second (later first (body_of stmts.old.items))) }
 {
-    let most = count.min(stmts.len());
-    Ok(stmts.split_off(most)?)
+    let content = content.copy(alloc)?;
+    let yes = take_front(stmts, first)?;
+    let no = take_front(stmts, second)?;
+    Ok(content.into_stmt(tag, yes, no))
 }
 
-/// The part, saying this.
-fn say(alloc: Global, part: Stmt, content: Content) -> Stmt
-    ensures { result ≡ with_content content part }
+/// Takes so many of the parts, or all if there are no more, and leaves those behind them.
+fn take_front(stmts: &mut Vec<Stmt>, count: usize) -> Result<Block, NoMemory>
+    ensures front { IfOk result (λ front. front ≡ firsts count (body_of stmts.old.items)) }
+    ensures rest { OnOk result (body_of stmts.new.items ≡ later count (body_of stmts.old.items)) }
 {
-    match part {
-        Stmt::Assign(tag, _, _) => make(
-            tag,
-            content,
-            Block::new(Vec::new(alloc)),
-            Block::new(Vec::new(alloc)),
-        ),
-        Stmt::If(tag, _, yes, no) => make(tag, content, yes, no),
-        Stmt::While(tag, _, body) => make(tag, content, body, Block::new(Vec::new(alloc))),
-    }
+    let most = count.min(stmts.len());
+    let rest = stmts.split_off(most)?;
+    Ok(Block::new(mem::replace(stmts, rest)))
+}
+
+/// Lets a part say this.
+fn say(alloc: Global, part: &mut Stmt, content: &Content) -> Result<(), NoMemory>
+    ensures { OnOk result (part.new ≡ with_content content.now part.old) }
+{
+    let content = content.copy(alloc)?;
+    let tag = part.tag();
+    let (first, second) = take_blocks(alloc, part);
+    *part = content.into_stmt(tag, first, second);
+    Ok(())
 }
 
 /// The part that says this and has the other one in its first block.
@@ -323,20 +355,7 @@ fn wrap(alloc: Global, tag: Tag, content: Content, part: Stmt) -> Result<Stmt, N
 {
     let mut stmts = Vec::new(alloc);
     stmts.push(part)?;
-    let first = Block::new(stmts);
-    let second = Block::new(Vec::new(alloc));
-    Ok(make(tag, content, first, second))
-}
-
-/// The part that says this and has these blocks, as far as it has blocks.
-pub(crate) fn make(tag: Tag, content: Content, first: Block, second: Block) -> Stmt
-    ensures { result ≡ made tag content first second }
-{
-    match content {
-        Content::Assign(name, value) => Stmt::Assign(tag, name, value),
-        Content::If(test) => Stmt::If(tag, test, first, second),
-        Content::While(test) => Stmt::While(tag, test, first),
-    }
+    Ok(content.into_stmt(tag, Block::new(stmts), empty(alloc)))
 }
 
 /// Puts something at a place of a body, if there is such a place.

@@ -43,20 +43,27 @@ fn finals_back(alloc: Global, finals: &[Name], inverse: &Inverse) -> Result<Vec<
 fn body_back(alloc: Global, program: &Program, inverse: &Inverse) -> Result<Block, NoMemory>
     ensures { IfOk result (λ body. body ≡ body_back inverse.now program.now.body) }
 {
-    let mut body = program.body().copy(alloc)?;
-    change_back(alloc, &mut body, inverse)?;
+    let old = program.body();
+    let mut body = old.copy(alloc)?;
+    change_back(alloc, old, &mut body, inverse)?;
     Ok(body)
 }
 
-/// Makes the body that of before a command.
-fn change_back(alloc: Global, body: &mut Block, inverse: &Inverse) -> Result<(), NoMemory>
+/// Makes the body, which is a copy of the old one, that of before a command.
+fn change_back(
+    alloc: Global,
+    old: &Block,
+    body: &mut Block,
+    inverse: &Inverse,
+) -> Result<(), NoMemory>
     requires once { (t : Tag) → times t body.old ≤ 1 }
+    requires copy { body.old ≡ old.now }
     ensures { OnOk result (body.new ≡ body_back inverse.now body.old) }
 {
     match inverse {
         Inverse::Remove(tag) => take(alloc, body, *tag),
         Inverse::PutBack(place, part) => put_at_place(alloc, body, *place, Put::Part(part)),
-        Inverse::MoveBack(tag, place) => move_back(alloc, body, *tag, *place),
+        Inverse::MoveBack(tag, place) => move_back(alloc, old, body, *tag, *place),
         Inverse::SetBack(tag, content) => {
             change_part(alloc, body, *tag, Change::Say(content))?;
             Ok(())
@@ -84,16 +91,22 @@ fn take(alloc: Global, body: &mut Block, tag: Tag) -> Result<(), NoMemory>
     Ok(())
 }
 
-/// Takes a part out and puts it at a place.
-fn move_back(alloc: Global, body: &mut Block, tag: Tag, place: Place) -> Result<(), NoMemory>
+/// Takes a part of the old body out of its copy and puts it at a place.
+fn move_back(
+    alloc: Global,
+    old: &Block,
+    body: &mut Block,
+    tag: Tag,
+    place: Place,
+) -> Result<(), NoMemory>
     requires once { (t : Tag) → times t body.old ≤ 1 }
+    requires copy { body.old ≡ old.now }
     ensures { OnOk result (body.new ≡ moved (find_stmt tag body.old) tag place body.old) }
 {
-    let part = match body.find(tag) {
-        None => return Ok(()),
-        Some(part) => part.copy(alloc)?,
-    };
-    put_elsewhere(alloc, body, tag, place, &part)
+    match old.find(tag) {
+        None => Ok(()),
+        Some(part) => put_elsewhere(alloc, body, tag, place, part),
+    }
 }
 
 /// Takes a part out and puts a copy of this one at a place.

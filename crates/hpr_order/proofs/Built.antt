@@ -11,6 +11,7 @@ use Rattle.hpr_syntax.specs.declared.tree.Stmt.{Stmt}
 use Rattle.hpr_syntax.specs.declared.tree.Stmt.TheVariants as stmt
 use Rattle.hpr_syntax.specs.Body.{Body, done}
 use Rattle.hpr_syntax.specs.BodyOf.{body_of, before}
+use Rattle.hpr_syntax.specs.Rows.{made}
 use Rattle.hpr_walk.proofs.Unique.{in_first, in_later}
 use Rattle.hpr_forest.specs.Forest.{IsDistinct}
 use Rattle.hpr_forest.specs.Trees.{Slot}
@@ -25,6 +26,11 @@ none_begun items p order none is v slot free = ap (λ z. body_of (reverse z)) (n
 
 reversed : (xs : List Stmt) (s : Stmt) → reverse (xs ++ s ∷ []) ≡ s ∷ reverse xs
 reversed xs s = reverse-append xs (s ∷ [])
+
+pub said_made : (t : Tag) (c : Content) (y n : Body) → before (made t c y n) done ≡ said t c y n done
+said_made t (Assign x e) y n = refl
+said_made t (If e) y n = refl
+said_made t (While e) y n = refl
 
 before_said : (s : Stmt) (t : Tag) (c : Content) (y n rest : Body) → before s done ≡ said t c y n done → before s rest ≡ said t c y n rest
 before_said (stmt.Assign u x e) t (Assign z f) y n rest is = cc

@@ -124,14 +124,11 @@ fn block_of(stmts: Vec<Stmt>) -> Block
 }
 
 /// The part with these blocks, as far as it has blocks.
+#[tactic(auto, using(crate::proofs::Built::said_made))]
 fn statement(tag: Tag, content: Content, yes: Block, no: Block) -> Stmt
     ensures { before result done ≡ said tag content yes no done }
 {
-    match content {
-        Content::Assign(name, value) => Stmt::Assign(tag, name, value),
-        Content::If(test) => Stmt::If(tag, test, yes, no),
-        Content::While(test) => Stmt::While(tag, test, yes),
-    }
+    content.into_stmt(tag, yes, no)
 }
 
 /// The block of the items that stand at the top, in this order.

@@ -6,6 +6,7 @@
 -- content_of stmt  == what the part says
 -- assigned content == the name that is assigned; none for a predicate
 -- expr_in content  == the expression that is assigned or tested
+-- made t c a b     == the part with this tag that says this, with these blocks, as far as it has blocks
 use Rattle.std.specs.Prelude.{ℕ, ◌+◌, Bool, true, false, Option, Some, None, List, [], ◌∷◌, ◌++◌}
 use Rattle.hpr_terms.specs.declared.tag.Tag.{Tag}
 use Rattle.hpr_terms.specs.declared.expr.Expr.{Expr}
@@ -45,3 +46,8 @@ abbrev pub expr_in : Content → Expr
 expr_in (Assign x e) = e
 expr_in (If e) = e
 expr_in (While e) = e
+
+abbrev pub made : Tag → Content → Body → Body → Stmt
+made t (Assign x e) a b = stmt.Assign t x e
+made t (If e) a b = stmt.If t e a b
+made t (While e) a b = stmt.While t e a

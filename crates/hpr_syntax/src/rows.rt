@@ -2,14 +2,15 @@
 ghost use Rattle.std.specs.Prelude.{◌≡◌, ◌↔◌, IsTrue, [], ◌∷◌, ◌++◌, IfOk, OnOk, length, None};
 ghost use Rattle.hpr_syntax.specs.Body.{done};
 ghost use Rattle.hpr_syntax.specs.BodyOf.{before};
-ghost use Rattle.hpr_syntax.specs.Rows.{rows_of, content_of};
+ghost use Rattle.hpr_syntax.specs.Parts.{tag_of};
+ghost use Rattle.hpr_syntax.specs.Rows.{rows_of, row_of, content_of, made};
 
 use crate::tree::{Block, Stmt};
 use hpr_terms::{Expr, Name, NoMemory, Tag};
 use std::alloc::Global;
 
 /// What a part says, without its tag and without the parts that stand in it.
-#[derive(PartialEq, Eq, PartialOrd, Ord, Drop)]
+#[derive(PartialEq, Eq, PartialOrd, Ord)]
 pub enum Content {
     /// The name takes the value.
     Assign(Name, Expr),
@@ -19,20 +20,48 @@ pub enum Content {
     While(Expr),
 }
 
+// By hand, so that each way out of a function that holds a content is one call.
+impl Drop for Content {
+    fn drop(self) {
+        match self {
+            Content::Assign(_, _) => {}
+            Content::If(_) => {}
+            Content::While(_) => {}
+        }
+    }
+}
+
 impl Content {
     /// A copy.
     pub fn copy(&self, alloc: Global) -> Result<Content, NoMemory>
         ensures { IfOk result (λ c. c ≡ self.now) }
     {
         match self {
-            Content::Assign(name, value) => Ok(Content::Assign(
-                name.copy(alloc)?,
-                value.copy(alloc)?,
-            )),
+            Content::Assign(name, value) => assigning(alloc, name, value),
             Content::If(test) => Ok(Content::If(test.copy(alloc)?)),
             Content::While(test) => Ok(Content::While(test.copy(alloc)?)),
         }
     }
+
+    /// The part that says this, with this tag and these blocks, as far as it has blocks.
+    pub fn into_stmt(self, tag: Tag, first: Block, second: Block) -> Stmt
+        ensures { result ≡ made tag self first second }
+    {
+        match self {
+            Content::Assign(name, value) => Stmt::Assign(tag, name, value),
+            Content::If(test) => Stmt::If(tag, test, first, second),
+            Content::While(test) => Stmt::While(tag, test, first),
+        }
+    }
+}
+
+/// What an assignment of a copy of the value to a copy of the name says.
+fn assigning(alloc: Global, name: &Name, value: &Expr) -> Result<Content, NoMemory>
+    ensures { IfOk result (λ c. c ≡ Content.Assign name.now value.now) }
+{
+    let name = name.copy(alloc)?;
+    let value = value.copy(alloc)?;
+    Ok(Content::Assign(name, value))
 }
 
 /// A part by itself, with where it stands.
@@ -52,7 +81,7 @@ pub fn content_of(alloc: Global, stmt: &Stmt) -> Result<Content, NoMemory>
     ensures { IfOk result (λ c. c ≡ content_of stmt.now) }
 {
     match stmt {
-        Stmt::Assign(_, name, value) => Ok(Content::Assign(name.copy(alloc)?, value.copy(alloc)?)),
+        Stmt::Assign(_, name, value) => assigning(alloc, name, value),
         Stmt::If(_, test, _, _) => Ok(Content::If(test.copy(alloc)?)),
         Stmt::While(_, test, _) => Ok(Content::While(test.copy(alloc)?)),
     }
@@ -120,19 +149,34 @@ fn push_stmt(
 ) -> Result<(), NoMemory>
     ensures { OnOk result (rows.new.items ≡ rows.old.items ++ rows_of parent at (before stmt.now done)) }
 {
+    push_row(alloc, stmt, parent, at, rows)?;
+    match stmt {
+        Stmt::Assign(_, _, _) => Ok(()),
+        Stmt::If(tag, _, yes, no) => {
+            push_block(alloc, yes, Some((*tag, true)), rows)?;
+            push_block(alloc, no, Some((*tag, false)), rows)
+        }
+        Stmt::While(tag, _, body) => push_block(alloc, body, Some((*tag, true)), rows),
+    }
+}
+
+/// Puts the row of a part behind these.
+fn push_row(
+    alloc: Global,
+    stmt: &Stmt,
+    parent: Option<(Tag, bool)>,
+    at: usize,
+    rows: &mut Vec<Row>,
+) -> Result<(), NoMemory>
+    ensures { OnOk result (rows.new.items ≡ rows.old.items ++ row_of (tag_of stmt.now) parent at (content_of stmt.now) ∷ []) }
+{
     let tag = stmt.tag();
+    let content = content_of(alloc, stmt)?;
     rows.push(Row {
         tag,
         parent,
         at,
-        content: content_of(alloc, stmt)?,
+        content,
     })?;
-    match stmt {
-        Stmt::Assign(_, _, _) => Ok(()),
-        Stmt::If(_, _, yes, no) => {
-            push_block(alloc, yes, Some((tag, true)), rows)?;
-            push_block(alloc, no, Some((tag, false)), rows)
-        }
-        Stmt::While(_, _, body) => push_block(alloc, body, Some((tag, true)), rows),
-    }
+    Ok(())
 }

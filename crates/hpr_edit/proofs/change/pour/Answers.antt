@@ -1,31 +1,20 @@
 use Rattle.std.proofs.Common.{ap, sym, ◌∙◌}
 use Rattle.std.proofs.lemmas.Result.{on_ok_weaker}
-use Rattle.hpr_syntax.specs.Body.{done}
 use Rattle.hpr_syntax.specs.BodyOf.{body_of}
 use Rattle.hpr_edit.specs.Places.{joined}
-use Rattle.hpr_edit.specs.Changes.{unwrapped}
+use Rattle.hpr_edit.specs.Changes.{first_block, second_block}
 use Rattle.hpr_edit.proofs.Lists.{joined_twice, joined_done}
 use Rattle.hpr_edit.proofs.change.pour.Goals as goal
-
-pub returns-in-Assign : goal.returns-in-Assign
-returns-in-Assign c =
-    let b = body_of c.args.stmts.now.items in
-    sym (joined_done b) ∙ ap (λ s. joined b (unwrapped s done)) (sym c.in-Assign.is)
-
-pub returns-in-If : goal.returns-in-If
-returns-in-If c =
-    let b = body_of c.args.stmts.now.items in
-    on_ok_weaker c.pour_block-in-If.result
-    (λ e. e
-    ∙ ap (λ y. joined y c.in-If.no) c.in_ok-pour_block-in-If.ensures
-    ∙ joined_twice b c.in-If.yes c.in-If.no
-    ∙ ap (λ y. joined b (joined c.in-If.yes y)) (sym (joined_done c.in-If.no))
-    ∙ ap (λ s. joined b (unwrapped s done)) (sym c.in-If.is))
-    c.pour_block-in-If.ensures
 
 pub returns : goal.returns
 returns c =
     let b = body_of c.args.stmts.now.items in
-    on_ok_weaker c.pour_block-in-While.result
-    (λ e. e ∙ ap (joined b) (sym (joined_done c.in-While.body)) ∙ ap (λ s. joined b (unwrapped s done)) (sym c.in-While.is))
-    c.pour_block-in-While.ensures
+    let first = first_block c.args.part.now in
+    let second = second_block c.args.part.now in
+    on_ok_weaker c.pour_block-2.result
+    (λ e. e
+    ∙ ap (joined (body_of c.pour_block.new.stmts.items)) c.take_blocks-first.ensures.second
+    ∙ ap (λ y. joined y second) (c.in_ok-pour_block.ensures ∙ ap (joined b) c.take_blocks-first.ensures.first)
+    ∙ joined_twice b first second
+    ∙ ap (λ y. joined b (joined first y)) (sym (joined_done second)))
+    c.pour_block-2.ensures

@@ -2,7 +2,8 @@ use Rattle.std.proofs.Common.{◌≡◌, ◌<◌, ap, ◌∙◌, arith, length, 
 use Rattle.std.specs.List.{insert}
 use Rattle.hpr_syntax.specs.Body.{done}
 use Rattle.hpr_syntax.specs.BodyOf.{before, body_of}
-use Rattle.hpr_edit.specs.Changes.{wrapped, made}
+use Rattle.hpr_syntax.specs.Rows.{made}
+use Rattle.hpr_edit.specs.Changes.{wrapped}
 use Rattle.hpr_edit.proofs.Lists.{back_at}
 use Rattle.hpr_edit.proofs.change.wrap_at.Goals as goal
 
