@@ -1,5 +1,5 @@
 -- How the commands end: with the program that is settled, or with its refusal.
-use Rattle.std.proofs.Common.{◌≡◌, ℕ, ◌≤◌, Bool, true, false, cond, if◌then◌else◌, Option, Some, None, Err, refl, ap, sym, ◌∙◌, subst, arith}
+use Rattle.std.proofs.Common.{◌≡◌, ℕ, ◌≤◌, Bool, true, false, cond, if◌then◌else◌, Option, Some, None, Result, Err, refl, ap, sym, ◌∙◌, subst, arith}
 use Rattle.std.proofs.lemmas.Option.{same_Some}
 use Rattle.hpr_terms.specs.declared.tag.Tag.{Tag}
 use Rattle.hpr_syntax.specs.declared.tree.Stmt.{Stmt}
@@ -37,12 +37,8 @@ pub once_taken : (p : Tree) → IsProgram p → (t u : Tag) → times u (at_part
 once_taken p is t u = once_gone p.body (once p is) t u
 
 -- a test
-pub passed : (why : EditError) (b : Bool) (next x : Edited) → b ≡ false → next ≡ x → refuse why b next ≡ x
-passed why b next x e h = rw e h
-
-pub passed_err : (why : EditError) (b : Bool) (next : Edited) (e : EditError) → b ≡ false → Answers next (Err e) → Answers (refuse why b next) (Err e)
-passed_err why true next e is h = absurd cc
-passed_err why false next e is h = h
+pub passed : (why : EditError) (b : Bool) (next : Edited) (r : Result (Tree × Inverse) EditError) → b ≡ false → Answers next r → Answers (refuse why b next) r
+passed why b next r e h = rw e h
 
 -- the tag of a new part
 pub spare : (b : Bool) (new next : Tag) → Some new ≡ (if b then None else Some next) → (b ≡ false) × (new ≡ next)
@@ -50,26 +46,23 @@ spare true new next h = absurd cc
 spare false new next h = (refl, same_Some new next h)
 
 -- where the part was found
-pub found_ends : (t : Tag) (o : Option Stmt) (r : Option Place) (next : Stmt → Place → Edited) (s : Stmt) (place : Place) (x : Edited) → o ≡ Some s → r ≡ Some place → next s place ≡ x → found t o r next ≡ x
-found_ends t o r next s place x e f h = rw (e, f) h
-
-pub found_err : (t : Tag) (o : Option Stmt) (r : Option Place) (next : Stmt → Place → Edited) (s : Stmt) (place : Place) (e : EditError) → o ≡ Some s → r ≡ Some place → Answers (next s place) (Err e) → Answers (found t o r next) (Err e)
-found_err t o r next s place e f g h = subst (λ x. Answers x (Err e)) (sym (found_ends t o r next s place (next s place) f g refl)) h
+pub passed_found : (t : Tag) (o : Option Stmt) (p : Option Place) (next : Stmt → Place → Edited) (s : Stmt) (place : Place) (r : Result (Tree × Inverse) EditError)
+    → o ≡ Some s → p ≡ Some place → Answers (next s place) r → Answers (found t o p next) r
+passed_found t o p next s place r e f h = rw (e, f) h
 
 -- the last test
-pub settled_ok : (t u q : Tree) (inverse : Inverse) → t ≡ u → (q ≡ t) × IsProgram t → settled u inverse ≡ becomes q inverse
-settled_ok t u q inverse e h =
-    let s : shape u ≡ None = ap shape (sym e) ∙ h.1.shape in
-    rw s (ap (λ y. becomes y inverse) (sym e ∙ sym h.0))
+pub ended : (t u : Tree) (i j : Inverse) (after : Result Tree EditError) (r : Result (Tree × Inverse) EditError)
+    → ((x : Tree) → Settles x after → Answers (settled x i) r) → t ≡ u → i ≡ j → Settles t after → Answers (settled u j) r
+ended t u i j after r h e f s = subst (λ y. Answers (settled u y) r) f (h u (subst (λ y. Settles y after) e s))
 
-refused_by : (t : Tree) (inverse : Inverse) (e : EditError) → Settles t (Err e) → Answers (settled t inverse) (Err e)
-refused_by t inverse Memory h = tt
-refused_by t inverse (Shape why) h = rw h refl
-refused_by t inverse (NoTag x) h = absurd h
-refused_by t inverse (IntoItself x) h = absurd h
-refused_by t inverse NoPlace h = absurd h
-refused_by t inverse (KindDiffers x) h = absurd h
-refused_by t inverse SerialsSpent h = absurd h
+pub settled_ok : (t q : Tree) (inverse : Inverse) → (q ≡ t) × IsProgram t → settled t inverse ≡ becomes q inverse
+settled_ok t q inverse h = let s : shape t ≡ None = h.1.shape in rw s (ap (λ y. becomes y inverse) (sym h.0))
 
-pub settled_err : (t u : Tree) (inverse : Inverse) (e : EditError) → t ≡ u → Settles t (Err e) → Answers (settled u inverse) (Err e)
-settled_err t u inverse e is h = subst (λ y. Answers (settled y inverse) (Err e)) is (refused_by t inverse e h)
+pub settled_err : (t : Tree) (inverse : Inverse) (e : EditError) → Settles t (Err e) → Answers (settled t inverse) (Err e)
+settled_err t inverse Memory h = tt
+settled_err t inverse (Shape why) h = rw h refl
+settled_err t inverse (NoTag x) h = absurd h
+settled_err t inverse (IntoItself x) h = absurd h
+settled_err t inverse NoPlace h = absurd h
+settled_err t inverse (KindDiffers x) h = absurd h
+settled_err t inverse SerialsSpent h = absurd h

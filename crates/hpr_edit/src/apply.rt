@@ -5,13 +5,15 @@ ghost use Rattle.hpr_syntax.specs.BodyOf.{before};
 ghost use Rattle.hpr_syntax.specs.Issued.{raised};
 ghost use Rattle.hpr_syntax.specs.Rows.{content_of, made};
 ghost use Rattle.hpr_syntax.specs.Shape.{IsProgram};
+ghost use Rattle.hpr_syntax.specs.Tree.{Tree};
 ghost use Rattle.hpr_edit.specs.declared.command.Command.TheVariants.{Insert, Delete, Move, Set, Wrap, Unwrap, Finals};
+ghost use Rattle.hpr_edit.specs.declared.command.Inverse.TheVariants.{Rewrap};
 ghost use Rattle.hpr_edit.specs.Places.{width};
 ghost use Rattle.hpr_edit.specs.Changes.{at_part, at_place, first_block, second_block};
-ghost use Rattle.hpr_edit.specs.Edited.{edited, next_tag, is_spent, is_assignment, same_kind};
+ghost use Rattle.hpr_edit.specs.Edited.{edited, settled, next_tag, is_spent, is_assignment, same_kind};
 ghost use Rattle.hpr_edit.specs.InPlace.{done_by, times, Located, Settles, Answers};
 
-use crate::change::{Change, Put, change_part, put_at_place};
+use crate::change::{Change, Put, change_body, put_at_place};
 use crate::command::{Command, EditError, FinalNames, Inverse, Place};
 use crate::places::{is_place, place_of, stands_in, width};
 use hpr_syntax::{Block, Content, Issued, NoMemory, Program, ShapeError, Stmt, content_of};
@@ -39,7 +41,6 @@ pub(crate) fn edited(
 }
 
 /// Inserts a new part.
-#[tactic(auto, using(crate::proofs::Tags::once))]
 fn insert(
     alloc: Global,
     program: &Program,
@@ -55,12 +56,24 @@ fn insert(
     let Some(tag) = next_tag(program.issued(), author) else {
         return Err(EditError::SerialsSpent);
     };
+    let body = with_part(alloc, program, place, tag, content)?;
+    answer(settle_new(alloc, program, body, tag), Inverse::Remove(tag))
+}
+
+/// A copy of the body in which a new part with no parts in it stands at a place.
+#[tactic(auto, using(crate::proofs::Tags::once))]
+fn with_part(
+    alloc: Global,
+    program: &Program,
+    place: Place,
+    tag: Tag,
+    content: &Content,
+) -> Result<Block, NoMemory>
+    ensures { IfOk result (λ body. body ≡ at_place place (before (made tag content.now done done)) program.now.body) }
+{
     let mut body = program.body().copy(alloc)?;
     put_at_place(alloc, &mut body, place, Put::Round(tag, content, 0, 0))?;
-    match settle_new(alloc, program, body, tag) {
-        Ok(after) => Ok((after, Inverse::Remove(tag))),
-        Err(why) => Err(why),
-    }
+    Ok(body)
 }
 
 /// Deletes a part and all that stands in it.
@@ -75,15 +88,9 @@ fn delete(
     let Some((part, old)) = located(program, tag) else {
         return Err(EditError::NoTag(tag));
     };
-    let body = changed(alloc, program, tag, Change::Take)?;
     let part = part.copy(alloc)?;
-    match settle(alloc, program, body) {
-        Ok(after) => Ok((after, Inverse::PutBack(old, part))),
-        Err(why) => {
-            drop(part);
-            Err(why)
-        }
-    }
+    let body = changed(alloc, program, tag, Change::Take)?;
+    answer(settle(alloc, program, body), Inverse::PutBack(old, part))
 }
 
 /// Moves a part with all that stands in it.
@@ -107,10 +114,7 @@ fn relocate(
         return Err(EditError::NoPlace);
     }
     put_at_place(alloc, &mut body, place, Put::Part(part))?;
-    match settle(alloc, program, body) {
-        Ok(after) => Ok((after, Inverse::MoveBack(tag, old))),
-        Err(why) => Err(why),
-    }
+    answer(settle(alloc, program, body), Inverse::MoveBack(tag, old))
 }
 
 /// Lets a part say something else.
@@ -129,15 +133,9 @@ fn set(
     if !same_kind(content, part) {
         return Err(EditError::KindDiffers(tag));
     }
-    let body = changed(alloc, program, tag, Change::Say(content))?;
     let old = content_of(alloc, part)?;
-    match settle(alloc, program, body) {
-        Ok(after) => Ok((after, Inverse::SetBack(tag, old))),
-        Err(why) => {
-            drop(old);
-            Err(why)
-        }
-    }
+    let body = changed(alloc, program, tag, Change::Say(content))?;
+    answer(settle(alloc, program, body), Inverse::SetBack(tag, old))
 }
 
 /// Puts a new part round a part.
@@ -160,10 +158,7 @@ fn wrap(
         return Err(EditError::SerialsSpent);
     };
     let body = changed(alloc, program, tag, Change::Wrap(new, content))?;
-    match settle_new(alloc, program, body, new) {
-        Ok(after) => Ok((after, Inverse::Lift(new))),
-        Err(why) => Err(why),
-    }
+    answer(settle_new(alloc, program, body, new), Inverse::Lift(new))
 }
 
 /// Puts what stands in a part in its place.
@@ -181,16 +176,18 @@ fn unwrap(
     if says_assignment(part) {
         return Err(EditError::KindDiffers(tag));
     }
-    let (first, second) = widths(part);
+    let old = rewrapping(alloc, part, tag, place)?;
     let body = changed(alloc, program, tag, Change::Unwrap)?;
-    let old = content_of(alloc, part)?;
-    match settle(alloc, program, body) {
-        Ok(after) => Ok((after, Inverse::Rewrap(place, tag, old, first, second))),
-        Err(why) => {
-            drop(old);
-            Err(why)
-        }
-    }
+    answer(settle(alloc, program, body), old)
+}
+
+/// What puts a part with this tag, which says what this one says, round what stands in this one.
+fn rewrapping(alloc: Global, part: &Stmt, tag: Tag, place: Place) -> Result<Inverse, NoMemory>
+    ensures { IfOk result (λ i. i ≡ Rewrap place tag (content_of part.now) (width (first_block part.now)) (width (second_block part.now))) }
+{
+    let (first, second) = widths(part);
+    let content = content_of(alloc, part)?;
+    Ok(Inverse::Rewrap(place, tag, content, first, second))
 }
 
 /// Lets `end` name these.
@@ -202,14 +199,24 @@ fn name_finals(
 ) -> Result<(Program, Inverse), EditError>
     ensures { Answers (edited program.now (Finals names.now) author) result }
 {
-    let issued = program.issued().copy(alloc)?;
-    let body = program.body().copy(alloc)?;
-    let finals = copy_names(alloc, names.names())?;
-    let old = FinalNames::new(copy_names(alloc, program.finals())?);
-    match settled(alloc, issued, body, finals) {
-        Ok(after) => Ok((after, Inverse::FinalsBack(old))),
+    let old = copy_names(alloc, program.finals())?;
+    answer(
+        settle_finals(alloc, program, names.names()),
+        Inverse::FinalsBack(FinalNames::new(old)),
+    )
+}
+
+/// The program that a command made, with the inverse of the command, or the refusal.
+fn answer(
+    after: Result<Program, EditError>,
+    inverse: Inverse,
+) -> Result<(Program, Inverse), EditError>
+    ensures { (t : Tree) → Settles t after → Answers (settled t inverse) result }
+{
+    match after {
+        Ok(program) => Ok((program, inverse)),
         Err(why) => {
-            drop(old);
+            drop(inverse);
             Err(why)
         }
     }
@@ -226,7 +233,7 @@ fn changed(
     ensures { IfOk result (λ body. body ≡ at_part tag (done_by change.entry) program.now.body) }
 {
     let mut body = program.body().copy(alloc)?;
-    change_part(alloc, &mut body, tag, change)?;
+    change_body(alloc, &mut body, tag, change)?;
     Ok(body)
 }
 
@@ -303,6 +310,16 @@ fn settle(alloc: Global, program: &Program, body: Block) -> Result<Program, Edit
 {
     let issued = program.issued().copy(alloc)?;
     let finals = copy_names(alloc, program.finals())?;
+    settled(alloc, issued, body, finals)
+}
+
+/// The program with other names of `end`.
+fn settle_finals(alloc: Global, program: &Program, names: &[Name]) -> Result<Program, EditError>
+    ensures { Settles (record program.now { finals = names.now }) result }
+{
+    let issued = program.issued().copy(alloc)?;
+    let finals = copy_names(alloc, names)?;
+    let body = program.body().copy(alloc)?;
     settled(alloc, issued, body, finals)
 }
 

@@ -46,7 +46,7 @@ pub(crate) enum Change<'a> {
 
 /// Changes the part with this tag, and tells whether there is one.
 #[cycle(change)]
-pub(crate) fn change_part(
+fn change_part(
     alloc: Global,
     block: &mut Block,
     tag: Tag,
@@ -66,6 +66,20 @@ pub(crate) fn change_part(
         }
     }
     Ok(false)
+}
+
+/// Changes the part with this tag, if there is one.
+pub(crate) fn change_body(
+    alloc: Global,
+    body: &mut Block,
+    tag: Tag,
+    change: Change<'_>,
+) -> Result<(), NoMemory>
+    requires once { times tag body.old ≤ 1 }
+    ensures { OnOk result (body.new ≡ at_part tag (done_by change.entry) body.old) }
+{
+    change_part(alloc, body, tag, change)?;
+    Ok(())
 }
 
 /// Changes the part with this tag among those that stand in this one, and tells whether it is there.
@@ -370,9 +384,6 @@ pub(crate) fn put_at_place(
 {
     match place.parent {
         None => put_into(alloc, body, place.at, what),
-        Some((tag, branch)) => {
-            change_part(alloc, body, tag, Change::Put(branch, place.at, what))?;
-            Ok(())
-        }
+        Some((tag, branch)) => change_body(alloc, body, tag, Change::Put(branch, place.at, what)),
     }
 }

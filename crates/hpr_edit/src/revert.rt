@@ -7,7 +7,7 @@ ghost use Rattle.hpr_edit.specs.Changes.{at_part, at_place, gone};
 ghost use Rattle.hpr_edit.specs.Reverted.{reverted, body_back, finals_back, moved};
 ghost use Rattle.hpr_edit.specs.InPlace.{times};
 
-use crate::change::{Change, Put, change_part, put_at_place};
+use crate::change::{Change, Put, change_body, put_at_place};
 use crate::command::{Inverse, Place};
 use hpr_syntax::{Block, NoMemory, Program, Stmt};
 use hpr_terms::{Name, Tag, copy_names};
@@ -61,17 +61,11 @@ fn change_back(
     ensures { OnOk result (body.new ≡ body_back inverse.now body.old) }
 {
     match inverse {
-        Inverse::Remove(tag) => take(alloc, body, *tag),
+        Inverse::Remove(tag) => change_body(alloc, body, *tag, Change::Take),
         Inverse::PutBack(place, part) => put_at_place(alloc, body, *place, Put::Part(part)),
         Inverse::MoveBack(tag, place) => move_back(alloc, old, body, *tag, *place),
-        Inverse::SetBack(tag, content) => {
-            change_part(alloc, body, *tag, Change::Say(content))?;
-            Ok(())
-        }
-        Inverse::Lift(tag) => {
-            change_part(alloc, body, *tag, Change::Unwrap)?;
-            Ok(())
-        }
+        Inverse::SetBack(tag, content) => change_body(alloc, body, *tag, Change::Say(content)),
+        Inverse::Lift(tag) => change_body(alloc, body, *tag, Change::Unwrap),
         Inverse::Rewrap(place, tag, content, first, second) => put_at_place(
             alloc,
             body,
@@ -80,15 +74,6 @@ fn change_back(
         ),
         Inverse::FinalsBack(_) => Ok(()),
     }
-}
-
-/// Takes a part out.
-fn take(alloc: Global, body: &mut Block, tag: Tag) -> Result<(), NoMemory>
-    requires once { times tag body.old ≤ 1 }
-    ensures { OnOk result (body.new ≡ at_part tag gone body.old) }
-{
-    change_part(alloc, body, tag, Change::Take)?;
-    Ok(())
 }
 
 /// Takes a part of the old body out of its copy and puts it at a place.
@@ -120,6 +105,6 @@ fn put_elsewhere(
     requires once { (t : Tag) → times t body.old ≤ 1 }
     ensures { OnOk result (body.new ≡ at_place place (before part.now) (at_part tag gone body.old)) }
 {
-    take(alloc, body, tag)?;
+    change_body(alloc, body, tag, Change::Take)?;
     put_at_place(alloc, body, place, Put::Part(part))
 }
