@@ -1,9 +1,9 @@
 -- The arrangements are the trees of the whole orders, each once, in the same order.
 use Rattle.std.proofs.Common.{◌≡◌, ℕ, ◌<◌, true, false, Some, None, List, [], ◌∷◌, ◌++◌, length, map, Contains, ◌⊎◌, inl, inr, refl, sym, ap, ◌∙◌, subst, arith}
 use Rattle.std.proofs.lemmas.List.Elements.{Contains-append_left, Contains-append_right}
-use Rattle.hpr_walk.specs.Choices.{IsWhole}
-use Rattle.hpr_walk.specs.Lists.{LexLess, IsAscending, IsListOf}
-use Rattle.hpr_walk.proofs.Unique.{in_none, in_cons, in_first, in_later}
+use Rattle.hpr_forest.specs.Choices.{IsWhole}
+use Rattle.hpr_forest.specs.Lists.{LexLess, IsAscending, IsListOf}
+use Rattle.hpr_forest.proofs.Unique.{in_none, in_cons, in_first, in_later}
 use Rattle.hpr_forest.specs.Forest.{Forest, IsForest, can, bare}
 use Rattle.hpr_forest.specs.Trees.{Tree, empty, node, preorder, Slot, above, StandsIn, HasSlots}
 use Rattle.hpr_forest.specs.Lifted.{IsLifted, Respects}

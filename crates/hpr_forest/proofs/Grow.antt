@@ -3,8 +3,8 @@ use Rattle.std.proofs.Common.{◌≡◌, ℕ, zero, suc, ◌+◌, ◌≤◌, Boo
 use Rattle.std.proofs.lemmas.List.Elements.{Contains-append_left, Contains-append_right, Contains-append_cases}
 use Rattle.std.proofs.lemmas.List.{append-nil}
 use Rattle.std.proofs.lemmas.Bool.{eqb-true, eq-eqb, both_ways}
-use Rattle.hpr_walk.specs.Choices.{Follows, IsWhole}
-use Rattle.hpr_walk.proofs.Unique.{in_none, in_cons, in_first, in_later}
+use Rattle.hpr_forest.specs.Choices.{Follows, IsWhole}
+use Rattle.hpr_forest.proofs.Unique.{in_none, in_cons, in_first, in_later}
 use Rattle.hpr_forest.specs.Forest.{Forest, IsForest, behind, can}
 use Rattle.hpr_forest.specs.Trees.{Tree, empty, node, preorder, Slot, above, StandsIn, HasSlots}
 use Rattle.hpr_forest.proofs.Members.{IsDistinct, is_in-true, split, first_where}

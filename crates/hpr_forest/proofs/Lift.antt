@@ -2,8 +2,8 @@
 use Rattle.std.proofs.Common.{◌≡◌, ℕ, ◌<◌, Option, Some, None, List, [], ◌∷◌, ◌++◌, Contains, ◌⊎◌, inl, inr, refl, sym, ap, ◌∙◌, subst, append_assoc}
 use Rattle.std.proofs.lemmas.List.Elements.{Contains-append_left, Contains-append_right, Contains-append_cases}
 use Rattle.std.proofs.lemmas.List.{append-nil}
-use Rattle.hpr_walk.specs.Choices.{Follows, IsWhole}
-use Rattle.hpr_walk.proofs.Unique.{in_none, in_cons, in_first, in_later}
+use Rattle.hpr_forest.specs.Choices.{Follows, IsWhole}
+use Rattle.hpr_forest.proofs.Unique.{in_none, in_cons, in_first, in_later}
 use Rattle.hpr_forest.specs.Forest.{Forest, IsForest, bare, can}
 use Rattle.hpr_forest.specs.Lifted.{IsLeft, Leads, IsLifted, Respects}
 use Rattle.hpr_forest.proofs.Members.{IsDistinct, split, has_all, is_in-true}

@@ -2,8 +2,8 @@
 use Rattle.std.proofs.Common.{◌≡◌, ℕ, zero, suc, ◌+◌, ◌<◌, Bool, true, false, cond, ltb, Option, Some, None, List, [], ◌∷◌, ◌++◌, length, drop, get_or, Contains, inl, inr, refl, sym, ap, ◌∙◌, subst, arith}
 use Rattle.std.proofs.lemmas.List.Elements.{Contains-append_right}
 use Rattle.std.proofs.lemmas.Bool.{cases_Bool, eqb-true, eq-eqb}
-use Rattle.hpr_walk.specs.Choices.{Follows}
-use Rattle.hpr_walk.proofs.Unique.{in_none, in_cons, in_first}
+use Rattle.hpr_forest.specs.Choices.{Follows}
+use Rattle.hpr_forest.proofs.Unique.{in_none, in_cons, in_first}
 use Rattle.hpr_forest.specs.Forest.{Forest, IsForest, is_in, all_in, behind, can}
 use Rattle.hpr_forest.specs.Forest as forest
 use Rattle.hpr_forest.specs.Open.{same_parent, or_this, open_in, can_under}

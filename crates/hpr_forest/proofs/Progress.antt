@@ -2,8 +2,8 @@
 use Rattle.std.proofs.Common.{◌≡◌, ℕ, ◌<◌, Bool, true, false, cond, eqb, Option, Some, None, List, [], ◌∷◌, ◌++◌, length, Contains, ◌⊎◌, inl, inr, refl, sym, ap, ◌∙◌, subst, arith, append_assoc}
 use Rattle.std.proofs.lemmas.List.Elements.{Contains-append_right}
 use Rattle.std.proofs.lemmas.Bool.{cases_Bool, eqb-true, eq-eqb, both_ways}
-use Rattle.hpr_walk.specs.Choices.{Follows, IsWhole, IsBacktrackFree}
-use Rattle.hpr_walk.proofs.Unique.{in_none, in_cons, in_first}
+use Rattle.hpr_forest.specs.Choices.{Follows, IsWhole, IsBacktrackFree}
+use Rattle.hpr_forest.proofs.Unique.{in_none, in_cons, in_first}
 use Rattle.hpr_forest.specs.Forest.{Forest, IsForest, is_in, behind}
 use Rattle.hpr_forest.specs.Forest as forest
 use Rattle.hpr_forest.proofs.Members.{IsDistinct, is_in-true, is_in-false, out_is_in, has_all, first_where, no_longer}

@@ -1,11 +1,11 @@
 -- The orders of a forest as the engine gives them.
 use Rattle.std.proofs.Common.{◌≡◌, ℕ, Bool, true, false, List, [], length, vec_len, IsTrue, IsFalse, Contains, All, get_or, ◌<◌, refl, sym, ap, ◌∙◌, subst, rules}
 use Rattle.std.proofs.lemmas.List.Elements.{Contains-get_or}
-use Rattle.hpr_walk.specs.Choices.{IsWhole, IsBacktrackFree}
-use Rattle.hpr_walk.specs.Lists.{LexLess, IsListOf}
-use Rattle.hpr_walk.specs.Leaves.{from_here}
-use Rattle.hpr_walk.proofs.Leaves.{all_leaves, at_whole}
-use Rattle.hpr_walk.proofs.Unique.{in_none}
+use Rattle.hpr_forest.specs.Choices.{IsWhole, IsBacktrackFree}
+use Rattle.hpr_forest.specs.Lists.{LexLess, IsListOf}
+use Rattle.hpr_forest.specs.Leaves.{from_here}
+use Rattle.hpr_forest.proofs.Leaves.{all_leaves, at_whole}
+use Rattle.hpr_forest.proofs.Unique.{in_none}
 use Rattle.hpr_forest.specs.declared.blocks.Blocks.{Blocks}
 use Rattle.hpr_forest.specs.Remaining.{forest_of, can_of, remaining}
 use Rattle.hpr_forest.proofs.Progress.{is_open}

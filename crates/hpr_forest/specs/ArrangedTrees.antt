@@ -4,7 +4,7 @@
 -- AndBlocks slot E s t       == E s t, or s stands in the first and t in the second block of one item
 -- Earlier s t                == the preorder of s comes before that of t
 use Rattle.std.specs.Prelude.{◌≡◌, ℕ, ◌<◌, true, false, Some, None, length, Contains, ◌⊎◌}
-use Rattle.hpr_walk.specs.Lists.{LexLess}
+use Rattle.hpr_forest.specs.Lists.{LexLess}
 use Rattle.hpr_forest.specs.Forest.{IsDistinct}
 use Rattle.hpr_forest.specs.Trees.{Tree, preorder, Slot, StandsIn}
 use Rattle.hpr_forest.specs.Lifted.{Respects}

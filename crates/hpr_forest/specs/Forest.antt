@@ -11,7 +11,7 @@
 -- can f placed c            == whether c may be placed next: an item not yet placed, to be placed under its parent, after all that must come before it
 -- bare f                    == the same forest, where no sibling must come before another
 use Rattle.std.specs.Prelude.{◌≡◌, ℕ, ◌<◌, Bool, true, false, cond, eqb, ltb, Option, Some, None, List, [], ◌∷◌, Contains}
-pub use Rattle.hpr_walk.specs.Marks.{is_in}
+pub use Rattle.hpr_forest.specs.Marks.{is_in}
 
 pub record Forest : Type 0 where
   pub count : ℕ

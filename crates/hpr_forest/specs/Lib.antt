@@ -1,3 +1,7 @@
+pub mod Lists
+pub mod Marks
+pub mod Choices
+pub mod Leaves
 pub mod Forest
 pub mod Lifted
 pub mod Blocks

@@ -7,9 +7,9 @@
 -- IsState b placed marks more == placed is the next order, with its marks and with room for all items
 use Rattle.std.specs.Prelude.{◌≡◌, ℕ, ◌≤◌, Bool, true, false, List, [], ◌∷◌, Vec, vec_len, vec_capacity, length}
 use Rattle.std.specs.Global.{Global}
-use Rattle.hpr_walk.specs.Choices.{Follows}
-use Rattle.hpr_walk.specs.Marks.{IsMarksOf}
-use Rattle.hpr_walk.specs.Leaves.{after}
+use Rattle.hpr_forest.specs.Choices.{Follows}
+use Rattle.hpr_forest.specs.Marks.{IsMarksOf}
+use Rattle.hpr_forest.specs.Leaves.{after}
 use Rattle.hpr_forest.specs.Forest.{Forest, can}
 use Rattle.hpr_forest.specs.Blocks.{forest_in}
 use Rattle.hpr_forest.specs.declared.blocks.Blocks.{Blocks}

@@ -4,7 +4,7 @@ ghost use Rattle.std.specs.Prelude.{◌≡◌, ℕ, ◌<◌, List, vec_len, slic
 ghost use Rattle.hpr_forest.specs.Forest.{IsForest, can};
 ghost use Rattle.hpr_forest.specs.Blocks.{forest_in, row_at, parent_at};
 
-use hpr_walk::Choices;
+use crate::Choices;
 
 /// A forest of items, numbered from 0, by tables: what each stands under, what stands under it, and which of its siblings must come before it.
 pub struct Blocks {

@@ -1,12 +1,11 @@
 //! The orders one by one.
 
 ghost use Rattle.std.specs.Prelude.{◌≡◌, ℕ, List, vec_len, replicate, false, [], ◌∷◌, IfOk, IfSome, IfNone, OnErr};
-ghost use Rattle.hpr_walk.specs.Choices.{IsWhole};
-ghost use Rattle.hpr_walk.specs.Lists.{LexLess, IsListOf};
+ghost use Rattle.hpr_forest.specs.Choices.{IsWhole};
+ghost use Rattle.hpr_forest.specs.Lists.{LexLess, IsListOf};
 ghost use Rattle.hpr_forest.specs.Remaining.{can_of};
 
-use crate::Blocks;
-use hpr_walk::{Choices, advance, descend};
+use crate::{Blocks, Choices, advance, descend};
 use std::alloc::{AllocError, Global};
 use std::marker::Model;
 

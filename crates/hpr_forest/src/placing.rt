@@ -1,8 +1,8 @@
 //! The next item by marks and the open parent.
 
 ghost use Rattle.std.specs.Prelude.{◌≡◌, ℕ, ◌<◌, ◌≤◌, List, Bool, All, [], length, vec_len, false, true, IfSome, IfNone};
-ghost use Rattle.hpr_walk.specs.Choices.{Follows};
-ghost use Rattle.hpr_walk.specs.Marks.{IsMarksOf};
+ghost use Rattle.hpr_forest.specs.Choices.{Follows};
+ghost use Rattle.hpr_forest.specs.Marks.{IsMarksOf};
 ghost use Rattle.hpr_forest.specs.Forest.{all_in, can};
 ghost use Rattle.hpr_forest.specs.Remaining.{forest_of, can_of};
 ghost use Rattle.hpr_forest.specs.Open.{open_in, can_under, same_parent};

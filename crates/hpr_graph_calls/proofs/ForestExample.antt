@@ -1,7 +1,7 @@
 -- The forests of the tests.
 use Rattle.std.proofs.Common.{◌≡◌, ℕ, zero, suc, ◌<◌, true, Option, Some, None, List, [], ◌∷◌, Vec, Contains, inl, inr, refl, sym, ap, subst, arith}
 use Rattle.std.specs.Global.{Global}
-use Rattle.hpr_walk.proofs.Unique.{in_none, in_cons}
+use Rattle.hpr_forest.proofs.Unique.{in_none, in_cons}
 use Rattle.hpr_forest.specs.Forest.{Forest, IsForest, is_in}
 use Rattle.hpr_forest.specs.Blocks.{forest_in}
 

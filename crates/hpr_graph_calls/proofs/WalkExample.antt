@@ -1,8 +1,8 @@
 -- The example that the tests walk through has no dead end.
 use Rattle.std.proofs.Common.{◌≡◌, ℕ, ◌<◌, Bool, true, false, cond, eqb, ltb, List, [], ◌∷◌, length, ◌⊎◌, inl, inr, refl, arith}
 use Rattle.std.proofs.lemmas.Bool.{cases_Bool, eqb-true, ltb-true}
-use Rattle.hpr_walk.specs.Marks.{is_in}
-use Rattle.hpr_walk.specs.Choices.{IsWhole, IsBacktrackFree}
+use Rattle.hpr_forest.specs.Marks.{is_in}
+use Rattle.hpr_forest.specs.Choices.{IsWhole, IsBacktrackFree}
 
 abbrev pub stands : Bool → List ℕ → ℕ → Bool
 stands blocked q c = cond blocked false (cond (ltb c 3) (cond (is_in q c) false (cond (eqb c 2) (is_in q 0) true)) false)

@@ -1,9 +1,9 @@
-//! Calls of hpr_walk.
+//! Calls of the walk of hpr_forest.
 ghost use Rattle.std.specs.Prelude.{◌≡◌, ℕ, ◌<◌, true, false, cond, eqb, ltb, length, replicate, vec_len, IfOk};
-ghost use Rattle.hpr_walk.specs.Marks.{is_in, IsMarksOf};
+ghost use Rattle.hpr_forest.specs.Marks.{is_in, IsMarksOf};
 
+use hpr_forest::{Choices, advance, descend};
 use hpr_rows::{Out, Row, put_numbers};
-use hpr_walk::{Choices, advance, descend};
 use std::alloc::{AllocError, Global};
 
 /// The orders of 0, 1 and 2 in which 0 comes before 2; or none, where no number may stand anywhere.

@@ -10,8 +10,8 @@ use Rattle.hpr_graph.specs.declared.vertex.Vertex.TheVariants.{Part}
 use Rattle.hpr_graph.specs.Arrangements.{IsArrangement, AreArrangements, IsEarlier}
 use Rattle.hpr_graph.specs.Graphs.{Graph}
 use Rattle.hpr_graph.specs.Rank.{parts_of, StandsBefore}
-use Rattle.hpr_walk.specs.Lists.{LexLess, IsAscending}
-use Rattle.hpr_walk.proofs.Unique.{in_first, in_later}
+use Rattle.hpr_forest.specs.Lists.{LexLess, IsAscending}
+use Rattle.hpr_forest.proofs.Unique.{in_first, in_later}
 use Rattle.hpr_forest.specs.ArrangedTrees.{Earlier}
 use Rattle.hpr_forest.specs.Trees.{Tree as ItemTree, preorder}
 use Rattle.hpr_order.specs.declared.item.Item.{Item}

@@ -7,7 +7,7 @@ use Rattle.hpr_syntax.specs.declared.rows.Content.TheVariants.{Assign, If, While
 use Rattle.hpr_syntax.specs.Body.{Body, done, assign, branch, loop}
 use Rattle.hpr_syntax.specs.Rows.{Parent}
 use Rattle.hpr_syntax.specs.Nests.{Standing, StandsAs, Says}
-use Rattle.hpr_walk.proofs.Unique.{in_none, in_cons, in_first, in_later}
+use Rattle.hpr_forest.proofs.Unique.{in_none, in_cons, in_first, in_later}
 use Rattle.hpr_forest.specs.Trees.{Tree, empty, node, preorder, Slot, StandsIn}
 use Rattle.hpr_order.specs.declared.item.Item.{Item}
 use Rattle.hpr_order.specs.Items.{IsItem}

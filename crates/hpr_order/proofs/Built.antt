@@ -12,7 +12,7 @@ use Rattle.hpr_syntax.specs.declared.tree.Stmt.TheVariants as stmt
 use Rattle.hpr_syntax.specs.Body.{Body, done}
 use Rattle.hpr_syntax.specs.BodyOf.{body_of, before}
 use Rattle.hpr_syntax.specs.Rows.{made}
-use Rattle.hpr_walk.proofs.Unique.{in_first, in_later}
+use Rattle.hpr_forest.proofs.Unique.{in_first, in_later}
 use Rattle.hpr_forest.specs.Forest.{IsDistinct}
 use Rattle.hpr_forest.specs.Trees.{Slot}
 use Rattle.hpr_order.specs.declared.item.Item.{Item}

@@ -23,8 +23,8 @@ use Rattle.hpr_graph.specs.Arrangements.{IsArrangement}
 use Rattle.hpr_graph.specs.Graphs.{Graph}
 use Rattle.hpr_graph.specs.InOrder.{Ascends}
 use Rattle.hpr_graph.specs.Order.{name_cmp}
-use Rattle.hpr_walk.specs.Lists.{IsAscending}
-use Rattle.hpr_walk.proofs.Unique.{in_none, in_cons, one_list}
+use Rattle.hpr_forest.specs.Lists.{IsAscending}
+use Rattle.hpr_forest.proofs.Unique.{in_none, in_cons, one_list}
 use Rattle.hpr_forest.specs.Forest.{IsDistinct}
 use Rattle.hpr_forest.specs.Lifted.{IsLeft}
 use Rattle.hpr_forest.specs.Trees.{Tree as ItemTree, empty, node, Slot, StandsIn, preorder}

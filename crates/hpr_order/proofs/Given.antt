@@ -21,7 +21,7 @@ use Rattle.hpr_graph.specs.declared.vertex.Vertex.TheVariants.{Part}
 use Rattle.hpr_graph.specs.Arrangements.{IsArrangement}
 use Rattle.hpr_graph.specs.Numbered.{Numbered, IsNumbered, graph_in}
 use Rattle.hpr_graph.specs.Rank.{parts_of}
-use Rattle.hpr_walk.proofs.Unique.{in_first, in_later}
+use Rattle.hpr_forest.proofs.Unique.{in_first, in_later}
 use Rattle.hpr_forest.specs.Trees.{Tree as ItemTree, preorder}
 use Rattle.hpr_order.specs.declared.item.Item.{Item}
 use Rattle.hpr_order.specs.Arranging.{AreFirstNumbers, IsPreorderOf}

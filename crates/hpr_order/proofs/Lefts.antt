@@ -7,7 +7,7 @@ use Rattle.hpr_syntax.specs.declared.rows.Content.TheVariants.{Assign, If, While
 use Rattle.hpr_syntax.specs.Body.{Body, done, assign, branch, loop}
 use Rattle.hpr_syntax.specs.Skeleton.{at, StandsIn, skeleton}
 use Rattle.hpr_syntax.specs.Places.{StandsLeft}
-use Rattle.hpr_walk.proofs.Unique.{in_none, in_cons, in_first, in_later}
+use Rattle.hpr_forest.proofs.Unique.{in_none, in_cons, in_first, in_later}
 use Rattle.hpr_forest.specs.Forest.{IsDistinct}
 use Rattle.hpr_forest.specs.Lifted.{IsLeft}
 use Rattle.hpr_forest.specs.Trees.{Tree, empty, node, preorder}

@@ -9,7 +9,7 @@ use Rattle.hpr_graph.specs.declared.vertex.Vertex.{Vertex}
 use Rattle.hpr_graph.specs.declared.vertex.Vertex.TheVariants.{Final}
 use Rattle.hpr_graph.specs.declared.link.Link.{Link}
 use Rattle.hpr_graph.specs.Moves.{number_at}
-use Rattle.hpr_walk.proofs.Unique.{in_none, in_cons, in_first}
+use Rattle.hpr_forest.proofs.Unique.{in_none, in_cons, in_first}
 use Rattle.hpr_order.specs.Numbers.{IsAskedBy, DirectsBy}
 use Rattle.hpr_order.proofs.ListFacts.{some_same}
 use Rattle.hpr_order.proofs.Marked.{asked_more}

@@ -16,7 +16,7 @@ use Rattle.hpr_graph.specs.Arrangements.{Directs}
 use Rattle.hpr_graph.specs.Graphs.{IsOnce}
 use Rattle.hpr_graph.specs.Moves.{number_at}
 use Rattle.hpr_graph.specs.Numbered.{Numbered, IsKindAt, IsNumbered, graph_in, row_of}
-use Rattle.hpr_walk.proofs.Unique.{in_none, in_cons, in_first}
+use Rattle.hpr_forest.proofs.Unique.{in_none, in_cons, in_first}
 use Rattle.hpr_forest.specs.Trees.{Slot, above}
 use Rattle.hpr_order.specs.declared.item.Item.{Item}
 use Rattle.hpr_order.specs.Items.{IsItem, slot_at}

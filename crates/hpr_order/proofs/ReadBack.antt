@@ -7,7 +7,7 @@ use Rattle.hpr_terms.specs.declared.tag.Tag.{Tag}
 use Rattle.hpr_syntax.specs.declared.rows.Content.{Content}
 use Rattle.hpr_syntax.specs.declared.rows.Content.TheVariants.{Assign, If, While}
 use Rattle.hpr_syntax.specs.Body.{Body, done, assign, branch, loop}
-use Rattle.hpr_walk.proofs.Unique.{in_none, in_first, in_later}
+use Rattle.hpr_forest.proofs.Unique.{in_none, in_first, in_later}
 use Rattle.hpr_forest.specs.Forest.{IsDistinct}
 use Rattle.hpr_forest.specs.Trees.{Tree, empty, node, preorder, Slot, StandsIn}
 use Rattle.hpr_forest.proofs.Lift.{once_parts}

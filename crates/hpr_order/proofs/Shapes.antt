@@ -17,7 +17,7 @@ use Rattle.hpr_syntax.specs.Shape.{first_repeated, first_unissued, is_unissued, 
 use Rattle.hpr_syntax.proofs.NoRefusal.{or_none}
 use Rattle.hpr_graph.specs.declared.vertex.Vertex.{Vertex}
 use Rattle.hpr_graph.specs.declared.vertex.Vertex.TheVariants.{Entry, Part}
-use Rattle.hpr_walk.proofs.Unique.{in_none, in_cons, in_first, in_later}
+use Rattle.hpr_forest.proofs.Unique.{in_none, in_cons, in_first, in_later}
 use Rattle.hpr_forest.specs.Trees.{Tree, empty, node, preorder, Slot, StandsIn}
 use Rattle.hpr_order.specs.declared.item.Item.{Item}
 use Rattle.hpr_order.specs.Items.{IsItem}

@@ -32,7 +32,7 @@ use Rattle.hpr_graph.specs.Graphs.{Graph}
 use Rattle.hpr_graph.specs.InOrder.{Ascends}
 use Rattle.hpr_graph.specs.Order.{name_cmp}
 use Rattle.hpr_graph.specs.ProgramGraph.{IsControl}
-use Rattle.hpr_walk.proofs.Unique.{in_none, in_first, in_later}
+use Rattle.hpr_forest.proofs.Unique.{in_none, in_first, in_later}
 use Rattle.hpr_forest.specs.Forest.{IsDistinct}
 use Rattle.hpr_forest.specs.Trees.{Tree as ItemTree, Slot, preorder}
 use Rattle.hpr_order.specs.declared.item.Item.{Item}

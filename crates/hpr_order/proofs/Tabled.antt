@@ -4,9 +4,9 @@ use Rattle.std.specs.Global.{Global}
 use Rattle.std.proofs.lemmas.Bool.{cases_lt}
 use Rattle.std.proofs.lemmas.List.Elements.{Contains-append_left, Contains-append_right}
 use Rattle.std.proofs.lemmas.Option.{slice_get_past}
-use Rattle.hpr_walk.specs.Choices.{IsWhole}
-use Rattle.hpr_walk.specs.Lists.{LexLess, IsListOf}
-use Rattle.hpr_walk.proofs.Unique.{in_none}
+use Rattle.hpr_forest.specs.Choices.{IsWhole}
+use Rattle.hpr_forest.specs.Lists.{LexLess, IsListOf}
+use Rattle.hpr_forest.proofs.Unique.{in_none}
 use Rattle.hpr_forest.specs.declared.blocks.Blocks.{Blocks}
 use Rattle.hpr_forest.specs.ArrangedTrees.{IsArrangedTree, AndBlocks}
 use Rattle.hpr_forest.specs.Forest.{Forest, IsForest, IsDistinct, can, bare}

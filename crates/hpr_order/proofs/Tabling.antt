@@ -3,7 +3,7 @@ use Rattle.std.proofs.Common.{◌≡◌, ℕ, ◌+◌, ◌<◌, ◌≤◌, ◌�
 use Rattle.std.specs.Global.{Global}
 use Rattle.std.proofs.lemmas.Bool.{cases_eq, cases_lt}
 use Rattle.std.proofs.lemmas.Option.{slice_get_within, slice_get_past, slice_get-get_or}
-use Rattle.hpr_walk.proofs.Unique.{in_none}
+use Rattle.hpr_forest.proofs.Unique.{in_none}
 use Rattle.hpr_forest.specs.declared.blocks.Blocks.{Blocks}
 use Rattle.hpr_forest.specs.Blocks.{forest_in, parent_at, row_at}
 use Rattle.hpr_forest.specs.Forest.{IsForest}

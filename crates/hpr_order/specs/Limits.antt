@@ -11,7 +11,7 @@ use Rattle.hpr_syntax.specs.declared.rows.Content.{Content}
 use Rattle.hpr_syntax.specs.Rows.{expr_in}
 use Rattle.hpr_syntax.specs.Shape.{is_large}
 use Rattle.hpr_graph.specs.Graphs.{Graph}
-use Rattle.hpr_walk.specs.Lists.{IsListOf}
+use Rattle.hpr_forest.specs.Lists.{IsListOf}
 use Rattle.hpr_forest.specs.Trees.{Tree, Slot, preorder}
 use Rattle.hpr_forest.specs.ArrangedTrees.{IsArrangedTree, Earlier}
 use Rattle.hpr_order.specs.declared.item.Item.{Item}

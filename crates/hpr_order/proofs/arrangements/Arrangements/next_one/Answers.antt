@@ -1,5 +1,5 @@
 use Rattle.std.proofs.Common.{◌≡◌, Contains, sym, subst}
-use Rattle.hpr_walk.proofs.Unique.{in_later}
+use Rattle.hpr_forest.proofs.Unique.{in_later}
 use Rattle.hpr_order.specs.Arranging.{coming, orders_in}
 use Rattle.hpr_order.specs.Items.{AreSlots}
 use Rattle.hpr_order.proofs.Coming.{coming_same, coming_next}

@@ -1,9 +1,9 @@
 //! The walk from each whole list to the next.
 
 ghost use Rattle.std.specs.Prelude.{◌≡◌, ℕ, ◌≤◌, List, [], ◌∷◌, vec_len, vec_capacity, IsTrue, IsFalse};
-ghost use Rattle.hpr_walk.specs.Choices.{Follows, IsWhole, IsBacktrackFree};
-ghost use Rattle.hpr_walk.specs.Marks.{IsMarksOf};
-ghost use Rattle.hpr_walk.specs.Leaves.{after, from_here};
+ghost use Rattle.hpr_forest.specs.Choices.{Follows, IsWhole, IsBacktrackFree};
+ghost use Rattle.hpr_forest.specs.Marks.{IsMarksOf};
+ghost use Rattle.hpr_forest.specs.Leaves.{after, from_here};
 
 use crate::Choices;
 

@@ -1,9 +1,9 @@
 use Rattle.std.proofs.Common.{◌≡◌, ℕ, ◌∙◌, set, length-set, refl, sym, subst, arith, List, true, false, ◌≤◌, ◌<◌, ◌+◌, []}
-use Rattle.hpr_walk.specs.Choices.{Follows, IsWhole}
-use Rattle.hpr_walk.specs.Marks.{IsMarksOf}
-use Rattle.hpr_walk.proofs.Marked.{marks_push, marks_pop}
-use Rattle.hpr_walk.proofs.Leaves.{popped, last_gone, next_found, follows_push}
-use Rattle.hpr_walk.proofs.walk.advance.Goals as goal
+use Rattle.hpr_forest.specs.Choices.{Follows, IsWhole}
+use Rattle.hpr_forest.specs.Marks.{IsMarksOf}
+use Rattle.hpr_forest.proofs.Marked.{marks_push, marks_pop}
+use Rattle.hpr_forest.proofs.Leaves.{popped, last_gone, next_found, follows_push}
+use Rattle.hpr_forest.proofs.walk.advance.Goals as goal
 
 pub overflow_add-last : goal.overflow_add-last
 overflow_add-last g c =

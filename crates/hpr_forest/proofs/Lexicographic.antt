@@ -6,7 +6,7 @@ use Rattle.std.specs.Ordering.{nat_cmp, ordering_then}
 use Rattle.std.specs.Cmp.{nat_cmp_is, ranked}
 use Rattle.std.specs.Cmp.Lexicographic.{slice_cmp}
 use Rattle.std.specs.FinMap.{nat_cmp-IsAntisymmetric}
-use Rattle.hpr_walk.specs.Lists.{LexLess}
+use Rattle.hpr_forest.specs.Lists.{LexLess}
 
 pub cmp_from_less : (s t : List ℕ) → LexLess s t → slice_cmp nat_cmp s t ≡ Less
 cmp_from_less [] [] h = absurd h

@@ -4,7 +4,7 @@
 -- IsWhole can n l          == l has n numbers, each of which may stand next behind those before it
 -- IsBacktrackFree can n    == no front is a dead end, where there is a whole list at all; what may stand next is below n and isn't placed yet
 use Rattle.std.specs.Prelude.{◌≡◌, ℕ, ◌<◌, Bool, true, false, List, [], ◌∷◌, ◌++◌, length}
-use Rattle.hpr_walk.specs.Marks.{is_in}
+use Rattle.hpr_forest.specs.Marks.{is_in}
 
 module _ (can : List ℕ → ℕ → Bool) where
   abbrev pub Follows : List ℕ → List ℕ → Type 0

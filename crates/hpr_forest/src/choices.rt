@@ -1,8 +1,8 @@
 //! What may stand next.
 
 ghost use Rattle.std.specs.Prelude.{◌≡◌, ℕ, ◌<◌, ◌≤◌, Bool, true, false, List, [], length, IfSome, IfNone};
-ghost use Rattle.hpr_walk.specs.Choices.{Follows};
-ghost use Rattle.hpr_walk.specs.Marks.{IsMarksOf};
+ghost use Rattle.hpr_forest.specs.Choices.{Follows};
+ghost use Rattle.hpr_forest.specs.Marks.{IsMarksOf};
 
 /// Rules that say which numbers may stand next behind the numbers placed so far.
 ///

@@ -1,7 +1,7 @@
 -- There is one ascending list of the things of one kind.
 use Rattle.std.proofs.Common.{◌≡◌, ℕ, zero, suc, ◌<◌, List, [], ◌∷◌, ◌++◌, Contains, ◌⊎◌, inl, inr, refl, sym, ap, ◌∙◌, subst, arith}
 use Rattle.std.proofs.lemmas.List.Elements.{Contains-append_cases}
-use Rattle.hpr_walk.specs.Lists.{LexLess, IsAscending, IsListOf}
+use Rattle.hpr_forest.specs.Lists.{LexLess, IsAscending, IsListOf}
 
 pub less_irreflexive : (s : List ℕ) → LexLess s s → ⊥
 less_irreflexive [] h = h

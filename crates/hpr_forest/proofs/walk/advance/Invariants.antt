@@ -1,8 +1,8 @@
 use Rattle.std.proofs.Common.{◌≡◌, ◌≤◌, [], vec_len, vec_capacity}
-use Rattle.hpr_walk.specs.Marks.{IsMarksOf}
-use Rattle.hpr_walk.specs.Choices.{Follows}
-use Rattle.hpr_walk.specs.Leaves.{after}
-use Rattle.hpr_walk.proofs.walk.advance.Given as goal
+use Rattle.hpr_forest.specs.Marks.{IsMarksOf}
+use Rattle.hpr_forest.specs.Choices.{Follows}
+use Rattle.hpr_forest.specs.Leaves.{after}
+use Rattle.hpr_forest.proofs.walk.advance.Given as goal
 
 abbrev pub invariant-loop-last : goal.invariant-loop-last
 invariant-loop-last g l =

@@ -1,7 +1,7 @@
 -- Marks as the list grows and shrinks.
 use Rattle.std.proofs.Common.{◌≡◌, ℕ, zero, suc, ◌<◌, Bool, true, false, cond, eqb, List, [], ◌∷◌, ◌++◌, length, set, get_or, replicate, inl, inr, refl, sym, ap, ◌∙◌, subst, get_or-set_same, get_or-set_other}
 use Rattle.std.proofs.lemmas.Bool.{cases_eq, eq-eqb, ne_eqb}
-use Rattle.hpr_walk.specs.Marks.{is_in, IsMarksOf}
+use Rattle.hpr_forest.specs.Marks.{is_in, IsMarksOf}
 
 push_same : (q : List ℕ) (c : ℕ) → is_in (q ++ c ∷ []) c ≡ true
 push_same [] c = ap (λ b. cond b true false) (eq-eqb c c refl)

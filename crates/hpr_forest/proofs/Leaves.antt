@@ -3,12 +3,12 @@ use Rattle.std.proofs.Common.{◌≡◌, ℕ, zero, suc, ◌+◌, ◌-◌, ◌<�
 use Rattle.std.proofs.lemmas.List.Elements.{Contains-append_left, Contains-append_right, Contains-append_cases}
 use Rattle.std.proofs.lemmas.List.{append-nil}
 use Rattle.std.proofs.lemmas.Bool.{cases_eq}
-use Rattle.hpr_walk.specs.Lists.{LexLess, IsAscending, IsListOf}
-use Rattle.hpr_walk.specs.Choices.{Follows, IsWhole, IsBacktrackFree}
-use Rattle.hpr_walk.specs.Leaves.{when, branch}
-use Rattle.hpr_walk.specs.Marks.{is_in}
-use Rattle.hpr_walk.specs.Leaves as tree
-use Rattle.hpr_walk.proofs.Unique.{less_behind, in_none, in_first, in_cons, ascending_append}
+use Rattle.hpr_forest.specs.Lists.{LexLess, IsAscending, IsListOf}
+use Rattle.hpr_forest.specs.Choices.{Follows, IsWhole, IsBacktrackFree}
+use Rattle.hpr_forest.specs.Leaves.{when, branch}
+use Rattle.hpr_forest.specs.Marks.{is_in}
+use Rattle.hpr_forest.specs.Leaves as tree
+use Rattle.hpr_forest.proofs.Unique.{less_behind, in_none, in_first, in_cons, ascending_append}
 
 pub branch_none : (below : ℕ → List (List ℕ)) (may : ℕ → Bool) (from count : ℕ)
     → ((d : ℕ) → from ≤ d → d < from + count → may d ≡ false) → branch below may from count ≡ []

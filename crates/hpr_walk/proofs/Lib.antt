@@ -1,4 +1,0 @@
-pub mod Unique
-pub mod Lexicographic
-pub mod Leaves
-pub mod Marked

@@ -1,4 +1,0 @@
-pub mod Lists
-pub mod Choices
-pub mod Leaves
-pub mod Marks
