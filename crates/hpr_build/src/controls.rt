@@ -65,17 +65,15 @@ fn control_links(alloc: Global, places: &[Place], count: usize) -> Result<Vec<Ne
 pub(crate) fn push_controls(
     alloc: Global,
     tables: &Tables,
-    most: usize,
     graph: &mut Graph,
 ) -> Result<(), BuildError>
     requires tables { AreTables tables.now }
-    requires begun { IsBegun tables.now.program.now tables.now.inits.items most graph.old }
+    requires begun { IsBegun tables.now.program.now tables.now.inits.items tables.now.most graph.old }
     requires none { (to : ℕ) (l : Link) → ¬ HasLink graph.old to l }
-    ensures begun { OnOk result (IsBegun tables.now.program.now tables.now.inits.items most graph.new) }
+    ensures begun { OnOk result (IsBegun tables.now.program.now tables.now.inits.items tables.now.most graph.new) }
     ensures exact { OnOk result ((to : ℕ) (l : Link) → HasLink graph.new to l ↔ IsControlLink tables.now.program.now tables.now.inits.items to l) }
-    ensures too_many { IsErrOf result BuildError.TooManyEdges → HasMoreLinks tables.now.program.now tables.now.inits.items most }
+    ensures too_many { IsErrOf result BuildError.TooManyEdges → HasMoreLinks tables.now.program.now tables.now.inits.items tables.now.most }
 {
     let links = control_links(alloc, &tables.places, tables.vertices.len())?;
-    push_links(graph, most, &links)?;
-    Ok(())
+    push_links(tables, &links, graph)
 }

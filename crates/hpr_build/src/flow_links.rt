@@ -140,21 +140,19 @@ fn push_flows_from(
     tables: &Tables,
     variable: &Variable,
     source: Source,
-    most: usize,
     graph: &mut Graph,
 ) -> Result<(), BuildError>
     requires tables { AreTables tables.now }
     requires variable { IsVariable tables.now.program.now variable.now }
     requires source { IsSourceAt tables.now.program.now tables.now.inits.items variable.now.name.now source.point source.number }
-    requires begun { IsBegun tables.now.program.now tables.now.inits.items most graph.old }
+    requires begun { IsBegun tables.now.program.now tables.now.inits.items tables.now.most graph.old }
     requires fresh { (to : ℕ) (l : Link) → HasLink graph.old to l → ¬ FlowsFrom tables.now.program.now variable.now.name.now source.point source.number to l }
-    ensures begun { OnOk result (IsBegun tables.now.program.now tables.now.inits.items most graph.new) }
+    ensures begun { OnOk result (IsBegun tables.now.program.now tables.now.inits.items tables.now.most graph.new) }
     ensures added { OnOk result ((to : ℕ) (l : Link) → HasLink graph.new to l ↔ (HasLink graph.old to l ⊎ FlowsFrom tables.now.program.now variable.now.name.now source.point source.number to l)) }
-    ensures too_many { IsErrOf result BuildError.TooManyEdges → HasMoreLinks tables.now.program.now tables.now.inits.items most }
+    ensures too_many { IsErrOf result BuildError.TooManyEdges → HasMoreLinks tables.now.program.now tables.now.inits.items tables.now.most }
 {
     let links = links_from(alloc, tables, variable, source)?;
-    push_links(graph, most, &links)?;
-    Ok(())
+    push_links(tables, &links, graph)
 }
 
 /// Puts the flow edges for one name into the graph.
@@ -162,20 +160,19 @@ fn push_flows_of(
     alloc: Global,
     tables: &Tables,
     variable: &Variable,
-    most: usize,
     graph: &mut Graph,
 ) -> Result<(), BuildError>
     requires tables { AreTables tables.now }
     requires variable { IsVariable tables.now.program.now variable.now }
-    requires begun { IsBegun tables.now.program.now tables.now.inits.items most graph.old }
+    requires begun { IsBegun tables.now.program.now tables.now.inits.items tables.now.most graph.old }
     requires fresh { (to : ℕ) (l : Link) → HasLink graph.old to l → ¬ FlowsOf tables.now.program.now tables.now.inits.items variable.now.name.now to l }
-    ensures begun { OnOk result (IsBegun tables.now.program.now tables.now.inits.items most graph.new) }
+    ensures begun { OnOk result (IsBegun tables.now.program.now tables.now.inits.items tables.now.most graph.new) }
     ensures added { OnOk result ((to : ℕ) (l : Link) → HasLink graph.new to l ↔ (HasLink graph.old to l ⊎ FlowsOf tables.now.program.now tables.now.inits.items variable.now.name.now to l)) }
-    ensures too_many { IsErrOf result BuildError.TooManyEdges → HasMoreLinks tables.now.program.now tables.now.inits.items most }
+    ensures too_many { IsErrOf result BuildError.TooManyEdges → HasMoreLinks tables.now.program.now tables.now.inits.items tables.now.most }
 {
     let sources = sources_of(alloc, tables, variable)?;
     for source in &sources {
-        push_flows_from(alloc, tables, variable, *source, most, graph)?;
+        push_flows_from(alloc, tables, variable, *source, graph)?;
     }
     Ok(())
 }
@@ -184,18 +181,17 @@ fn push_flows_of(
 pub(crate) fn push_flows(
     alloc: Global,
     tables: &Tables,
-    most: usize,
     graph: &mut Graph,
 ) -> Result<(), BuildError>
     requires tables { AreTables tables.now }
-    requires begun { IsBegun tables.now.program.now tables.now.inits.items most graph.old }
+    requires begun { IsBegun tables.now.program.now tables.now.inits.items tables.now.most graph.old }
     requires fresh { (to : ℕ) (l : Link) → HasLink graph.old to l → ¬ IsFlowLink tables.now.program.now tables.now.inits.items to l }
-    ensures begun { OnOk result (IsBegun tables.now.program.now tables.now.inits.items most graph.new) }
+    ensures begun { OnOk result (IsBegun tables.now.program.now tables.now.inits.items tables.now.most graph.new) }
     ensures added { OnOk result ((to : ℕ) (l : Link) → HasLink graph.new to l ↔ (HasLink graph.old to l ⊎ IsFlowLink tables.now.program.now tables.now.inits.items to l)) }
-    ensures too_many { IsErrOf result BuildError.TooManyEdges → HasMoreLinks tables.now.program.now tables.now.inits.items most }
+    ensures too_many { IsErrOf result BuildError.TooManyEdges → HasMoreLinks tables.now.program.now tables.now.inits.items tables.now.most }
 {
     for at in 0..tables.variables.names.len() {
-        push_flows_of(alloc, tables, &variable_at(tables, at), most, graph)?;
+        push_flows_of(alloc, tables, &variable_at(tables, at), graph)?;
     }
     Ok(())
 }

@@ -33,23 +33,17 @@ fn bare_graph(alloc: Global, vertices: &[Vertex]) -> Result<Graph, NoMemory>
 }
 
 /// Puts the edges of the program into a graph that has its vertices and no edge.
-fn push_edges(
-    alloc: Global,
-    tables: &Tables,
-    most: usize,
-    graph: &mut Graph,
-) -> Result<(), BuildError>
+fn push_edges(alloc: Global, tables: &Tables, graph: &mut Graph) -> Result<(), BuildError>
     requires tables { AreTables tables.now }
-    requires begun { IsBegun tables.now.program.now tables.now.inits.items most graph.old }
+    requires begun { IsBegun tables.now.program.now tables.now.inits.items tables.now.most graph.old }
     requires none { (to : ℕ) (l : Link) → ¬ HasLink graph.old to l }
-    ensures begun { OnOk result (IsBegun tables.now.program.now tables.now.inits.items most graph.new) }
+    ensures begun { OnOk result (IsBegun tables.now.program.now tables.now.inits.items tables.now.most graph.new) }
     ensures exact { OnOk result ((to : ℕ) (l : Link) → HasLink graph.new to l ↔ IsLinkOf tables.now.program.now tables.now.inits.items to l) }
-    ensures too_many { IsErrOf result BuildError.TooManyEdges → HasMoreLinks tables.now.program.now tables.now.inits.items most }
+    ensures too_many { IsErrOf result BuildError.TooManyEdges → HasMoreLinks tables.now.program.now tables.now.inits.items tables.now.most }
 {
-    push_controls(alloc, tables, most, graph)?;
-    push_flows(alloc, tables, most, graph)?;
-    push_orders(alloc, tables, most, graph)?;
-    Ok(())
+    push_controls(alloc, tables, graph)?;
+    push_flows(alloc, tables, graph)?;
+    push_orders(alloc, tables, graph)
 }
 
 /// The dependence graph of a program (Horwitz, Prins and Reps 1989). Its vertices are Entry, the
@@ -68,9 +62,9 @@ pub fn graph_of(alloc: Global, program: &Program, most_edges: usize) -> Result<G
     ensures within { IfOk result (λ g. ¬ HasMoreEdges (graph_of program.now) most_edges) }
     ensures too_many { IsErrOf result BuildError.TooManyEdges → HasMoreEdges (graph_of program.now) most_edges }
 {
-    let tables = tables_of(alloc, program)?;
+    let tables = tables_of(alloc, program, most_edges)?;
     let mut graph = bare_graph(alloc, &tables.vertices)?;
-    push_edges(alloc, &tables, most_edges, &mut graph)?;
+    push_edges(alloc, &tables, &mut graph)?;
     let _vertices = graph.vertices();
     Ok(graph)
 }

@@ -104,7 +104,6 @@ fn push_orders_at(
     variable: &Variable,
     rows: &[BitRow],
     user: usize,
-    most: usize,
     graph: &mut Graph,
 ) -> Result<(), BuildError>
     requires tables { AreTables tables.now }
@@ -112,15 +111,14 @@ fn push_orders_at(
     requires rows { length rows.now ≡ length variable.now.definitions.now }
     requires reached { AreReached tables.now.succ variable.now.name.now variable.now.definitions.now rows.now }
     requires user { UsesAt (spots tables.now.program.now) user variable.now.name.now }
-    requires begun { IsBegun tables.now.program.now tables.now.inits.items most graph.old }
+    requires begun { IsBegun tables.now.program.now tables.now.inits.items tables.now.most graph.old }
     requires fresh { (to : ℕ) (l : Link) → HasLink graph.old to l → ¬ OrdersAt tables.now.program.now variable.now.name.now user to l }
-    ensures begun { OnOk result (IsBegun tables.now.program.now tables.now.inits.items most graph.new) }
+    ensures begun { OnOk result (IsBegun tables.now.program.now tables.now.inits.items tables.now.most graph.new) }
     ensures added { OnOk result ((to : ℕ) (l : Link) → HasLink graph.new to l ↔ (HasLink graph.old to l ⊎ OrdersAt tables.now.program.now variable.now.name.now user to l)) }
-    ensures too_many { IsErrOf result BuildError.TooManyEdges → HasMoreLinks tables.now.program.now tables.now.inits.items most }
+    ensures too_many { IsErrOf result BuildError.TooManyEdges → HasMoreLinks tables.now.program.now tables.now.inits.items tables.now.most }
 {
     let links = links_at(alloc, tables, variable, rows, user)?;
-    push_links(graph, most, &links)?;
-    Ok(())
+    push_links(tables, &links, graph)
 }
 
 /// Puts the order edges for the uses of one name into the graph.
@@ -128,20 +126,19 @@ fn push_orders_of(
     alloc: Global,
     tables: &Tables,
     variable: &Variable,
-    most: usize,
     graph: &mut Graph,
 ) -> Result<(), BuildError>
     requires tables { AreTables tables.now }
     requires variable { IsVariable tables.now.program.now variable.now }
-    requires begun { IsBegun tables.now.program.now tables.now.inits.items most graph.old }
+    requires begun { IsBegun tables.now.program.now tables.now.inits.items tables.now.most graph.old }
     requires fresh { (to : ℕ) (l : Link) → HasLink graph.old to l → ¬ OrdersOf tables.now.program.now variable.now.name.now to l }
-    ensures begun { OnOk result (IsBegun tables.now.program.now tables.now.inits.items most graph.new) }
+    ensures begun { OnOk result (IsBegun tables.now.program.now tables.now.inits.items tables.now.most graph.new) }
     ensures added { OnOk result ((to : ℕ) (l : Link) → HasLink graph.new to l ↔ (HasLink graph.old to l ⊎ OrdersOf tables.now.program.now variable.now.name.now to l)) }
-    ensures too_many { IsErrOf result BuildError.TooManyEdges → HasMoreLinks tables.now.program.now tables.now.inits.items most }
+    ensures too_many { IsErrOf result BuildError.TooManyEdges → HasMoreLinks tables.now.program.now tables.now.inits.items tables.now.most }
 {
     let rows = reached_rows(alloc, &tables.succ, variable.name, variable.definitions)?;
     for user in variable.users {
-        push_orders_at(alloc, tables, variable, &rows, *user, most, graph)?;
+        push_orders_at(alloc, tables, variable, &rows, *user, graph)?;
     }
     Ok(())
 }
@@ -150,18 +147,17 @@ fn push_orders_of(
 pub(crate) fn push_orders(
     alloc: Global,
     tables: &Tables,
-    most: usize,
     graph: &mut Graph,
 ) -> Result<(), BuildError>
     requires tables { AreTables tables.now }
-    requires begun { IsBegun tables.now.program.now tables.now.inits.items most graph.old }
+    requires begun { IsBegun tables.now.program.now tables.now.inits.items tables.now.most graph.old }
     requires fresh { (to : ℕ) (l : Link) → HasLink graph.old to l → ¬ IsOrderLink tables.now.program.now to l }
-    ensures begun { OnOk result (IsBegun tables.now.program.now tables.now.inits.items most graph.new) }
+    ensures begun { OnOk result (IsBegun tables.now.program.now tables.now.inits.items tables.now.most graph.new) }
     ensures added { OnOk result ((to : ℕ) (l : Link) → HasLink graph.new to l ↔ (HasLink graph.old to l ⊎ IsOrderLink tables.now.program.now to l)) }
-    ensures too_many { IsErrOf result BuildError.TooManyEdges → HasMoreLinks tables.now.program.now tables.now.inits.items most }
+    ensures too_many { IsErrOf result BuildError.TooManyEdges → HasMoreLinks tables.now.program.now tables.now.inits.items tables.now.most }
 {
     for at in 0..tables.variables.names.len() {
-        push_orders_of(alloc, tables, &variable_at(tables, at), most, graph)?;
+        push_orders_of(alloc, tables, &variable_at(tables, at), graph)?;
     }
     Ok(())
 }

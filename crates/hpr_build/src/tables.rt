@@ -16,7 +16,7 @@ use std::alloc::Global;
 
 /// What is known of a program: its points, its parts, the names that it takes from before it, the
 /// names that it uses, the vertices of its graph, and the number of Exit's point, which is that of
-/// the vertex of the first name of `end`.
+/// the vertex of the first name of `end`; and how many edges its graph may have.
 pub(crate) struct Tables<'a> {
     pub(crate) program: &'a Program,
     pub(crate) succ: Succ,
@@ -25,6 +25,7 @@ pub(crate) struct Tables<'a> {
     pub(crate) variables: Variables,
     pub(crate) vertices: Vec<Vertex>,
     pub(crate) exit: usize,
+    pub(crate) most: usize,
 }
 
 /// All tables are dropped in one call.
@@ -38,6 +39,7 @@ impl Drop for Tables<'_> {
             variables: _,
             vertices: _,
             exit: _,
+            most: _,
         } = self;
     }
 }
@@ -89,10 +91,15 @@ fn vertices(
     Ok(vertices)
 }
 
-/// The tables of the program.
-pub(crate) fn tables_of(alloc: Global, program: &Program) -> Result<Tables<'_>, NoMemory>
+/// The tables of the program, whose graph may have `most` edges.
+pub(crate) fn tables_of(
+    alloc: Global,
+    program: &Program,
+    most: usize,
+) -> Result<Tables<'_>, NoMemory>
     ensures tables { IfOk result AreTables }
     ensures program { IfOk result (λ t. t.program.now ≡ program.now) }
+    ensures most { IfOk result (λ t. t.most ≡ most) }
 {
     let succ = successors(alloc, program)?;
     let places = places(alloc, program)?;
@@ -107,6 +114,7 @@ pub(crate) fn tables_of(alloc: Global, program: &Program) -> Result<Tables<'_>, 
         variables,
         vertices,
         exit: program.part_count() + 1,
+        most,
     })
 }
 

@@ -8,6 +8,6 @@ use Rattle.hpr_build.proofs.flow_links.push_flows.Given as goal
 
 abbrev pub invariant-loop-at : goal.invariant-loop-at
 invariant-loop-at l = record {
-  begun : IsBegun l.tables.program.now l.tables.inits.items l.most l.graph;
+  begun : IsBegun l.tables.program.now l.tables.inits.items l.tables.most l.graph;
   added : (to : ℕ) (k : Link) → HasLink l.graph to k ↔ (HasLink l.fn.graph to k ⊎ SomeOf (take l.at l.tables.variables.names.items) (λ x. FlowsOf l.tables.program.now l.tables.inits.items x to k));
 }

@@ -1,4 +1,4 @@
-use Rattle.std.proofs.Common.{◌∙◌, Err, List, sym, ap, subst, arith}
+use Rattle.std.proofs.Common.{◌∙◌, ℕ, Err, List, sym, ap, subst, arith}
 use Rattle.std.proofs.lemmas.Result.{err_from_is_err_and}
 use Rattle.hpr_syntax.specs.Tree.{Tree}
 use Rattle.hpr_graph.specs.declared.vertex.Vertex.{Vertex}
@@ -32,7 +32,8 @@ returns-in_err-push_edges-clause-too_many c = λ e.
     let are = c.in_ok-tables.ensures.tables in
     let p = err_from_is_err_and c.from_residual-in_err-push_edges.result c.from_residual-in_err-push_edges.ensures.1 in
     let more = c.in_err-push_edges.ensures.too_many (ap (λ (z : BuildError). Err z) (same_error c.from_residual-in_err-push_edges.result p.0 _ TooManyEdges p.1 p.2 e)) in
-    subst (λ (tree : Tree). HasMoreEdges (graph_of tree) c.args.most_edges) c.in_ok-tables.ensures.program (more_edges t.program.now t.inits.items are.program are.inits c.args.most_edges more)
+    subst (λ (tree : Tree). HasMoreEdges (graph_of tree) c.args.most_edges) c.in_ok-tables.ensures.program
+    (subst (λ (n : ℕ). HasMoreEdges (graph_of t.program.now) n) c.in_ok-tables.ensures.most (more_edges t.program.now t.inits.items are.program are.inits t.most more))
 
 pub returns-clause-graph : goal.returns-clause-graph
 returns-clause-graph c =
@@ -47,4 +48,4 @@ returns-clause-within c =
     let are = c.in_ok-tables.ensures.tables in
     subst (λ (tree : Tree). ¬ HasMoreEdges (graph_of tree) c.args.most_edges) c.in_ok-tables.ensures.program
     (no_more_edges t.program.now c.args.most_edges c.push_edges.new.graph c.vertices-vertices.ensures.numbered
-    (same_graph t.program.now t.inits.items are.program are.inits c.push_edges.new.graph c.in_ok-push_edges.ensures.begun.vertices c.in_ok-push_edges.ensures.exact) c.in_ok-push_edges.ensures.begun.room)
+    (same_graph t.program.now t.inits.items are.program are.inits c.push_edges.new.graph c.in_ok-push_edges.ensures.begun.vertices c.in_ok-push_edges.ensures.exact) (omega (arith, c.in_ok-push_edges.ensures.begun.room, c.in_ok-tables.ensures.most)))

@@ -1,5 +1,6 @@
 use Rattle.std.proofs.Common.{inl, inr}
 use Rattle.hpr_build.proofs.ControlFamily.{control_no_flow, control_no_order, flow_no_order}
+use Rattle.hpr_build.proofs.StageTurns.{on_ok}
 use Rattle.hpr_build.proofs.graph.push_edges.Goals as goal
 
 pub push_flows-requires-clause-fresh : goal.push_flows-requires-clause-fresh
@@ -15,13 +16,14 @@ push_orders-requires-clause-fresh c = λ to l h o.
     ]
 
 pub returns-clause-exact : goal.returns-clause-exact
-returns-clause-exact c = λ to l.
+returns-clause-exact c =
+    on_ok c.push_orders.result _ _ (λ added to l.
     let controls = c.in_ok-push_controls.ensures.exact to l in
     let flows = c.in_ok-push_flows.ensures.added to l in
-    let orders = c.in_ok-push_orders.ensures.added to l in (
+    let orders = added to l in (
       (λ h. elim (orders.0 h) [ inl f ↦ (elim (flows.0 f) [ inl k ↦ inl (controls.0 k) | inr w ↦ inr (inl w) ]) | inr o ↦ inr (inr o) ]),
       (λ s. elim s [
         | inl k ↦ orders.1 (inl (flows.1 (inl (controls.1 k))))
         | inr r ↦ (elim r [ inl w ↦ orders.1 (inl (flows.1 (inr w))) | inr o ↦ orders.1 (inr o) ])
       ]),
-    )
+    )) c.push_orders.ensures.added

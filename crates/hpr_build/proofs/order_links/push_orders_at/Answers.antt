@@ -1,71 +1,26 @@
-use Rattle.std.proofs.Common.{Err, inr, ap}
-use Rattle.std.proofs.lemmas.Result.{err_from_is_err_and}
-use Rattle.hpr_build.specs.declared.error.BuildError.{BuildError}
-use Rattle.hpr_build.specs.declared.error.BuildError.TheVariants.{TooManyEdges}
-use Rattle.hpr_build.proofs.LinkTurns.{same_error}
-use Rattle.hpr_build.proofs.StageTurns.{stage_once, stage_links, stage_fresh, stage_added, stage_begun, stage_more}
+use Rattle.std.proofs.Common.{List, inr, sym, subst}
+use Rattle.hpr_graph.specs.Graphs.{IsOnce}
+use Rattle.hpr_build.specs.declared.pushes.NewLink.{NewLink}
 use Rattle.hpr_build.specs.NewLinks.{OrdersAt}
 use Rattle.hpr_build.proofs.OrderFamily.{order_of_name}
+use Rattle.hpr_build.proofs.StageTurns.{to_family, stage_added, on_ok}
 use Rattle.hpr_build.proofs.order_links.push_orders_at.Goals as goal
 
 pub push_links-requires-clause-once : goal.push_links-requires-clause-once
-push_links-requires-clause-once c =
-    let t = c.args.tables.now in
-    stage_once t.program.now t.inits.items c.requires.tables.program c.requires.tables.inits c.args.most c.args.graph.now c.requires.begun
-    (OrdersAt t.program.now c.args.variable.now.name.now c.args.user)
-    c.deref.result.now c.in_ok-links.links.items c.deref.ensures.value
-    (c.in_ok-links.ensures.exact)
-    (λ to l h. inr (inr (order_of_name t.program.now to l c.args.variable.now.name.now (c.args.user, h))))
-    (c.requires.fresh) c.in_ok-links.ensures.once
+push_links-requires-clause-once c = subst (λ (ns : List NewLink). IsOnce ns) (sym c.deref.ensures.value) c.in_ok-links.ensures.once
 
 pub push_links-requires-clause-links : goal.push_links-requires-clause-links
-push_links-requires-clause-links c =
-    let t = c.args.tables.now in
-    stage_links t.program.now t.inits.items c.requires.tables.program c.requires.tables.inits c.args.most c.args.graph.now c.requires.begun
-    (OrdersAt t.program.now c.args.variable.now.name.now c.args.user)
-    c.deref.result.now c.in_ok-links.links.items c.deref.ensures.value
-    (c.in_ok-links.ensures.exact)
-    (λ to l h. inr (inr (order_of_name t.program.now to l c.args.variable.now.name.now (c.args.user, h))))
-    (c.requires.fresh)
+push_links-requires-clause-links c = λ n h.
+    let t = c.args.tables.now.program.now in
+    let x = c.args.variable.now.name.now in
+    inr (inr (order_of_name t n.to n.link x (c.args.user, to_family (OrdersAt t x c.args.user) c.deref.result.now c.in_ok-links.links.items c.deref.ensures.value c.in_ok-links.ensures.exact n.to n.link h)))
 
 pub push_links-requires-clause-fresh : goal.push_links-requires-clause-fresh
-push_links-requires-clause-fresh c =
-    let t = c.args.tables.now in
-    stage_fresh t.program.now t.inits.items c.requires.tables.program c.requires.tables.inits c.args.most c.args.graph.now c.requires.begun
-    (OrdersAt t.program.now c.args.variable.now.name.now c.args.user)
-    c.deref.result.now c.in_ok-links.links.items c.deref.ensures.value
-    (c.in_ok-links.ensures.exact)
-    (λ to l h. inr (inr (order_of_name t.program.now to l c.args.variable.now.name.now (c.args.user, h))))
-    (c.requires.fresh)
-
-pub returns-in_err-push_links-clause-too_many : goal.returns-in_err-push_links-clause-too_many
-returns-in_err-push_links-clause-too_many c = λ e.
-    let t = c.args.tables.now in
-    let p = err_from_is_err_and c.from_residual-in_err-push_links.result c.from_residual-in_err-push_links.ensures.1 in
-    let w = ap (λ (z : BuildError). Err z) (same_error c.from_residual-in_err-push_links.result p.0 _ TooManyEdges p.1 p.2 e) in
-    stage_more t.program.now t.inits.items c.requires.tables.program c.requires.tables.inits c.args.most c.args.graph.now c.requires.begun
-    (OrdersAt t.program.now c.args.variable.now.name.now c.args.user)
-    c.deref.result.now c.in_ok-links.links.items c.deref.ensures.value
-    (c.in_ok-links.ensures.exact)
-    (λ to l h. inr (inr (order_of_name t.program.now to l c.args.variable.now.name.now (c.args.user, h))))
-    (c.requires.fresh) c.push_links.new.graph c.in_err-push_links.ensures.vertices (c.in_err-push_links.ensures.only w) (c.in_err-push_links.ensures.numbered w) (c.in_err-push_links.ensures.full w)
-
-pub returns-clause-begun : goal.returns-clause-begun
-returns-clause-begun c =
-    let t = c.args.tables.now in
-    stage_begun t.program.now t.inits.items c.requires.tables.program c.requires.tables.inits c.args.most c.args.graph.now c.requires.begun
-    (OrdersAt t.program.now c.args.variable.now.name.now c.args.user)
-    c.deref.result.now c.in_ok-links.links.items c.deref.ensures.value
-    (c.in_ok-links.ensures.exact)
-    (λ to l h. inr (inr (order_of_name t.program.now to l c.args.variable.now.name.now (c.args.user, h))))
-    (c.requires.fresh) c.push_links.new.graph c.in_ok-push_links.ensures.vertices c.in_ok-push_links.ensures.added c.in_ok-push_links.ensures.room
+push_links-requires-clause-fresh c = λ n h was.
+    c.requires.fresh n.to n.link was
+    (to_family (OrdersAt c.args.tables.now.program.now c.args.variable.now.name.now c.args.user) c.deref.result.now c.in_ok-links.links.items c.deref.ensures.value c.in_ok-links.ensures.exact n.to n.link h)
 
 pub returns-clause-added : goal.returns-clause-added
 returns-clause-added c =
-    let t = c.args.tables.now in
-    stage_added t.program.now t.inits.items c.requires.tables.program c.requires.tables.inits c.args.most c.args.graph.now c.requires.begun
-    (OrdersAt t.program.now c.args.variable.now.name.now c.args.user)
-    c.deref.result.now c.in_ok-links.links.items c.deref.ensures.value
-    (c.in_ok-links.ensures.exact)
-    (λ to l h. inr (inr (order_of_name t.program.now to l c.args.variable.now.name.now (c.args.user, h))))
-    (c.requires.fresh) c.push_links.new.graph c.in_ok-push_links.ensures.vertices c.in_ok-push_links.ensures.added
+    on_ok c.push_links.result _ _ (stage_added (OrdersAt c.args.tables.now.program.now c.args.variable.now.name.now c.args.user) c.deref.result.now c.in_ok-links.links.items c.deref.ensures.value c.in_ok-links.ensures.exact
+    c.args.graph.now c.push_links.new.graph) c.push_links.ensures.added

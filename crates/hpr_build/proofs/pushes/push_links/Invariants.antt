@@ -8,5 +8,5 @@ abbrev pub invariant-loop-new : goal.invariant-loop-new
 invariant-loop-new l = record {
   vertices : l.graph.vertices ≡ l.fn.graph.vertices;
   added : (to : ℕ) (k : Link) → HasLink l.graph to k ↔ (HasLink l.fn.graph to k ⊎ Contains (take l.new-index l.links) (into to k));
-  room : link_count l.graph ≤ l.most;
+  room : link_count l.graph ≤ l.tables.most;
 }
