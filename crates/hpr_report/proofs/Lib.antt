@@ -6,3 +6,4 @@ mod NameOrder
 mod TableRows
 pub mod OneText
 pub mod OneTable
+pub mod Ends

@@ -1,5 +1,6 @@
 pub mod Texts
 pub mod GraphTexts
+pub mod EdgeParts
 pub mod GraphJson
 pub mod AffectedText
 pub mod ConflictsText

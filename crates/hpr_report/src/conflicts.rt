@@ -1,9 +1,9 @@
 //! The conflicts of an integration.
-ghost use Rattle.std.specs.Prelude.{◌≡◌, ◌++◌, map, IfOk, OnOk, string_bytes};
-ghost use Rattle.hpr_report.specs.GraphTexts.{on_lines};
+ghost use Rattle.std.specs.Prelude.{◌≡◌, ◌++◌, map, IfOk, OnOk, codes, string_bytes};
+ghost use Rattle.hpr_report.specs.GraphTexts.{edge_text, on_lines, vertex_text};
 ghost use Rattle.hpr_report.specs.ConflictsText.{side_word, conflict_text, conflicts_text};
 
-use crate::graphs::{bracketed, edge_words, put_line};
+use crate::graphs::{put_behind, put_edge, put_line};
 use hpr_graph::{Conflict, NoMemory, Side};
 use std::alloc::Global;
 
@@ -33,10 +33,18 @@ fn put_conflicts(alloc: Global, out: &mut Vec<u8>, conflicts: &[Conflict]) -> Re
 fn conflict_text(alloc: Global, conflict: &Conflict) -> Result<String, NoMemory>
     ensures { IfOk result (λ text. string_bytes text ≡ conflict_text conflict.now) }
 {
-    let side = side_word(conflict.side);
-    let point = bracketed(alloc, &conflict.point)?;
-    let edge = edge_words(alloc, &conflict.edge)?;
-    Ok(format!(in alloc; "{side} {point}: {edge}")?)
+    let mut text = String::from_str(alloc, side_word(conflict.side))?;
+    put_point(alloc, &mut text, conflict)?;
+    Ok(text)
+}
+
+/// Puts the point and the edge of a conflict behind a text.
+fn put_point(alloc: Global, text: &mut String, conflict: &Conflict) -> Result<(), NoMemory>
+    ensures { OnOk result (string_bytes text.new ≡ string_bytes text.old ++ (codes " " ++ vertex_text conflict.now.point ++ codes ": " ++ edge_text conflict.now.edge)) }
+{
+    put_behind(alloc, text, " ", &conflict.point)?;
+    text.push_str(": ")?;
+    put_edge(alloc, text, &conflict.edge)
 }
 
 fn side_word(side: Side) -> &'static str

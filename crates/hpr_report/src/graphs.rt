@@ -3,12 +3,12 @@ ghost use Rattle.std.specs.Prelude.{◌≡◌, ◌++◌, ◌<◌, length, map, I
 ghost use Rattle.hpr_syntax.specs.Print.{content_text, tag_text};
 ghost use Rattle.hpr_graph.specs.Numbered.{IsLink, graph_in};
 ghost use Rattle.hpr_graph.specs.InOrder.{edge_of, row_edges, edges_of};
+ghost use Rattle.hpr_report.specs.EdgeParts.{kind_head, kind_tail};
 ghost use Rattle.hpr_report.specs.GraphTexts.{vertex_words, vertex_text, edge_text, on_lines, IsGraphText};
 
-use crate::outcome::tag_name;
 use hpr_graph::{Content, Edge, Graph, Kind, Link, NoMemory, Tag, Vertex};
 use hpr_print::content_text;
-use std::alloc::Global;
+use std::alloc::{AllocError, Global};
 
 /// A vertex in brackets: `[entry]`, `[init NAME]`, `[final NAME]`, and for a part its tag and what it
 /// says, as `[1.2 x := 1]`. It fails only for want of memory.
@@ -22,8 +22,30 @@ pub fn vertex_text(alloc: Global, vertex: &Vertex) -> Result<Vec<u8>, NoMemory>
 pub(crate) fn bracketed(alloc: Global, vertex: &Vertex) -> Result<String, NoMemory>
     ensures { IfOk result (λ text. string_bytes text ≡ vertex_text vertex.now) }
 {
+    let mut text = String::new(alloc);
+    put_vertex(alloc, &mut text, vertex)?;
+    Ok(text)
+}
+
+/// Puts a vertex in brackets behind a text.
+fn put_vertex(alloc: Global, text: &mut String, vertex: &Vertex) -> Result<(), NoMemory>
+    ensures { OnOk result (string_bytes text.new ≡ string_bytes text.old ++ vertex_text vertex.now) }
+{
     let words = vertex_words(alloc, vertex)?;
-    Ok(format!(in alloc; "[{words}]")?)
+    Ok(write!(text, "[{words}]")?)
+}
+
+/// Puts a word and a vertex in brackets behind a text.
+pub(crate) fn put_behind(
+    alloc: Global,
+    text: &mut String,
+    word: &str,
+    vertex: &Vertex,
+) -> Result<(), NoMemory>
+    ensures { OnOk result (string_bytes text.new ≡ string_bytes text.old ++ (word.now ++ vertex_text vertex.now)) }
+{
+    text.push_str(word)?;
+    put_vertex(alloc, text, vertex)
 }
 
 /// What a vertex is, without the brackets.
@@ -48,9 +70,10 @@ pub(crate) fn vertex_words(alloc: Global, vertex: &Vertex) -> Result<String, NoM
 fn part_words(alloc: Global, tag: &Tag, content: &Content) -> Result<String, NoMemory>
     ensures { IfOk result (λ text. string_bytes text ≡ tag_text tag.now ++ codes " " ++ content_text content.now) }
 {
-    let tag = tag_name(alloc, tag)?;
+    let author = tag.author;
+    let serial = tag.serial;
     let content = content_words(alloc, content)?;
-    Ok(format!(in alloc; "{tag} {content}")?)
+    Ok(format!(in alloc; "{author}.{serial} {content}")?)
 }
 
 /// What a part says.
@@ -73,35 +96,51 @@ pub fn edge_text(alloc: Global, edge: &Edge) -> Result<Vec<u8>, NoMemory>
 }
 
 /// An edge from its source to its target.
-pub(crate) fn edge_words(alloc: Global, edge: &Edge) -> Result<String, NoMemory>
+fn edge_words(alloc: Global, edge: &Edge) -> Result<String, NoMemory>
     ensures { IfOk result (λ text. string_bytes text ≡ edge_text edge.now) }
 {
-    let ends = ends_words(alloc, edge)?;
-    match &edge.kind {
-        Kind::Control(label) => Ok(format!(in alloc; "control {label} {ends}")?),
+    let mut text = String::new(alloc);
+    put_edge(alloc, &mut text, edge)?;
+    Ok(text)
+}
+
+/// Puts an edge behind a text.
+pub(crate) fn put_edge(alloc: Global, text: &mut String, edge: &Edge) -> Result<(), NoMemory>
+    ensures { OnOk result (string_bytes text.new ≡ string_bytes text.old ++ edge_text edge.now) }
+{
+    put_head(text, &edge.kind)?;
+    put_vertex(alloc, text, &edge.from)?;
+    put_behind(alloc, text, " -> ", &edge.to)?;
+    put_tail(alloc, text, &edge.kind)
+}
+
+/// Puts what stands before the ends of an edge.
+fn put_head(text: &mut String, kind: &Kind) -> Result<(), AllocError>
+    ensures { OnOk result (string_bytes text.new ≡ string_bytes text.old ++ kind_head kind.now) }
+{
+    match kind {
+        Kind::Control(label) => write!(text, "control {label} "),
         Kind::Independent(name) => {
             let name = name.text();
-            Ok(format!(in alloc; "flow {name} {ends}")?)
+            write!(text, "flow {name} ")
         }
-        Kind::Carried(name, by) => {
+        Kind::Carried(name, _) => {
             let name = name.text();
-            let by = bracketed(alloc, by)?;
-            Ok(format!(in alloc; "carried {name} {ends} by {by}")?)
+            write!(text, "carried {name} ")
         }
-        Kind::Order(used) => {
-            let used = bracketed(alloc, used)?;
-            Ok(format!(in alloc; "order {ends} for {used}")?)
-        }
+        Kind::Order(_) => text.push_str("order "),
     }
 }
 
-/// The source and the target of an edge.
-fn ends_words(alloc: Global, edge: &Edge) -> Result<String, NoMemory>
-    ensures { IfOk result (λ text. string_bytes text ≡ vertex_text edge.now.from ++ codes " -> " ++ vertex_text edge.now.to) }
+/// Puts what stands behind the ends of an edge.
+fn put_tail(alloc: Global, text: &mut String, kind: &Kind) -> Result<(), NoMemory>
+    ensures { OnOk result (string_bytes text.new ≡ string_bytes text.old ++ kind_tail kind.now) }
 {
-    let from = bracketed(alloc, &edge.from)?;
-    let to = bracketed(alloc, &edge.to)?;
-    Ok(format!(in alloc; "{from} -> {to}")?)
+    match kind {
+        Kind::Control(_) | Kind::Independent(_) => Ok(()),
+        Kind::Carried(_, by) => put_behind(alloc, text, " by ", by),
+        Kind::Order(used) => put_behind(alloc, text, " for ", used),
+    }
 }
 
 /// A graph: the line `vertices N` and a line for each vertex, the line `edges N` and a line for each

@@ -1,5 +1,5 @@
 //! The table of final values.
-ghost use Rattle.std.specs.Prelude.{◌≡◌, ◌++◌, ◌↔◌, ℕ, ℤ, List, Contains, IfOk, OnOk, string_bytes};
+ghost use Rattle.std.specs.Prelude.{◌≡◌, ◌++◌, ◌↔◌, ℕ, ℤ, List, Contains, IfOk, OnOk, codes, string_bytes};
 ghost use Rattle.hpr_graph.specs.Order.{name_cmp};
 ghost use Rattle.hpr_graph.specs.InOrder.{Ascends};
 ghost use Rattle.hpr_report.specs.TableText.{names_in, IsSingleValued, IsValueIn, IsRow, Row, cell_text, table_line, IsTableText};
@@ -49,11 +49,25 @@ fn names_in_order(
     ensures ascending { IfOk result (λ names. Ascends name_cmp names.items) }
 {
     let mut names = Vec::new(alloc);
-    push_names(alloc, &mut names, base)?;
-    push_names(alloc, &mut names, a)?;
-    push_names(alloc, &mut names, b)?;
-    push_names(alloc, &mut names, merged)?;
+    push_all(alloc, &mut names, base, a, b, merged)?;
     in_order(names)
+}
+
+/// Pushes a copy of each name of four lists.
+fn push_all(
+    alloc: Global,
+    names: &mut Vec<Name>,
+    base: &[(Name, i64)],
+    a: &[(Name, i64)],
+    b: &[(Name, i64)],
+    merged: &[(Name, i64)],
+) -> Result<(), NoMemory>
+    ensures { OnOk result (names.new.items ≡ names.old.items ++ (names_in base.now ++ names_in a.now ++ names_in b.now ++ names_in merged.now)) }
+{
+    push_names(alloc, names, base)?;
+    push_names(alloc, names, a)?;
+    push_names(alloc, names, b)?;
+    push_names(alloc, names, merged)
 }
 
 /// Pushes a copy of each name of a list.
@@ -82,11 +96,30 @@ fn table_line(
     ensures { IfOk result (λ text. (row : Row) × (row.name ≡ name.now) × IsRow base.now a.now b.now merged.now row × (string_bytes text ≡ table_line row)) }
 {
     let mut line = String::from_str(alloc, name.text())?;
-    put_cell(&mut line, ": ", value_in(base, name))?;
-    put_cell(&mut line, " ", value_in(a, name))?;
-    put_cell(&mut line, " ", value_in(b, name))?;
-    put_cell(&mut line, " ", value_in(merged, name))?;
+    put_cells(
+        &mut line,
+        value_in(base, name),
+        value_in(a, name),
+        value_in(b, name),
+        value_in(merged, name),
+    )?;
     Ok(line)
+}
+
+/// Puts the four cells of a line behind a text.
+fn put_cells(
+    line: &mut String,
+    base: Option<i64>,
+    a: Option<i64>,
+    b: Option<i64>,
+    merged: Option<i64>,
+) -> Result<(), AllocError>
+    ensures { OnOk result (string_bytes line.new ≡ string_bytes line.old ++ (codes ": " ++ cell_text base ++ codes " " ++ cell_text a ++ codes " " ++ cell_text b ++ codes " " ++ cell_text merged)) }
+{
+    put_cell(line, ": ", base)?;
+    put_cell(line, " ", a)?;
+    put_cell(line, " ", b)?;
+    put_cell(line, " ", merged)
 }
 
 /// The value of a name in a list, if the list has the name.

@@ -11,9 +11,7 @@ returns c =
       b = c.value_in-3.result;
       merged = c.value_in-4.result;
     } in
-    let text : string_bytes c.put_cell-4.new.line ≡ table_line row =
-    rw (c.in_ok-put_cell-4.ensures, c.in_ok-put_cell-3.ensures, c.in_ok-put_cell-2.ensures, c.in_ok-put_cell.ensures, c.in_ok-line.ensures.ok, c.text.ensures.text)
-    (simp append_assoc) in (
+    let text : string_bytes c.put_cells.new.line ≡ table_line row = rw (c.in_ok-put_cells.ensures, c.in_ok-line.ensures.ok, c.text.ensures.text) (simp append_assoc) in (
       row,
       refl,
       record {
