@@ -1,6 +1,7 @@
 pub mod CompareBlocks
 pub mod OrderBlocks
 pub mod PartBound
+pub mod DepthBound
 pub mod Runs
 pub mod MoreSteps
 pub mod ValueByUses

@@ -7,7 +7,6 @@ pub mod Issued
 pub mod Tree
 pub mod Proper
 pub mod Shape
-pub mod Refusals
 pub mod Grammar
 pub mod Spelling
 pub mod Print

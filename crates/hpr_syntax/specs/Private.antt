@@ -1,3 +1,4 @@
--- What only the checker needs: no clause and no definition that one cites speaks of it.
+-- What private functions and the checker alone need: no clause of a public call speaks of it.
 pub mod BodyCode
 pub mod BodyFalls
+pub mod Refusals

@@ -8,7 +8,7 @@ ghost use Rattle.hpr_syntax.specs.Body.{done};
 ghost use Rattle.hpr_syntax.specs.BodyOf.{before};
 ghost use Rattle.hpr_syntax.specs.Parts.{tags_of, same_tag};
 ghost use Rattle.hpr_syntax.specs.Shape.{first_repeated, first_unissued, first_deep, first_large, is_large, left_after, shape};
-ghost use Rattle.hpr_syntax.specs.Refusals.{end_refusal, body_refusal, tag_refusal};
+ghost use Rattle.hpr_syntax.specs.Private.Refusals.{end_refusal, body_refusal, tag_refusal};
 
 use crate::issued::Issued;
 use crate::tree::{Block, Stmt, expr_of};
