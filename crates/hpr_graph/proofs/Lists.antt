@@ -1,9 +1,13 @@
 -- What an option holds, members and places of lists, and lists in which nothing stands twice.
-use Rattle.std.proofs.Common.{◌≡◌, ◌≢◌, ℕ, zero, suc, ◌+◌, ◌<◌, ◌≤◌, ◌↔◌, ◌⊎◌, inl, inr, Option, Some, None, IsSome, List, [], ◌∷◌, ◌++◌, length, set, take, get_or, Contains, slice_get, refl, sym, ap, ◌∙◌, subst, arith, length-append}
+use Rattle.std.proofs.Common.{◌≡◌, ◌≢◌, Bool, true, false, ℕ, zero, suc, ◌+◌, ◌<◌, ◌≤◌, ◌↔◌, ◌⊎◌, inl, inr, Option, Some, None, IsSome, List, [], ◌∷◌, ◌++◌, length, set, take, get_or, Contains, slice_get, refl, sym, ap, ◌∙◌, subst, arith, length-append}
 use Rattle.std.proofs.lemmas.Option.{slice_get-get_or, get_or_from_slice_get, slice_get_within}
 use Rattle.std.proofs.lemmas.List.{take_more, take_all}
 use Rattle.std.proofs.lemmas.List.Elements.{Contains-push, Contains-push_cases, Contains-append_left, Contains-append_right, Contains-append_cases}
 use Rattle.hpr_graph.specs.Graphs.{IsOnce}
+
+-- no test comes out both ways
+pub never : (b : Bool) → b ≡ true → b ≡ false → ⊥
+never b is isnt = let e : true ≡ false = sym is ∙ isnt in cc
 
 module _ {X : Type 0} where
   pub some_inj : (x y : X) → Some x ≡ Some y → x ≡ y

@@ -86,8 +86,8 @@ found_more vs us ns ns' at None v s here there some is = absurd cc
 found_more vs us ns ns' at (Some n) v s here there some is =
     all_more (numbered vs []) (numbered us []) (numbered us []) (numbered us []) ns ns' at n v s here (grown_itself (numbered us [])) (λ e. (λ h. h, λ h. h)) there (λ x h. inl h) is
 
-pub ascending_fresh : (vs : List Vertex) (i : ℕ) (d : Vertex) → Ascends vertex_cmp vs → i < length vs → ¬ Contains (take i vs) (get_or vs i d)
-ascending_fresh vs i d up l = not_taken vs i d (ascending_once vertex_cmp vertex_never vs up) l
+pub ascending_vertices_once : (vs : List Vertex) → Ascends vertex_cmp vs → IsOnce vs
+ascending_vertices_once vs up = ascending_once vertex_cmp vertex_never vs up
 
 -- the same graph, with its vertices and its rows in order
 module _ (g placed whole final : Numbered) (vs : List Vertex) (ns : List (Option ℕ)) where

@@ -1,8 +1,9 @@
 -- The orders of vertices, of edges and of links are total, and what ties is the same.
-use Rattle.std.proofs.Common.{◌≡◌, ◌↔◌, ℕ, Bool, true, IsTrue, List, [], refl, sym, ap, ap₂, ◌∙◌}
-use Rattle.std.specs.Cmp.{IsTotalOrder, tied_itself}
+use Rattle.std.proofs.Common.{◌≡◌, ◌↔◌, ℕ, Bool, true, false, IsTrue, List, [], refl, sym, ap, ap₂, ◌∙◌}
+use Rattle.std.specs.Cmp.{IsTotalOrder, tied_itself, then_total, on_total, nat_cmp_total, bool_cmp_total}
+use Rattle.std.specs.Cmp.Lexicographic.{nat_list_cmp_total}
 use Rattle.std.specs.FinMap.{nat_cmp-IsAntisymmetric, slice_cmp-IsAntisymmetric}
-use Rattle.std.specs.Ordering.{is_eq, nat_cmp, ordering_then}
+use Rattle.std.specs.Ordering.{is_eq, nat_cmp, bool_cmp, ordering_then}
 use Rattle.std.specs.declared.cmp.Ordering.{Ordering}
 use Rattle.std.specs.declared.cmp.Ordering.TheVariants.{Less, Equal, Greater}
 use Rattle.hpr_terms.specs.declared.tag.Tag.{Tag}
@@ -14,20 +15,58 @@ use Rattle.hpr_syntax.specs.declared.rows.Content.{Content}
 use Rattle.hpr_syntax.specs.declared.rows.Content.TheVariants.{Assign, If, While}
 use Rattle.hpr_graph.specs.declared.vertex.Vertex.{Vertex}
 use Rattle.hpr_graph.specs.declared.vertex.Vertex.TheVariants.{Entry, Init, Part, Final}
+use Rattle.hpr_graph.specs.declared.edge.Kind.{Kind}
+use Rattle.hpr_graph.specs.declared.edge.Kind.TheVariants.{Control, Independent, Carried, Order}
+use Rattle.hpr_graph.specs.declared.edge.Edge.{Edge}
 use Rattle.hpr_graph.specs.contracts.vertex.VertexPartialEq.TheImpl as equals
 use Rattle.hpr_graph.specs.contracts.vertex.VertexOrd.TheImpl as vertices
 use Rattle.hpr_graph.specs.contracts.vertex.VertexOrd.TheImpl.Laws as vertex_laws
-use Rattle.hpr_graph.specs.contracts.edge.EdgeOrd.TheImpl as edges
-use Rattle.hpr_graph.specs.contracts.edge.EdgeOrd.TheImpl.Laws as edge_laws
-use Rattle.hpr_graph.specs.Order.{name_cmp, tag_cmp, expr_cmp, content_cmp, vertex_cmp, edge_cmp}
+use Rattle.hpr_graph.specs.Order.{name_cmp, tag_cmp, expr_cmp, content_cmp, vertex_cmp, kind_rank, kind_cmp, edge_cmp}
 use Rattle.hpr_graph.proofs.Ascending.{Never, never_both, total_by}
-use Rattle.hpr_graph.proofs.Orders.{vertex_order, edge_order}
+use Rattle.hpr_graph.proofs.Orders.{vertex_order}
 
 pub vertex_total : IsTotalOrder vertex_cmp
 vertex_total = total_by (vertices.ghosts).cmp vertex_cmp vertex_order vertex_laws.total-law
 
+-- a kind of edge as its rank, its label, its name and its vertex
+abbrev label_of : Kind → Bool
+label_of (Control b) = b
+label_of _ = false
+
+abbrev kind_name : Kind → List ℕ
+kind_name (Independent x) = x
+kind_name (Carried x v) = x
+kind_name _ = []
+
+abbrev kind_vertex : Kind → Vertex
+kind_vertex (Carried x v) = v
+kind_vertex (Order v) = v
+kind_vertex _ = Entry
+
+abbrev by_fields : Kind → Kind → Ordering
+by_fields k l =
+    ordering_then (nat_cmp (kind_rank k) (kind_rank l)) (ordering_then (bool_cmp (label_of k) (label_of l)) (ordering_then (name_cmp (kind_name k) (kind_name l)) (vertex_cmp (kind_vertex k) (kind_vertex l))))
+
+then_same : (o : Ordering) → ordering_then o Equal ≡ o
+then_same Less = refl
+then_same Equal = refl
+then_same Greater = refl
+
+kind_by_fields : (k l : Kind) → by_fields k l ≡ kind_cmp k l
+kind_by_fields (Control a) (Control b) = then_same (bool_cmp a b)
+kind_by_fields (Independent x) (Independent y) = then_same (name_cmp x y)
+kind_by_fields (Carried x v) (Carried y w) = refl
+kind_by_fields (Order u) (Order v) = refl
+kind_by_fields _ _ = refl
+
+kind_total : IsTotalOrder kind_cmp
+kind_total =
+    total_by by_fields kind_cmp kind_by_fields
+    (then_total (on_total kind_rank nat_cmp_total) (then_total (on_total label_of bool_cmp_total) (then_total (on_total kind_name nat_list_cmp_total) (on_total kind_vertex vertex_total))))
+
 pub edge_total : IsTotalOrder edge_cmp
-edge_total = total_by (edges.ghosts).cmp edge_cmp edge_order edge_laws.total-law
+edge_total =
+    then_total (on_total (λ (e : Edge). e.to) vertex_total) (then_total (on_total (λ (e : Edge). e.from) vertex_total) (on_total (λ (e : Edge). e.kind) kind_total))
 
 pub vertex_never : Never vertex_cmp
 vertex_never = never_both vertex_cmp vertex_total

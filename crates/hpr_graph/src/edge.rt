@@ -3,7 +3,6 @@ use crate::Vertex;
 use hpr_syntax::Name;
 
 /// What kind of dependence an edge is (Horwitz, Prins and Reps 1989).
-#[derive(PartialEq, Eq, PartialOrd, Ord)]
 pub enum Kind {
     /// The target runs where the test of the source comes out as this label; from Entry the label is
     /// true.
@@ -31,8 +30,7 @@ impl Drop for Kind {
     }
 }
 
-/// An edge of a dependence graph. Edges compare by target, then by source, then by kind.
-#[derive(PartialEq, Eq, PartialOrd, Ord)]
+/// An edge of a dependence graph.
 pub struct Edge {
     pub to: Vertex,
     pub from: Vertex,

@@ -4,7 +4,7 @@ ghost use Rattle.hpr_graph.specs.declared.vertex.Vertex.{Vertex};
 ghost use Rattle.hpr_graph.specs.declared.edge.Kind.{Kind};
 ghost use Rattle.hpr_graph.specs.declared.edge.Edge.{Edge};
 ghost use Rattle.hpr_graph.specs.declared.link.Link.{Link};
-ghost use Rattle.hpr_graph.specs.Graphs.{HasEdges, Same, name_of, union_of, restrict_to};
+ghost use Rattle.hpr_graph.specs.Graphs.{HasEdges, IsOnce, Same, name_of, union_of, restrict_to};
 ghost use Rattle.hpr_graph.specs.Numbered.{HasVertex, HasLink, HasEdge, IsKindAt, IsEdgeAt, IsLink, IsNumbered, IsGrown, IsMarkedVertex, graph_in, link_count, row_items, rows_of};
 ghost use Rattle.hpr_graph.specs.Moves.{with_link, with_row};
 ghost use Rattle.hpr_graph.specs.InOrder.{AreVerticesOf, RowsAscend};
@@ -69,6 +69,19 @@ impl Graph {
             edges: 0,
             alloc,
         }
+    }
+
+    /// The graph with these vertices in this order, each once, and no edge.
+    pub fn of_vertices(alloc: Global, vertices: &[Vertex]) -> Result<Graph, NoMemory>
+        requires { IsOnce vertices.now }
+        ensures vertices { IfOk result (λ g. g.vertices ≡ vertices.now) }
+        ensures none { IfOk result (λ g. (to : ℕ) (l : Link) → ¬ HasLink g to l) }
+    {
+        let mut graph = Graph::empty(alloc);
+        for vertex in vertices {
+            graph.push_new_vertex(vertex.copy(alloc)?)?;
+        }
+        Ok(graph)
     }
 
     /// How many vertices there are.

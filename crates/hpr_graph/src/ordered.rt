@@ -4,7 +4,7 @@ ghost use Rattle.hpr_graph.specs.declared.vertex.Vertex.{Vertex};
 ghost use Rattle.hpr_graph.specs.declared.edge.Kind.{Kind};
 ghost use Rattle.hpr_graph.specs.declared.edge.Edge.{Edge};
 ghost use Rattle.hpr_graph.specs.Graphs.{IsOnce, Same, name_of};
-ghost use Rattle.hpr_graph.specs.Numbered.{HasEdge, IsKindAt, IsEdgeAt, IsNumbered, graph_in};
+ghost use Rattle.hpr_graph.specs.Numbered.{IsKindAt, IsEdgeAt, IsNumbered, graph_in};
 ghost use Rattle.hpr_graph.specs.Moves.{HasNumber, ArePlaced};
 ghost use Rattle.hpr_graph.specs.Order.{vertex_cmp};
 ghost use Rattle.hpr_graph.specs.InOrder.{Ascends, AreVerticesOf, RowsAscend};
@@ -23,7 +23,7 @@ pub(crate) fn ordered(alloc: Global, graph: &Graph) -> Result<Graph, NoMemory>
     ensures rows { IfOk result (λ g. RowsAscend ⟦<Link as Ord>⟧.cmp g) }
 {
     let vertices = sorted_vertices(alloc, graph.vertices())?;
-    let mut target = graph_of(alloc, &vertices)?;
+    let mut target = Graph::of_vertices(alloc, &vertices)?;
     let numbers = numbers_among(alloc, graph.vertices(), &vertices)?;
     add_edges(alloc, &mut target, graph, &numbers)?;
     target.sort_rows();
@@ -39,19 +39,6 @@ fn sorted_vertices(alloc: Global, vertices: &[Vertex]) -> Result<Vec<Vertex>, No
     let mut copies = copy_vertices(alloc, vertices)?;
     copies.sort_unstable();
     Ok(copies)
-}
-
-/// The graph with these vertices, which ascend, and no edge.
-fn graph_of(alloc: Global, vertices: &[Vertex]) -> Result<Graph, NoMemory>
-    requires { Ascends vertex_cmp vertices.now }
-    ensures vertices { IfOk result (λ g. g.vertices ≡ vertices.now) }
-    ensures edges { IfOk result (λ g. (e : Edge) → ¬ HasEdge g e) }
-{
-    let mut graph = Graph::empty(alloc);
-    for vertex in vertices {
-        graph.push_new_vertex(vertex.copy(alloc)?)?;
-    }
-    Ok(graph)
 }
 
 /// The number of each vertex among those that ascend.

@@ -94,7 +94,7 @@ fn push_if(
     if !keep {
         return Ok(None);
     }
-    push_copy(alloc, target, vertex).map(Some)
+    Ok(Some(push_copy(alloc, target, vertex)?))
 }
 
 /// Adds a copy of a vertex that isn't there, and answers its number.

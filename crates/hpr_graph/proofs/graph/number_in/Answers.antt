@@ -1,7 +1,7 @@
 use Rattle.std.proofs.Common.{◌≡◌, ◌≢◌, ℕ, ◌<◌, List, Some, length, get_or, slice_get, refl, sym, ap, ◌∙◌, arith, below_more}
 use Rattle.std.proofs.lemmas.Option.{slice_get_within}
 use Rattle.hpr_graph.specs.declared.vertex.Vertex.{Vertex}
-use Rattle.hpr_graph.proofs.Lists.{some_inj, contains_at, place_of, read_at}
+use Rattle.hpr_graph.proofs.Lists.{never, some_inj, contains_at, place_of, read_at}
 use Rattle.hpr_graph.proofs.graph.number_in.Goals as goal
 
 here : (vs : List Vertex) (i : ℕ) (v w : Vertex) → i < length vs → v ≡ get_or vs i v → v ≡ w → slice_get vs i ≡ Some w
@@ -20,9 +20,7 @@ loop-at-preserved c =
     below_more (λ k. slice_get c.args.vertices.now k ≢ Some c.args.vertex.now) c.loop-at.at c.loop-at.invariant
     (λ e.
     let read = here _ _ _ _ c.loop-at-test.true c.index-vertices-at.is refl in
-    let same = c.same_vertex.ensures.1 (some_inj _ _ (sym read ∙ e)) in
-    let differ = c.if-same_vertex.false in
-    absurd cc)
+    never c.same_vertex.result (c.same_vertex.ensures.1 (some_inj _ _ (sym read ∙ e))) c.if-same_vertex.false)
 
 pub returns-clause-stranger : goal.returns-clause-stranger
 returns-clause-stranger c = (

@@ -1,12 +1,12 @@
 use Rattle.std.proofs.Common.{refl}
 use Rattle.hpr_graph.specs.Twins.{HasTwin}
-use Rattle.hpr_graph.proofs.Lists.{member_at, taken_more, taken_all}
+use Rattle.hpr_graph.proofs.Lists.{never, member_at, taken_more, taken_all}
 use Rattle.hpr_graph.proofs.same.is_row_within.Goals as goal
 
 pub returns-then-not-has_twin : goal.returns-then-not-has_twin
 returns-then-not-has_twin c = (
-  λ t. absurd cc,
-  λ all. let t = c.has_twin.ensures.1 (all _ (member_at c.args.row.now c.loop-link.link-index _ c.loop-link-test.true)) in let f = c.if-not-has_twin.true in absurd cc,
+  λ t. absurd (never _ t refl),
+  λ all. absurd (never c.has_twin.result (c.has_twin.ensures.1 (all _ (member_at c.args.row.now c.loop-link.link-index _ c.loop-link-test.true))) c.if-not-has_twin.true),
 )
 
 pub loop-link-preserved : goal.loop-link-preserved

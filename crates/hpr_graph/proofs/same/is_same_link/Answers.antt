@@ -3,6 +3,7 @@ use Rattle.std.proofs.lemmas.Option.{slice_get_within}
 use Rattle.hpr_graph.specs.declared.vertex.Vertex.{Vertex}
 use Rattle.hpr_graph.specs.declared.link.Link.{Link}
 use Rattle.hpr_graph.specs.Twins.{IsSomeKind, IsSomeLink}
+use Rattle.hpr_graph.proofs.Lists.{never}
 use Rattle.hpr_graph.proofs.same.is_same_link.Goals as goal
 
 source_within : (vs : List Vertex) (l : Link) → IsSomeLink vs l → l.from < length vs
@@ -27,4 +28,4 @@ pub returns-then-is_same_at : goal.returns-then-is_same_at
 returns-then-is_same_at c = (λ t. (c.is_same_at.ensures.0 c.if-is_same_at.true, c.is_same_kind.ensures.0 t), λ (sources, kinds). c.is_same_kind.ensures.1 kinds)
 
 pub returns-else-is_same_at : goal.returns-else-is_same_at
-returns-else-is_same_at c = (λ t. absurd (let f = c.if-is_same_at.false in cc), λ (sources, kinds). c.is_same_at.ensures.1 sources)
+returns-else-is_same_at c = (λ t. absurd (never c.is_same_at.result t c.if-is_same_at.false), λ (sources, kinds). c.is_same_at.ensures.1 sources)

@@ -2,6 +2,7 @@ use Rattle.std.proofs.Common.{◌≡◌, ◌∙◌, ℕ, ◌<◌, true, Some, Li
 use Rattle.std.proofs.lemmas.Option.{slice_get-get_or}
 use Rattle.hpr_graph.specs.declared.vertex.Vertex.{Vertex}
 use Rattle.hpr_graph.specs.Twins.{IsSomeLink}
+use Rattle.hpr_graph.proofs.Lists.{never}
 use Rattle.hpr_graph.proofs.Twinned.{IsVertexWithin, within_from_twins, twins_from_within, read_twins}
 use Rattle.hpr_graph.proofs.same.is_within.Goals as goal
 
@@ -18,7 +19,7 @@ here vs us ws i j v e l is there = there ∙ ap Some is ∙ sym (slice_get-get_o
 
 pub returns-then-not-is_row_within : goal.returns-then-not-is_row_within
 returns-then-not-is_row_within c = (
-  λ t. absurd cc,
+  λ t. absurd (never _ t refl),
   λ w.
       (let same = here _ c.args.other.now.vertices _ c.loop-at.at c.in-Some.there _ c.vertices-vertices.ensures.vertices c.loop-at-test.true c.index-vertices-at.is c.in-Some.ensures.found in
       let twins = twins_from_within c.args.graph.now c.args.other.now c.vertices-vertices.ensures.numbered c.vertices-others.ensures.numbered w c.loop-at.at c.in-Some.there same in

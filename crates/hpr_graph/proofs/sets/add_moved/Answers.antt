@@ -1,6 +1,7 @@
 use Rattle.std.proofs.Common.{◌≡◌, Some, Result, Ok, Err, OnOk, sym}
 use Rattle.hpr_graph.specs.Moves.{moved}
-use Rattle.hpr_graph.proofs.Moving.{known_edges, added_edges}
+use Rattle.hpr_graph.proofs.Lists.{never}
+use Rattle.hpr_graph.proofs.Moving.{known_edges, added_edges, moved_link}
 use Rattle.hpr_graph.proofs.sets.add_moved.Goals as goal
 
 pub returns-then-has_sorted-clause-edges : goal.returns-then-has_sorted-clause-edges
@@ -24,6 +25,8 @@ returns-clause-edges c =
 pub push_new_link-requires-clause-fresh : goal.push_new_link-requires-clause-fresh
 push_new_link-requires-clause-fresh c = λ there.
     let is : moved c.args.numbers.now c.args.link ≡ Some c.in-Some.moved = sym c.in-Some.ensures in
-    let known = c.has_sorted.ensures.1 ((c.requires.known c.in-Some.moved is).1 there) in
-    let new = c.if-has_sorted.false in
-    absurd cc
+    never c.has_sorted.result (c.has_sorted.ensures.1 ((c.requires.known c.in-Some.moved is).1 there)) c.if-has_sorted.false
+
+pub push_new_link-requires-clause-link : goal.push_new_link-requires-clause-link
+push_new_link-requires-clause-link c =
+    moved_link c.args.source.now c.args.target.now c.args.numbers.now c.requires.placed c.args.at c.args.to c.requires.number c.args.link c.in-Some.moved (sym c.in-Some.ensures) c.requires.link

@@ -1,6 +1,11 @@
 use Rattle.std.proofs.Common.{◌↔◌, List, Contains, sym, subst}
 use Rattle.hpr_graph.specs.declared.link.Link.{Link}
-use Rattle.hpr_graph.proofs.Moving.{row_known, row_more, row_whole}
+use Rattle.hpr_graph.specs.declared.vertex.Vertex.{Vertex}
+use Rattle.hpr_graph.specs.Moves.{ArePlaced}
+use Rattle.std.specs.List.Sorted.{IsSorted}
+use Rattle.hpr_graph.proofs.LinkOrder.{link_cmp}
+use Rattle.hpr_graph.proofs.Lists.{member_at}
+use Rattle.hpr_graph.proofs.Moving.{row_begun, row_known, row_more, row_whole}
 use Rattle.hpr_graph.proofs.sets.add_row.Goals as goal
 
 pub add_moved-requires-clause-known : goal.add_moved-requires-clause-known
@@ -20,3 +25,15 @@ pub returns-clause-edges : goal.returns-clause-edges
 returns-clause-edges c =
     row_whole c.args.source.now c.args.target.now c.args.numbers.now c.requires.placed c.args.at c.args.to c.requires.number
     c.edges_into-link-items.result.now c.loop-link.link-index c.loop-link.target c.loop-link-test.false c.loop-link.invariant c.edges_into-link-items.ensures.row
+
+pub loop-link-init : goal.loop-link-init
+loop-link-init c = row_begun c.args.source.now c.args.target.now c.args.numbers.now c.requires.placed c.args.at c.args.to c.requires.number
+
+pub add_moved-requires-clause-placed : goal.add_moved-requires-clause-placed
+add_moved-requires-clause-placed c = subst (λ (us : List Vertex). ArePlaced c.args.source.now.vertices c.args.numbers.now us) (sym c.loop-link.invariant.vertices) c.requires.placed
+
+pub add_moved-requires-clause-link : goal.add_moved-requires-clause-link
+add_moved-requires-clause-link c = c.edges_into-link-items.ensures.links _ (member_at c.edges_into-link-items.result.now c.loop-link.link-index _ c.loop-link-test.true)
+
+pub add_moved-requires-clause-sorted : goal.add_moved-requires-clause-sorted
+add_moved-requires-clause-sorted c = subst (λ (xs : List Link). IsSorted link_cmp xs) (sym c.deref.ensures.value) c.in_ok-known.ensures.sorted
