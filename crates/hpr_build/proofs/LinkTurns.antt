@@ -92,8 +92,3 @@ added_link g g' at k there kept only to l = (
 -- the error that a `?` hands on
 pub same_error : {T : Type 0} (r : Result T BuildError) (y f w : BuildError) → r ≡ Err y → y ≡ f → r ≡ Err w → f ≡ w
 same_error r y f w a b e = let t : y ≡ w = cc in sym b ∙ t
-
--- one vertex more
-pub vertices_more : (vs : List Vertex) (k : ℕ) (v copy : Vertex) (xs xs' : List Vertex) → k < length vs → v ≡ get_or vs k v → copy ≡ v → xs ≡ take k vs → xs' ≡ xs ++ copy ∷ [] → xs' ≡ take (k + 1) vs
-vertices_more vs k v copy xs xs' l is same before items =
-    items ∙ ap (λ (ys : List Vertex). ys ++ copy ∷ []) before ∙ ap (λ (w : Vertex). take k vs ++ w ∷ []) (same ∙ is) ∙ sym (take_more vs k v l)

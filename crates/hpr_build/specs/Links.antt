@@ -1,6 +1,7 @@
 -- The graph of a program by numbers: its vertices in their order, and its links.
 --
 -- part_vertex p               == the vertex of a part
+-- name_vertex is_final x      == the vertex of a name: that of its value after the program, or that of its value before it
 -- vertices_of tree inits      == the vertices in the order of their numbers: Entry, the parts in preorder, the names of `end`, and these names of
 --                                initial definitions. So a part has the number of its point, and Entry that of Enter
 -- exit_of tree                == the number of Exit's point, which is that of the first name of `end`
@@ -14,7 +15,7 @@
 -- IsOrderLink tree to l       == it is an order edge
 -- IsLinkOf tree inits to l    == it is one of the three
 -- HasMoreLinks tree inits n   == there are more than n such links
-use Rattle.std.specs.Prelude.{◌≡◌, ℕ, ◌+◌, ◌<◌, ◌≤◌, true, ◌⊎◌, Option, Some, None, List, [], ◌∷◌, ◌++◌, map, length, slice_get}
+use Rattle.std.specs.Prelude.{◌≡◌, ℕ, ◌+◌, ◌<◌, ◌≤◌, Bool, true, false, ◌⊎◌, Option, Some, None, List, [], ◌∷◌, ◌++◌, map, length, slice_get}
 use Rattle.hpr_syntax.specs.Tree.{Tree}
 use Rattle.hpr_syntax.specs.Body.{part_count}
 use Rattle.hpr_paths.specs.Spots.{Spot, defined_at, UsesAt}
@@ -33,6 +34,10 @@ use Rattle.hpr_build.specs.Places.{Place, places, place_at, IsParted}
 
 abbrev pub part_vertex : Place → Vertex
 part_vertex p = Part p.tag p.content
+
+abbrev pub name_vertex : Bool → List ℕ → Vertex
+name_vertex true x = Final x
+name_vertex false x = Init x
 
 abbrev pub vertices_of : Tree → List (List ℕ) → List Vertex
 vertices_of tree inits = Entry ∷ (map part_vertex (places tree) ++ (map Final tree.finals ++ map Init inits))

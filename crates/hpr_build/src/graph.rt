@@ -1,12 +1,10 @@
 //! The graph of a program.
 ghost use Rattle.std.specs.Prelude.{◌≡◌, ◌↔◌, ℕ, IfOk, OnOk, IsErrOf};
 ghost use Rattle.hpr_graph.specs.declared.link.Link.{Link};
-ghost use Rattle.hpr_graph.specs.declared.vertex.Vertex.{Vertex};
 ghost use Rattle.hpr_graph.specs.Graphs.{Same, HasMoreEdges};
 ghost use Rattle.hpr_graph.specs.Numbered.{HasLink, graph_in};
 ghost use Rattle.hpr_graph.specs.ProgramGraph.{graph_of};
 ghost use Rattle.hpr_build.specs.Links.{IsLinkOf, HasMoreLinks};
-ghost use Rattle.hpr_graph.specs.Graphs.{IsOnce};
 ghost use Rattle.hpr_build.specs.Stages.{AreTables, IsBegun};
 
 use crate::controls::push_controls;
@@ -14,23 +12,9 @@ use crate::error::BuildError;
 use crate::flow_links::push_flows;
 use crate::order_links::push_orders;
 use crate::tables::{Tables, tables_of};
-use hpr_graph::{Graph, Vertex};
-use hpr_paths::NoMemory;
+use hpr_graph::Graph;
 use hpr_syntax::Program;
 use std::alloc::Global;
-
-/// The graph with these vertices in this order, each once, and no edge.
-fn bare_graph(alloc: Global, vertices: &[Vertex]) -> Result<Graph, NoMemory>
-    requires { IsOnce vertices.now }
-    ensures vertices { IfOk result (λ g. g.vertices ≡ vertices.now) }
-    ensures none { IfOk result (λ g. (to : ℕ) (l : Link) → ¬ HasLink g to l) }
-{
-    let mut graph = Graph::empty(alloc);
-    for vertex in vertices {
-        graph.push_new_vertex(vertex.copy(alloc)?)?;
-    }
-    Ok(graph)
-}
 
 /// Puts the edges of the program into a graph that has its vertices and no edge.
 fn push_edges(alloc: Global, tables: &Tables, graph: &mut Graph) -> Result<(), BuildError>
@@ -63,7 +47,7 @@ pub fn graph_of(alloc: Global, program: &Program, most_edges: usize) -> Result<G
     ensures too_many { IsErrOf result BuildError.TooManyEdges → HasMoreEdges (graph_of program.now) most_edges }
 {
     let tables = tables_of(alloc, program, most_edges)?;
-    let mut graph = bare_graph(alloc, &tables.vertices)?;
+    let mut graph = Graph::of_vertices(alloc, &tables.vertices)?;
     push_edges(alloc, &tables, &mut graph)?;
     let _vertices = graph.vertices();
     Ok(graph)

@@ -2,7 +2,7 @@
 ghost use Rattle.std.specs.Prelude.{◌≡◌, ◌↔◌, ◌+◌, ◌<◌, ◌≤◌, ◌∷◌, ◌++◌, ℕ, List, Some, IfOk, OnOk, Contains, length, map, vec_len};
 ghost use Rattle.std.specs.List.{slice_get};
 ghost use Rattle.hpr_graph.specs.declared.vertex.Vertex.TheVariants.{Entry, Init, Final};
-ghost use Rattle.hpr_build.specs.Links.{part_vertex, exit_of};
+ghost use Rattle.hpr_build.specs.Links.{part_vertex, name_vertex, exit_of};
 ghost use Rattle.hpr_build.specs.Stages.{AreTables, IsVariable};
 ghost use Rattle.hpr_build.specs.Variables.{points_at};
 
@@ -54,22 +54,28 @@ fn push_parts(alloc: Global, places: &[Place], into: &mut Vec<Vertex>) -> Result
     Ok(())
 }
 
-/// Puts the vertices of the names of `end` behind the others.
-fn push_finals(alloc: Global, finals: &[Name], into: &mut Vec<Vertex>) -> Result<(), NoMemory>
-    ensures { OnOk result (into.new.items ≡ into.old.items ++ map Final finals.now) }
+/// The vertex of a name: that of its value after the program, or that of its value before it.
+fn name_vertex(name: Name, is_final: bool) -> Vertex
+    ensures { result ≡ name_vertex is_final name }
 {
-    for name in finals {
-        into.push(Vertex::Final(name.copy(alloc)?))?;
+    if is_final {
+        Vertex::Final(name)
+    } else {
+        Vertex::Init(name)
     }
-    Ok(())
 }
 
-/// Puts the vertices of initial definitions behind the others.
-fn push_inits(alloc: Global, inits: &[Name], into: &mut Vec<Vertex>) -> Result<(), NoMemory>
-    ensures { OnOk result (into.new.items ≡ into.old.items ++ map Init inits.now) }
+/// Puts the vertices of names behind the others.
+fn push_names(
+    alloc: Global,
+    names: &[Name],
+    is_final: bool,
+    into: &mut Vec<Vertex>,
+) -> Result<(), NoMemory>
+    ensures { OnOk result (into.new.items ≡ into.old.items ++ map (name_vertex is_final) names.now) }
 {
-    for name in inits {
-        into.push(Vertex::Init(name.copy(alloc)?))?;
+    for name in names {
+        into.push(name_vertex(name.copy(alloc)?, is_final))?;
     }
     Ok(())
 }
@@ -86,8 +92,8 @@ fn vertices(
     let mut vertices = Vec::new(alloc);
     vertices.push(Vertex::Entry)?;
     push_parts(alloc, places, &mut vertices)?;
-    push_finals(alloc, finals, &mut vertices)?;
-    push_inits(alloc, inits, &mut vertices)?;
+    push_names(alloc, finals, true, &mut vertices)?;
+    push_names(alloc, inits, false, &mut vertices)?;
     Ok(vertices)
 }
 

@@ -13,8 +13,8 @@ use Rattle.hpr_build.proofs.InOrder.{names_once}
 use Rattle.hpr_build.proofs.LinkTurns.{no_count, same_error}
 use Rattle.hpr_build.proofs.graph.graph_of.Goals as goal
 
-pub bare_graph-requires : goal.bare_graph-requires
-bare_graph-requires c =
+pub of_vertices-requires : goal.of_vertices-requires
+of_vertices-requires c =
     let t = c.in_ok-tables.tables in
     let are = c.in_ok-tables.ensures.tables in
     subst (λ (vs : List Vertex). IsOnce vs) (sym (c.deref.ensures.value ∙ are.vertices)) (once_vertices t.program.now t.inits.items are.program are.inits (names_once t.inits.items are.inits_ascending))
