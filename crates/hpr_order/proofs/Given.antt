@@ -26,7 +26,8 @@ use Rattle.hpr_forest.specs.Trees.{Tree as ItemTree, preorder}
 use Rattle.hpr_order.specs.declared.item.Item.{Item}
 use Rattle.hpr_order.specs.Arranging.{AreFirstNumbers, IsPreorderOf}
 use Rattle.hpr_order.specs.Items.{program_of}
-use Rattle.hpr_order.specs.Numbers.{ArePartsOf, AreItemsAt}
+use Rattle.hpr_order.specs.Numbers.{ArePartsOf, AreItemsAt, AreItemsOf}
+use Rattle.hpr_order.specs.Ordered.{IsListedProgram}
 use Rattle.hpr_order.proofs.Arranges.{get_map}
 use Rattle.hpr_order.proofs.Complete.{arranged_tree, same_tag_itself}
 use Rattle.hpr_order.proofs.ListFacts.{get_there, there_get, map_append, one_get, some_same}
@@ -141,7 +142,7 @@ module _ (g : Numbered) (num : IsNumbered g) (issued : Issued) (order : List ℕ
         let (n, en, part) = order_at k (Part u c) at_k in
         is.items.once k x u c c ((at.parts k n u c en).1 part) i
 
-    pub program_given : (ns : List ℕ) → AreFirstNumbers (length items) ns → program_of items issued finals ns ≡ p
+    program_given : (ns : List ℕ) → AreFirstNumbers (length items) ns → program_of items issued finals ns ≡ p
     program_given ns (len, first) =
         let (t, a, h, e) = arranged_tree (graph_in g) items issued finals is p r in
         let parts : parts_of p ≡ map (vertex_of items) (preorder t) = parts_in items t p.body None 0 h in
@@ -149,3 +150,6 @@ module _ (g : Numbered) (num : IsNumbered g) (issued : Issued) (order : List ℕ
         let is_x : k ≡ x = in_line t a.arranged.within parts k x ex in
         subst (λ z. slice_get ns k ≡ Some z) is_x (first k (subst (λ z. z < length items) (sym is_x) (a.arranged.within x (there_get (preorder t) k x ex))))) in
         subst (λ z. program_of items issued finals z ≡ p) same e
+
+  pub listed_program : (items : List Item) → AreItemsOf g order items → IsListedProgram (graph_in g) items issued p
+  listed_program items is xs ns finals first = program_given items xs (record { items = is.items; finals = finals.names; order = finals.ascending }) is.at ns first

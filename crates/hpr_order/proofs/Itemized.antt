@@ -1,7 +1,7 @@
 -- The parts of a graph, by their numbers, are its items.
-use Rattle.std.proofs.Common.{◌≡◌, ℕ, ◌<◌, ◌↔◌, inl, inr, Bool, true, Option, Some, None, List, length, Contains, slice_get, refl, sym, ap, ◌∙◌, subst, arith}
+use Rattle.std.proofs.Common.{◌≡◌, ℕ, ◌<◌, ◌↔◌, inl, inr, Bool, true, Option, Some, None, List, All, length, Contains, slice_get, refl, sym, ap, ◌∙◌, subst, arith}
 use Rattle.std.proofs.lemmas.Bool.{cases_eq}
-use Rattle.std.proofs.lemmas.Option.{slice_get_within}
+use Rattle.std.proofs.lemmas.Option.{slice_get_within, get_or_from_slice_get}
 use Rattle.hpr_terms.specs.declared.tag.Tag.{Tag}
 use Rattle.hpr_syntax.specs.declared.rows.Content.{Content}
 use Rattle.hpr_graph.specs.declared.vertex.Vertex.{Vertex}
@@ -12,8 +12,9 @@ use Rattle.hpr_graph.specs.Numbered.{Numbered, HasEdge, IsNumbered, graph_in}
 use Rattle.hpr_graph.specs.Moves.{number_at}
 use Rattle.hpr_forest.specs.Trees.{Slot}
 use Rattle.hpr_order.specs.declared.item.Item.{Item}
+use Rattle.hpr_order.specs.Arranging.{IsProperItem}
 use Rattle.hpr_order.specs.Items.{AreItems, AreSlots, IsItem, IsSource, slot_at, slot_in}
-use Rattle.hpr_order.specs.Numbers.{ArePartsOf, ArePlaces, AreItemsAt, IsItemAt, IsPartAt, slot_by, slot_from}
+use Rattle.hpr_order.specs.Numbers.{ArePartsOf, ArePlaces, AreItemsAt, AreItemsOf, IsItemAt, IsPartAt, slot_by, slot_from}
 use Rattle.hpr_order.specs.Regions.{Allows, AllowsIn, AreRegionsOf, Controls, control_link}
 use Rattle.hpr_order.proofs.ListFacts.{get_below, get_there, there_get, one_get}
 use Rattle.hpr_order.proofs.Sound.{part_same}
@@ -34,7 +35,10 @@ slot_label m j a b e = ap label_in e
 
 module _ (g : Numbered) (num : IsNumbered g) (rs : List (Option (ℕ × Bool))) (regions : AreRegionsOf g rs) (numbers : List ℕ) (parts : ArePartsOf g numbers)
     (places : List (Option ℕ)) (placed : ArePlaces numbers places) (items : List Item) (count : length items ≡ length numbers)
-    (at : (k n : ℕ) → slice_get numbers k ≡ Some n → (i : Item) × (slice_get items k ≡ Some i) × IsItemAt g rs places n i) where
+    (all : (k n : ℕ) → slice_get numbers k ≡ Some n → (i : Item) × (slice_get items k ≡ Some i) × (IsItemAt g rs places n i × IsProperItem i)) where
+  at : (k n : ℕ) → slice_get numbers k ≡ Some n → (i : Item) × (slice_get items k ≡ Some i) × IsItemAt g rs places n i
+  at k n e = let (i, ei, (is, _)) = all k n e in (i, ei, is)
+
   vertex_one : (n : ℕ) (v w : Vertex) → slice_get g.vertices n ≡ Some v → slice_get g.vertices n ≡ Some w → v ≡ w
   vertex_one n v w a b = one_get g.vertices n v w a b
 
@@ -54,7 +58,7 @@ module _ (g : Numbered) (num : IsNumbered g) (rs : List (Option (ℕ × Bool))) 
       let part' : IsPartAt g n i.tag i.content = subst (λ (z : Item). IsPartAt g n z.tag z.content) same part in
       (n, r, en, subst (λ z. IsPartAt g n z c) it (subst (λ z. IsPartAt g n i.tag z) ic part'), er, ap slot_in ej ∙ es)
 
-  pub items_at : AreItemsAt g numbers items
+  items_at : AreItemsAt g numbers items
   items_at = record {
     count = count;
     parts = λ k n t c e. (
@@ -162,16 +166,25 @@ module _ (g : Numbered) (num : IsNumbered g) (rs : List (Option (ℕ × Bool))) 
       let its : slot_at items k ≡ slot_from (number_at places p) lab = slot ∙ ap (slot_by places) is_r in
       from_place p v lab k t c from label at_p edge only (possible.allowed v lab edge) (number_at places p) refl its
 
-  pub are_slots : AreSlots items
+  are_slots : AreSlots items
   are_slots k j b lt e =
       let (t, c, i, _) = held k j b lt e in
       let (x, ex, _, _) = i in
       slice_get_within items j x ex
 
-  pub are_items : AreItems (graph_in g) items
+  are_proper : All IsProperItem items
+  are_proper k d lt =
+      let (n, e) = get_below numbers k (let l : k < length numbers = omega arith in l) in
+      let (i, ei, (_, proper)) = all k n e in
+      subst IsProperItem (sym (get_or_from_slice_get items k i d ei)) proper
+
+  are_items : AreItems (graph_in g) items
   are_items = record {
     parts = λ t c. ((λ h. part_there t c h), (λ h. there_part h.0 t c h.1));
     once = item_once;
     control = controlled;
     held = held;
   }
+
+  pub are_items_of : AreItemsOf g numbers items
+  are_items_of = record { items = are_items; at = items_at; slots = are_slots; proper = are_proper }

@@ -84,16 +84,15 @@ module _ (items : List Item) where
   leads_in f same a (c ∷ via) k (e, h) = (same c ∙ e, leads_in f same c via k h)
 
 -- no tree is allowed where the items break a limit, or one must stand to the left of one that it stands under
-pub none_allowed : (g : Graph) (items : List Item) → ((t : ItemTree) → IsAllowedTree g items t → ⊥) → AreOrdersOf g items []
+none_allowed : (g : Graph) (items : List Item) → ((t : ItemTree) → IsAllowedTree g items t → ⊥) → AreOrdersOf g items []
 none_allowed g items no_tree = ([], refl, record { sound = λ t h. absurd (in_none t h); complete = λ t a. absurd (no_tree t a); ascending = tt })
 
-pub none_within : (g : Graph) (items : List Item) → (IsWithinLimits items → ⊥) → AreOrdersOf g items []
-none_within g items out = none_allowed g items (λ t a. out a.limits)
-
-pub none_below : (g : Graph) (items : List Item) (s t : ℕ) → Asks g items s t → IsBelow items t s → AreOrdersOf g items []
-none_below g items s t ask (c, via, leads) = none_allowed g items (λ f a.
+pub none_lifted : (g : Graph) (items : List Item) (pairs : List (ℕ × ℕ)) → AreAsked g items pairs
+    → (IsWithinLimits items → (s t : ℕ) × Contains pairs (s, t) × IsBelow items t s) → AreOrdersOf g items []
+none_lifted g items pairs are never = none_allowed g items (λ f a.
+    let (s, t, h, (c, via, leads)) = never a.limits in
     let back : LeftIn (preorder f) t s = below_left items f t s c via a.arranged.stands a.arranged.once a.arranged.all leads in
-    elim (a.arranged.respects s t ask) [
+    elim (a.arranged.respects s t ((are s t).0 h)) [
       | inl same ↦ (let twice : LeftIn (preorder f) t t = subst (LeftIn (preorder f) t) same back in left_once (preorder f) t t a.arranged.once twice twice)
       | inr left ↦ left_once (preorder f) t s a.arranged.once back (is_left (preorder f) s t left)
     ])

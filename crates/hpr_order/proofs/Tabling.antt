@@ -168,3 +168,11 @@ if_none (Some x) h e = absurd cc
 pub if_some : {X : Type 0} (P : X → Type 0) (o : Option X) (x : X) → IfSome o P → o ≡ Some x → P x
 if_some P None x h e = absurd cc
 if_some P (Some y) x h e = subst P (some_same y x e) h
+
+pub more_some : {X : Type 0} (P Q : X → Type 0) (o : Option X) → ((x : X) → P x → Q x) → IfSome o P → IfSome o Q
+more_some P Q None f h = tt
+more_some P Q (Some x) f h = f x h
+
+pub more_none : {X P Q : Type 0} (o : Option X) → (P → Q) → IfNone o P → IfNone o Q
+more_none None f h = f h
+more_none (Some x) f h = tt

@@ -8,3 +8,4 @@ pub mod Lifting
 pub mod Tables
 pub mod Building
 pub mod Arranging
+pub mod Ordered

@@ -8,24 +8,30 @@
 -- slot_by places r       == where a vertex stands, by the places of the numbers: at the top, where its control edge comes from no part
 -- IsItemAt g rs places n i == i is the part with the number n, with its slot
 -- AreItemsAt g numbers items == the k-th item is the part with the k-th number
+-- AreItemsOf g numbers list == the same, with their slots; each is an item of the graph with proper names and numbers
+-- AreFinals g xs         == the names are those of the Final vertices, in ascending order, and names
 -- DirectsBy kind         == a link of this kind is an edge that directs
 -- IsAskedBy places links s == one of these links directs and comes from the item s
 -- AreAsked g items pairs == the pairs are those of items of which an edge that directs goes from the one to the other
-use Rattle.std.specs.Prelude.{◌≡◌, ℕ, ◌<◌, ◌↔◌, Bool, Option, Some, None, List, Contains, length, slice_get}
+use Rattle.std.specs.Prelude.{◌≡◌, ℕ, ◌<◌, ◌↔◌, Bool, Option, Some, None, List, All, Contains, length, slice_get}
+use Rattle.hpr_terms.specs.Names.{IsName}
 use Rattle.hpr_terms.specs.declared.tag.Tag.{Tag}
 use Rattle.hpr_syntax.specs.declared.rows.Content.{Content}
 use Rattle.hpr_graph.specs.declared.vertex.Vertex.{Vertex}
-use Rattle.hpr_graph.specs.declared.vertex.Vertex.TheVariants.{Part}
+use Rattle.hpr_graph.specs.declared.vertex.Vertex.TheVariants.{Part, Final}
 use Rattle.hpr_graph.specs.declared.link.LinkKind.{LinkKind}
 use Rattle.hpr_graph.specs.declared.link.LinkKind.TheVariants.{Control, Independent, Carried, Order}
 use Rattle.hpr_graph.specs.declared.link.Link.{Link}
 use Rattle.hpr_graph.specs.Graphs.{Graph, IsOnce}
-use Rattle.hpr_graph.specs.Numbered.{Numbered}
+use Rattle.hpr_graph.specs.Numbered.{Numbered, graph_in}
 use Rattle.hpr_graph.specs.Moves.{number_at}
+use Rattle.hpr_graph.specs.InOrder.{Ascends}
+use Rattle.hpr_graph.specs.Order.{name_cmp}
 use Rattle.hpr_graph.specs.Rank.{StandsBefore}
 use Rattle.hpr_forest.specs.Trees.{Slot}
 use Rattle.hpr_order.specs.declared.item.Item.{Item}
-use Rattle.hpr_order.specs.Items.{IsItem, Asks}
+use Rattle.hpr_order.specs.Items.{AreItems, AreSlots, IsItem, Asks}
+use Rattle.hpr_order.specs.Arranging.{IsProperItem}
 
 abbrev pub IsPartAt : Numbered → ℕ → Tag → Content → Type 0
 IsPartAt g n t c = slice_get g.vertices n ≡ Some (Part t c)
@@ -58,6 +64,17 @@ IsItemAt g rs places n i =
 pub record AreItemsAt (g : Numbered) (numbers : List ℕ) (items : List Item) : Type 0 where
   pub count : length items ≡ length numbers
   pub parts : (k n : ℕ) (t : Tag) (c : Content) → slice_get numbers k ≡ Some n → IsItem items k t c ↔ IsPartAt g n t c
+
+pub record AreItemsOf (g : Numbered) (numbers : List ℕ) (list : List Item) : Type 0 where
+  pub items : AreItems (graph_in g) list
+  pub at : AreItemsAt g numbers list
+  pub slots : AreSlots list
+  pub proper : All IsProperItem list
+
+pub record AreFinals (g : Graph) (xs : List (List ℕ)) : Type 0 where
+  pub names : (x : List ℕ) → Contains xs x ↔ g.vertex (Final x)
+  pub ascending : Ascends name_cmp xs
+  pub proper : All IsName xs
 
 abbrev pub DirectsBy : LinkKind → Type 0
 DirectsBy (Control label) = ⊥

@@ -6,11 +6,10 @@ ghost use Rattle.hpr_order.specs.Regions.{AreRegionsOf};
 ghost use Rattle.hpr_order.specs.Arranging.{IsRanking, AreIssued, orders_in};
 
 use crate::RegionTree;
-use crate::blocks::orders_of;
 use crate::building::program_in;
-use crate::item::Item;
-use crate::numbers::{final_names, items_at, ranked_parts};
-use crate::reading::{read_issued, read_items, read_names};
+use crate::numbers::final_names;
+use crate::ordered::{OrderedItems, parts_in_order};
+use crate::reading::read_issued;
 use hpr_forest::Orders;
 use hpr_graph::{Graph, Name, NoMemory, Vertex};
 use hpr_syntax::{Issued, Program};
@@ -22,11 +21,10 @@ use std::marker::Model;
 ///
 /// A contract sees the list of these programs. It takes no more memory however many there are.
 pub struct Arrangements {
-    items: Vec<Item>,
+    ordered: OrderedItems,
     issued: Issued,
     finals: Vec<Name>,
     next: Option<Vec<usize>>,
-    later: Option<Orders>,
     alloc: Global,
 }
 
@@ -40,20 +38,19 @@ impl Model for Arrangements {
 
     ghost coded = { coded_list tree_coded };
 
-    ghost view = { λ a. programs_of a.items.items a.issued a.finals.items (coming a.next a.later) };
+    ghost view = { λ a. programs_of a.ordered.items.items a.issued a.finals.items (coming a.next a.ordered.orders) };
 
-    ghost invariant = { λ a. IsSearching a.items.items a.issued a.finals.items (coming a.next a.later) };
+    ghost invariant = { λ a. IsSearching a.ordered.items.items a.issued a.finals.items (coming a.next a.ordered.orders) };
 }
 
 /// What is still to come is dropped in one call.
 impl Drop for Arrangements {
     fn drop(self) {
         let Arrangements {
-            items: _,
+            ordered: _,
             issued: _,
             finals: _,
             next: _,
-            later: _,
             alloc: _,
         } = self;
     }
@@ -92,21 +89,16 @@ impl Arrangements {
         requires issued { AreIssued (graph_in graph.now) issued.now }
         ensures all { IfOk result (λ o. AreArrangements (graph_in graph.now) rank.now issued.now o) }
     {
-        let numbers = ranked_parts(alloc, graph, rank)?;
-        let items = items_at(alloc, graph, regions, &numbers)?;
-        let finals = final_names(alloc, graph)?;
+        read_issued(issued);
         let issued = issued.copy(alloc)?;
-        let mut later = orders_of(alloc, graph, &numbers, &items)?;
-        read_items(&items);
-        read_names(&finals);
-        read_issued(&issued);
-        let next = next_order(&mut later)?;
+        let finals = final_names(alloc, graph)?;
+        let mut ordered = parts_in_order(alloc, graph, regions, rank)?;
+        let next = next_order(&mut ordered.orders)?;
         Ok(Arrangements {
-            items,
+            ordered,
             issued,
             finals,
             next,
-            later,
             alloc,
         })
     }
@@ -121,8 +113,14 @@ impl Arrangements {
         let Some(order) = &self.next else {
             return Ok(None);
         };
-        let program = program_in(self.alloc, &self.items, order, &self.issued, &self.finals)?;
-        self.next = next_order(&mut self.later)?;
+        let program = program_in(
+            self.alloc,
+            &self.ordered.items,
+            order,
+            &self.issued,
+            &self.finals,
+        )?;
+        self.next = next_order(&mut self.ordered.orders)?;
         Ok(Some(program))
     }
 }

@@ -1,11 +1,12 @@
 //! The tables of the forest that the items make, with the order that is asked of siblings.
-ghost use Rattle.std.specs.Prelude.{◌≡◌, ℕ, ◌<◌, ◌↔◌, ◌⊎◌, true, false, Some, None, List, length, slice_get, Contains, IfOk, IfSome, IfNone, IsTrue, OnOk, vec_len, map, replicate};
+ghost use Rattle.std.specs.Prelude.{◌≡◌, ℕ, ◌<◌, ◌↔◌, ◌⊎◌, true, false, Some, None, List, [], length, slice_get, Contains, IfOk, IfSome, IfNone, IsTrue, OnOk, vec_len, map, replicate};
 ghost use Rattle.hpr_graph.specs.Numbered.{graph_in};
 ghost use Rattle.hpr_forest.specs.Blocks.{row_at};
-ghost use Rattle.hpr_order.specs.Items.{AreItems, AreSlots, slot_at};
-ghost use Rattle.hpr_order.specs.Numbers.{ArePartsOf, AreItemsAt, AreAsked};
-ghost use Rattle.hpr_order.specs.Limits.{AreOrdersOf};
+ghost use Rattle.hpr_order.specs.Items.{AreSlots, slot_at};
+ghost use Rattle.hpr_order.specs.Numbers.{ArePartsOf, AreItemsOf};
+ghost use Rattle.hpr_order.specs.Limits.{AreOrdersOf, IsWithinLimits};
 ghost use Rattle.hpr_order.specs.Arranging.{orders_in};
+ghost use Rattle.hpr_order.specs.Ordered.{AreAskedSiblings};
 ghost use Rattle.hpr_order.specs.Lifting.{AreLevels, IsBelow, parent_in};
 ghost use Rattle.hpr_order.specs.Tables.{AreLifted, AreMarkedSiblings, AreTablesOf, HasRows, IsBefore, IsFirstOf, IsMarkedAt, MustPrecede, marks_in};
 
@@ -25,20 +26,51 @@ pub(crate) fn orders_of(
     items: &[Item],
 ) -> Result<Option<Orders>, NoMemory>
     requires numbers { ArePartsOf graph.now numbers.now }
-    requires at { AreItemsAt graph.now numbers.now items.now }
-    requires items { AreItems (graph_in graph.now) items.now }
-    requires slots { AreSlots items.now }
+    requires items { AreItemsOf graph.now numbers.now items.now }
     ensures { IfOk result (λ o. AreOrdersOf (graph_in graph.now) items.now (orders_in o)) }
 {
-    let Some(levels) = levels_of(alloc, items)? else {
-        return Ok(None);
-    };
-    let pairs = asked_pairs(alloc, graph, numbers, items)?;
-    let Some(asked) = lifted_pairs(alloc, items, &levels, &pairs)? else {
+    let Some(asked) = asked_siblings(alloc, graph, numbers, items)? else {
         return Ok(None);
     };
     let blocks = blocks_of(alloc, items, &asked)?;
     Ok(Some(Orders::start(alloc, blocks)?))
+}
+
+/// For each item a row of marks at the siblings that must come before it; none where no order is that of
+/// an arrangement.
+fn asked_siblings(
+    alloc: Global,
+    graph: &Graph,
+    numbers: &[usize],
+    items: &[Item],
+) -> Result<Option<Vec<Vec<bool>>>, NoMemory>
+    requires numbers { ArePartsOf graph.now numbers.now }
+    requires items { AreItemsOf graph.now numbers.now items.now }
+    ensures limits { IfOk result (λ o. IfSome o (λ _. IsWithinLimits items.now)) }
+    ensures asked { IfOk result (λ o. IfSome o (λ asked. AreAskedSiblings (graph_in graph.now) items.now asked.items)) }
+    ensures never { IfOk result (λ o. IfNone o (AreOrdersOf (graph_in graph.now) items.now [])) }
+{
+    let pairs = asked_pairs(alloc, graph, numbers)?;
+    siblings_by(alloc, items, &pairs)
+}
+
+/// The same, by the pairs of items of which the first must stand to the left of the second; none where the
+/// items are not within the limits of programs, or an item must stand to the left of one under which it stands.
+fn siblings_by(
+    alloc: Global,
+    items: &[Item],
+    pairs: &[(usize, usize)],
+) -> Result<Option<Vec<Vec<bool>>>, NoMemory>
+    requires slots { AreSlots items.now }
+    requires within { (s t : ℕ) → Contains pairs.now (s, t) → (s < length items.now) × (t < length items.now) }
+    ensures limits { IfOk result (λ o. IfSome o (λ _. IsWithinLimits items.now)) }
+    ensures lifted { IfOk result (λ o. IfSome o (λ asked. AreLifted items.now pairs.now asked.items)) }
+    ensures never { IfOk result (λ o. IfNone o (IsWithinLimits items.now → (s t : ℕ) × Contains pairs.now (s, t) × IsBelow items.now t s)) }
+{
+    let Some(levels) = levels_of(alloc, items)? else {
+        return Ok(None);
+    };
+    lifted_pairs(alloc, items, &levels, pairs)
 }
 
 /// For each item a row of marks at the siblings that must come before it; none where an item must stand to
@@ -56,14 +88,37 @@ fn lifted_pairs(
     ensures never { IfOk result (λ o. IfNone o ((s t : ℕ) × Contains pairs.now (s, t) × IsBelow items.now t s)) }
 {
     let mut asked = no_marks(alloc, items.len())?;
+    if mark_pairs(items, levels, pairs, &mut asked) {
+        Ok(Some(asked))
+    } else {
+        Ok(None)
+    }
+}
+
+/// Marks what the pairs say of siblings; false where an item must stand to the left of one under which it
+/// stands. There are no marks before.
+fn mark_pairs(
+    items: &[Item],
+    levels: &[usize],
+    pairs: &[(usize, usize)],
+    asked: &mut Vec<Vec<bool>>,
+) -> bool
+    requires slots { AreSlots items.now }
+    requires levels { AreLevels items.now levels.now }
+    requires within { (s t : ℕ) → Contains pairs.now (s, t) → (s < length items.now) × (t < length items.now) }
+    requires rows { HasRows (length items.now) asked.old.items }
+    requires none { (x d : ℕ) → ¬ IsMarkedAt asked.old.items x d }
+    ensures lifted { IsTrue result → AreLifted items.now pairs.now asked.new.items }
+    ensures never { result ≡ false → (s t : ℕ) × Contains pairs.now (s, t) × IsBelow items.now t s }
+{
     for (source, target) in pairs {
         match lifted(items, levels, *source, *target) {
             Lift::Always => continue,
-            Lift::Never => return Ok(None),
-            Lift::Siblings(first, second) => set_mark(&mut asked, second, first),
+            Lift::Never => return false,
+            Lift::Siblings(first, second) => set_mark(asked, second, first),
         }
     }
-    Ok(Some(asked))
+    true
 }
 
 /// Marks that the sibling `first` must come before `second`.

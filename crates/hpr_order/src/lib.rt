@@ -11,6 +11,7 @@ mod item;
 mod levels;
 mod lift;
 mod numbers;
+mod ordered;
 mod ranking;
 mod reached;
 mod reading;

@@ -6,17 +6,18 @@ ghost use Rattle.hpr_graph.specs.Graphs.{IsOnce};
 ghost use Rattle.hpr_graph.specs.Answer.{IsPart};
 ghost use Rattle.hpr_graph.specs.Moves.{number_at};
 ghost use Rattle.hpr_graph.specs.declared.vertex.Vertex.TheVariants.{Final};
-ghost use Rattle.hpr_graph.specs.Numbered.{HasVertex, graph_in};
+ghost use Rattle.hpr_graph.specs.Numbered.{HasVertex, IsNumbered, graph_in};
 ghost use Rattle.hpr_graph.specs.InOrder.{Ascends};
 ghost use Rattle.hpr_graph.specs.Order.{name_cmp};
 ghost use Rattle.hpr_order.specs.Regions.{AreRegionsOf};
-ghost use Rattle.hpr_order.specs.Arranging.{IsRanking};
-ghost use Rattle.hpr_order.specs.Items.{AreItems, AreSlots};
-ghost use Rattle.hpr_order.specs.Numbers.{ArePartsOf, AreRanked, AreItemsAt, AreAsked, ArePlaces, IsPartAt, IsItemAt, IsAskedBy, DirectsBy, slot_by};
+ghost use Rattle.hpr_order.specs.Arranging.{IsRanking, IsProperItem};
+ghost use Rattle.hpr_order.specs.declared.item.Item.{Item};
+ghost use Rattle.hpr_order.specs.Numbers.{ArePartsOf, AreRanked, AreFinals, AreItemsAt, AreItemsOf, AreAsked, ArePlaces, IsPartAt, IsItemAt, IsAskedBy, DirectsBy, slot_by};
 
 use crate::RegionTree;
 use crate::item::Item;
-use hpr_graph::{Graph, Link, LinkKind, Name, NoMemory, Vertex};
+use crate::reading::{read_content, read_names, read_tag};
+use hpr_graph::{Content, Graph, Link, LinkKind, Name, NoMemory, Tag, Vertex};
 use hpr_terms::names::in_order;
 use std::alloc::{AllocError, Global};
 
@@ -89,14 +90,29 @@ pub(crate) fn items_at(
 ) -> Result<Vec<Item>, NoMemory>
     requires regions { AreRegionsOf graph.now regions.now }
     requires numbers { ArePartsOf graph.now numbers.now }
-    ensures items { IfOk result (λ items. AreItems (graph_in graph.now) items.items) }
-    ensures at { IfOk result (λ items. AreItemsAt graph.now numbers.now items.items) }
-    ensures slots { IfOk result (λ items. AreSlots items.items) }
+    ensures { IfOk result (λ items. AreItemsOf graph.now numbers.now items.items) }
 {
     let places = places_of(alloc, graph.vertices().len(), numbers)?;
+    items_by(alloc, graph, regions, &places, numbers)
+}
+
+/// The same, by the places of the numbers.
+fn items_by(
+    alloc: Global,
+    graph: &Graph,
+    regions: &RegionTree,
+    places: &[Option<usize>],
+    numbers: &[usize],
+) -> Result<Vec<Item>, NoMemory>
+    requires numbered { IsNumbered graph.now }
+    requires regions { AreRegionsOf graph.now regions.now }
+    requires numbers { ArePartsOf graph.now numbers.now }
+    requires places { ArePlaces numbers.now places.now }
+    ensures { IfOk result (λ items. AreItemsOf graph.now numbers.now items.items) }
+{
     let mut items = Vec::new(alloc);
     for number in numbers {
-        items.push(item_at(alloc, graph, regions, &places, *number)?)?;
+        items.push(item_at(alloc, graph, regions, places, *number)?)?;
     }
     Ok(items)
 }
@@ -111,16 +127,32 @@ fn item_at(
 ) -> Result<Item, NoMemory>
     requires part { (t : Tag) × (c : Content) × IsPartAt graph.now number t c }
     requires count { length regions.now ≡ length graph.now.vertices }
-    ensures { IfOk result (λ i. IsItemAt graph.now regions.now places.now number i) }
+    ensures at { IfOk result (λ i. IsItemAt graph.now regions.now places.now number i) }
+    ensures proper { IfOk result (λ i. IsProperItem i) }
 {
     match graph.vertex(number) {
-        Vertex::Part(tag, content) => Ok(Item {
-            tag: *tag,
-            content: content.copy(alloc)?,
-            slot: slot_by(places, regions.parent(number)),
-        }),
+        Vertex::Part(tag, content) => {
+            let slot = slot_by(places, regions.parent(number));
+            item_of(alloc, *tag, content, slot)
+        }
         _ => unreachable!(),
     }
+}
+
+/// The part that says this, as an item.
+fn item_of(
+    alloc: Global,
+    tag: Tag,
+    content: &Content,
+    slot: Option<(usize, bool)>,
+) -> Result<Item, NoMemory>
+    ensures item { IfOk result (λ i. i ≡ record { tag = tag; content = content.now; slot = slot }) }
+    ensures proper { IfOk result (λ i. IsProperItem i) }
+{
+    read_tag(tag);
+    read_content(content);
+    let content = content.copy(alloc)?;
+    Ok(Item { tag, content, slot })
 }
 
 /// Where a vertex stands whose control edge comes from there.
@@ -140,6 +172,14 @@ fn number_at(places: &[Option<usize>], number: usize) -> Option<usize>
 
 /// The names of the graph's Final vertices in ascending order.
 pub(crate) fn final_names(alloc: Global, graph: &Graph) -> Result<Vec<Name>, NoMemory>
+    ensures { IfOk result (λ xs. AreFinals (graph_in graph.now) xs.items) }
+{
+    let names = finals_in_order(alloc, graph)?;
+    read_names(&names);
+    Ok(names)
+}
+
+fn finals_in_order(alloc: Global, graph: &Graph) -> Result<Vec<Name>, NoMemory>
     ensures names { IfOk result (λ xs. (x : List ℕ) → Contains xs.items x ↔ (graph_in graph.now).vertex (Final x)) }
     ensures ascending { IfOk result (λ xs. Ascends name_cmp xs.items) }
 {
@@ -169,16 +209,29 @@ pub(crate) fn asked_pairs(
     alloc: Global,
     graph: &Graph,
     numbers: &[usize],
-    items: &[Item],
 ) -> Result<Vec<(usize, usize)>, NoMemory>
-    requires numbers { ArePartsOf graph.now numbers.now }
-    requires items { AreItemsAt graph.now numbers.now items.now }
-    ensures { IfOk result (λ pairs. AreAsked (graph_in graph.now) items.now pairs.items) }
+    requires { ArePartsOf graph.now numbers.now }
+    ensures { IfOk result (λ pairs. (items : List Item) → AreItemsAt graph.now numbers.now items → AreAsked (graph_in graph.now) items pairs.items) }
 {
     let places = places_of(alloc, graph.vertices().len(), numbers)?;
+    pairs_by(alloc, graph, &places, numbers)
+}
+
+/// The same, by the places of the numbers.
+fn pairs_by(
+    alloc: Global,
+    graph: &Graph,
+    places: &[Option<usize>],
+    numbers: &[usize],
+) -> Result<Vec<(usize, usize)>, NoMemory>
+    requires numbered { IsNumbered graph.now }
+    requires numbers { ArePartsOf graph.now numbers.now }
+    requires places { ArePlaces numbers.now places.now }
+    ensures { IfOk result (λ pairs. (items : List Item) → AreItemsAt graph.now numbers.now items → AreAsked (graph_in graph.now) items pairs.items) }
+{
     let mut pairs = Vec::new(alloc);
     for (place, number) in numbers.iter().enumerate() {
-        add_pairs(&places, graph.edges_into(*number), place, &mut pairs)?;
+        add_pairs(places, graph.edges_into(*number), place, &mut pairs)?;
     }
     Ok(pairs)
 }

@@ -1,5 +1,6 @@
 //! The rank of the parts of three programs.
-ghost use Rattle.std.specs.Prelude.{◌≡◌, ◌↔◌, ◌<◌, ◌∷◌, ◌++◌, [], Some, IfSome, IfOk, OnOk, IsNone, IsTrue, Contains, slice_get};
+ghost use Rattle.std.specs.Prelude.{◌≡◌, ◌↔◌, ◌≤◌, ◌∷◌, ◌++◌, [], Some, IfSome, IfOk, OnOk, IsNone, IsTrue, Contains, length, map, slice_get};
+ghost use Rattle.std.specs.List.{insert};
 ghost use Rattle.std.specs.Option.{option_copied};
 ghost use Rattle.hpr_graph.specs.declared.vertex.Vertex.{Vertex};
 ghost use Rattle.hpr_graph.specs.Rank.{parts_of, IsAddedAt, IsPutIn, IsJoined, IsRankOf, IsRank};
@@ -39,9 +40,17 @@ fn rank_of(
     ensures { IfOk result (λ v. IsRankOf first.now second.now base.now v.items) }
 {
     let mut list = parts(alloc, first)?;
-    join(alloc, &mut list, &parts(alloc, second)?)?;
-    join(alloc, &mut list, &parts(alloc, base)?)?;
+    join_program(alloc, &mut list, second)?;
+    join_program(alloc, &mut list, base)?;
     Ok(list)
+}
+
+/// Puts in what the list lacks of the parts of a program.
+fn join_program(alloc: Global, list: &mut Vec<Vertex>, program: &Program) -> Result<(), NoMemory>
+    ensures { OnOk result (IsJoined (parts_of program.now) list.old.items list.new.items) }
+{
+    let parts = parts(alloc, program)?;
+    join(alloc, list, &parts)
 }
 
 /// The parts of a program in preorder.
@@ -49,8 +58,15 @@ fn parts(alloc: Global, program: &Program) -> Result<Vec<Vertex>, NoMemory>
     ensures { IfOk result (λ v. v.items ≡ parts_of program.now) }
 {
     let rows = program.preorder(alloc)?;
+    parts_in(alloc, &rows)
+}
+
+/// The parts that the rows show.
+fn parts_in(alloc: Global, rows: &[Row]) -> Result<Vec<Vertex>, NoMemory>
+    ensures { IfOk result (λ v. v.items ≡ map (λ (row : Row). Vertex.Part row.tag row.content) rows.now) }
+{
     let mut parts = Vec::new(alloc);
-    for row in &rows {
+    for row in rows {
         push_part(alloc, row, &mut parts)?;
     }
     Ok(parts)
@@ -91,22 +107,24 @@ fn put_in(
     if place_of(list, vertex).is_some() {
         return Ok(());
     }
-    let copy = vertex.copy(alloc)?;
-    match next {
-        Some(next) => put_before(list, copy, next),
-        None => Ok(list.push(copy)?),
-    }
+    let at = place_before(list, next);
+    list.insert(at, vertex.copy(alloc)?)?;
+    Ok(())
 }
 
-/// Puts the vertex right before the next one, which is listed.
-fn put_before(list: &mut Vec<Vertex>, vertex: Vertex, next: &Vertex) -> Result<(), NoMemory>
-    requires { Contains list.old.items next.now }
-    ensures { OnOk result (IsAddedAt vertex (Some next.now) list.old.items list.new.items) }
+/// The place right before the next one, which is listed; the end where there is none.
+fn place_before(list: &[Vertex], next: Option<&Vertex>) -> usize
+    requires { IfSome next (λ n. Contains list.now n.now) }
+    ensures within { result ≤ length list.now }
+    ensures added { (v : Vertex) → IsAddedAt v (option_copied next.entry) list.now (insert list.now result v) }
 {
-    if let Some(at) = place_of(list, next) {
-        list.insert(at, vertex)?;
+    let Some(next) = next else {
+        return list.len();
+    };
+    match place_of(list, next) {
+        Some(at) => at,
+        None => unreachable!(),
     }
-    Ok(())
 }
 
 /// Where the vertex stands in the list, if it does. Tags are compared first.

@@ -1,7 +1,8 @@
 //! What control edges lead to from Entry.
-ghost use Rattle.std.specs.Prelude.{◌≡◌, ◌↔◌, ◌⊎◌, ◌<◌, ℕ, [], ◌∷◌, length, Contains, IfOk, OnOk};
+ghost use Rattle.std.specs.Prelude.{◌≡◌, ◌↔◌, ◌⊎◌, ◌<◌, ℕ, [], ◌∷◌, Some, length, slice_get, Contains, IfOk, OnOk, IfSome, IfNone};
 ghost use Rattle.hpr_graph.specs.declared.link.Link.{Link};
-ghost use Rattle.hpr_graph.specs.Numbered.{IsNumbered};
+ghost use Rattle.hpr_graph.specs.declared.vertex.Vertex.{Vertex};
+ghost use Rattle.hpr_graph.specs.Numbered.{HasVertex, IsNumbered};
 ghost use Rattle.hpr_order.specs.Controls.{numbers_at, numbers_of, AreControlled, AreReached, IsPushed, IsPushedBy};
 
 use crate::control::label_of;
@@ -65,10 +66,27 @@ pub(crate) fn reached_from_entry(alloc: Global, graph: &Graph) -> Result<Vec<boo
     ensures { IfOk result (λ marks. AreReached graph.now marks.items) }
 {
     let controlled = Controlled::of(alloc, graph)?;
-    match graph.number_of(&Vertex::Entry) {
-        Some(entry) => Ok(reachable(alloc, &controlled, &[entry])?),
-        None => Ok(reachable(alloc, &controlled, &[])?),
+    reached_in(alloc, graph, &controlled)
+}
+
+/// The same, by what control edges lead to.
+fn reached_in(alloc: Global, graph: &Graph, controlled: &Controlled) -> Result<Vec<bool>, NoMemory>
+    requires rows { AreControlled graph.now controlled.now }
+    requires numbered { IsNumbered graph.now }
+    ensures { IfOk result (λ marks. AreReached graph.now marks.items) }
+{
+    match entry_of(graph) {
+        Some(entry) => Ok(reachable(alloc, controlled, &[entry])?),
+        None => Ok(reachable(alloc, controlled, &[])?),
     }
+}
+
+/// The number of Entry, if it is a vertex.
+fn entry_of(graph: &Graph) -> Option<usize>
+    ensures found { IfSome result (λ n. slice_get graph.now.vertices n ≡ Some Vertex.Entry) }
+    ensures none { IfNone result (¬ HasVertex graph.now Vertex.Entry) }
+{
+    graph.number_of(&Vertex::Entry)
 }
 
 /// So many empty rows.

@@ -1,4 +1,4 @@
-//! What items, issued numbers and names that are at hand are known to be.
+//! What contents, issued numbers and names that are at hand are known to be.
 //!
 //! A contract sees a name as its bytes and a number as a number. That the bytes are a name, and the number
 //! in range, is known where a name or a number is read: so these walks read them, and do no more.
@@ -7,9 +7,8 @@ ghost use Rattle.hpr_terms.specs.Names.{IsName};
 ghost use Rattle.hpr_terms.specs.TermOf.{term_of};
 ghost use Rattle.hpr_syntax.specs.Issued.{IsIssued};
 ghost use Rattle.hpr_syntax.specs.Proper.{IsProperTerm, IsProperTag, IsProperPair};
-ghost use Rattle.hpr_order.specs.Arranging.{IsProperContent, IsProperItem};
+ghost use Rattle.hpr_order.specs.Arranging.{IsProperContent};
 
-use crate::item::Item;
 use hpr_graph::{Content, Name, Tag};
 use hpr_syntax::{Expr, Issued};
 
@@ -35,12 +34,12 @@ fn read_expr(expr: &Expr)
 }
 
 /// Reads a tag.
-fn read_tag(_tag: Tag)
+pub(crate) fn read_tag(_tag: Tag)
     ensures { IsProperTag _tag }
 {}
 
 /// Reads what a part says.
-fn read_content(content: &Content)
+pub(crate) fn read_content(content: &Content)
     ensures { IsProperContent content.now }
 {
     match content {
@@ -50,23 +49,6 @@ fn read_content(content: &Content)
         }
         Content::If(test) => read_expr(test),
         Content::While(test) => read_expr(test),
-    }
-}
-
-/// Reads an item.
-fn read_item(item: &Item)
-    ensures { IsProperItem item.now }
-{
-    read_tag(item.tag);
-    read_content(&item.content);
-}
-
-/// Reads items.
-pub(crate) fn read_items(items: &[Item])
-    ensures { All IsProperItem items.now }
-{
-    for item in items {
-        read_item(item);
     }
 }
 

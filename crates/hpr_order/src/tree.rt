@@ -17,7 +17,6 @@ use std::cmp::Ordering;
 use std::marker::Model;
 
 /// Why the control edges of a graph are those of no program.
-#[derive(Drop)]
 pub enum OrderError {
     /// The least tag that has two contents.
     TwoContents(Tag),
@@ -27,6 +26,17 @@ pub enum OrderError {
     Impossible(Vertex),
     /// Memory ran out.
     Memory,
+}
+
+/// A refusal is dropped in one call.
+impl Drop for OrderError {
+    fn drop(self) {
+        match self {
+            OrderError::TwoContents(_) => {}
+            OrderError::Impossible(_) => {}
+            OrderError::Memory => {}
+        }
+    }
 }
 
 impl From<NoMemory> for OrderError {
@@ -83,13 +93,20 @@ pub fn regions(alloc: Global, graph: &Graph) -> Result<RegionTree, OrderError>
     if let Some(tag) = repeated_tag(alloc, graph.vertices())? {
         return Err(OrderError::TwoContents(tag));
     }
-    let reached = reached_from_entry(alloc, graph)?;
-    if let Some(vertex) = least_impossible(graph, &reached) {
+    if let Some(vertex) = impossible_vertex(alloc, graph)? {
         return Err(OrderError::Impossible(vertex.copy(alloc)?));
     }
-    Ok(RegionTree {
-        parents: parents_of(alloc, graph)?,
-    })
+    let parents = parents_of(alloc, graph)?;
+    Ok(RegionTree { parents })
+}
+
+/// The least vertex that has no place in such a tree, if there is one.
+fn impossible_vertex(alloc: Global, graph: &Graph) -> Result<Option<&Vertex>, NoMemory>
+    ensures least { IfOk result (λ v. IsLeastIn vertex_cmp (IsImpossible (graph_in graph.now)) (option_copied v)) }
+    ensures none { IfOk result (λ v. IsNone v → AllPossible (graph_in graph.now)) }
+{
+    let reached = reached_from_entry(alloc, graph)?;
+    Ok(least_impossible(graph, &reached))
 }
 
 /// The least vertex that has no place in such a tree, if there is one. There is a mark for each vertex:

@@ -10,7 +10,7 @@ program_in-requires-clause-slots c = subst AreSlots (sym c.deref.ensures.value) 
 
 pub invariant_of-self : goal.invariant_of-self
 invariant_of-self c =
-    let same : coming c.self.inside.next c.next_order.new.orders ≡ coming c.self.inside.next c.self.inside.later = coming_same c.self.inside.next c.next_order.new.orders c.self.inside.later c.in_err-self-inside.ensures.err in
+    let same : coming c.self.inside.next c.next_order.new.orders ≡ coming c.self.inside.next c.self.inside.ordered.orders = coming_same c.self.inside.next c.next_order.new.orders c.self.inside.ordered.orders c.in_err-self-inside.ensures.err in
     record {
       slots = c.self.invariant.slots;
       programs = λ order h. c.self.invariant.programs order (subst (λ z. Contains z order) same h);
@@ -18,11 +18,11 @@ invariant_of-self c =
 
 pub invariant_of-self-2 : goal.invariant_of-self-2
 invariant_of-self-2 c =
-    let same : coming c.in_ok-self-inside.field-0 c.next_order.new.orders ≡ orders_in c.self.inside.later =
-    coming_next c.in_ok-self-inside.field-0 c.self.inside.later c.next_order.new.orders c.in_ok-self-inside.ensures.some c.in_ok-self-inside.ensures.none in
+    let same : coming c.in_ok-self-inside.field-0 c.next_order.new.orders ≡ orders_in c.self.inside.ordered.orders =
+    coming_next c.in_ok-self-inside.field-0 c.self.inside.ordered.orders c.next_order.new.orders c.in_ok-self-inside.ensures.some c.in_ok-self-inside.ensures.none in
     record {
       slots = c.self.invariant.slots;
       programs = λ order h.
-          c.self.invariant.programs order (subst (λ z. Contains (coming z c.self.inside.later) order) (sym c.in-Some.is)
-          (in_later c.in-Some.order.items order (orders_in c.self.inside.later) (subst (λ z. Contains z order) same h)));
+          c.self.invariant.programs order (subst (λ z. Contains (coming z c.self.inside.ordered.orders) order) (sym c.in-Some.is)
+          (in_later c.in-Some.order.items order (orders_in c.self.inside.ordered.orders) (subst (λ z. Contains z order) same h)));
     }

@@ -3,10 +3,10 @@ use Rattle.std.proofs.lemmas.List.{take_all}
 use Rattle.std.proofs.lemmas.Option.{slice_get-get_or}
 use Rattle.hpr_order.proofs.ListFacts.{there_get}
 use Rattle.hpr_order.proofs.Tabling.{blank_rows, lifted_always, lifted_marked, lifted_whole}
-use Rattle.hpr_order.proofs.blocks.lifted_pairs.Goals as goal
+use Rattle.hpr_order.proofs.blocks.mark_pairs.Goals as goal
 
 pub loop-source-init : goal.loop-source-init
-loop-source-init c = blank_rows c.args.items.now c.args.pairs.now c.in_ok-asked.asked.items c.in_ok-asked.ensures.rows c.in_ok-asked.ensures.none
+loop-source-init c = blank_rows c.args.items.now c.args.pairs.now c.args.asked.now.items c.requires.rows c.requires.none
 
 pub lifted-requires-clause-source : goal.lifted-requires-clause-source
 lifted-requires-clause-source c =
@@ -32,5 +32,5 @@ loop-source-preserved c =
     c.set_mark.ensures.rows c.set_mark.ensures.set c.set_mark.ensures.kept c.set_mark.ensures.only
 
 pub returns-clause-lifted : goal.returns-clause-lifted
-returns-clause-lifted c =
+returns-clause-lifted c = λ _.
     lifted_whole c.args.items.now c.args.pairs.now c.loop-source.source-index c.loop-source.asked.items (take_all c.loop-source.source-index c.args.pairs.now c.loop-source-test.false) c.loop-source.invariant

@@ -5,7 +5,7 @@ use Rattle.hpr_graph.specs.declared.vertex.Vertex.{Vertex}
 use Rattle.hpr_graph.specs.declared.vertex.Vertex.TheVariants.{Final}
 use Rattle.hpr_order.proofs.Linking.{names_skip, names_push}
 use Rattle.hpr_order.proofs.Steps.{read_of, names_up}
-use Rattle.hpr_order.proofs.numbers.final_names.Goals as goal
+use Rattle.hpr_order.proofs.numbers.finals_in_order.Goals as goal
 
 pub loop-vertex-preserved-in_default : goal.loop-vertex-preserved-in_default
 loop-vertex-preserved-in_default c =
