@@ -171,9 +171,6 @@ record BlockIn (w : Bool) (s : Stmt) (rest : Body) : Type 0 where
   is : before s rest ≡ plug around block
   change : (f : Body → Body) → before (with_block w f s) rest ≡ plug around (f block)
 
-not_within : (n : ℕ) (o : Option Body) → o ≡ None → is_within n o ≡ true → ⊥
-not_within n o e h = absurd (grind (arith, e, h))
-
 block_of : (w : Bool) (s : Stmt) (rest : Body) (n : ℕ) → is_within n (block_in w s) ≡ true → BlockIn w s rest
 block_of w (Assign t x e) rest n h = absurd cc
 block_of true (If t e a b) rest n h = record { around = first t e here b rest; block = a; some = refl; is = refl; change = λ f. refl }

@@ -63,9 +63,3 @@ tree_equal a b r is = (
   (λ p. let t : same_tree a b ≡ true = grind (arith, is, p) in tree_is a b t),
   (λ p. let t : same_tree a b ≡ true = subst (λ x. same_tree a x ≡ true) p (tree_self a) in let v : r ≡ true = is ∙ t in grind arith),
 )
-
-pub issued_equal : (i j : List (ℕ × ℕ)) (r : Bool) → r ≡ same_issued i j → IsTrue r ↔ (i ≡ j)
-issued_equal i j r is = (
-  (λ p. let t : same_issued i j ≡ true = grind (arith, is, p) in issued_is i j t),
-  (λ p. let t : same_issued i j ≡ true = subst (λ x. same_issued i x ≡ true) p (issued_self i) in let v : r ≡ true = is ∙ t in grind arith),
-)

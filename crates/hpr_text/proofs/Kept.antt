@@ -82,9 +82,6 @@ bare_length (begun.Loop r ∷ os) = omega (arith, bare_length os)
 same_mode : (f g : Found) → bare_found f ≡ bare_found g → f.mode ≡ g.mode
 same_mode f g e = ap (λ (x : Found). x.mode) e
 
-same_blocks : (f g : Found) → bare_found f ≡ bare_found g → bare_blocks f.blocks ≡ bare_blocks g.blocks
-same_blocks f g e = ap (λ (x : Found). x.blocks) e
-
 same_length : (f g : Found) → bare_found f ≡ bare_found g → length f.blocks ≡ length g.blocks
 same_length f g e = sym (bare_length f.blocks) ∙ ap (λ (x : Found). length x.blocks) e ∙ bare_length g.blocks
 

@@ -472,10 +472,6 @@ pub spelled_accepted : (m : Mode) (ts : List Token) (t : Tree) (h : SpellsProgra
 unfolding spelled_state
 spelled_accepted m ts t h = refl
 
-pub spelled_count : (m : Mode) (ts : List Token) (t : Tree) (h : SpellsProgram (form_of m) ts t) → (spelled_state m ts t h).found.count ≡ tally m h.count
-unfolding spelled_state
-spelled_count m ts t h = refl
-
 -- there the program can end
 pub spelled_ends : (m : Mode) (ts : List Token) (t : Tree) (h : SpellsProgram (form_of m) ts t) → may_end (spelled_state m ts t h) ≡ true
 unfolding spelled_state

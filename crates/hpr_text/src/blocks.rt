@@ -8,11 +8,33 @@ use std::alloc::Global;
 use std::marker::Model;
 
 /// A part with blocks that is being read: the parts before it, its tag and what it tests.
-#[derive(Drop)]
 pub struct Around {
     pub before: Block,
     pub tag: Tag,
     pub test: Expr,
+}
+
+/// All of it is dropped in one call.
+impl Drop for Around {
+    fn drop(self) {
+        let Around {
+            before: _,
+            tag: _,
+            test: _,
+        } = self;
+    }
+}
+
+impl Around {
+    /// The parts before the part, its tag and what it tests.
+    pub fn into_parts(self) -> (Block, Tag, Expr)
+        ensures before { result.0 ≡ self.before }
+        ensures tag { result.1 ≡ self.tag }
+        ensures test { result.2 ≡ self.test }
+    {
+        let Around { before, tag, test } = self;
+        (before, tag, test)
+    }
 }
 
 /// A block that has begun.

@@ -27,7 +27,6 @@ pub enum Aim {
 }
 
 /// How far a content was read.
-#[derive(Drop)]
 pub enum ContentState {
     /// Nothing was read.
     Start,
@@ -37,6 +36,18 @@ pub enum ContentState {
     InExpression(Aim, Reading),
     /// The content and its `;`.
     Ended(Content),
+}
+
+/// All of it is dropped in one call.
+impl Drop for ContentState {
+    fn drop(self) {
+        match self {
+            ContentState::Start => {}
+            ContentState::AfterTarget(_) => {}
+            ContentState::InExpression(_, _) => {}
+            ContentState::Ended(_) => {}
+        }
+    }
 }
 
 fn content(aim: Aim, value: Expr) -> Content

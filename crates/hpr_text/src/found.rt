@@ -1,15 +1,15 @@
 //! What was read so far.
-ghost use Rattle.std.specs.Prelude.{◌≡◌, ◌≤◌, [], ◌∷◌, ◌++◌, length, nat_lt, is_some, OnOk};
-ghost use Rattle.hpr_syntax.specs.Body.{done};
+ghost use Rattle.std.specs.Prelude.{◌≡◌, ◌≢◌, ◌≤◌, [], ◌∷◌, ◌++◌, length, nat_lt, is_some, Some, IfOk, IfErr, OnOk};
+ghost use Rattle.hpr_syntax.specs.Body.{done, branch, loop};
 ghost use Rattle.hpr_syntax.specs.BodyOf.{before};
-ghost use Rattle.hpr_syntax.specs.Shape.{max_levels};
+ghost use Rattle.hpr_syntax.specs.Shape.{IsProgram, max_levels, max_parts};
 ghost use Rattle.hpr_text.specs.Machine as machine;
 ghost use Rattle.hpr_text.specs.Private.InPlace.{InPlace};
 
 use crate::blocks::{Around, Begun, Blocks};
 use crate::form::Mode;
 use hpr_scan::Fault;
-use hpr_syntax::{Block, Issued, Stmt};
+use hpr_syntax::{Block, Issued, Program, ShapeError, Stmt};
 use hpr_terms::{Expr, Name, NoMemory, Tag};
 use std::alloc::Global;
 use std::marker::Model;
@@ -19,7 +19,7 @@ use std::mem;
 const MAX_LEVELS: usize = 64;
 
 /// A program may have this many parts.
-pub const MAX_PARTS: usize = 1000;
+const MAX_PARTS: usize = 1000;
 
 /// Names in their order. A contract sees their list.
 #[derive(Drop)]
@@ -97,10 +97,10 @@ impl Drop for Found {
 fn push_kept(parts: &mut Block, begun: usize, part: Stmt) -> Result<(), NoMemory>
     ensures { OnOk result (parts.new ≡ machine.then_kept (machine.keeps machine.limit begun) parts.old (before part done)) }
 {
-    if begun > MAX_PARTS {
-        return Ok(());
+    if begun <= MAX_PARTS {
+        parts.stmts.push(part)?;
     }
-    Ok(parts.stmts.push(part)?)
+    Ok(())
 }
 
 impl Found {
@@ -188,12 +188,20 @@ impl Found {
         self.add_stmt(Stmt::Assign(tag, name, value))
     }
 
+    /// Takes the parts of the innermost block.
+    fn take_parts(&mut self, alloc: Global) -> Block
+        ensures parts { result ≡ self.old.parts }
+        ensures rest { self.new ≡ record self.old { parts = done } }
+    {
+        mem::replace(&mut self.parts, Block::new(Vec::new(alloc)))
+    }
+
     /// A block begins, and the parts so far stand before the part that has it.
     fn around(&mut self, alloc: Global, tag: Tag, test: Expr) -> Around
         ensures around { result ≡ machine.around tag test self.old }
         ensures rest { self.new ≡ record self.old { parts = done } }
     {
-        let before = mem::replace(&mut self.parts, Block::new(Vec::new(alloc)));
+        let before = self.take_parts(alloc);
         Around { before, tag, test }
     }
 
@@ -219,8 +227,9 @@ impl Found {
     {
         match self.blocks.pop() {
             Some(Begun::Then(around)) => {
-                let yes = mem::replace(&mut self.parts, Block::new(Vec::new(alloc)));
-                Ok(self.blocks.push(Begun::Else(around, yes))?)
+                let yes = self.take_parts(alloc);
+                self.blocks.push(Begun::Else(around, yes))?;
+                Ok(())
             }
             _ => Err(Fault::Refused),
         }
@@ -231,18 +240,27 @@ impl Found {
         ensures { InPlace (λ _. self.new) (machine.fi_found machine.limit self.old) result }
     {
         match self.blocks.pop() {
-            Some(Begun::Then(Around { before, tag, test })) => {
-                let yes = mem::replace(&mut self.parts, before);
-                let no = Block::new(Vec::new(alloc));
-                Ok(self.add_stmt(Stmt::If(tag, test, yes, no))?)
+            Some(Begun::Then(around)) => {
+                let yes = self.take_parts(alloc);
+                self.end_branches(around, yes, Block::new(Vec::new(alloc)))?;
+                Ok(())
             }
             Some(Begun::Else(around, yes)) => {
-                let Around { before, tag, test } = around;
-                let no = mem::replace(&mut self.parts, before);
-                Ok(self.add_stmt(Stmt::If(tag, test, yes, no))?)
+                let no = self.take_parts(alloc);
+                self.end_branches(around, yes, no)?;
+                Ok(())
             }
             _ => Err(Fault::Refused),
         }
+    }
+
+    /// The conditional of these blocks stands behind the parts before it.
+    fn end_branches(&mut self, around: Around, yes: Block, no: Block) -> Result<(), NoMemory>
+        ensures { OnOk result (self.new ≡ machine.block_ended machine.limit self.old.blocks around.before (branch around.tag around.test yes no done) self.old) }
+    {
+        let (before, tag, test) = around.into_parts();
+        self.parts = before;
+        self.add_stmt(Stmt::If(tag, test, yes, no))
     }
 
     /// A loop ends. `Refused` comes exactly where it cannot.
@@ -250,12 +268,21 @@ impl Found {
         ensures { InPlace (λ _. self.new) (machine.od_found machine.limit self.old) result }
     {
         match self.blocks.pop() {
-            Some(Begun::Loop(Around { before, tag, test })) => {
-                let body = mem::replace(&mut self.parts, before);
-                Ok(self.add_stmt(Stmt::While(tag, test, body))?)
+            Some(Begun::Loop(around)) => {
+                self.end_rounds(around)?;
+                Ok(())
             }
             _ => Err(Fault::Refused),
         }
+    }
+
+    /// The loop of the parts so far stands behind the parts before it.
+    fn end_rounds(&mut self, around: Around) -> Result<(), NoMemory>
+        ensures { OnOk result (self.new ≡ machine.block_ended machine.limit self.old.blocks around.before (loop around.tag around.test self.old.parts done) self.old) }
+    {
+        let (before, tag, test) = around.into_parts();
+        let body = mem::replace(&mut self.parts, before);
+        self.add_stmt(Stmt::While(tag, test, body))
     }
 
     /// One more name of `end`.
@@ -265,12 +292,18 @@ impl Found {
         self.names.push(name)
     }
 
-    /// The issued numbers, the parts and the names of `end`.
-    pub fn into_parts(self) -> (Issued, Block, Vec<Name>)
-        ensures issued { result.0 ≡ self.issued }
-        ensures body { result.1 ≡ self.parts }
-        ensures names { result.2.items ≡ self.names }
+    /// The program of the issued numbers, the parts and the names of `end`, if it is one, and no
+    /// more parts have begun than one may have.
+    pub fn into_program(self, alloc: Global) -> Result<Program, ShapeError>
+        ensures tree { IfOk result (λ p. p ≡ machine.tree_of self) }
+        ensures few { IfOk result (λ p. self.count ≤ max_parts) }
+        ensures program { IfOk result (λ p. IsProgram p) }
+        ensures shape { IfErr result (λ e. e ≢ ShapeError.Memory → machine.shape_of self ≡ Some e) }
     {
+        let begun = self.count;
+        if begun > MAX_PARTS {
+            return Err(ShapeError::TooManyParts(begun));
+        }
         let Found {
             mode: _,
             count: _,
@@ -280,6 +313,6 @@ impl Found {
             parts,
             names,
         } = self;
-        (issued, parts, names.into_vec())
+        Program::new(alloc, issued, parts, names.into_vec())
     }
 }

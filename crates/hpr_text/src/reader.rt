@@ -8,7 +8,6 @@ ghost use Rattle.hpr_text.specs.Forms.{form_of, HasAuthor};
 ghost use Rattle.hpr_text.specs.Machine.{shape_of, tree_of};
 
 use crate::form::Mode;
-use crate::found::MAX_PARTS;
 use crate::state::State;
 use hpr_scan::{Refusal, read};
 use hpr_syntax::{Program, ShapeError};
@@ -39,12 +38,7 @@ fn built(alloc: Global, state: State) -> Result<Program, TextError>
     ensures shape { IfShape result (λ e. shape_of state.found ≡ Some e) }
     ensures no_place { IfSyntax result (λ n. ⊥) }
 {
-    let count = state.found.count;
-    if count > MAX_PARTS {
-        return Err(TextError::Shape(ShapeError::TooManyParts(count)));
-    }
-    let (issued, parts, names) = state.into_found().into_parts();
-    match Program::new(alloc, issued, parts, names) {
+    match state.into_found().into_program(alloc) {
         Ok(program) => Ok(program),
         Err(ShapeError::Memory) => Err(TextError::Memory),
         Err(error) => Err(TextError::Shape(error)),
