@@ -1,5 +1,9 @@
--- The places of the parts of a block, one statement after another.
-use Rattle.std.proofs.Common.{◌≡◌, ℕ, suc, ◌+◌, ◌<◌, true, false, Option, Some, List, [], ◌∷◌, ◌++◌, length, get_or, drop, refl, sym, ap, ◌∙◌, append_assoc, arith}
+-- The places of the parts of a block, a statement after another.
+use Rattle.std.proofs.Common.{◌≡◌, ℕ, suc, ◌+◌, ◌<◌, true, false, Option, Some, List, [], ◌∷◌, ◌++◌, length, get_or, drop, refl, sym, ap, ◌∙◌, append_assoc, append-nil, arith}
+use Rattle.hpr_terms.specs.declared.tag.Tag.{Tag}
+use Rattle.hpr_terms.specs.declared.expr.Expr.{Expr}
+use Rattle.hpr_syntax.specs.Parts.{tag_of}
+use Rattle.hpr_syntax.specs.Rows.{content_of}
 use Rattle.std.proofs.Math.Seq.{drop-cons}
 use Rattle.hpr_syntax.specs.declared.tree.Stmt.{Stmt}
 use Rattle.hpr_syntax.specs.declared.tree.Stmt.TheVariants.{Assign, If, While}
@@ -54,3 +58,58 @@ module _ (up : Option Parent) (others : List Span) where
       ∙ ap (λ (k : ℕ). old ++ (places_of (before s done) n up others ++ places_of rest k up others)) next
       ∙ sym (ap (λ (ps : List Place). old ++ ps) (ap (λ (b : Body). places_of b n up others) is ∙ places_before s rest n))
       ∙ before'
+
+  abbrev Head : Stmt → Place
+  Head s = place_of (tag_of s) (content_of s) up others
+
+  -- one statement with the parts in it: an assignment, a loop, a conditional
+  pub stmt_assign : (s : Stmt) (t : Tag) (x : List ℕ) (e : Expr) → s ≡ Assign t x e → (old one : List Place) (n : ℕ) → one ≡ old ++ Head s ∷ [] → one ≡ old ++ places_of (before s done) n up others
+  stmt_assign s t x e is old one n first = first ∙ ap (λ (r : Stmt). old ++ Head r ∷ []) is ∙ sym (ap (λ (r : Stmt). old ++ places_of (before r done) n up others) is)
+
+  pub stmt_while : (s : Stmt) (t : Tag) (e : Expr) (b : Body) → s ≡ While t e b → (old one new : List Place) (n m p : ℕ) (inside : Option Parent)
+      → one ≡ old ++ Head s ∷ [] → new ≡ one ++ places_of b m inside others → inside ≡ Some (record { point = p; label = true }) → p ≡ n → m ≡ n + 1 → new ≡ old ++ places_of (before s done) n up others
+  stmt_while s t e b is old one new n m p inside first more under same next =
+      let body : List Place = places_of b (n + 1) (Some (record { point = n; label = true })) others in
+      let parent : inside ≡ Some (record { point = n; label = true }) = under ∙ ap (λ (k : ℕ). Some (record { point = k; label = true })) same in
+      more
+      ∙ ap (λ (ps : List Place). ps ++ places_of b m inside others) first
+      ∙ append_assoc old (Head s ∷ []) (places_of b m inside others)
+      ∙ ap (λ (k : ℕ). old ++ Head s ∷ places_of b k inside others) next
+      ∙ ap (λ (q : Option Parent). old ++ Head s ∷ places_of b (n + 1) q others) parent
+      ∙ ap (λ (r : Stmt). old ++ Head r ∷ body) is
+      ∙ ap (λ (ps : List Place). old ++ Head (While t e b) ∷ ps) (sym (append-nil body))
+      ∙ sym (ap (λ (r : Stmt). old ++ places_of (before r done) n up others) is)
+
+  pub stmt_if : (s : Stmt) (t : Tag) (e : Expr) (a b : Body) → s ≡ If t e a b → (old one two new : List Place) (n m k p from to : ℕ) (then_up else_up : Option Parent) (inner : List Span)
+      → one ≡ old ++ Head s ∷ [] → two ≡ one ++ places_of a m then_up inner → new ≡ two ++ places_of b k else_up others → inner ≡ others ++ record { from = from; to = to } ∷ [] → then_up ≡ Some (record { point = p; label = true })
+      → else_up ≡ Some (record { point = p; label = false }) → p ≡ n → m ≡ n + 1 → k ≡ n + 1 + part_count a → from ≡ n + 1 + part_count a → to ≡ n + 1 + part_count a + part_count b → new ≡ old ++ places_of (before s done) n up others
+  stmt_if s t e a b is old one two new n m k p from to then_up else_up inner first second third span under_then under_else same next other from_is to_is =
+      let at : ℕ = n + 1 + part_count a in
+      let end : ℕ = at + part_count b in
+      let spans : inner ≡ others ++ record { from = at; to = end } ∷ [] = span ∙ ap (λ (i : ℕ). others ++ record { from = i; to = to } ∷ []) from_is ∙ ap (λ (i : ℕ). others ++ record { from = at; to = i } ∷ []) to_is in
+      let up_then : then_up ≡ Some (record { point = n; label = true }) = under_then ∙ ap (λ (i : ℕ). Some (record { point = i; label = true })) same in
+      let up_else : else_up ≡ Some (record { point = n; label = false }) = under_else ∙ ap (λ (i : ℕ). Some (record { point = i; label = false })) same in
+      let left : List Place = places_of a (n + 1) (Some (record { point = n; label = true })) (others ++ record { from = at; to = end } ∷ []) in
+      let right : List Place = places_of b at (Some (record { point = n; label = false })) others in
+      let lefts : places_of a m then_up inner ≡ left =
+      ap (λ (i : ℕ). places_of a i then_up inner) next ∙ ap (λ (q : Option Parent). places_of a (n + 1) q inner) up_then ∙ ap (λ (r : List Span). places_of a (n + 1) (Some (record { point = n; label = true })) r) spans in
+      let rights : places_of b k else_up others ≡ right = ap (λ (i : ℕ). places_of b i else_up others) other ∙ ap (λ (q : Option Parent). places_of b at q others) up_else in
+      third
+      ∙ ap (λ (ps : List Place). ps ++ places_of b k else_up others) (second ∙ ap (λ (ps : List Place). ps ++ places_of a m then_up inner) first)
+      ∙ ap (λ (ps : List Place). ((old ++ Head s ∷ []) ++ ps) ++ places_of b k else_up others) lefts
+      ∙ ap (λ (ps : List Place). ((old ++ Head s ∷ []) ++ left) ++ ps) rights
+      ∙ append_assoc (old ++ Head s ∷ []) left right
+      ∙ append_assoc old (Head s ∷ []) (left ++ right)
+      ∙ ap (λ (r : Stmt). old ++ Head r ∷ (left ++ right)) is
+      ∙ ap (λ (ps : List Place). old ++ Head (If t e a b) ∷ (left ++ ps)) (sym (append-nil right))
+      ∙ sym (ap (λ (r : Stmt). old ++ places_of (before r done) n up others) is)
+
+-- how many parts a statement and those in it are
+pub count_while : (s : Stmt) (t : Tag) (e : Expr) (b : Body) → s ≡ While t e b → part_count (before s done) ≡ part_count b + 1
+count_while s t e b is = ap (λ (r : Stmt). part_count (before r done)) is ∙ omega arith
+
+pub count_if : (s : Stmt) (t : Tag) (e : Expr) (a b : Body) → s ≡ If t e a b → part_count (before s done) ≡ part_count a + part_count b + 1
+count_if s t e a b is = ap (λ (r : Stmt). part_count (before r done)) is ∙ omega arith
+
+pub count_assign : (s : Stmt) (t : Tag) (x : List ℕ) (e : Expr) → s ≡ Assign t x e → part_count (before s done) ≡ 1
+count_assign s t x e is = ap (λ (r : Stmt). part_count (before r done)) is ∙ omega arith

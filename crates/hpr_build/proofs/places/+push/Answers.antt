@@ -1,5 +1,6 @@
-use Rattle.std.proofs.Common.{arith}
-use Rattle.hpr_build.proofs.PlaceTurns.{turn_places, turn_parts, drop_turn}
+use Rattle.std.proofs.Common.{◌+◌, ◌∙◌, vec_len, arith}
+use Rattle.hpr_build.proofs.PlaceTurns.{turn_places, turn_parts, drop_turn, stmt_assign, stmt_while, stmt_if, count_assign, count_while, count_if}
+use Rattle.hpr_build.proofs.StageTurns.{on_ok}
 use Rattle.hpr_build.proofs.places.+push.Goals as goal
 
 pub push_block-loop-stmt-preserved : goal.push_block-loop-stmt-preserved
@@ -12,3 +13,36 @@ push_block-loop-stmt-preserved n c =
       places = turn_places c.args.parent c.args.others.now c.loop-stmt.places.items c.push_stmt.new.places.items _ _ _ c.stmt-item.result _ _ turn c.in_ok-push_stmt.ensures.places (omega (arith, c.in_ok-push_stmt.ensures.len)) c.loop-stmt.invariant.places;
       len = omega (arith, parts, c.in_ok-push_stmt.ensures.len, c.loop-stmt.invariant.len);
     }
+
+pub push_stmt-returns-in-Assign-clause-places : goal.push_stmt-returns-in-Assign-clause-places
+push_stmt-returns-in-Assign-clause-places n c =
+    stmt_assign c.args.parent c.args.others.now c.args.stmt.now c.in-Assign.field-0 c.in-Assign.field-1 c.in-Assign.field-2 c.in-Assign.is c.args.places.now.items c.push_place.new.places.items _ c.in_ok-push_place.ensures.place
+
+pub push_stmt-returns-in-Assign-clause-len : goal.push_stmt-returns-in-Assign-clause-len
+push_stmt-returns-in-Assign-clause-len n c = omega (arith, c.in_ok-push_place.ensures.len, count_assign c.args.stmt.now c.in-Assign.field-0 c.in-Assign.field-1 c.in-Assign.field-2 c.in-Assign.is)
+
+pub push_stmt-returns-in-While-clause-places : goal.push_stmt-returns-in-While-clause-places
+push_stmt-returns-in-While-clause-places n c =
+    let one = c.in_ok-push_place.ensures in
+    on_ok c.push_block-in-While.result _ _ (λ more.
+    stmt_while c.args.parent c.args.others.now c.args.stmt.now c.in-While.field-0 c.in-While.field-1 c.in-While.body c.in-While.is c.args.places.now.items c.push_place.new.places.items c.push_block-in-While.new.places.items
+    (vec_len c.args.places.now + 1) (vec_len c.push_place.new.places + 1) (c.len-point.result + 1) c.under-in-While.result one.place more c.under-in-While.ensures (omega (arith, c.len-point.ensures)) (omega (arith, one.len))) c.push_block-in-While.ensures.places
+
+pub push_stmt-returns-in-While-clause-len : goal.push_stmt-returns-in-While-clause-len
+push_stmt-returns-in-While-clause-len n c =
+    on_ok c.push_block-in-While.result _ _ (λ more. omega (arith, more, c.in_ok-push_place.ensures.len, count_while c.args.stmt.now c.in-While.field-0 c.in-While.field-1 c.in-While.body c.in-While.is)) c.push_block-in-While.ensures.len
+
+pub push_stmt-returns-in_ok-push_block-in-If-clause-places : goal.push_stmt-returns-in_ok-push_block-in-If-clause-places
+push_stmt-returns-in_ok-push_block-in-If-clause-places n c =
+    let one = c.in_ok-push_place.ensures in
+    let two = c.in_ok-push_block-in-If.ensures in
+    on_ok c.push_block-in-If.result _ _ (λ more.
+    stmt_if c.args.parent c.args.others.now c.args.stmt.now c.in-If.field-0 c.in-If.field-1 c.in-If.yes c.in-If.no c.in-If.is c.args.places.now.items c.push_place.new.places.items c.push_block.new.places.items c.push_block-in-If.new.places.items
+    (vec_len c.args.places.now + 1) (vec_len c.push_place.new.places + 1) (vec_len c.push_block.new.places + 1) (c.len-point.result + 1) _ _ c.under.result c.under-in-If.result c.deref.result.now
+    one.place two.places more (c.deref.ensures.value ∙ c.in_ok-inside-in-If.ensures) c.under.ensures c.under-in-If.ensures (omega (arith, c.len-point.ensures)) (omega (arith, one.len)) (omega (arith, one.len, two.len))
+    (omega (arith, c.len-point.ensures, c.part_count.ensures)) (omega (arith, c.len-point.ensures, c.part_count.ensures, c.part_count-in-If.ensures))) c.push_block-in-If.ensures.places
+
+pub push_stmt-returns-in_ok-push_block-in-If-clause-len : goal.push_stmt-returns-in_ok-push_block-in-If-clause-len
+push_stmt-returns-in_ok-push_block-in-If-clause-len n c =
+    on_ok c.push_block-in-If.result _ _
+    (λ more. omega (arith, more, c.in_ok-push_place.ensures.len, c.in_ok-push_block-in-If.ensures.len, count_if c.args.stmt.now c.in-If.field-0 c.in-If.field-1 c.in-If.yes c.in-If.no c.in-If.is)) c.push_block-in-If.ensures.len
