@@ -1,7 +1,7 @@
 -- Nothing stands twice.
 use Rattle.std.proofs.Common.{◌≡◌, ℕ, zero, suc, ◌+◌, ◌<◌, Some, List, [], ◌∷◌, ◌++◌, map, length, length-take, get_or, take, Contains, slice_get, ◌⊎◌, inl, inr, refl, sym, ap, ◌∙◌, subst, arith}
 use Rattle.std.proofs.lemmas.Option.{slice_get_within, slice_get-get_or, get_or_from_slice_get}
-use Rattle.std.proofs.lemmas.List.{get_or-take}
+use Rattle.std.proofs.lemmas.List.{get_or-take, map_push, take_more}
 use Rattle.hpr_paths.specs.Spots.{Spot, nest_at}
 use Rattle.hpr_paths.specs.Successors.{AreSpots}
 use Rattle.hpr_graph.specs.Graphs.{IsOnce}
@@ -82,3 +82,8 @@ once_map {X} f xs once one i j y a b =
     let q = item_of_map f xs j y b in
     let same : p.0 ≡ q.0 = one p.0 q.0 (contains_at xs i p.0 p.1) (contains_at xs j q.0 q.1) (p.2 ∙ sym q.2) in
     once i j q.0 (p.1 ∙ ap (λ (x : X). Some x) same) q.1
+
+-- the images of one item more
+pub map_more : {X Y : Type 0} (f : X → Y) (xs : List X) (k : ℕ) (d : X) (old new : List Y) → k < length xs → old ≡ map f (take k xs) → new ≡ old ++ f (get_or xs k d) ∷ [] → new ≡ map f (take (k + 1) xs)
+map_more {X} {Y} f xs k d old new l was items =
+    items ∙ ap (λ (ys : List Y). ys ++ f (get_or xs k d) ∷ []) was ∙ sym (map_push f (take k xs) (get_or xs k d)) ∙ ap (map f) (sym (take_more xs k d l))

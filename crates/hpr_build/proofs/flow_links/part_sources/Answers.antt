@@ -1,0 +1,7 @@
+use Rattle.hpr_build.proofs.FlowFamily.{source_of_point}
+use Rattle.hpr_build.proofs.Once.{map_more}
+use Rattle.hpr_build.proofs.flow_links.part_sources.Goals as goal
+
+pub loop-point-preserved : goal.loop-point-preserved
+loop-point-preserved c =
+    map_more source_of_point c.args.definitions.now c.loop-point.point-index 0 c.loop-point.sources.items c.push.new.self.items c.loop-point-test.true c.loop-point.invariant c.in_ok-push.ensures.items
