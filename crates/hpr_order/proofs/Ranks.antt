@@ -1,8 +1,8 @@
 -- What the rank of three programs has: each of their parts, once.
-use Rattle.std.proofs.Common.{◌≡◌, ℕ, zero, suc, ◌+◌, ◌-◌, ◌<◌, true, false, ◌↔◌, ◌⊎◌, inl, inr, Option, Some, None, IfSome, Bor, List, [], ◌∷◌, ◌++◌, map, length, take, drop, get_or, Contains, slice_get, refl, sym, ap, ap₂, ◌∙◌, subst, append_assoc, arith, rules}
+use Rattle.std.proofs.Common.{◌≡◌, ℕ, zero, suc, ◌+◌, ◌-◌, ◌<◌, Bool, true, false, ◌↔◌, ◌⊎◌, inl, inr, Option, Some, None, IfSome, IsNone, Bor, List, [], ◌∷◌, ◌++◌, map, length, take, drop, get_or, Contains, slice_get, refl, sym, ap, ap₂, ◌∙◌, subst, append_assoc, arith, rules}
 use Rattle.std.specs.List.{insert}
-use Rattle.std.proofs.lemmas.List.{append-nil, map-append}
-use Rattle.std.specs.Option.{option_copied}
+use Rattle.std.proofs.lemmas.List.{append-nil, map-append, take_more}
+use Rattle.std.specs.Option.{is_some, option_copied}
 use Rattle.std.specs.Slice.{IsItemAt}
 use Rattle.std.proofs.lemmas.Bool.{ltb-true, ltb-false}
 use Rattle.std.proofs.lemmas.Option.{slice_get-get_or, slice_get_past}
@@ -158,6 +158,23 @@ pub put_new : (xs : List Vertex) (i : ℕ) (v next : Vertex) → slice_get xs i 
 put_new xs i v next at =
     let (whole, rest) = split_at xs i next at in
     (take i xs, drop (suc i) xs, whole, ap (λ (l : List Vertex). take i xs ++ v ∷ l) rest)
+
+abbrev part : Row → Vertex
+part row = Part row.tag row.content
+
+pub part_more : (rows : List Row) (i : ℕ) (row : Row) → i < length rows → row ≡ get_or rows i row → map part (take (i + 1) rows) ≡ map part (take i rows) ++ Part row.tag row.content ∷ []
+part_more rows i row lt is =
+    ap (map part) (take_more rows i row lt ∙ ap (λ (z : Row). take i rows ++ z ∷ []) (sym is)) ∙ map-append part (take i rows) (row ∷ [])
+
+none_is : (o : Option ℕ) (b : Bool) → b ≡ is_some o → b ≡ false → IsNone o
+none_is None b e f = refl
+none_is (Some n) b e f = let both : true ≡ false = sym e ∙ f in absurd cc
+
+-- a copy of a vertex that isn't listed, put in
+pub put_copy : (v copy : Vertex) (next : Option Vertex) (xs ys : List Vertex) (at : ℕ) (o : Option ℕ) (b : Bool) → IsNone o ↔ (¬ Contains xs v) → b ≡ is_some o → b ≡ false
+    → ((w : Vertex) → IsAddedAt w next xs (insert xs at w)) → ys ≡ insert xs at copy → copy ≡ v → IsPutIn v next xs ys
+put_copy v copy next xs ys at o b stranger is none added grown same =
+    inr (stranger.0 (none_is o b is none), subst (IsAddedAt v next xs) (sym (grown ∙ ap (insert xs at) same)) (added v))
 
 -- the parts of the walk from a place on, with what follows the first of them
 module _ (parts : List Vertex) (at : ℕ) (v : Vertex) (l : at < length parts) (is : v ≡ get_or parts at v) where

@@ -1,6 +1,10 @@
 //! The parts of a graph as items.
+ghost use Rattle.std.specs.Prelude.{◌≡◌, IfOk};
+ghost use Rattle.hpr_order.specs.Arranging.{IsProperContent, IsProperItem};
 
-use hpr_graph::{Content, Tag};
+use hpr_graph::{Content, NoMemory, Tag};
+use hpr_syntax::proper::{read_expr, read_tag};
+use std::alloc::Global;
 
 /// A part of a graph, with where it stands: at the top, or in the first block (true) or the second of the
 /// item with this number.
@@ -18,5 +22,35 @@ impl Drop for Item {
             content: _,
             slot: _,
         } = self;
+    }
+}
+
+/// The part that says this, as an item.
+pub(crate) fn item_of(
+    alloc: Global,
+    tag: Tag,
+    content: &Content,
+    slot: Option<(usize, bool)>,
+) -> Result<Item, NoMemory>
+    ensures item { IfOk result (λ i. i ≡ record { tag = tag; content = content.now; slot = slot }) }
+    ensures proper { IfOk result (λ i. IsProperItem i) }
+{
+    read_tag(tag);
+    read_content(content);
+    let content = content.copy(alloc)?;
+    Ok(Item { tag, content, slot })
+}
+
+/// Reads what a part says.
+fn read_content(content: &Content)
+    ensures { IsProperContent content.now }
+{
+    match content {
+        Content::Assign(name, value) => {
+            let _text = name.text();
+            read_expr(value);
+        }
+        Content::If(test) => read_expr(test),
+        Content::While(test) => read_expr(test),
     }
 }

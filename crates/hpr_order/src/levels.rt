@@ -1,9 +1,6 @@
 //! The limits of programs, on items.
 ghost use Rattle.std.specs.Prelude.{◌≡◌, ℕ, ◌<◌, ◌≤◌, ◌↔◌, length, slice_get, Some, IfOk, IfSome, IfNone, IsTrue};
-ghost use Rattle.hpr_terms.specs.Term.{operators};
-ghost use Rattle.hpr_terms.specs.TermOf.{term_of};
 ghost use Rattle.hpr_syntax.specs.Rows.{expr_in};
-ghost use Rattle.hpr_syntax.specs.Shape.{is_large, left_after};
 ghost use Rattle.hpr_order.specs.Items.{AreSlots, slot_at};
 ghost use Rattle.hpr_order.specs.Limits.{IsWithinLimits, level_in};
 ghost use Rattle.hpr_order.specs.Lifting.{AreLevels};
@@ -11,7 +8,7 @@ ghost use Rattle.hpr_order.specs.Building.{IsSlot};
 
 use crate::item::Item;
 use hpr_graph::{Content, NoMemory};
-use hpr_syntax::Expr;
+use hpr_syntax::{Expr, is_large};
 use std::alloc::Global;
 
 /// For each item how many items stand around it, where the items are within the limits of programs; else
@@ -62,35 +59,5 @@ fn expr_in(content: &Content) -> &Expr
         Content::Assign(_, value) => value,
         Content::If(test) => test,
         Content::While(test) => test,
-    }
-}
-
-/// Whether an expression has more than 256 operators.
-fn is_large(expr: &Expr) -> bool
-    ensures { result ≡ is_large expr.now }
-{
-    left_after(expr, 256).is_none()
-}
-
-/// How many more operators may follow where so many may stand, if there are no more of them.
-fn left_after(expr: &Expr, most: u32) -> Option<u32>
-    ensures { result ≡ left_after most (operators (term_of expr.now)) }
-{
-    match expr {
-        Expr::Num(_) => Some(most),
-        Expr::Var(_) => Some(most),
-        Expr::Prefix(_, operand) => {
-            if most == 0 {
-                return None;
-            }
-            left_after(operand.expr(), most - 1)
-        }
-        Expr::Infix(_, left, right) => {
-            if most == 0 {
-                return None;
-            }
-            let rest = left_after(left.expr(), most - 1)?;
-            left_after(right.expr(), rest)
-        }
     }
 }

@@ -14,7 +14,6 @@ mod numbers;
 mod ordered;
 mod ranking;
 mod reached;
-mod reading;
 mod tags;
 mod tree;
 

@@ -15,9 +15,9 @@ ghost use Rattle.hpr_order.specs.declared.item.Item.{Item};
 ghost use Rattle.hpr_order.specs.Numbers.{ArePartsOf, AreRanked, AreFinals, AreItemsAt, AreItemsOf, AreAsked, ArePlaces, IsPartAt, IsItemAt, IsAskedBy, DirectsBy, slot_by};
 
 use crate::RegionTree;
-use crate::item::Item;
-use crate::reading::{read_content, read_names, read_tag};
-use hpr_graph::{Content, Graph, Link, LinkKind, Name, NoMemory, Tag, Vertex};
+use crate::item::{Item, item_of};
+use hpr_graph::{Graph, Link, LinkKind, Name, NoMemory, Vertex};
+use hpr_syntax::proper::read_names;
 use hpr_terms::names::in_order;
 use std::alloc::{AllocError, Global};
 
@@ -137,22 +137,6 @@ fn item_at(
         }
         _ => unreachable!(),
     }
-}
-
-/// The part that says this, as an item.
-fn item_of(
-    alloc: Global,
-    tag: Tag,
-    content: &Content,
-    slot: Option<(usize, bool)>,
-) -> Result<Item, NoMemory>
-    ensures item { IfOk result (λ i. i ≡ record { tag = tag; content = content.now; slot = slot }) }
-    ensures proper { IfOk result (λ i. IsProperItem i) }
-{
-    read_tag(tag);
-    read_content(content);
-    let content = content.copy(alloc)?;
-    Ok(Item { tag, content, slot })
 }
 
 /// Where a vertex stands whose control edge comes from there.

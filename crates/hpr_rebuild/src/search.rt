@@ -1,7 +1,5 @@
 //! The first arrangement that has the graph.
 ghost use Rattle.std.specs.Prelude.{◌≡◌, ◌≢◌, ◌<◌, ◌≤◌, ◌↔◌, All, IfOk, IsErrOf, IsTrue, length, take};
-ghost use Rattle.hpr_syntax.specs.Issued.{IsIssued};
-ghost use Rattle.hpr_syntax.specs.Proper.{IsProperPair};
 ghost use Rattle.hpr_graph.specs.Numbered.{graph_in};
 ghost use Rattle.hpr_graph.specs.Answer.{printed, spent, Fits, NoneFits, IsFirstFit, HasNoProgram, IsFound};
 ghost use Rattle.hpr_order.specs.Regions.{AreRegionsOf};
@@ -11,31 +9,10 @@ use crate::error::RebuildError;
 use hpr_build::{BuildError, graph_of};
 use hpr_graph::{Graph, Vertex};
 use hpr_order::{Arrangements, OrderError, RegionTree, regions};
+use hpr_syntax::proper::read_issued;
 use hpr_syntax::{Issued, Program};
 use hpr_terms::NoMemory;
 use std::alloc::Global;
-
-/// Reads a pair of issued numbers: that they are in range is known where they are read.
-fn read_pair(_author: u32, _number: u32)
-    ensures { IsProperPair (_author, _number) }
-{}
-
-/// Reads pairs of issued numbers.
-fn read_pairs(rows: &[(u32, u32)])
-    ensures { All IsProperPair rows.now }
-{
-    for row in rows {
-        read_pair(row.0, row.1);
-    }
-}
-
-/// Reads issued numbers.
-fn read_issued(issued: &Issued)
-    ensures ascending { IsIssued issued.now }
-    ensures ranges { All IsProperPair issued.now }
-{
-    read_pairs(issued.rows());
-}
 
 /// What a refusal of the control edges says of programs with the graph.
 fn error_of(error: &OrderError) -> RebuildError

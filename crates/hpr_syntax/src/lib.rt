@@ -5,7 +5,7 @@
 mod issued;
 pub mod laws;
 mod program;
-mod proper;
+pub mod proper;
 mod rows;
 mod shape;
 mod tree;
@@ -14,5 +14,5 @@ pub use hpr_terms::{Binary, Expr, Literal, Name, NameError, NoMemory, Operand, T
 pub use issued::Issued;
 pub use program::Program;
 pub use rows::{Content, Row, content_of, has_content, same_content};
-pub use shape::ShapeError;
+pub use shape::{ShapeError, is_large};
 pub use tree::{Block, Stmt, defines, expr_of, uses};

@@ -1,4 +1,4 @@
-//! What a block, issued numbers and names that are at hand are known to be.
+//! What a block, an expression, issued numbers and names that are at hand are known to be.
 //!
 //! A contract sees a name as its bytes and a number as a number. That the bytes are a name, and the
 //! number in range, is known where a name or a number is read: so these walks read them, and do no more.
@@ -7,6 +7,7 @@ ghost use Rattle.hpr_terms.specs.Names.{IsName};
 ghost use Rattle.hpr_terms.specs.TermOf.{term_of};
 ghost use Rattle.hpr_syntax.specs.Body.{done};
 ghost use Rattle.hpr_syntax.specs.BodyOf.{before};
+ghost use Rattle.hpr_syntax.specs.Issued.{IsIssued};
 ghost use Rattle.hpr_syntax.specs.Proper.{IsProperTerm, IsProperTag, IsProperBody, IsProperPair, IsProper};
 
 use crate::issued::Issued;
@@ -14,7 +15,7 @@ use crate::tree::{Block, Stmt};
 use hpr_terms::{Expr, Name, Tag};
 
 /// Reads an expression.
-fn read_expr(expr: &Expr)
+pub fn read_expr(expr: &Expr)
     ensures { IsProperTerm (term_of expr.now) }
 {
     match expr {
@@ -35,7 +36,7 @@ fn read_expr(expr: &Expr)
 }
 
 /// Reads a tag.
-fn read_tag(_tag: Tag)
+pub fn read_tag(_tag: Tag)
     ensures { IsProperTag _tag }
 {}
 
@@ -86,8 +87,16 @@ fn read_pairs(rows: &[(u32, u32)])
     }
 }
 
+/// Reads issued numbers.
+pub fn read_issued(issued: &Issued)
+    ensures ascending { IsIssued issued.now }
+    ensures numbers { All IsProperPair issued.now }
+{
+    read_pairs(issued.rows());
+}
+
 /// Reads names.
-fn read_names(names: &[Name])
+pub fn read_names(names: &[Name])
     ensures { All IsName names.now }
 {
     for name in names {
@@ -99,7 +108,7 @@ fn read_names(names: &[Name])
 pub(crate) fn read_tree(issued: &Issued, body: &Block, finals: &[Name])
     ensures { IsProper (record { issued = issued.now; body = body.now; finals = finals.now }) }
 {
-    read_pairs(issued.rows());
+    read_issued(issued);
     read_block(body);
     read_names(finals);
 }

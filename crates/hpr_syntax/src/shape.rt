@@ -168,7 +168,7 @@ fn large_in(stmt: &Stmt) -> Option<Tag>
 }
 
 /// Whether an expression has more than 256 operators.
-fn is_large(expr: &Expr) -> bool
+pub fn is_large(expr: &Expr) -> bool
     ensures { result ≡ is_large expr.now }
 {
     left_after(expr, 256).is_none()
