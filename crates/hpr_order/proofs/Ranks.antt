@@ -5,7 +5,7 @@ use Rattle.std.proofs.lemmas.List.{append-nil, map-append, take_more}
 use Rattle.std.specs.Option.{is_some, option_copied}
 use Rattle.std.specs.Slice.{IsItemAt}
 use Rattle.std.proofs.lemmas.Bool.{ltb-true, ltb-false}
-use Rattle.std.proofs.lemmas.Option.{slice_get-get_or, slice_get_past}
+use Rattle.std.proofs.lemmas.Option.{slice_get-get_or, slice_get_past, slice_get_within, get_or_from_slice_get}
 use Rattle.hpr_terms.specs.declared.tag.Tag.{Tag}
 use Rattle.hpr_syntax.specs.declared.rows.Row.{Row}
 use Rattle.hpr_syntax.specs.Body.{Body, done, assign, branch, loop}
@@ -169,6 +169,12 @@ part_more rows i row lt is =
 none_is : (o : Option ℕ) (b : Bool) → b ≡ is_some o → b ≡ false → IsNone o
 none_is None b e f = refl
 none_is (Some n) b e f = let both : true ≡ false = sym e ∙ f in absurd cc
+
+-- a vertex that is listed stays where it is
+pub put_listed : (v : Vertex) (next : Option Vertex) (xs ys : List Vertex) (o : Option ℕ) (b : Bool) → IfSome o (λ n. slice_get ys n ≡ Some v) → ys ≡ xs → b ≡ is_some o → b ≡ true → IsPutIn v next xs xs
+put_listed v next xs ys None b found same is listed = let both : false ≡ true = sym is ∙ listed in absurd cc
+put_listed v next xs ys (Some n) b found same is listed =
+    inl ((n, slice_get_within xs n v (ap (λ (l : List Vertex). slice_get l n) (sym same) ∙ found), get_or_from_slice_get xs n v v (ap (λ (l : List Vertex). slice_get l n) (sym same) ∙ found)), refl)
 
 -- a copy of a vertex that isn't listed, put in
 pub put_copy : (v copy : Vertex) (next : Option Vertex) (xs ys : List Vertex) (at : ℕ) (o : Option ℕ) (b : Bool) → IsNone o ↔ (¬ Contains xs v) → b ≡ is_some o → b ≡ false
