@@ -21,9 +21,6 @@ use Rattle.hpr_order.specs.Building.{AreBlocks, IsFree, row_at, body_at}
 use Rattle.hpr_order.specs.Items.{block_at, said, same_slot, with_part}
 use Rattle.hpr_order.proofs.ReadBack.{first_second, same_slot_true, same_itself}
 
-pub none_begun : (items : List Item) (p : Pending) (order : List ℕ) → ((v : Slot) → row_at p v ≡ []) → order ≡ [] → AreBlocks items order p
-none_begun items p order none is v slot free = ap (λ z. body_of (reverse z)) (none v) ∙ ap (λ z. block_at items z v) (sym is)
-
 reversed : (xs : List Stmt) (s : Stmt) → reverse (xs ++ s ∷ []) ≡ s ∷ reverse xs
 reversed xs s = reverse-append xs (s ∷ [])
 

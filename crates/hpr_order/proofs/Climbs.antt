@@ -1,5 +1,5 @@
 -- Going up from items to those under which they stand.
-use Rattle.std.proofs.Common.{◌≡◌, ℕ, ◌+◌, ◌<◌, ◌⊎◌, inl, inr, Bool, Some, None, List, [], ◌∷◌, ◌++◌, length, refl, sym, ap, subst}
+use Rattle.std.proofs.Common.{◌≡◌, ℕ, ◌+◌, ◌<◌, ◌⊎◌, inl, inr, Bool, Some, None, List, [], ◌∷◌, ◌++◌, length, sym, ap, subst}
 use Rattle.hpr_forest.specs.Trees.{Slot, above}
 use Rattle.hpr_order.specs.declared.item.Item.{Item}
 use Rattle.hpr_order.specs.Items.{AreSlots, slot_at}
@@ -15,12 +15,6 @@ module _ (items : List Item) where
 
   pub up_level : (levels : List ℕ) → AreLevels items levels → (k p : ℕ) → k < length items → parent_in items k ≡ Some p → level_of levels k ≡ level_of levels p + 1
   up_level levels are k p lt e = subst (LevelUnder levels (level_of levels k)) e (are.under k lt)
-
-  pub top_level : (levels : List ℕ) → AreLevels items levels → (k : ℕ) → k < length items → parent_in items k ≡ None → level_of levels k ≡ 0
-  top_level levels are k lt e = subst (LevelUnder levels (level_of levels k)) e (are.under k lt)
-
-  pub under_itself : (k : ℕ) → IsUnder items k k
-  under_itself k = ([], refl)
 
   pub up_under : (at p k : ℕ) → parent_in items at ≡ Some p → IsUnder items at k → IsUnder items p k
   up_under at p k e (via, h) = (at ∷ via, (e, h))

@@ -6,7 +6,7 @@ use Rattle.hpr_graph.specs.declared.link.Link.{Link}
 use Rattle.hpr_graph.specs.Graphs.{IsOnce}
 use Rattle.hpr_order.specs.Regions.{control_link}
 use Rattle.hpr_order.specs.Controls.{IsOnlyControl, label_of}
-use Rattle.hpr_graph.proofs.Lists.{some_inj, in_none}
+use Rattle.hpr_graph.proofs.Lists.{some_inj}
 use Rattle.hpr_order.proofs.Lists.{taken_item, not_before}
 use Rattle.hpr_order.proofs.Rows.{control_of, label_is, get_or_same}
 
@@ -14,9 +14,6 @@ use Rattle.hpr_order.proofs.Rows.{control_of, label_is, get_or_same}
 abbrev pub IsOnlyIn : List Link → Option (ℕ × Bool) → Type 0
 IsOnlyIn row None = (from : ℕ) (label : Bool) → ¬ Contains row (control_link from label)
 IsOnlyIn row (Some (from, label)) = IsOnlyControl row from label
-
-pub only_none : (row : List Link) → IsOnlyIn (take 0 row) None
-only_none row from label h = in_none (control_link from label) h
 
 from_inj : (f f' : ℕ) (l l' : Bool) → control_link f l ≡ control_link f' l' → (f' ≡ f) × (l' ≡ l)
 from_inj f f' l l' e = (sym (ap (λ (x : Link). x.from) e), sym (some_inj l l' (ap (λ (x : Link). label_of x.kind) e)))

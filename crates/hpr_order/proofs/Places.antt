@@ -1,5 +1,5 @@
 -- Which vertices have a place in the tree of control edges.
-use Rattle.std.proofs.Common.{◌≡◌, ◌≢◌, ℕ, ◌+◌, ◌<◌, ◌≤◌, ◌↔◌, ◌⊎◌, inl, inr, Bor, Bool, Option, Some, None, IsNone, IsTrue, IfSome, List, [], ◌∷◌, ◌++◌, length, take, Contains, slice_get, refl, sym, ap, ◌∙◌, subst}
+use Rattle.std.proofs.Common.{◌≡◌, ◌≢◌, ℕ, ◌+◌, ◌<◌, ◌≤◌, ◌↔◌, ◌⊎◌, inl, inr, Bor, Bool, Option, Some, None, IsNone, IsTrue, IfSome, List, length, take, Contains, slice_get, refl, sym, ap, ◌∙◌, subst}
 use Rattle.std.specs.Option.{option_copied}
 use Rattle.std.proofs.lemmas.List.{take_all}
 use Rattle.hpr_search.specs.Marks.{IsMarked}
@@ -13,7 +13,7 @@ use Rattle.hpr_graph.specs.Order.{tag_cmp, vertex_cmp}
 use Rattle.hpr_order.specs.Regions.{Allows, Controls, HasOneControl, IsUnderEntry, IsPossible, AllPossible, IsImpossible, HasTwoContents, IsRegionAt, control_link}
 use Rattle.hpr_order.specs.Controls.{IsOnlyControl, AreReached}
 use Rattle.hpr_order.specs.Least.{HasTwoIn, IsLeastIn, lesser}
-use Rattle.hpr_graph.proofs.Lists.{some_inj, at_push, contains_at}
+use Rattle.hpr_graph.proofs.Lists.{some_inj, contains_at}
 use Rattle.hpr_graph.proofs.VertexOrder.{vertex_total}
 use Rattle.hpr_order.proofs.Lists.{taken_at}
 use Rattle.hpr_order.proofs.Leasts.{least_same, lesser_least}
@@ -134,19 +134,6 @@ module _ (g : Numbered) (i : ℕ) (o : Option Vertex) (l : length g.vertices ≤
 
   pub clear_whole : IsNone o → AllPossible (graph_in g)
   clear_whole none v there ne = h.clear none v (subst (λ (vs : List Vertex). Contains vs v) (sym all_taken) there) ne
-
--- one more place
-pub regions_more : (g : Numbered) (rs : List (Option (ℕ × Bool))) (r : Option (ℕ × Bool)) (n : ℕ) → length rs ≡ n
-    → ((at : ℕ) (v : Vertex) (p : Option (ℕ × Bool)) → slice_get g.vertices at ≡ Some v → slice_get rs at ≡ Some p → IsRegionAt g at v p)
-    → ((v : Vertex) → slice_get g.vertices n ≡ Some v → IsRegionAt g n v r)
-    → (at : ℕ) (v : Vertex) (p : Option (ℕ × Bool)) → slice_get g.vertices at ≡ Some v → slice_get (rs ++ r ∷ []) at ≡ Some p → IsRegionAt g at v p
-regions_more g rs r n len before here at v p is_v is_p = elim (at_push rs r at p is_p) [
-  | inl was ↦ before at v p is_v was
-  | inr (e, same) ↦
-      (let there : at ≡ n = e ∙ len in
-      subst (λ (m : ℕ). IsRegionAt g m v p) (sym there)
-      (subst (λ (q : Option (ℕ × Bool)). IsRegionAt g n v q) same (here v (subst (λ (m : ℕ). slice_get g.vertices m ≡ Some v) there is_v))))
-]
 
 -- the row of a vertex
 pub row_is : (g : Numbered) (at : ℕ) (row : List Link) → slice_get g.links at ≡ Some row → row ≡ row_of g at

@@ -1,5 +1,5 @@
 -- Rows of numbers that grow.
-use Rattle.std.proofs.Common.{◌≡◌, ℕ, zero, suc, ◌+◌, ◌<◌, ◌≤◌, ◌↔◌, ◌⊎◌, inl, inr, Bool, Option, Some, None, List, [], ◌∷◌, ◌++◌, Vec, Global, All, length, set, take, get_or, Contains, refl, sym, ap, ◌∙◌, subst, arith}
+use Rattle.std.proofs.Common.{◌≡◌, ℕ, zero, suc, ◌+◌, ◌<◌, ◌≤◌, ◌↔◌, ◌⊎◌, inl, inr, Bool, Option, Some, List, [], ◌∷◌, ◌++◌, Vec, Global, All, length, set, take, get_or, Contains, refl, sym, ap, ◌∙◌, subst, arith}
 use Rattle.std.proofs.lemmas.Bool.{cases_eq, cases_lt}
 use Rattle.std.proofs.lemmas.Option.{slice_get_within, slice_get_past}
 use Rattle.std.proofs.lemmas.List.{get_or-set_same, get_or-set_other, length-map, take_all}
@@ -71,9 +71,6 @@ push_at_row rows at number row row' l is is' =
 pub control_none : (from : ℕ) → ¬ HasControl [] from
 control_none from (label, there) = in_none (control_link from label) there
 
-pub pushed_none : (rows : List (List ℕ)) (links : List Link) (n : ℕ) → IsPushedBy rows (take 0 links) n rows
-pushed_none rows links n from to = (λ h. inl h, λ h. elim h [ inl was ↦ was | inr (has, is) ↦ absurd (control_none from has) ])
-
 -- the control edge of a link
 pub control_of : (l : Link) (from : ℕ) (label : Bool) → l.kind ≡ Control label → l.from ≡ from → l ≡ control_link from label
 control_of l from label kind is = λ i. record { from = is i; kind = kind i }
@@ -97,18 +94,6 @@ pushed_one old new l n label kind more from to = (
   λ h. elim h [
     | inl o ↦ (more from to).1 (inl o)
     | inr (has, e) ↦ (let (mark, same) = (one_control l from).0 has in (more from to).1 (inr (sym (ap (λ (x : Link). x.from) same), e)))
-  ],
-)
-
-pub pushed_skip : (old : List (List ℕ)) (l : Link) (n : ℕ) → label_of l.kind ≡ None → IsPushedBy old (l ∷ []) n old
-pushed_skip old l n other from to = (
-  λ h. inl h,
-  λ h. elim h [
-    | inl o ↦ o
-    | inr (has, e) ↦ (let (mark, same) = (one_control l from).0 has in
-        let is : label_of l.kind ≡ Some mark = ap (λ (x : Link). label_of x.kind) same in
-        let never : None ≡ Some mark = sym other ∙ is in
-        absurd cc)
   ],
 )
 

@@ -53,9 +53,6 @@ pub tag_is : (items : List Item) (k : ℕ) (t : Tag) (c : Content) → IsItem it
 tag_is items k t c (i, a, it, ic) = ap tag_in a ∙ it
 
 module _ (items : List Item) where
-  row_part : Row → Vertex
-  row_part row = Part row.tag row.content
-
   -- only the rest has items
   only_rest : {Y : Type 0} (f : ℕ → Y) (y n r : Tree) → IsBlockOf items y done → IsBlockOf items n done → map f (preorder r) ≡ map f (preorder y ++ (preorder n ++ preorder r))
   only_rest f y n r a b = ap (λ z. map f (z ++ preorder r)) (sym (none_of items n b)) ∙ ap (λ z. map f (z ++ (preorder n ++ preorder r))) (sym (none_of items y a))
@@ -169,9 +166,6 @@ module _ (items : List Item) where
   none_or : {X : Type 0} (a b : Option X) → a ≡ None → b ≡ None → option_or a b ≡ None
   none_or None b x y = y
   none_or (Some z) b x y = absurd cc
-
-  AreSmall : Type 0
-  AreSmall = (k : ℕ) (t : Tag) (c : Content) → IsItem items k t c → is_large (expr_in c) ≡ false
 
   pub small_in : (t : Tree) (b : Body) → ((k : ℕ) (u : Tag) (c : Content) → IsItem items k u c → is_large (expr_in c) ≡ false) → IsBlockOf items t b → first_large b ≡ None
   small_in empty done all h = refl

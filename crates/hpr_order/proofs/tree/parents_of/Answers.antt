@@ -1,4 +1,4 @@
-use Rattle.std.proofs.Common.{◌≡◌, ℕ, Some, inl, inr, length, slice_get, sym, ap, subst, ◌∙◌, arith, rules}
+use Rattle.std.proofs.Common.{◌≡◌, Some, inl, inr, length, slice_get, sym, ap, subst, ◌∙◌, arith, rules}
 use Rattle.hpr_order.specs.Regions.{IsRegionAt}
 use Rattle.hpr_order.proofs.ListFacts.{push_cases}
 use Rattle.hpr_order.proofs.tree.parents_of.Goals as goal
