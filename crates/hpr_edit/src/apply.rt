@@ -309,6 +309,18 @@ fn settle(alloc: Global, program: &Program, body: Block) -> Result<Program, Edit
     ensures { Settles (record program.now { body = body }) result }
 {
     let issued = program.issued().copy(alloc)?;
+    settle_issued(alloc, program, issued, body)
+}
+
+/// The program with other issued numbers and another body.
+fn settle_issued(
+    alloc: Global,
+    program: &Program,
+    issued: Issued,
+    body: Block,
+) -> Result<Program, EditError>
+    ensures { Settles (record { issued = issued; body = body; finals = program.now.finals }) result }
+{
     let finals = copy_names(alloc, program.finals())?;
     settled(alloc, issued, body, finals)
 }
@@ -328,10 +340,18 @@ fn settle_new(alloc: Global, program: &Program, body: Block, new: Tag) -> Result
     requires { 1 ≤ new.serial }
     ensures { Settles (record { issued = raised new.author new.serial program.now.issued; body = body; finals = program.now.finals }) result }
 {
+    let issued = issued_with(alloc, program, new)?;
+    settle_issued(alloc, program, issued, body)
+}
+
+/// The issued numbers of the program and of this tag.
+fn issued_with(alloc: Global, program: &Program, new: Tag) -> Result<Issued, NoMemory>
+    requires { 1 ≤ new.serial }
+    ensures { IfOk result (λ i. i ≡ raised new.author new.serial program.now.issued) }
+{
     let mut issued = program.issued().copy(alloc)?;
     issued.raise(new.author, new.serial)?;
-    let finals = copy_names(alloc, program.finals())?;
-    settled(alloc, issued, body, finals)
+    Ok(issued)
 }
 
 /// The program of these three, if it is one.

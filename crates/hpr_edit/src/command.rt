@@ -2,7 +2,7 @@
 //!
 //! Commands change a tree, and the editor keeps the tags: Horwitz, Prins and Reps 1989 suppose such an
 //! editor, and leave its commands open.
-ghost use Rattle.std.specs.Prelude.{◌≡◌};
+ghost use Rattle.std.specs.Prelude.{◌≡◌, [], ◌∷◌, ◌++◌, OnOk};
 ghost use Rattle.std.proofs.Common.{rules, ◌==◌};
 ghost use Rattle.std.specs.Cmp.Rules.{comparing};
 ghost use Rattle.std.specs.Cmp.Lexicographic.{pointwise};
@@ -48,6 +48,14 @@ impl FinalNames {
         ensures { result.now ≡ self.now }
     {
         &self.names
+    }
+
+    /// One more name, behind these.
+    pub fn push(&mut self, name: Name) -> Result<(), NoMemory>
+        ensures { OnOk result (self.new ≡ self.old ++ (name ∷ [])) }
+    {
+        self.names.push(name)?;
+        Ok(())
     }
 
     /// The names, given back.

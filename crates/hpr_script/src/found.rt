@@ -1,5 +1,5 @@
 //! What was read so far.
-ghost use Rattle.std.specs.Prelude.{◌≡◌, [], ◌∷◌, ◌++◌, IfOk};
+ghost use Rattle.std.specs.Prelude.{◌≡◌, [], ◌∷◌, ◌++◌, IfOk, OnOk};
 ghost use Rattle.hpr_script.specs.Machine as machine;
 
 use crate::stage::{Holder, Plain};
@@ -8,6 +8,7 @@ use hpr_syntax::Content;
 use hpr_terms::{Name, NoMemory};
 use std::alloc::Global;
 use std::marker::Model;
+use std::mem;
 
 /// Commands in their order. A contract sees their list.
 #[derive(Drop)]
@@ -37,12 +38,11 @@ impl Commands {
         }
     }
 
-    fn with(self, command: Command) -> Result<Commands, NoMemory>
-        ensures { IfOk result (λ c. c ≡ self ++ (command ∷ [])) }
+    fn push(&mut self, command: Command) -> Result<(), NoMemory>
+        ensures { OnOk result (self.new ≡ self.old ++ (command ∷ [])) }
     {
-        let Commands { mut commands } = self;
-        commands.push(command)?;
-        Ok(Commands { commands })
+        self.commands.push(command)?;
+        Ok(())
     }
 
     fn into_vec(self) -> Vec<Command>
@@ -109,11 +109,9 @@ impl Found {
     fn with_command(self, command: Command) -> Result<Found, NoMemory>
         ensures { IfOk result (λ f. f ≡ machine.with_command command self) }
     {
-        let Found { commands, names } = self;
-        Ok(Found {
-            commands: commands.with(command)?,
-            names,
-        })
+        let mut found = self;
+        found.commands.push(command)?;
+        Ok(found)
     }
 
     /// A command with this content was read.
@@ -126,11 +124,10 @@ impl Found {
     fn with_finals(self, alloc: Global) -> Result<Found, NoMemory>
         ensures { IfOk result (λ f. f ≡ machine.with_finals self) }
     {
-        let Found { commands, names } = self;
-        Ok(Found {
-            commands: commands.with(Command::Finals(names))?,
-            names: no_names(alloc),
-        })
+        let mut found = self;
+        let names = mem::replace(&mut found.names, no_names(alloc));
+        found.commands.push(Command::Finals(names))?;
+        Ok(found)
     }
 
     /// A command without a content was read.
@@ -149,23 +146,17 @@ impl Found {
     pub fn without_names(self, alloc: Global) -> Found
         ensures { result ≡ machine.without_names self }
     {
-        let Found { commands, names: _ } = self;
-        Found {
-            commands,
-            names: no_names(alloc),
-        }
+        let mut found = self;
+        found.names = no_names(alloc);
+        found
     }
 
     /// One more name of `finals` was read.
     pub fn with_name(self, name: Name) -> Result<Found, NoMemory>
         ensures { IfOk result (λ f. f ≡ machine.with_name name self) }
     {
-        let Found { commands, names } = self;
-        let mut names = names.into_names();
-        names.push(name)?;
-        Ok(Found {
-            commands,
-            names: FinalNames::new(names),
-        })
+        let mut found = self;
+        found.names.push(name)?;
+        Ok(found)
     }
 }

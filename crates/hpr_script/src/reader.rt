@@ -21,7 +21,7 @@ use hpr_text::{TextError, read_content};
 use std::alloc::Global;
 
 /// Why bytes are not read as a script.
-#[derive(Clone, Copy, Debug, PartialEq, Eq)]
+#[derive(Clone, Copy)]
 pub enum ScriptError {
     /// The bytes spell no script. Their longest front that some further bytes complete to a script
     /// has this many bytes.
