@@ -9,8 +9,8 @@ use Rattle.hpr_syntax.specs.declared.rows.Content.{Content}
 use Rattle.hpr_syntax.specs.Issued.{Issued}
 use Rattle.hpr_syntax.specs.Nests.{Standing, StandsAsIn}
 use Rattle.hpr_syntax.specs.Tree.{Tree}
-use Rattle.hpr_skeleton.proofs.Different.{distinct_program}
-use Rattle.hpr_skeleton.proofs.Says.{standing_one}
+use Rattle.hpr_paths.proofs.Different.{distinct_program}
+use Rattle.hpr_paths.proofs.Says.{standing_one}
 use Rattle.hpr_graph.specs.declared.vertex.Vertex.{Vertex}
 use Rattle.hpr_graph.specs.declared.vertex.Vertex.TheVariants.{Entry, Part}
 use Rattle.hpr_graph.specs.Arrangements.{IsArrangement, IsEarlier, AreArrangements}

@@ -16,8 +16,8 @@ use Rattle.hpr_graph.specs.Points.{IsInit, IsShared, IsAffected, IsPreserved, me
 use Rattle.hpr_graph.specs.ProgramGraph.{Reads, IsEdgeBy, IsIndependent, graph_of}
 use Rattle.hpr_graph.specs.Slices.{Leads, ReachesOne, slice_of, slice_at}
 use Rattle.hpr_graph.proofs.Laws.{same_itself, same_turned, same_from_within, within_from_same, within_then, reaches_within, vertices_map}
-use Rattle.hpr_skeleton.proofs.DirectWays.{encloses_in}
-use Rattle.hpr_skeleton.proofs.Programs.{enter_outside}
+use Rattle.hpr_paths.proofs.DirectWays.{encloses_in}
+use Rattle.hpr_paths.proofs.Programs.{enter_outside}
 use Rattle.hpr_merge.specs.Loops.{HasLoops}
 use Rattle.hpr_merge.proofs.EdgeStands.{edge_inside}
 use Rattle.hpr_merge.proofs.Bounded.{all_of}

@@ -7,10 +7,10 @@ use Rattle.hpr_syntax.specs.declared.rows.Content.TheVariants.{Assign, If, While
 use Rattle.hpr_syntax.specs.Body.{Body, done, assign, branch, loop}
 use Rattle.hpr_syntax.specs.Skeleton.{at, StandsIn, Distinct, skeleton}
 use Rattle.hpr_syntax.specs.Nests.{Standing, StandsAs, StandsAsIn}
-use Rattle.hpr_skeleton.specs.Times.{Place}
-use Rattle.hpr_skeleton.proofs.PlacesUnder.{IsPlaceUnder}
+use Rattle.hpr_paths.specs.Times.{Place}
+use Rattle.hpr_paths.proofs.PlacesUnder.{IsPlaceUnder}
 use Rattle.hpr_meaning.proofs.CommonLoops.{BeginsWith, nest_begins}
-use Rattle.hpr_skeleton.proofs.Says.{standing_one}
+use Rattle.hpr_paths.proofs.Says.{standing_one}
 use Rattle.hpr_syntax.specs.Rows.{Parent}
 
 abbrev pub own_nest : Content → Tag → List Tag → List Tag

@@ -6,9 +6,9 @@ use Rattle.hpr_syntax.specs.Body.{Body, done, assign, branch, loop}
 use Rattle.hpr_syntax.specs.Skeleton.{Skeleton, round, at, StandsIn, Distinct, skeleton}
 use Rattle.hpr_syntax.specs.Nests.{Standing, StandsAs}
 use Rattle.hpr_meaning.specs.OrderLaw.{common_loops}
-use Rattle.hpr_skeleton.proofs.Different.{same_tag-itself}
-use Rattle.hpr_skeleton.proofs.Says.{standing_in}
-use Rattle.hpr_skeleton.proofs.TimeOrder.{HaveCommon}
+use Rattle.hpr_paths.proofs.Different.{same_tag-itself}
+use Rattle.hpr_paths.proofs.Says.{standing_in}
+use Rattle.hpr_paths.proofs.TimeOrder.{HaveCommon}
 use Rattle.hpr_syntax.specs.Rows.{Parent}
 
 -- the nest of a part of a block is the block's, and then, if there is more, a loop of the kind I

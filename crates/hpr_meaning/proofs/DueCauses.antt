@@ -6,12 +6,12 @@ use Rattle.hpr_syntax.specs.declared.rows.Content.TheVariants.{While}
 use Rattle.hpr_syntax.specs.Body.{Body, done, assign, branch, loop}
 use Rattle.hpr_syntax.specs.Skeleton.{Skeleton, act, fork, round, at, StandsIn, Distinct, skeleton}
 use Rattle.hpr_syntax.specs.Nests.{Standing, StandsAs}
-use Rattle.hpr_skeleton.specs.Times.{Place}
+use Rattle.hpr_paths.specs.Times.{Place}
 use Rattle.hpr_meaning.specs.Due.{IsLoop, first_turns, Calls}
-use Rattle.hpr_skeleton.proofs.Causes.{IsFirstOnTop, IsCalledBy}
+use Rattle.hpr_paths.proofs.Causes.{IsFirstOnTop, IsCalledBy}
 use Rattle.hpr_syntax.specs.Rows.{Parent}
-use Rattle.hpr_skeleton.proofs.PlacesUnder.{IsPlaceUnder, place_stands, same_part, same_turns, place_of, place_after_act, place_at_fork, place_in_yes, place_in_no, place_after_fork, place_at_round, place_in_body, place_after_round}
-use Rattle.hpr_skeleton.proofs.Says.{standing_in}
+use Rattle.hpr_paths.proofs.PlacesUnder.{IsPlaceUnder, place_stands, same_part, same_turns, place_of, place_after_act, place_at_fork, place_in_yes, place_in_no, place_after_fork, place_at_round, place_in_body, place_after_round}
+use Rattle.hpr_paths.proofs.Says.{standing_in}
 
 -- from the structure to the standing
 abbrev pub StandsFirst : List Tag → Parent → Body → List ℕ → Place → Type 0

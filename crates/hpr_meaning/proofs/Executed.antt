@@ -1,5 +1,5 @@
 -- The course of a run is an execution of its skeleton, with its log, the place where it stopped, and how many steps it took.
-use Rattle.hpr_skeleton.specs.Runs as runs
+use Rattle.hpr_paths.specs.Runs as runs
 use Rattle.std.proofs.Common.{◌≡◌, ℕ, zero, suc, ◌+◌, ◌<◌, ◌≤◌, ℤ, Bool, true, false, List, [], ◌∷◌, ◌++◌, Option, Some, None, length, refl, inl, inr, arith, if◌then◌else◌, Ok, Err}
 use Rattle.hpr_terms.specs.declared.tag.Tag.{Tag}
 use Rattle.hpr_terms.specs.declared.expr.Expr.{Expr}
@@ -10,11 +10,11 @@ use Rattle.hpr_syntax.specs.Value.{Fault, Answer, value, is_true}
 use Rattle.hpr_syntax.specs.Values.{Values}
 use Rattle.hpr_syntax.specs.Skeleton.{Skeleton, act, fork, round, skeleton}
 use Rattle.hpr_syntax.specs.Nests.{Says}
-use Rattle.hpr_skeleton.specs.Times.{Place}
+use Rattle.hpr_paths.specs.Times.{Place}
 use Rattle.hpr_meaning.specs.Instances.{Did, Instance, truth, reads_of, state_after, logged, Course, goes, stops, step_at, then_go, turns_from, trace}
 use Rattle.hpr_syntax.specs.Rows.{expr_in}
-use Rattle.hpr_skeleton.specs.Runs.{Execution}
-use Rattle.hpr_skeleton.proofs.Listed.{where_stopped}
+use Rattle.hpr_paths.specs.Runs.{Execution}
+use Rattle.hpr_paths.proofs.Listed.{where_stopped}
 
 module _ (p : Body) (s : Values) where
   -- what a part does after a log

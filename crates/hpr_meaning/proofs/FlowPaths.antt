@@ -12,10 +12,10 @@ use Rattle.hpr_syntax.specs.Paths.{Path, DefinesAt}
 use Rattle.hpr_syntax.specs.Nests.{Says}
 use Rattle.hpr_graph.specs.declared.vertex.Vertex.{Vertex}
 use Rattle.hpr_graph.specs.ProgramGraph.{HasFlow, Defines, Reads}
-use Rattle.hpr_skeleton.proofs.Among.{Among, here, there, among_cons, among_none, contains_among}
-use Rattle.hpr_skeleton.proofs.Tags.{tag_discrete}
-use Rattle.hpr_skeleton.proofs.Ahead.{stands_in?}
-use Rattle.hpr_skeleton.proofs.Programs.{at_end, avoids_common, path_outside}
+use Rattle.hpr_paths.proofs.Among.{Among, here, there, among_cons, among_none, contains_among}
+use Rattle.hpr_paths.proofs.SkeletonTags.{tag_discrete}
+use Rattle.hpr_paths.proofs.Ahead.{stands_in?}
+use Rattle.hpr_paths.proofs.Programs.{at_end, avoids_common, path_outside}
 use Rattle.hpr_graph.specs.declared.vertex.Vertex.TheVariants.{Part}
 
 three? : {A B C : Type 0} → Dec A → Dec B → Dec C → Dec (A × B × C)

@@ -14,11 +14,11 @@ use Rattle.hpr_syntax.specs.Paths.{Path, DefinesAt, IsUndisturbed}
 use Rattle.hpr_graph.specs.declared.vertex.Vertex.{Vertex}
 use Rattle.hpr_graph.specs.declared.vertex.Vertex.TheVariants.{Part}
 use Rattle.hpr_graph.specs.ProgramGraph.{AvoidsCommon, IsIndependent, HasFlow}
-use Rattle.hpr_skeleton.proofs.Tags.{same_at}
-use Rattle.hpr_skeleton.proofs.Says.{says_one}
-use Rattle.hpr_skeleton.proofs.DirectWays.{DirectWay}
-use Rattle.hpr_skeleton.proofs.ByEdges.{HasPath}
-use Rattle.hpr_skeleton.proofs.Programs.{at_end, part_not_enter, path_inside, path_outside, none_encloses, avoids_common}
+use Rattle.hpr_paths.proofs.SkeletonTags.{same_at}
+use Rattle.hpr_paths.proofs.Says.{says_one}
+use Rattle.hpr_paths.proofs.DirectWays.{DirectWay}
+use Rattle.hpr_paths.proofs.ByEdges.{HasPath}
+use Rattle.hpr_paths.proofs.Programs.{at_end, part_not_enter, path_inside, path_outside, none_encloses, avoids_common}
 
 pub defines_part : (p : Body) (x : List ℕ) (t : Tag) (c : Content) → assigned c ≡ Some x → Says p t c → DefinesAt p x (at t)
 defines_part p x t (Assign y e) is h = let same : y ≡ x = cc in (t, e, refl, subst (λ z. Says p t (Assign z e)) same h)

@@ -11,15 +11,15 @@ use Rattle.hpr_syntax.specs.declared.rows.Content.{Content}
 use Rattle.hpr_syntax.specs.Values.{Values, value_at}
 use Rattle.hpr_syntax.specs.Skeleton.{Point, at}
 use Rattle.hpr_syntax.specs.Paths.{Path, one, step}
-use Rattle.hpr_skeleton.specs.Times.{Place}
+use Rattle.hpr_paths.specs.Times.{Place}
 use Rattle.hpr_meaning.specs.Instances.{Did, Instance, with_value, with_definer, state_after, definer}
 use Rattle.hpr_syntax.specs.Rows.{assigned}
 use mathlib.Core.List.{reverse_aux}
-use Rattle.hpr_skeleton.proofs.Among.{Among, here, there}
+use Rattle.hpr_paths.proofs.Among.{Among, here, there}
 use Rattle.std.specs.List.{AllByRecursion}
-use Rattle.hpr_skeleton.specs.Runs.{Ascending}
-use Rattle.hpr_skeleton.proofs.Walks.{WalksAlong}
-use Rattle.hpr_skeleton.proofs.Logs.{places_of, stop_if, IsLawful}
+use Rattle.hpr_paths.specs.Runs.{Ascending}
+use Rattle.hpr_paths.proofs.Walks.{WalksAlong}
+use Rattle.hpr_paths.proofs.Logs.{places_of, stop_if, IsLawful}
 use Rattle.hpr_graph.specs.Order.{name_cmp}
 
 -- a place with what the part there says

@@ -3,7 +3,7 @@ use Rattle.std.proofs.Common.{◌≡◌, ℕ, ◌+◌, ℤ, Bool, true, false, L
 use Rattle.std.specs.Ordering.{int_eq}
 use Rattle.std.specs.Cmp.{signed_Decides}
 use Rattle.hpr_meaning.proofs.Items.{names_discrete}
-use Rattle.hpr_skeleton.proofs.Among.{Among, here, there, among_cons, among_none, among_contains, contains_among}
+use Rattle.hpr_paths.proofs.Among.{Among, here, there, among_cons, among_none, among_contains, contains_among}
 use Rattle.hpr_syntax.specs.Tree.{Tree}
 use Rattle.hpr_syntax.specs.Shape.{IsProgram}
 use Rattle.hpr_syntax.specs.Values.{Values}
@@ -24,7 +24,7 @@ use Rattle.hpr_meaning.proofs.MergedEnd.{merged_ends}
 use Rattle.hpr_graph.specs.declared.conflict.Side.TheVariants.{A, B}
 use Rattle.hpr_meaning.specs.UnionLaw.{KeepsSides}
 use Rattle.hpr_meaning.proofs.Unions.{keeps_preserved}
-use Rattle.hpr_skeleton.proofs.Different.{distinct_program}
+use Rattle.hpr_paths.proofs.Different.{distinct_program}
 use Rattle.hpr_meaning.proofs.RunRecords.{known}
 
 int? : (v w : ℤ) → Dec (v ≡ w)

@@ -11,7 +11,7 @@ use Rattle.hpr_syntax.specs.Run.{Outcome, ends, faults, more, run, outcome, Fina
 use Rattle.hpr_syntax.specs.Values.{Values}
 use Rattle.hpr_syntax.specs.Skeleton.{Distinct, skeleton}
 use Rattle.hpr_syntax.specs.Nests.{Says}
-use Rattle.hpr_skeleton.specs.Times.{Place, IsBefore}
+use Rattle.hpr_paths.specs.Times.{Place, IsBefore}
 use Rattle.hpr_meaning.specs.Instances.{Instance, state_after, trace, log_of, after_of}
 use Rattle.hpr_syntax.specs.Rows.{expr_in}
 use mathlib.Core.List.{reverse_aux}
@@ -22,12 +22,12 @@ use Rattle.hpr_graph.specs.Points.{IsAffected, IsPreserved}
 use Rattle.hpr_graph.specs.ProgramGraph.{graph_of}
 use Rattle.hpr_graph.specs.Answer.{merged_of, Fits}
 use Rattle.hpr_syntax.specs.Meaning.{Ends}
-use Rattle.hpr_skeleton.proofs.Among.{Among, among_left, among_right, no_both}
-use Rattle.hpr_skeleton.proofs.TimeOrder.{never_before_itself}
+use Rattle.hpr_paths.proofs.Among.{Among, among_left, among_right, no_both}
+use Rattle.hpr_paths.proofs.TimeOrder.{never_before_itself}
 use Rattle.hpr_meaning.proofs.Timely.{run_of_course}
 use Rattle.hpr_meaning.proofs.RunFacts.{Ending}
 use Rattle.hpr_meaning.proofs.Items.{Spot, spot_of, item_at, log_before, item_of_among, among_of_item}
-use Rattle.hpr_skeleton.proofs.Says.{says_one}
+use Rattle.hpr_paths.proofs.Says.{says_one}
 use Rattle.hpr_meaning.proofs.RunRecords.{vertex_at, nth_step, IsStepAt, step_says, steps_rise, at_stop, run_record, known}
 use Rattle.hpr_meaning.proofs.SameSlices.{InBoth, both_of_first, shares}
 use Rattle.hpr_graph.proofs.Laws.{same_turned, slice_at_same, same_then}
@@ -39,7 +39,7 @@ use Rattle.hpr_syntax.specs.Shape.{IsProgram}
 use Rattle.hpr_graph.specs.declared.conflict.Side.TheVariants.{A, B}
 use Rattle.hpr_meaning.specs.UnionLaw.{KeepsSides}
 use Rattle.hpr_meaning.proofs.Unions.{keeps_preserved}
-use Rattle.hpr_skeleton.proofs.Different.{distinct_program}
+use Rattle.hpr_paths.proofs.Different.{distinct_program}
 
 -- there are no n + 1 different numbers below n
 abbrev Moved : (ℕ → ℕ) → ℕ → ℕ → ℕ → Type 0

@@ -8,23 +8,23 @@ use Rattle.hpr_syntax.specs.Shape.{IsProgram}
 use Rattle.hpr_syntax.specs.Values.{Values}
 use Rattle.hpr_terms.specs.Uses.{Uses}
 use Rattle.hpr_syntax.specs.Skeleton.{at, Distinct, skeleton, Skeleton}
-use Rattle.hpr_skeleton.proofs.Ahead.{StandsAhead}
+use Rattle.hpr_paths.proofs.Ahead.{StandsAhead}
 use Rattle.hpr_syntax.specs.Nests.{Standing, StandsAsIn, Says}
-use Rattle.hpr_skeleton.specs.Times.{Place, IsBefore, HaveLessTurns, HaveSameTurns}
+use Rattle.hpr_paths.specs.Times.{Place, IsBefore, HaveLessTurns, HaveSameTurns}
 use Rattle.hpr_syntax.specs.Rows.{expr_in, assigned}
 use Rattle.hpr_graph.specs.declared.vertex.Vertex.{Vertex}
 use Rattle.hpr_syntax.specs.Paths.{DefinesAt}
 use Rattle.hpr_graph.specs.ProgramGraph.{IsIndependent, HasFlow, IsOrder}
 use Rattle.hpr_meaning.specs.OrderLaw.{common_loops, IsOrdered}
-use Rattle.hpr_skeleton.proofs.TimeOrder.{HaveCommon, by_turns, before_by_turns}
-use Rattle.hpr_skeleton.proofs.ByEdges.{ByEdges, before_by_edges}
+use Rattle.hpr_paths.proofs.TimeOrder.{HaveCommon, by_turns, before_by_turns}
+use Rattle.hpr_paths.proofs.ByEdges.{ByEdges, before_by_edges}
 use Rattle.hpr_meaning.proofs.CommonLoops.{loops_counted}
-use Rattle.hpr_skeleton.proofs.Sides.{one_common, ahead_of_left, left_of_ahead, ahead_unparted}
-use Rattle.hpr_skeleton.proofs.Says.{says_stands, only_acts_define}
-use Rattle.hpr_skeleton.proofs.Programs.{at_end, end_outside}
+use Rattle.hpr_paths.proofs.Sides.{one_common, ahead_of_left, left_of_ahead, ahead_unparted}
+use Rattle.hpr_paths.proofs.Says.{says_stands, only_acts_define}
+use Rattle.hpr_paths.proofs.Programs.{at_end, end_outside}
 use Rattle.hpr_meaning.proofs.FlowWays.{flow_source, flow_target, flow_path, independent_way, way_independent, defines_part}
 use Rattle.hpr_graph.specs.declared.vertex.Vertex.TheVariants.{Part}
-use Rattle.hpr_skeleton.proofs.Different.{distinct_program}
+use Rattle.hpr_paths.proofs.Different.{distinct_program}
 
 less_not_greater : (c d : ℕ) (a b : List ℕ) → HaveLessTurns c d a b → HaveLessTurns c d b a → ⊥
 less_not_greater zero d a b h g = h

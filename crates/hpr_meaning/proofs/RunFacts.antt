@@ -5,22 +5,22 @@ use Rattle.hpr_syntax.specs.Value.{Fault}
 use Rattle.hpr_syntax.specs.Values.{Values}
 use Rattle.hpr_syntax.specs.Skeleton.{Skeleton, exit, Distinct, skeleton}
 use Rattle.hpr_syntax.specs.Pairs.{first_of, FollowsIn}
-use Rattle.hpr_skeleton.specs.Times.{Place, ComesBefore}
+use Rattle.hpr_paths.specs.Times.{Place, ComesBefore}
 use Rattle.hpr_meaning.specs.Instances.{Did, Instance, truth, Course, goes, stops, trace, log_of}
 use mathlib.Core.List.{reverse_aux}
 use Rattle.hpr_meaning.specs.Due.{IsDue}
-use Rattle.hpr_skeleton.proofs.Among.{Among, here, there, among_contains, contains_among}
+use Rattle.hpr_paths.proofs.Among.{Among, here, there, among_contains, contains_among}
 use Rattle.std.specs.List.{AllByRecursion}
-use Rattle.hpr_skeleton.specs.Runs.{Ascending}
-use Rattle.hpr_skeleton.proofs.Steps.{steps_ascend}
-use Rattle.hpr_skeleton.proofs.Causes.{IsFirstOnTop, IsCalledBy, items, HasCause, has_cause}
-use Rattle.hpr_skeleton.proofs.Listed.{IsMet, where_stopped, top_met, called_met}
-use Rattle.hpr_skeleton.proofs.PlacesUnder.{IsPlaceUnder, first_is_place, called_is_place}
+use Rattle.hpr_paths.specs.Runs.{Ascending}
+use Rattle.hpr_paths.proofs.Steps.{steps_ascend}
+use Rattle.hpr_paths.proofs.Causes.{IsFirstOnTop, IsCalledBy, items, HasCause, has_cause}
+use Rattle.hpr_paths.proofs.Listed.{IsMet, where_stopped, top_met, called_met}
+use Rattle.hpr_paths.proofs.PlacesUnder.{IsPlaceUnder, first_is_place, called_is_place}
 use Rattle.hpr_meaning.proofs.DueCauses.{standing_of_first, standing_of_called, first_of_standing, called_of_standing, ParentOutside}
-use Rattle.hpr_skeleton.proofs.Walks.{WalksAlong, walks}
-use Rattle.hpr_skeleton.proofs.Logs.{reversed_twice, log_of_items, IsLawful, log_lawful, places_of, stop_if, steps_of_items}
+use Rattle.hpr_paths.proofs.Walks.{WalksAlong, walks}
+use Rattle.hpr_paths.proofs.Logs.{reversed_twice, log_of_items, IsLawful, log_lawful, places_of, stop_if, steps_of_items}
 use Rattle.hpr_meaning.proofs.Executed.{Does, StopsFor, HasSpent, HasRun, course_has_run}
-use Rattle.hpr_skeleton.proofs.Programs.{at_end}
+use Rattle.hpr_paths.proofs.Programs.{at_end}
 
 -- a run went on to the end, or stopped at a place
 abbrev pub Ending : Body → Values → ℕ → Course → Bool → Place → Type 0

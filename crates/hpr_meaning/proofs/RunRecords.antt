@@ -13,7 +13,7 @@ use Rattle.hpr_syntax.proofs.ValueByUses.{value_by_uses}
 use Rattle.hpr_syntax.specs.Skeleton.{at, exit, Distinct, skeleton}
 use Rattle.hpr_syntax.specs.Pairs.{first_of, FollowsIn}
 use Rattle.hpr_syntax.specs.Nests.{Standing, StandsAsIn, Says}
-use Rattle.hpr_skeleton.specs.Times.{Place, ComesBefore, IsBefore}
+use Rattle.hpr_paths.specs.Times.{Place, ComesBefore, IsBefore}
 use Rattle.hpr_meaning.specs.Instances.{Did, Instance, truth, state_after, trace}
 use Rattle.hpr_syntax.specs.Rows.{expr_in}
 use Rattle.hpr_meaning.specs.Due.{Calls, first_turns}
@@ -21,19 +21,19 @@ use Rattle.hpr_graph.specs.declared.vertex.Vertex.{Vertex}
 use Rattle.hpr_meaning.proofs.Items.{Assigns, Spot, spot_of, item_at, log_before, assigns?, value_none, value_last, item_given, item_of_among, among_of_item, IsStepIn, each_step, steps_ascend_at, path_between_steps}
 use Rattle.hpr_syntax.specs.Paths.{DefinesAt}
 use Rattle.hpr_graph.specs.ProgramGraph.{HasFlow}
-use Rattle.hpr_skeleton.proofs.Among.{Among, no_both}
-use Rattle.hpr_skeleton.proofs.Causes.{IsCalledBy}
-use Rattle.hpr_skeleton.proofs.Listed.{IsMet}
-use Rattle.hpr_skeleton.proofs.TimeOrder.{never_before_itself, before_trans, cause_before}
-use Rattle.hpr_skeleton.proofs.PlacesUnder.{IsPlaceUnder, called_is_place}
+use Rattle.hpr_paths.proofs.Among.{Among, no_both}
+use Rattle.hpr_paths.proofs.Causes.{IsCalledBy}
+use Rattle.hpr_paths.proofs.Listed.{IsMet}
+use Rattle.hpr_paths.proofs.TimeOrder.{never_before_itself, before_trans, cause_before}
+use Rattle.hpr_paths.proofs.PlacesUnder.{IsPlaceUnder, called_is_place}
 use Rattle.hpr_meaning.proofs.DueCauses.{standing_of_first, standing_of_called, first_of_standing, called_of_standing}
 use Rattle.hpr_meaning.proofs.Chains.{place_has_turns, place_by_turns}
-use Rattle.hpr_skeleton.proofs.Says.{says_of_standing, says_one}
+use Rattle.hpr_paths.proofs.Says.{says_of_standing, says_one}
 use Rattle.hpr_meaning.proofs.FlowWays.{assigns_at}
 use Rattle.hpr_meaning.proofs.Executed.{Does}
 use Rattle.hpr_meaning.proofs.RunFacts.{RunFacts, facts, HasCauseAtTop, met_of, none_outside, caused_place}
-use Rattle.hpr_skeleton.proofs.Programs.{at_end}
-use Rattle.hpr_skeleton.proofs.Logs.{IsLawful}
+use Rattle.hpr_paths.proofs.Programs.{at_end}
+use Rattle.hpr_paths.proofs.Logs.{IsLawful}
 use Rattle.hpr_meaning.proofs.FlowPaths.{flow_of}
 use Rattle.hpr_meaning.proofs.TwoRuns.{order3, Language, OneRun}
 use Rattle.hpr_graph.specs.declared.vertex.Vertex.TheVariants.{Part}

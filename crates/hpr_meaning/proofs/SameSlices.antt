@@ -6,7 +6,7 @@ use Rattle.hpr_syntax.specs.Tree.{Tree}
 use Rattle.hpr_syntax.specs.Values.{Values}
 use Rattle.hpr_syntax.specs.Skeleton.{Distinct, skeleton}
 use Rattle.hpr_syntax.specs.Nests.{Standing, StandsAsIn, Says}
-use Rattle.hpr_skeleton.specs.Times.{IsBefore, HaveLessTurns, HaveSameTurns}
+use Rattle.hpr_paths.specs.Times.{IsBefore, HaveLessTurns, HaveSameTurns}
 use Rattle.hpr_meaning.specs.Due.{first_turns, IsLoop}
 use Rattle.hpr_graph.specs.declared.vertex.Vertex.{Vertex}
 use Rattle.hpr_graph.specs.declared.vertex.Vertex.TheVariants.{Entry, Part}
@@ -16,7 +16,7 @@ use Rattle.hpr_graph.specs.Graphs.{Same}
 use Rattle.hpr_graph.specs.Slices.{Leads, ReachesOne, slice_of}
 use Rattle.hpr_graph.specs.ProgramGraph.{IsIndependent, HasFlow, IsOrder, graph_of, IsControl}
 use Rattle.hpr_meaning.specs.OrderLaw.{common_loops}
-use Rattle.hpr_skeleton.proofs.Says.{says_one, says_of_standing, standing_of_says}
+use Rattle.hpr_paths.proofs.Says.{says_one, says_of_standing, standing_of_says}
 use Rattle.hpr_meaning.proofs.Chains.{own_nest, Chain, top, below, chain_of, one_chain, chain_first}
 use Rattle.hpr_meaning.proofs.FlowWays.{flow_source}
 use Rattle.hpr_meaning.proofs.Ordered.{flow_order, use_order}

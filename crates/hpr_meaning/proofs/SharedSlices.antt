@@ -11,7 +11,7 @@ use Rattle.hpr_terms.specs.Uses.{Uses}
 use Rattle.hpr_syntax.specs.Skeleton.{Distinct, skeleton, at, exit}
 use Rattle.hpr_syntax.specs.Pairs.{first_of, FollowsIn}
 use Rattle.hpr_syntax.specs.Nests.{Says}
-use Rattle.hpr_skeleton.specs.Times.{Place, IsBefore}
+use Rattle.hpr_paths.specs.Times.{Place, IsBefore}
 use Rattle.hpr_meaning.specs.Instances.{Instance, reads_of, state_after, definer, stops, trace, log_of, instances, read_of, names_of, after_of}
 use Rattle.hpr_syntax.specs.Rows.{expr_in}
 use Rattle.hpr_graph.specs.declared.vertex.Vertex.{Vertex}
@@ -24,14 +24,14 @@ use Rattle.hpr_syntax.specs.Paths.{DefinesAt}
 use Rattle.hpr_graph.specs.ProgramGraph.{HasFlow, graph_of}
 use Rattle.hpr_meaning.specs.OrderLaw.{vertex_of}
 use Rattle.hpr_meaning.specs.SliceLaw.{SharesSlice}
-use Rattle.hpr_skeleton.proofs.Among.{Among, here, there, among_cons, among_none, among_contains, contains_among, no_both}
-use Rattle.hpr_skeleton.proofs.Says.{says_one}
+use Rattle.hpr_paths.proofs.Among.{Among, here, there, among_cons, among_none, among_contains, contains_among, no_both}
+use Rattle.hpr_paths.proofs.Says.{says_one}
 use Rattle.hpr_meaning.proofs.FlowWays.{assigns_at}
 use Rattle.hpr_meaning.proofs.Executed.{Does, StopsFor}
 use Rattle.hpr_meaning.proofs.Timely.{run_of_course, ends_over}
-use Rattle.hpr_skeleton.proofs.Different.{distinct_program}
+use Rattle.hpr_paths.proofs.Different.{distinct_program}
 use Rattle.hpr_meaning.proofs.RunFacts.{Ending, instances_are}
-use Rattle.hpr_skeleton.proofs.Programs.{at_end}
+use Rattle.hpr_paths.proofs.Programs.{at_end}
 use Rattle.hpr_meaning.proofs.FlowPaths.{flow_of}
 use Rattle.hpr_meaning.proofs.RunRecords.{language, vertex_at, stop_item, nth_step, step_given, step_says, at_stop, run_record, known}
 use Rattle.hpr_meaning.proofs.SameSlices.{InBoth, both_of_first, both_of_second, shares, flow_to, use_before_to}

@@ -8,19 +8,19 @@ use Rattle.hpr_syntax.specs.Value.{Fault}
 use Rattle.hpr_syntax.specs.Run.{ends, faults, more, Outcome, run, outcome}
 use Rattle.hpr_syntax.specs.Values.{Values}
 use Rattle.hpr_syntax.specs.Skeleton.{Skeleton, Distinct, skeleton}
-use Rattle.hpr_skeleton.specs.Times.{Place, ComesBefore, IsBefore}
+use Rattle.hpr_paths.specs.Times.{Place, ComesBefore, IsBefore}
 use Rattle.hpr_meaning.specs.Instances.{Did, Instance, truth, stops, trace, instances, IsStopOf, stop_of, after_of}
 use Rattle.hpr_meaning.specs.Due.{IsDue, IsListed}
 use Rattle.hpr_meaning.specs.TimeLaw.{IsAscending, IsTimely, IsNext}
-use Rattle.hpr_skeleton.proofs.Among.{Among, here, there, among_contains, contains_among, no_both}
-use Rattle.hpr_skeleton.specs.Runs.{Ascending}
-use Rattle.hpr_skeleton.proofs.TimeOrder.{never_before_itself, before_trans}
-use Rattle.hpr_skeleton.proofs.Logs.{places_of, stop_if}
-use Rattle.hpr_skeleton.proofs.Listed.{IsMet}
+use Rattle.hpr_paths.proofs.Among.{Among, here, there, among_contains, contains_among, no_both}
+use Rattle.hpr_paths.specs.Runs.{Ascending}
+use Rattle.hpr_paths.proofs.TimeOrder.{never_before_itself, before_trans}
+use Rattle.hpr_paths.proofs.Logs.{places_of, stop_if}
+use Rattle.hpr_paths.proofs.Listed.{IsMet}
 use Rattle.hpr_meaning.proofs.Executed.{Does}
 use Rattle.hpr_meaning.proofs.TraceRun.{trace_run}
 use Rattle.hpr_meaning.proofs.RunFacts.{Ending, RunFacts, facts, instances_are, cause_of_due, due_of_cause, item_caused, item_place, met_of, HasCauseAtTop}
-use Rattle.hpr_skeleton.proofs.Different.{distinct_program}
+use Rattle.hpr_paths.proofs.Different.{distinct_program}
 
 -- ascending, from the steps in order
 strictly : (B : Skeleton) → Distinct B → (i : Place) (is : List Instance) (zs : List Place) → AllByRecursion (ComesBefore B 0 i) (places_of is ++ zs)

@@ -8,7 +8,7 @@ use Rattle.hpr_syntax.specs.Values.{Values}
 use Rattle.hpr_syntax.specs.Value.{Answer, value, is_true}
 use Rattle.hpr_syntax.specs.Run.{After, run_body}
 use Rattle.hpr_syntax.specs.Run as run
-use Rattle.hpr_skeleton.specs.Times.{Place}
+use Rattle.hpr_paths.specs.Times.{Place}
 use Rattle.hpr_meaning.specs.Instances.{Instance, state_after, logged, Course, goes, stops, step_at, then_go, turns_from, trace, after_of}
 
 step_run : (s : Values) (a : Place) (answer : Answer) (log : List Instance) (left : ℕ) (go : ℤ → ℕ → Course) (go' : ℤ → ℕ → After)

@@ -21,7 +21,7 @@ use Rattle.hpr_syntax.specs.Value.{Answer, value, is_true}
 use Rattle.hpr_syntax.specs.Run.{After, run_body}
 use Rattle.hpr_syntax.specs.Run as after
 use Rattle.hpr_graph.specs.Order.{name_cmp}
-use Rattle.hpr_skeleton.specs.Times.{Place}
+use Rattle.hpr_paths.specs.Times.{Place}
 use Rattle.hpr_meaning.specs.declared.traced.Origin.{Origin}
 use Rattle.hpr_meaning.specs.declared.traced.Read.{Read}
 use Rattle.hpr_meaning.specs.Instances.{Instance, state_after, names_of, read_of, reads_of, logged, Course, goes, stops, step_at, then_go, turns_from, trace, log_of, after_of, course_of, instances}

@@ -24,8 +24,8 @@ use Rattle.hpr_graph.proofs.Laws.{same_turned, same_from_within, vertices_map}
 use Rattle.hpr_merge.specs.Loops.{HasLoops}
 use Rattle.hpr_merge.proofs.EdgeStands.{edge_inside, merged_loops, on_either, point_within}
 use Rattle.hpr_merge.proofs.ProgramLoops.{program_loops}
-use Rattle.hpr_skeleton.proofs.Different.{distinct_program}
-use Rattle.hpr_skeleton.proofs.Says.{says_one}
+use Rattle.hpr_paths.proofs.Different.{distinct_program}
+use Rattle.hpr_paths.proofs.Says.{says_one}
 use Rattle.hpr_meaning.specs.UnionLaw.{affected_on, KeepsSides, IsUnionKept}
 use Rattle.hpr_meaning.proofs.SidesKept.{sides_kept}
 

@@ -14,7 +14,7 @@ use Rattle.hpr_syntax.specs.declared.rows.Content.{Content}
 use Rattle.hpr_syntax.specs.declared.rows.Content.TheVariants.{Assign, If, While}
 use Rattle.hpr_syntax.specs.Body.{Body}
 use Rattle.hpr_syntax.specs.Nests.{Standing, StandsAsIn}
-use Rattle.hpr_skeleton.specs.Times.{Place}
+use Rattle.hpr_paths.specs.Times.{Place}
 use Rattle.hpr_meaning.specs.Instances.{Instance, truth}
 
 abbrev pub IsLoop : Content → Type 0

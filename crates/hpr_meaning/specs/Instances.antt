@@ -43,7 +43,7 @@ use Rattle.hpr_syntax.specs.Value.{Fault, Answer, value, is_true}
 use Rattle.hpr_syntax.specs.Run.{After}
 use Rattle.hpr_syntax.specs.Run as after
 use Rattle.hpr_graph.specs.Order.{name_cmp}
-use Rattle.hpr_skeleton.specs.Times.{Place}
+use Rattle.hpr_paths.specs.Times.{Place}
 
 pub record Read : Type 0 where
   pub name : List ℕ

@@ -11,7 +11,7 @@ use Rattle.std.specs.Prelude.{ℕ, ℤ, List, [], ◌∷◌, ◌++◌, map, Opti
 use Rattle.std.specs.FinMap.{empty, get, insert}
 use Rattle.hpr_terms.specs.declared.expr.Expr.{Expr}
 use Rattle.hpr_syntax.specs.Values.{Values, value_at}
-use Rattle.hpr_skeleton.specs.Times.{Place}
+use Rattle.hpr_paths.specs.Times.{Place}
 use Rattle.hpr_meaning.specs.declared.traced.Origin.{Origin}
 use Rattle.hpr_meaning.specs.declared.traced.Origin.TheVariants.{Initial, Instance}
 use Rattle.hpr_meaning.specs.declared.traced.Read.{Read}

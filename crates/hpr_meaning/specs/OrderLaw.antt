@@ -18,7 +18,7 @@ use Rattle.hpr_graph.specs.declared.vertex.Vertex.{Vertex}
 use Rattle.hpr_graph.specs.declared.vertex.Vertex.TheVariants.{Part}
 use Rattle.hpr_graph.specs.declared.edge.Kind.TheVariants.{Independent, Order}
 use Rattle.hpr_graph.specs.ProgramGraph.{HasFlow, graph_of}
-use Rattle.hpr_skeleton.specs.Times.{IsBefore, HaveLessTurns, HaveSameTurns}
+use Rattle.hpr_paths.specs.Times.{IsBefore, HaveLessTurns, HaveSameTurns}
 use Rattle.hpr_meaning.specs.Instances.{Instance, instances}
 
 abbrev pub vertex_of : Instance → Vertex

@@ -10,7 +10,7 @@ use Rattle.hpr_syntax.specs.Body.{Body}
 use Rattle.hpr_syntax.specs.Tree.{Tree}
 use Rattle.hpr_syntax.specs.Values.{Values}
 use Rattle.hpr_syntax.specs.Run.{FinalValues, ends, run}
-use Rattle.hpr_skeleton.specs.Times.{Place, IsBefore}
+use Rattle.hpr_paths.specs.Times.{Place, IsBefore}
 use Rattle.hpr_meaning.specs.Instances.{Instance, instances, IsStopOf}
 use Rattle.hpr_meaning.specs.Due.{IsDue, IsListed}
 

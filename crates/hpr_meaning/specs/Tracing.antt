@@ -8,7 +8,7 @@ use Rattle.std.specs.Prelude.{◌≡◌, ℕ, suc, ℤ, Result, Ok, Err}
 use Rattle.hpr_terms.specs.declared.expr.Expr.{Expr}
 use Rattle.hpr_syntax.specs.Value.{value}
 use Rattle.hpr_run.specs.Outcomes.{fault_of}
-use Rattle.hpr_skeleton.specs.Times.{Place}
+use Rattle.hpr_paths.specs.Times.{Place}
 use Rattle.hpr_meaning.specs.declared.tracing.Stop.{Stop}
 use Rattle.hpr_meaning.specs.declared.tracing.Stop.TheVariants.{Faulty, Spent, Memory}
 use Rattle.hpr_meaning.specs.Notes.{Notes, noted}

@@ -1,8 +1,8 @@
 -- In a program each tag says one content.
 use Rattle.hpr_syntax.specs.Shape.{IsProgram}
 use Rattle.hpr_syntax.specs.Tree.{Tree}
-use Rattle.hpr_skeleton.proofs.Different.{distinct_program}
-use Rattle.hpr_skeleton.proofs.Says.{says_one}
+use Rattle.hpr_paths.proofs.Different.{distinct_program}
+use Rattle.hpr_paths.proofs.Says.{says_one}
 use Rattle.hpr_merge.specs.Loops.{SaysOnce}
 
 pub says_once : (t : Tree) → IsProgram t → SaysOnce t

@@ -16,9 +16,9 @@ use Rattle.hpr_graph.specs.declared.edge.Kind.TheVariants.{Control}
 use Rattle.hpr_graph.specs.declared.edge.Edge.{Edge}
 use Rattle.hpr_graph.specs.ProgramGraph.{Reads, IsEdgeBy, graph_of}
 use Rattle.hpr_graph.specs.Slices.{LeadsTo}
-use Rattle.hpr_skeleton.proofs.DirectWays.{encloses_in}
-use Rattle.hpr_skeleton.proofs.Programs.{end_outside}
-use Rattle.hpr_skeleton.proofs.Says.{says_of_standing}
+use Rattle.hpr_paths.proofs.DirectWays.{encloses_in}
+use Rattle.hpr_paths.proofs.Programs.{end_outside}
+use Rattle.hpr_paths.proofs.Says.{says_of_standing}
 use Rattle.hpr_merge.specs.Loops.{HasLoops, SaysOnce}
 
 tag_of : (v w : Tag) → at v ≡ at w → v ≡ w

@@ -3,3 +3,5 @@ pub mod Roles
 pub mod Successors
 pub mod Numbers
 pub mod Private
+pub mod Times
+pub mod Runs

@@ -23,7 +23,7 @@ use Rattle.hpr_graph.specs.Graphs.{Graph, Same}
 use Rattle.hpr_graph.specs.ProgramGraph.{IsTop, IsVertexOf, graph_of}
 use Rattle.hpr_graph.specs.Arrangements.{edge_into}
 use Rattle.hpr_graph.specs.Answer.{IsPart, Fits, HasNoProgram}
-use Rattle.hpr_skeleton.proofs.Says.{says_of_standing}
+use Rattle.hpr_paths.proofs.Says.{says_of_standing}
 use Rattle.hpr_build.specs.Places.{Place, places, place_at, IsParentOf}
 use Rattle.hpr_build.proofs.PlaceIn.{place_of_part}
 use Rattle.hpr_build.proofs.PlaceLaws.{number_of_part, part_of_standing}

@@ -1,5 +1,0 @@
-use Rattle.hpr_skeleton.proofs.Programs.{way_exists}
-use Rattle.hpr_skeleton.proofs.laws.direct_ways_exist.Goals as goal
-
-pub returns : goal.returns
-returns f = λ t x d u marks prog defines path left whole. way_exists t prog d u marks x defines path left whole
