@@ -7,6 +7,7 @@ pub mod MoreSteps
 pub mod ValueByUses
 pub mod IssuedLemmas
 pub mod ShapeLemmas
+pub mod RowLemmas
 pub mod SetLemmas
 pub mod Same
 pub mod ProperLemmas
