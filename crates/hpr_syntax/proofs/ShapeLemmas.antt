@@ -8,7 +8,7 @@ use Rattle.hpr_syntax.specs.BodyOf.{before}
 use Rattle.hpr_syntax.specs.Parts.{tags_of}
 use Rattle.hpr_syntax.specs.Tree.{Tree}
 use Rattle.hpr_syntax.specs.Shape.{shape}
-use Rattle.hpr_syntax.specs.Private.Refusals.{body_refusal, tag_refusal}
+use Rattle.hpr_syntax.specs.Private.Refusals.{tag_refusal}
 
 count_then : (b : Body) (ts : List Tag) → length (tags_of b ts) ≡ part_count b + length ts
 count_then done ts = omega arith

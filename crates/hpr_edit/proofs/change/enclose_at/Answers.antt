@@ -1,7 +1,5 @@
 use Rattle.std.proofs.Common.{◌≤◌, ap, ◌∙◌, arith, length, [], ◌∷◌, ◌++◌}
 use Rattle.hpr_syntax.specs.BodyOf.{body_of}
-use Rattle.hpr_edit.specs.Changes.{firsts, later}
-use Rattle.hpr_syntax.specs.Rows.{made}
 use Rattle.hpr_edit.proofs.Lists.{enclosed}
 use Rattle.hpr_edit.proofs.change.enclose_at.Goals as goal
 
