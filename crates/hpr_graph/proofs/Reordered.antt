@@ -1,5 +1,5 @@
 -- A graph put in its order.
-use Rattle.std.proofs.Common.{◌≡◌, ◌≢◌, ℕ, suc, ◌+◌, ◌<◌, ◌≤◌, ◌↔◌, ◌⊎◌, inl, inr, Option, Some, None, IsSome, IfSome, Result, Ok, Err, MatchResult, List, [], ◌∷◌, ◌++◌, length, set, take, get_or, Contains, slice_get, sum_by, refl, sym, ap, ◌∙◌, subst, arith}
+use Rattle.std.proofs.Common.{◌≡◌, ◌≢◌, ℕ, suc, ◌+◌, ◌<◌, ◌≤◌, ◌↔◌, ◌⊎◌, inl, inr, Option, Some, None, IsSome, IfSome, Result, Ok, Err, MatchResult, List, [], ◌∷◌, ◌++◌, length, set, get_or, Contains, slice_get, sum_by, refl, sym, ap, ◌∙◌, subst, arith}
 use Rattle.std.specs.declared.cmp.Ordering.{Ordering}
 use Rattle.std.specs.declared.cmp.Ordering.TheVariants.{Less, Equal}
 use Rattle.std.specs.Result.{result_ok}
@@ -24,7 +24,7 @@ use Rattle.hpr_graph.proofs.Ascending.{ascends_by, ascending_sorted, ascending_o
 use Rattle.hpr_graph.proofs.Joined.{united_same}
 use Rattle.hpr_graph.proofs.Laws.{same_then}
 use Rattle.hpr_graph.proofs.LinkOrder.{link_cmp, link_equal}
-use Rattle.hpr_graph.proofs.Lists.{not_taken, get_set_same, get_set_other}
+use Rattle.hpr_graph.proofs.Lists.{get_set_same, get_set_other}
 use Rattle.hpr_graph.proofs.Numbers.{numbered, grown_itself}
 use Rattle.hpr_graph.proofs.Orders.{vertex_order}
 use Rattle.hpr_graph.proofs.Placed.{AllPlaced, all_begun, all_more}
