@@ -1,12 +1,11 @@
 -- Links put into a graph one after another.
-use Rattle.std.proofs.Common.{◌≡◌, ℕ, ◌+◌, ◌<◌, ◌≤◌, suc, false, Result, Err, List, [], ◌∷◌, ◌++◌, length, take, get_or, Contains, ◌↔◌, ◌⊎◌, inl, inr, refl, sym, ap, ◌∙◌, subst, sum_by, slice_get, arith}
-use Rattle.std.proofs.lemmas.List.{take_all, take_more}
+use Rattle.std.proofs.Common.{◌≡◌, ℕ, ◌+◌, ◌<◌, ◌≤◌, suc, false, Result, Err, List, [], ◌∷◌, length, take, get_or, Contains, ◌↔◌, ◌⊎◌, inl, inr, refl, sym, ap, ◌∙◌, subst, sum_by, slice_get, arith}
+use Rattle.std.proofs.lemmas.List.{take_all}
 use Rattle.std.proofs.lemmas.List.Sums.{sum_by-cons}
 use Rattle.hpr_reach.proofs.Grown.{taken_more}
 use Rattle.hpr_reach.proofs.Lists.{contains_here}
 use Rattle.hpr_graph.specs.declared.link.LinkKind.TheVariants.{Control}
 use Rattle.hpr_graph.specs.declared.link.Link.{Link}
-use Rattle.hpr_graph.specs.declared.vertex.Vertex.{Vertex}
 use Rattle.hpr_graph.specs.Numbered.{Numbered, HasLink, IsNumbered, row_items, link_count}
 use Rattle.hpr_syntax.specs.Tree.{Tree}
 use Rattle.hpr_build.specs.declared.error.BuildError.{BuildError}

@@ -1,4 +1,4 @@
-use Rattle.std.proofs.Common.{◌↔◌, List, Contains, length, inl, inr, sym, ap, ◌∙◌, subst, arith}
+use Rattle.std.proofs.Common.{List, length, inl, inr, sym, ap, ◌∙◌, subst, arith}
 use Rattle.hpr_graph.specs.Graphs.{IsOnce}
 use Rattle.hpr_graph.specs.declared.vertex.Vertex.{Vertex}
 use Rattle.hpr_build.specs.declared.pushes.NewLink.{NewLink}
