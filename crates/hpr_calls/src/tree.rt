@@ -7,7 +7,7 @@ use hpr_rows::{
 };
 use hpr_syntax::{
     Block, Content, Issued, Program, Row as Place, Stmt, content_of, defines, expr_of, has_content,
-    same_content, uses,
+    is_large, same_content, uses,
 };
 use hpr_terms::{Binary, Expr, Literal, Name, Operand, Tag};
 use std::alloc::Global;
@@ -199,9 +199,10 @@ fn put_judged(alloc: Global, out: &mut Out, issued: Issued, body: Block) {
     }
 }
 
-// `sum OPERATORS`: what comes of a program with a sum of so many operators.
+// `sum OPERATORS`: whether a sum of so many operators is too large, and what comes of a program with it.
 fn sum(row: Row<'_>, out: &mut Out) -> Option<()> {
     let sum = ones(row.alloc, row.count(2)?)?;
+    put(out, &["too large ", truth(is_large(&sum)), ", "]);
     let body = block(row.alloc, assignment(row.alloc, sum)?)?;
     put_judged(row.alloc, out, issued(row.alloc)?, body);
     Some(())
