@@ -19,12 +19,6 @@ behind_more x (y ∷ q) s xs e = at (eqb y x) refl (behind_more x q s xs) e
     at true is rest e' = let same : q ≡ xs = cc in ap (λ w. Some (w ++ s)) same
     at false is rest e' = rest e'
 
-same_bool : Bool → Bool → Bool
-same_bool true true = true
-same_bool false false = true
-same_bool true false = false
-same_bool false true = false
-
 abbrev same_slot : Slot → Slot → Bool
 same_slot None None = true
 same_slot None (Some b) = false

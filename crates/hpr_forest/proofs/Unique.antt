@@ -1,7 +1,7 @@
 -- There is one ascending list of the things of one kind.
 use Rattle.std.proofs.Common.{◌≡◌, ℕ, zero, suc, ◌<◌, List, [], ◌∷◌, ◌++◌, Contains, ◌⊎◌, inl, inr, refl, sym, ap, ◌∙◌, subst, arith}
 use Rattle.std.proofs.lemmas.List.Elements.{Contains-append_cases}
-use Rattle.hpr_forest.specs.Lists.{LexLess, IsAscending, IsListOf}
+use Rattle.hpr_forest.specs.Lists.{LexLess, IsAscending}
 
 pub less_irreflexive : (s : List ℕ) → LexLess s s → ⊥
 less_irreflexive [] h = h
@@ -71,8 +71,3 @@ module _ {X : Type 0} where
         | inr later ↦ later
       ]) in
       ap (λ w. w ∷ xs) same ∙ ap (λ ws. y ∷ ws) rest
-
-  pub one_list_of : (Before : X → X → Type 0) → ((x : X) → Before x x → ⊥) → ((x y z : X) → Before x y → Before y z → Before x z)
-      → (Is : X → Type 0) (xs ys : List X) → IsListOf Before Is xs → IsListOf Before Is ys → xs ≡ ys
-  one_list_of Before irr trans Is xs ys a b = one_list Before irr trans xs ys a.ascending b.ascending
-      (λ x h. b.complete x (a.sound x h)) (λ x h. a.complete x (b.sound x h))
