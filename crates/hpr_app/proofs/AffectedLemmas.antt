@@ -13,17 +13,17 @@ use Rattle.hpr_build.proofs.Once.{place_among}
 use Rattle.hpr_report.specs.AffectedText.{IsAffectedText, IsOneOf}
 use Rattle.hpr_report.proofs.OneText.{affected_text_same}
 use Rattle.hpr_words.specs.Request.{Text}
-use Rattle.hpr_app.specs.AffectedFiles.{AffectedOutcome, AffectedPoints}
-use Rattle.hpr_app.specs.Private.Answer.{StopIs, Decides, Merges}
-use Rattle.hpr_app.specs.Decision.{Decision, prints}
-use Rattle.hpr_app.specs.Private.Files.{Fails}
-use Rattle.hpr_app.specs.Reads.{IfTold, IsReached}
+use Rattle.hpr_decisions.specs.AffectedFiles.{AffectedOutcome, AffectedPoints}
+use Rattle.hpr_inputs.specs.Answer.{StopIs, Decides, Merges}
+use Rattle.hpr_inputs.specs.Decision.{Decision, prints}
+use Rattle.hpr_inputs.specs.ReadsFile.{Fails}
+use Rattle.hpr_inputs.specs.Reads.{IfTold, IsReached}
 use Rattle.hpr_engine.specs.Limit.{HasTooManyEdges}
-use Rattle.hpr_app.specs.Integrate.{OnFile}
-use Rattle.hpr_app.specs.declared.answer.Kind.TheVariants.{Done}
-use Rattle.hpr_app.specs.declared.answer.Report.{Report}
-use Rattle.hpr_app.specs.declared.answer.Stop.{Stop}
-use Rattle.hpr_app.proofs.ReadLemmas.{FileOf, fails_from, file_fails, past_file, past_last_file, spelled}
+use Rattle.hpr_inputs.specs.Files.{OnFile}
+use Rattle.hpr_inputs.specs.declared.answer.Kind.TheVariants.{Done}
+use Rattle.hpr_inputs.specs.declared.answer.Report.{Report}
+use Rattle.hpr_inputs.specs.declared.answer.Stop.{Stop}
+use Rattle.hpr_inputs.proofs.ReadLemmas.{FileOf, fails_from, file_fails, past_file, past_last_file, spelled}
 
 -- the order of causes
 module _ (files : Option Files) (base a : List ℕ) where
@@ -51,27 +51,27 @@ module _ (files : Option Files) (base a : List ℕ) where
     decided p q result hp hq same h =
         past_file files Reads before now base AfterBase p result hp (past_last_file files Reads before now a (AffectedPoints base p a) q result hq same h)
 
+-- the points by their numbers are the points
+module _ (g h : Numbered) (numbers : List ℕ) (exact : AreNumbersOf h (IsAffected (graph_in h) (graph_in g)) numbers) where
+  points_same : (v : Vertex) → IsOneOf h numbers v ↔ IsAffected (graph_in h) (graph_in g) v
+  points_same v = (
+    λ (at, one, is). (exact.exact at v is).0 one,
+    λ k. (let (at, is) = place_among h.vertices v k.0 in (at, (exact.exact at v is).1 k, is)),
+  )
+
+  pub numbers_text : (bytes : List ℕ) → IsAffectedText (IsOneOf h numbers) bytes → IsAffectedText (IsAffected (graph_in h) (graph_in g)) bytes
+  numbers_text bytes text = affected_text_same (IsOneOf h numbers) (IsAffected (graph_in h) (graph_in g)) bytes points_same text
+
 -- the points of the graphs that were made are those of the programs
-module _ (base : Text) (p : Tree) (a : Text) (q : Tree) where
-  module _ (g h : Numbered) (base_same : Same (graph_in g) (graph_of p)) (a_same : Same (graph_in h) (graph_of q)) (numbers : List ℕ)
-      (exact : AreNumbersOf h (IsAffected (graph_in h) (graph_in g)) numbers) where
-    points_same : (v : Vertex) → IsOneOf h numbers v ↔ IsAffected (graph_in h) (graph_in g) v
-    points_same v = (
-      λ (at, one, is). (exact.exact at v is).0 one,
-      λ k. (let (at, is) = place_among h.vertices v k.0 in (at, (exact.exact at v is).1 k, is)),
-    )
+module _ (p q : Tree) (g h : Numbered) (base_same : Same (graph_in g) (graph_of p)) (a_same : Same (graph_in h) (graph_of q)) where
+  graphs_same : (v : Vertex) → IsAffected (graph_in h) (graph_in g) v ↔ IsAffected (graph_of q) (graph_of p) v
+  graphs_same v = (
+    affected_same (graph_in h) (graph_of q) (graph_in g) (graph_of p) a_same base_same v,
+    affected_same (graph_of q) (graph_in h) (graph_of p) (graph_in g) (same_turned (graph_in h) (graph_of q) a_same)
+        (same_turned (graph_in g) (graph_of p) base_same) v,
+  )
 
-    graphs_same : (v : Vertex) → IsAffected (graph_in h) (graph_in g) v ↔ IsAffected (graph_of q) (graph_of p) v
-    graphs_same v = (
-      affected_same (graph_in h) (graph_of q) (graph_in g) (graph_of p) a_same base_same v,
-      affected_same (graph_of q) (graph_in h) (graph_of p) (graph_in g) (same_turned (graph_in h) (graph_of q) a_same)
-          (same_turned (graph_in g) (graph_of p) base_same) v,
-    )
-
-    pub affected_points : (bytes : List ℕ) → (HasTooManyEdges p → ⊥) → (HasTooManyEdges q → ⊥) → IsAffectedText (IsOneOf h numbers) bytes
-        → AffectedPoints base p a q (prints Done bytes)
-    affected_points bytes few few_too text =
-        let shown : IsAffectedText (IsAffected (graph_of q) (graph_of p)) bytes =
-        affected_text_same (IsAffected (graph_in h) (graph_in g)) (IsAffected (graph_of q) (graph_of p)) bytes graphs_same
-        (affected_text_same (IsOneOf h numbers) (IsAffected (graph_in h) (graph_in g)) bytes points_same text) in
-        inr (few, inr (few_too, (bytes, shown, refl)))
+  pub affected_points : (base a : Text) (bytes : List ℕ) → (HasTooManyEdges p → ⊥) → (HasTooManyEdges q → ⊥)
+      → IsAffectedText (IsAffected (graph_in h) (graph_in g)) bytes → AffectedPoints base p a q (prints Done bytes)
+  affected_points base a bytes few few_too text =
+      inr (few, inr (few_too, (bytes, affected_text_same (IsAffected (graph_in h) (graph_in g)) (IsAffected (graph_of q) (graph_of p)) bytes graphs_same text, refl)))

@@ -8,15 +8,15 @@ use Rattle.hpr_edit.specs.declared.command.EditError.{EditError}
 use Rattle.hpr_refusals.specs.Applied.{Applied, applied, becomes, refused}
 use Rattle.hpr_refusals.specs.Reasons.{command_text}
 use Rattle.hpr_refusals.specs.Refusals.{IsRefusedScript, IsScriptOf}
-use Rattle.hpr_app.specs.Private.Answer.{StopIs, Decides, Merges}
-use Rattle.hpr_app.specs.Decision.{Decision, prints, refuses}
-use Rattle.hpr_app.specs.EditFiles.{EditOutcome, OnScript, edit_decision}
-use Rattle.hpr_app.specs.Private.Files.{Fails, FailsBy}
-use Rattle.hpr_app.specs.Reads.{IfTold, IsReached}
-use Rattle.hpr_app.specs.declared.answer.Kind.TheVariants.{Done}
-use Rattle.hpr_app.specs.declared.answer.Report.{Report}
-use Rattle.hpr_app.specs.declared.answer.Stop.{Stop}
-use Rattle.hpr_app.proofs.ReadLemmas.{FileOf, file_fails, past_file, past_last_read, read_fails, spelled}
+use Rattle.hpr_inputs.specs.Answer.{StopIs, Decides, Merges}
+use Rattle.hpr_inputs.specs.Decision.{Decision, prints, refuses}
+use Rattle.hpr_decisions.specs.EditFiles.{EditOutcome, OnScript, edit_decision}
+use Rattle.hpr_inputs.specs.ReadsFile.{Fails, FailsBy}
+use Rattle.hpr_inputs.specs.Reads.{IfTold, IsReached}
+use Rattle.hpr_inputs.specs.declared.answer.Kind.TheVariants.{Done}
+use Rattle.hpr_inputs.specs.declared.answer.Report.{Report}
+use Rattle.hpr_inputs.specs.declared.answer.Stop.{Stop}
+use Rattle.hpr_inputs.proofs.ReadLemmas.{FileOf, file_fails, past_file, past_last_read, read_fails, spelled}
 
 module _ (files : Option Files) (file script : List ℕ) (author : ℕ) where
   abbrev pub Reaches : Decision → Type 0

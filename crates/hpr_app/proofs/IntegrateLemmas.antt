@@ -8,14 +8,14 @@ use Rattle.hpr_engine.specs.declared.stop.Stop as engine
 use Rattle.hpr_engine.specs.declared.stop.Stop.TheVariants.{TooManyEdges, Interference, NoProgram, Spent, Memory}
 use Rattle.hpr_engine.specs.declared.stop.Which.{Which}
 use Rattle.hpr_engine.specs.declared.stop.Which.TheVariants as which
-use Rattle.hpr_app.specs.Private.Answer.{Merges}
-use Rattle.hpr_app.specs.Decision.{Decision, refuses}
-use Rattle.hpr_app.specs.Graphs.{too_many_edges}
-use Rattle.hpr_app.specs.Integrate.{report, OnGraphs}
+use Rattle.hpr_inputs.specs.Answer.{Merges}
+use Rattle.hpr_inputs.specs.Decision.{Decision, refuses}
+use Rattle.hpr_decisions.specs.Graphs.{too_many_edges}
+use Rattle.hpr_decisions.specs.Integrate.{report, OnGraphs}
 use Rattle.hpr_app.specs.Private.Stopped.{file_of, IsStopped}
-use Rattle.hpr_app.specs.declared.answer.Report.{Report}
-use Rattle.hpr_app.specs.declared.answer.Stop.{Stop}
-use Rattle.hpr_app.proofs.ReadLemmas.{merges_map}
+use Rattle.hpr_inputs.specs.declared.answer.Report.{Report}
+use Rattle.hpr_inputs.specs.declared.answer.Stop.{Stop}
+use Rattle.hpr_inputs.proofs.ReadLemmas.{merges_map}
 
 -- an answer without a program
 abbrev pub IsUnprinted : Answer → Type 0

@@ -1,57 +1,62 @@
 -- The slice of a file's graph, and why there is none.
-use Rattle.std.proofs.Common.{ℕ, List, All, Err, refl, ap, inl, inr}
+use Rattle.std.proofs.Common.{ℕ, List, All, Err, Result, refl, ap, inl, inr}
 use Rattle.std.proofs.lemmas.List.Elements.{All-weaker}
 use Rattle.hpr_syntax.specs.Tree.{Tree}
 use Rattle.hpr_graph.specs.Graphs.{Same}
 use Rattle.hpr_graph.specs.Numbered.{Numbered, graph_in}
 use Rattle.hpr_graph.specs.ProgramGraph.{graph_of}
 use Rattle.hpr_graph.specs.Slices.{slice_of}
-use Rattle.hpr_graph.proofs.Laws.{closed_by_numbers, same_then, slice_same, slice_same_on}
+use Rattle.hpr_graph.proofs.Laws.{closed_by_numbers, slice_same, slice_same_on}
 use Rattle.hpr_build.proofs.Once.{place_among}
 use Rattle.hpr_slice.specs.Vertices.{IsOneOf}
 use Rattle.hpr_report.specs.GraphTexts.{IsGraphText}
 use Rattle.hpr_report.proofs.OneText.{graph_text_same}
 use Rattle.hpr_words.specs.Request.{Text}
-use Rattle.hpr_app.specs.Private.Answer.{Merges}
-use Rattle.hpr_app.specs.Decision.{prints, refuses}
 use Rattle.hpr_engine.specs.Limit.{HasTooManyEdges}
-use Rattle.hpr_app.specs.Points.{IsNamed, IsPoint}
-use Rattle.hpr_app.specs.Private.ReadsPoints.{AreNumbersFor, RefusesPoint}
-use Rattle.hpr_app.specs.SliceFile.{Sliced}
-use Rattle.hpr_app.specs.declared.answer.Kind.TheVariants.{Done}
-use Rattle.hpr_app.specs.declared.answer.Stop.{Stop}
-use Rattle.hpr_app.specs.declared.answer.Stop.TheVariants as stop
-use Rattle.hpr_app.proofs.PointLemmas.{named_same, refuses_map}
+use Rattle.hpr_inputs.specs.Answer.{Merges}
+use Rattle.hpr_inputs.specs.Decision.{Decision, prints, refuses}
+use Rattle.hpr_inputs.specs.Points.{IsNamed, IsPoint}
+use Rattle.hpr_inputs.specs.ReadsPoints.{AreNumbersFor, RefusesPoint}
+use Rattle.hpr_inputs.specs.declared.answer.Kind.TheVariants.{Done}
+use Rattle.hpr_inputs.specs.declared.answer.Report.{Report}
+use Rattle.hpr_inputs.specs.declared.answer.Stop.{Stop}
+use Rattle.hpr_inputs.specs.declared.answer.Stop.TheVariants as stop
+use Rattle.hpr_inputs.proofs.PointLemmas.{named_same, stranger_map}
+use Rattle.hpr_inputs.proofs.ReadLemmas.{merges_map}
+use Rattle.hpr_decisions.specs.SliceFile.{Sliced}
+use Rattle.hpr_app.specs.Private.SlicedIn.{SlicedIn}
 
--- the slice at the numbers is the slice at the points
-numbers_slice : (g : Numbered) (points : List Text) (numbers : List ℕ) → AreNumbersFor g points numbers
-    → Same (slice_of (graph_in g) (IsOneOf g numbers)) (slice_of (graph_in g) (IsPoint points))
-numbers_slice g points numbers h =
-    slice_same_on (graph_in g) (IsOneOf g numbers) (IsPoint points) (closed_by_numbers g)
-    (λ v has. (
-      λ (at, one, is). (h.exact at v is).0 one,
-      λ point. (let (at, is) = place_among g.vertices v has in (at, (h.exact at v is).1 point, is)),
-    ))
+module _ (g : Numbered) (points : List Text) where
+  -- the slice at the numbers is the slice at the points
+  numbers_slice : (numbers : List ℕ) → AreNumbersFor g points numbers → Same (slice_of (graph_in g) (IsOneOf g numbers)) (slice_of (graph_in g) (IsPoint points))
+  numbers_slice numbers h =
+      slice_same_on (graph_in g) (IsOneOf g numbers) (IsPoint points) (closed_by_numbers g)
+      (λ v has. (
+        λ (at, one, is). (h.exact at v is).0 one,
+        λ point. (let (at, is) = place_among g.vertices v has in (at, (h.exact at v is).1 point, is)),
+      ))
 
-module _ (file : Text) (p : Tree) (points : List Text) (g : Numbered) (same : Same (graph_in g) (graph_of p)) (few : HasTooManyEdges p → ⊥) where
-  part_same : (numbers : List ℕ) (part : Numbered) → AreNumbersFor g points numbers → Same (graph_in part) (slice_of (graph_in g) (IsOneOf g numbers))
-      → Same (graph_in part) (slice_of (graph_of p) (IsPoint points))
-  part_same numbers part h is =
-      same_then (graph_in part) (slice_of (graph_in g) (IsOneOf g numbers)) (slice_of (graph_of p) (IsPoint points)) is
-      (same_then (slice_of (graph_in g) (IsOneOf g numbers)) (slice_of (graph_in g) (IsPoint points)) (slice_of (graph_of p) (IsPoint points))
-      (numbers_slice g points numbers h) (slice_same (graph_in g) (graph_of p) (IsPoint points) (IsPoint points) same (λ v. (λ x. x, λ x. x))))
+  pub points_sliced : (numbers bytes : List ℕ) → All (IsNamed (graph_in g)) points → AreNumbersFor g points numbers
+      → IsGraphText (slice_of (graph_in g) (IsOneOf g numbers)) bytes → SlicedIn g points (prints Done bytes)
+  points_sliced numbers bytes named h text =
+      let shown = graph_text_same (slice_of (graph_in g) (IsOneOf g numbers)) (slice_of (graph_in g) (IsPoint points)) bytes (numbers_slice numbers h) text in
+      inr (named, (bytes, shown, refl))
 
-  pub sliced : (numbers : List ℕ) (part : Numbered) (bytes : List ℕ) → All (IsNamed (graph_in g)) points → AreNumbersFor g points numbers
-      → Same (graph_in part) (slice_of (graph_in g) (IsOneOf g numbers)) → IsGraphText (graph_in part) bytes → Sliced file p points (prints Done bytes)
-  sliced numbers part bytes named h is text =
-      let all = All-weaker (IsNamed (graph_in g)) (IsNamed (graph_of p)) (λ w. (named_same (graph_in g) (graph_of p) same w).0) points named in
-      let shown = graph_text_same (graph_in part) (slice_of (graph_of p) (IsPoint points)) bytes (part_same numbers part h is) text in
-      inr (few, inr (all, (bytes, shown, refl)))
+  pub point_refused : (s : Stop) → RefusesPoint (IsNamed (graph_in g)) points s → Merges (SlicedIn g points) (Err s)
+  point_refused (stop.Refused message) (word, first, is) = inl (word, first, ap refuses is)
+  point_refused (stop.ReadFault message) h = absurd h
+  point_refused stop.Memory h = tt
 
-  refused : (s : Stop) → RefusesPoint (IsNamed (graph_of p)) points s → Merges (Sliced file p points) (Err s)
-  refused (stop.Refused message) (word, first, is) = inr (few, inl (word, first, ap refuses is))
-  refused (stop.ReadFault message) h = absurd h
-  refused stop.Memory h = tt
+  -- what is so of the graph that was made is so of the program's
+  module _ (file : Text) (p : Tree) (same : Same (graph_in g) (graph_of p)) (few : HasTooManyEdges p → ⊥) where
+    of_program : (r : Decision) → SlicedIn g points r → Sliced file p points r
+    of_program r (inl (word, first, is)) =
+        inr (few, inl (word, stranger_map (IsNamed (graph_in g)) (IsNamed (graph_of p)) (named_same (graph_in g) (graph_of p) same) points word first, is))
+    of_program r (inr (named, (bytes, text, is))) =
+        let all = All-weaker (IsNamed (graph_in g)) (IsNamed (graph_of p)) (λ w. (named_same (graph_in g) (graph_of p) same w).0) points named in
+        let kept = slice_same (graph_in g) (graph_of p) (IsPoint points) (IsPoint points) same (λ v. (λ x. x, λ x. x)) in
+        let shown = graph_text_same (slice_of (graph_in g) (IsPoint points)) (slice_of (graph_of p) (IsPoint points)) bytes kept text in
+        inr (few, inr (all, (bytes, shown, is)))
 
-  pub point_refused : (s : Stop) → RefusesPoint (IsNamed (graph_in g)) points s → Merges (Sliced file p points) (Err s)
-  point_refused s h = refused s (refuses_map (IsNamed (graph_in g)) (IsNamed (graph_of p)) (named_same (graph_in g) (graph_of p) same) points s h)
+    pub sliced : (result : Result Report Stop) → Merges (SlicedIn g points) result → Merges (Sliced file p points) result
+    sliced result h = merges_map (SlicedIn g points) (Sliced file p points) of_program result h

@@ -3,7 +3,7 @@ use Rattle.std.proofs.Common.{◌≡◌, List, [], ◌∷◌, ◌++◌, flat_map
 use Rattle.hpr_meaning.specs.Instances.{Instance}
 use Rattle.hpr_meaning.specs.Items.{Item, items_after, items_of}
 use Rattle.hpr_app.specs.Private.ItemLine.{item_line}
-use Rattle.hpr_app.specs.TraceText.{instance_line, trace_text}
+use Rattle.hpr_decisions.specs.TraceText.{instance_line, trace_text}
 
 lines_after : (log is : List Instance) → flat_map item_line (items_after log is) ≡ flat_map instance_line is
 lines_after log [] = refl

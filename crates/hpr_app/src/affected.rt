@@ -1,18 +1,21 @@
 //! The command `affected`.
-ghost use Rattle.std.specs.Prelude.{IsTrue, Some};
+ghost use Rattle.std.specs.Prelude.{IfOk, IsTrue, Some};
+ghost use Rattle.hpr_graph.specs.Numbered.{graph_in};
+ghost use Rattle.hpr_graph.specs.Points.{IsAffected};
+ghost use Rattle.hpr_report.specs.AffectedText.{IsAffectedText};
 ghost use Rattle.hpr_words.specs.Request.{affected};
-ghost use Rattle.hpr_app.specs.Outcome.{OutcomeIfTold};
-ghost use Rattle.hpr_app.specs.Reads.{MayRead};
-ghost use Rattle.hpr_app.specs.AffectedFiles.{AffectedPoints};
-ghost use Rattle.hpr_app.specs.Private.Answer.{Decides, Merges};
+ghost use Rattle.hpr_decisions.specs.Outcome.{OutcomeIfTold};
+ghost use Rattle.hpr_decisions.specs.Reads.{MayRead};
+ghost use Rattle.hpr_decisions.specs.AffectedFiles.{AffectedPoints};
+ghost use Rattle.hpr_inputs.specs.Answer.{Decides, Merges};
 
-use crate::answer::{Kind, Report, Stop};
-use crate::files::read_program;
 use crate::graphs::make_graph;
 use hpr_affected::affected;
+use hpr_graph::Graph;
+use hpr_inputs::{Kind, Report, Stop, read_program};
 use hpr_io::Shelf;
 use hpr_report::affected_text;
-use hpr_syntax::Program;
+use hpr_syntax::{NoMemory, Program};
 use std::alloc::Global;
 
 /// Shows the affected points of a variant.
@@ -43,10 +46,17 @@ fn show_affected(
 {
     let base_graph = make_graph(alloc, base, base_program)?;
     let a_graph = make_graph(alloc, a, a_program)?;
-    let points = affected(alloc, &a_graph, &base_graph)?;
-    let text = affected_text(alloc, &a_graph, &points)?;
+    let text = points_text(alloc, &base_graph, &a_graph)?;
     Ok(Report {
         kind: Kind::Done,
         text,
     })
+}
+
+/// The text of the affected points of a graph.
+fn points_text(alloc: Global, base: &Graph, a: &Graph) -> Result<Vec<u8>, NoMemory>
+    ensures { IfOk result (λ text. IsAffectedText (IsAffected (graph_in a.now) (graph_in base.now)) text.items) }
+{
+    let points = affected(alloc, a, base)?;
+    affected_text(alloc, a, &points)
 }

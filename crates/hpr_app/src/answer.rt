@@ -1,85 +1,15 @@
 //! Writes an answer to `out` and `err`.
 ghost use Rattle.std.specs.Prelude.{◌≡◌};
+ghost use Rattle.hpr_decisions.specs.Ends.{Says, status_of_kind};
 ghost use Rattle.hpr_app.specs.Private.Writes.{Writes, stop_status, stop_message};
-ghost use Rattle.hpr_app.specs.Ends.{Says};
 
-use crate::status::Status;
+use hpr_decisions::Status;
+use hpr_inputs::{Kind, Report, Stop};
 use hpr_io::{Sink, put_all};
-use hpr_syntax::NoMemory;
-use std::alloc::AllocError;
 
 /// The text for words that are no call.
 pub const USAGE: &[u8] =
     b"usage: hpr integrate BASE A B [--tries N]\n       hpr run FILE [STATE..] [--steps N] [--trace]\n       hpr graph FILE [--json]\n       hpr slice FILE POINT..\n       hpr affected BASE A\n       hpr trial BASE A B [STATE..] [--steps N]\n       hpr edit FILE SCRIPT --author N\n       hpr tag FILE --author N\n";
-
-/// The kinds of answers that have a text for `out`.
-#[derive(Clone, Copy)]
-pub enum Kind {
-    /// The command did what it is for.
-    Done,
-    /// The variants interfere.
-    Interference,
-    /// No program has the merged graph.
-    NoProgram,
-    /// The budget of tries is spent.
-    Spent,
-    /// A run did not end normally.
-    NotEnded,
-}
-
-/// A decided answer with a text for `out`.
-#[derive(Drop)]
-pub struct Report {
-    pub kind: Kind,
-    pub text: Vec<u8>,
-}
-
-/// Why there is no text for `out`, with the message for `err` where it isn't a fixed one.
-#[derive(Drop)]
-pub enum Stop {
-    Refused(String),
-    ReadFault(String),
-    Memory,
-}
-
-impl From<AllocError> for Stop {
-    ghost use Rattle.std.specs.Prelude.{◌≡◌};
-    ghost use Rattle.hpr_app.specs.declared.answer.Stop.TheVariants.{Memory};
-
-    ghost from_gives = { λ _ stop. stop ≡ Memory };
-
-    fn from(_error: AllocError) -> Stop {
-        Stop::Memory
-    }
-}
-
-impl From<NoMemory> for Stop {
-    ghost use Rattle.std.specs.Prelude.{◌≡◌};
-    ghost use Rattle.hpr_app.specs.declared.answer.Stop.TheVariants.{Memory};
-
-    ghost from_gives = { λ _ stop. stop ≡ Memory };
-
-    fn from(_error: NoMemory) -> Stop {
-        Stop::Memory
-    }
-}
-
-impl Kind {
-    ghost use Rattle.hpr_app.specs.Ends.{status_of_kind};
-
-    /// The status of an answer of this kind.
-    pub fn status(self) -> Status
-        ensures { result ≡ status_of_kind self }
-    {
-        match self {
-            Kind::Done => Status::Done,
-            Kind::Interference => Status::Interference,
-            Kind::NoProgram => Status::NoProgram,
-            Kind::Spent => Status::Spent,
-            Kind::NotEnded => Status::NotEnded,
-        }
-    }
-}
 
 /// Puts the text of an answer to `out`, or its message to `err`.
 pub fn write_answer<O: Sink, E: Sink>(
@@ -93,7 +23,7 @@ pub fn write_answer<O: Sink, E: Sink>(
 {
     match answer {
         Ok(report) => match put_all(out, report.text.as_slice()) {
-            Ok(()) => report.kind.status(),
+            Ok(()) => status_of_kind(report.kind),
             Err(_) => {
                 write_message(b"hpr: cannot write output\n", err);
                 Status::WriteFault
@@ -119,6 +49,19 @@ fn write_stop<E: Sink>(stop: &Stop, err: &mut E) -> Status
 {
     write_message(message_of(stop), err);
     status_of(stop)
+}
+
+/// The status of an answer of this kind.
+fn status_of_kind(kind: Kind) -> Status
+    ensures { result ≡ status_of_kind kind }
+{
+    match kind {
+        Kind::Done => Status::Done,
+        Kind::Interference => Status::Interference,
+        Kind::NoProgram => Status::NoProgram,
+        Kind::Spent => Status::Spent,
+        Kind::NotEnded => Status::NotEnded,
+    }
 }
 
 fn message_of(stop: &Stop) -> &[u8]

@@ -2,12 +2,11 @@
 ghost use Rattle.std.specs.Prelude.{All, IsTrue, Some};
 ghost use Rattle.hpr_words.specs.Asked.{request};
 ghost use Rattle.hpr_words.specs.Request.{IsInRange};
-ghost use Rattle.hpr_app.specs.Outcome.{OutcomeIfTold};
-ghost use Rattle.hpr_app.specs.Reads.{MayRead, files_of};
-ghost use Rattle.hpr_app.specs.Private.Answer.{Decides};
+ghost use Rattle.hpr_decisions.specs.Outcome.{OutcomeIfTold};
+ghost use Rattle.hpr_decisions.specs.Reads.{MayRead, files_of};
+ghost use Rattle.hpr_inputs.specs.Answer.{Decides};
 
 use crate::affected::affected_files;
-use crate::answer::{Report, Stop};
 use crate::edit::edit_file;
 use crate::graph::graph_file;
 use crate::integrate::integrate_files;
@@ -15,6 +14,7 @@ use crate::run::run_file;
 use crate::slice::slice_file;
 use crate::tag::tag_file;
 use crate::trial::trial_files;
+use hpr_inputs::{Report, Stop};
 use hpr_io::Shelf;
 use hpr_words::Asked;
 use std::alloc::Global;

@@ -2,14 +2,13 @@
 ghost use Rattle.std.specs.Prelude.{◌≡◌, ◌≤◌, IsTrue, Some};
 ghost use Rattle.hpr_words.specs.Request.{edit};
 ghost use Rattle.hpr_refusals.specs.Applied.{applied};
-ghost use Rattle.hpr_app.specs.EditFiles.{edit_decision};
-ghost use Rattle.hpr_app.specs.Outcome.{OutcomeIfTold};
-ghost use Rattle.hpr_app.specs.Reads.{MayRead};
-ghost use Rattle.hpr_app.specs.Private.Answer.{Decides, Merges};
+ghost use Rattle.hpr_decisions.specs.EditFiles.{edit_decision};
+ghost use Rattle.hpr_decisions.specs.Outcome.{OutcomeIfTold};
+ghost use Rattle.hpr_decisions.specs.Reads.{MayRead};
+ghost use Rattle.hpr_inputs.specs.Answer.{Decides, Merges};
 
-use crate::answer::{Report, Stop};
-use crate::files::{read_commands, read_program};
 use crate::programs::print_program;
+use hpr_inputs::{Report, Stop, read_commands, read_program};
 use hpr_io::Shelf;
 use hpr_refusals::{Command, apply_script};
 use hpr_syntax::Program;

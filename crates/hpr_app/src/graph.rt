@@ -2,15 +2,14 @@
 ghost use Rattle.std.specs.Prelude.{IsTrue, IfOk, Some};
 ghost use Rattle.hpr_graph.specs.Numbered.{graph_in};
 ghost use Rattle.hpr_words.specs.Request.{graph};
-ghost use Rattle.hpr_app.specs.Outcome.{OutcomeIfTold};
-ghost use Rattle.hpr_app.specs.Reads.{MayRead};
-ghost use Rattle.hpr_app.specs.GraphFile.{Graphed, IsShown};
-ghost use Rattle.hpr_app.specs.Private.Answer.{Decides, Merges};
+ghost use Rattle.hpr_decisions.specs.Outcome.{OutcomeIfTold};
+ghost use Rattle.hpr_decisions.specs.Reads.{MayRead};
+ghost use Rattle.hpr_decisions.specs.GraphFile.{Graphed, IsShown};
+ghost use Rattle.hpr_inputs.specs.Answer.{Decides, Merges};
 
-use crate::answer::{Kind, Report, Stop};
-use crate::files::read_program;
 use crate::graphs::make_graph;
 use hpr_graph::Graph;
+use hpr_inputs::{Kind, Report, Stop, read_program};
 use hpr_io::Shelf;
 use hpr_report::{graph_json, graph_text};
 use hpr_syntax::{NoMemory, Program};

@@ -1,10 +1,10 @@
 //! The graphs of files.
 ghost use Rattle.hpr_app.specs.Private.MakesGraph.{MakesGraph, RefusesGraph};
 
-use crate::answer::Stop;
 use hpr_build::{BuildError, graph_of};
 use hpr_engine::MOST_EDGES;
 use hpr_graph::Graph;
+use hpr_inputs::Stop;
 use hpr_refusals::about;
 use hpr_syntax::Program;
 use std::alloc::Global;

@@ -1,18 +1,17 @@
 //! The command `integrate`.
 ghost use Rattle.std.specs.Prelude.{◌≡◌, ◌≤◌, [], ◌∷◌, IsTrue};
 ghost use Rattle.hpr_report.specs.ConflictsText.{conflicts_text};
-ghost use Rattle.hpr_app.specs.Reads.{IfTold, IsReached};
-ghost use Rattle.hpr_app.specs.Decision.{prints};
-ghost use Rattle.hpr_app.specs.Integrate.{no_program_text, spent_text, Integrated, IntegrateOutcome};
+ghost use Rattle.hpr_inputs.specs.Reads.{IfTold, IsReached};
+ghost use Rattle.hpr_inputs.specs.Decision.{prints};
+ghost use Rattle.hpr_decisions.specs.Integrate.{no_program_text, spent_text, Integrated, IntegrateOutcome};
 ghost use Rattle.hpr_app.specs.Private.Stopped.{file_of, IsStopped};
-ghost use Rattle.hpr_app.specs.Private.Answer.{Decides, Merges};
+ghost use Rattle.hpr_inputs.specs.Answer.{Decides, Merges};
 
-use crate::answer::{Kind, Report, Stop};
 use crate::graphs::refuse_graph;
 use crate::programs::print_program;
-use crate::versions::{Versions, read_versions};
 use hpr_engine::{Which, integrate};
 use hpr_graph::Conflict;
+use hpr_inputs::{Kind, Report, Stop, Versions, read_versions};
 use hpr_io::Shelf;
 use hpr_report::conflicts_text;
 use std::alloc::Global;

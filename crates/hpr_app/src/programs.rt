@@ -1,10 +1,10 @@
 //! The answer that prints a program.
 ghost use Rattle.std.specs.Prelude.{◌≡◌};
 ghost use Rattle.hpr_syntax.specs.Print.{text};
-ghost use Rattle.hpr_app.specs.Decision.{prints};
-ghost use Rattle.hpr_app.specs.Private.Answer.{Merges};
+ghost use Rattle.hpr_inputs.specs.Decision.{prints};
+ghost use Rattle.hpr_inputs.specs.Answer.{Merges};
 
-use crate::answer::{Kind, Report, Stop};
+use hpr_inputs::{Kind, Report, Stop};
 use hpr_print::text_of;
 use hpr_syntax::Program;
 use std::alloc::Global;

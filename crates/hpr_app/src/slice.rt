@@ -1,19 +1,23 @@
 //! The command `slice`.
-ghost use Rattle.std.specs.Prelude.{IsTrue, Some, map};
+ghost use Rattle.std.specs.Prelude.{◌<◌, All, IfOk, IsTrue, Some, length, map};
+ghost use Rattle.hpr_graph.specs.Numbered.{graph_in};
+ghost use Rattle.hpr_graph.specs.Slices.{slice_of};
+ghost use Rattle.hpr_slice.specs.Vertices.{IsOneOf};
+ghost use Rattle.hpr_report.specs.GraphTexts.{IsGraphText};
 ghost use Rattle.hpr_words.specs.Request.{slice};
-ghost use Rattle.hpr_app.specs.Outcome.{OutcomeIfTold};
-ghost use Rattle.hpr_app.specs.Reads.{MayRead};
-ghost use Rattle.hpr_app.specs.SliceFile.{Sliced};
-ghost use Rattle.hpr_app.specs.Private.Answer.{Decides, Merges};
+ghost use Rattle.hpr_decisions.specs.Outcome.{OutcomeIfTold};
+ghost use Rattle.hpr_decisions.specs.Reads.{MayRead};
+ghost use Rattle.hpr_decisions.specs.SliceFile.{Sliced};
+ghost use Rattle.hpr_inputs.specs.Answer.{Decides, Merges};
+ghost use Rattle.hpr_app.specs.Private.SlicedIn.{SlicedIn};
 
-use crate::answer::{Kind, Report, Stop};
-use crate::files::read_program;
 use crate::graphs::make_graph;
-use crate::points::read_points;
+use hpr_graph::Graph;
+use hpr_inputs::{Kind, Report, Stop, read_points, read_program};
 use hpr_io::Shelf;
 use hpr_report::graph_text;
 use hpr_slice::slice;
-use hpr_syntax::Program;
+use hpr_syntax::{NoMemory, Program};
 use std::alloc::Global;
 
 /// Shows the slice of the graph of the program of a file at the points that the words name.
@@ -35,11 +39,26 @@ fn show_slice(alloc: Global, file: &str, program: &Program, points: &[&str]) -> 
     ensures { Merges (Sliced file.now program.now (map (λ w. w.now) points.now)) result }
 {
     let graph = make_graph(alloc, file, program)?;
-    let numbers = read_points(alloc, &graph, points)?;
-    let part = slice(alloc, &graph, &numbers)?;
-    let text = graph_text(alloc, &part)?;
+    show_points(alloc, &graph, points)
+}
+
+/// The answer for a graph.
+fn show_points(alloc: Global, graph: &Graph, points: &[&str]) -> Result<Report, Stop>
+    ensures { Merges (SlicedIn graph.now (map (λ w. w.now) points.now)) result }
+{
+    let numbers = read_points(alloc, graph, points)?;
+    let text = slice_text(alloc, graph, &numbers)?;
     Ok(Report {
         kind: Kind::Done,
         text,
     })
+}
+
+/// The text of the slice at the vertices with these numbers.
+fn slice_text(alloc: Global, graph: &Graph, numbers: &[usize]) -> Result<Vec<u8>, NoMemory>
+    requires { All (λ n. n < length graph.now.vertices) numbers.now }
+    ensures { IfOk result (λ text. IsGraphText (slice_of (graph_in graph.now) (IsOneOf graph.now numbers.now)) text.items) }
+{
+    let part = slice(alloc, graph, numbers)?;
+    graph_text(alloc, &part)
 }

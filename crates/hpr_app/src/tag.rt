@@ -1,13 +1,12 @@
 //! The command `tag`.
 ghost use Rattle.std.specs.Prelude.{◌≤◌, IsTrue, Some};
 ghost use Rattle.hpr_words.specs.Request.{tag};
-ghost use Rattle.hpr_app.specs.Outcome.{OutcomeIfTold};
-ghost use Rattle.hpr_app.specs.Reads.{MayRead};
-ghost use Rattle.hpr_app.specs.Private.Answer.{Decides};
+ghost use Rattle.hpr_decisions.specs.Outcome.{OutcomeIfTold};
+ghost use Rattle.hpr_decisions.specs.Reads.{MayRead};
+ghost use Rattle.hpr_inputs.specs.Answer.{Decides};
 
-use crate::answer::{Report, Stop};
-use crate::files::read_text;
 use crate::programs::print_program;
+use hpr_inputs::{Report, Stop, read_text};
 use hpr_io::Shelf;
 use hpr_text::Mode;
 use std::alloc::Global;

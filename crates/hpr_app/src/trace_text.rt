@@ -2,7 +2,7 @@
 ghost use Rattle.std.specs.Prelude.{◌≡◌, ◌++◌, IfOk, OnOk, codes, flat_map, map, string_bytes};
 ghost use Rattle.std.specs.Fmt.{signed_decimal};
 ghost use Rattle.hpr_meaning.specs.Items.{item_in};
-ghost use Rattle.hpr_app.specs.TraceText.{comma_turn, turns_text};
+ghost use Rattle.hpr_decisions.specs.TraceText.{comma_turn, turns_text};
 ghost use Rattle.hpr_app.specs.Private.ItemLine.{item_line};
 
 use hpr_meaning::Instance;

@@ -1,17 +1,16 @@
 //! The command `trial`.
 ghost use Rattle.std.specs.Prelude.{◌≡◌, ◌≤◌, [], ◌∷◌, IsTrue, IsOk, IfOk, map};
+ghost use Rattle.hpr_syntax.specs.Run.{run};
 ghost use Rattle.hpr_run.specs.Outcomes.{outcome_of};
 ghost use Rattle.hpr_report.specs.TableText.{IsSingleValued};
-ghost use Rattle.hpr_app.specs.Private.Answer.{Decides, Merges};
-ghost use Rattle.hpr_app.specs.Reads.{IfTold, IsReached};
-ghost use Rattle.hpr_app.specs.States.{states_of};
-ghost use Rattle.hpr_app.specs.TrialFiles.{has_ended, finals_of, steps_of, outcome_line, trial_line, three_lines, IsTrialText, IsTrialOf, Tried, TrialOutcome};
+ghost use Rattle.hpr_inputs.specs.Answer.{Decides, Merges};
+ghost use Rattle.hpr_inputs.specs.Reads.{IfTold, IsReached};
+ghost use Rattle.hpr_inputs.specs.States.{states_of};
+ghost use Rattle.hpr_decisions.specs.TrialFiles.{has_ended, finals_of, steps_of, outcome_line, trial_line, three_lines, IsTrialText, IsTrialOf, ShowsTrial, Tried, TrialOutcome, steps_together};
 
-use crate::answer::{Kind, Report, Stop};
 use crate::integrate::stopped;
-use crate::states::read_state;
-use crate::versions::{Versions, read_versions};
 use hpr_engine::integrate;
+use hpr_inputs::{Kind, Report, Stop, Versions, read_state, read_versions};
 use hpr_io::Shelf;
 use hpr_report::{outcome_text, table_text};
 use hpr_run::{Outcome, State, run};
@@ -78,20 +77,56 @@ fn try_merged(
     let base = run(alloc, &versions.base, state, steps)?;
     let a = run(alloc, &versions.a, state, steps)?;
     let b = run(alloc, &versions.b, state, steps)?;
-    if has_ended(&base) && has_ended(&a) && has_ended(&b) {
-        let together = steps_of(&base) + steps_of(&a) + steps_of(&b);
-        let all = run(alloc, merged, state, together)?;
-        let text = trial_text(alloc, &base, &a, &b, &all)?;
+    show_runs(alloc, &base, &a, &b, merged, state)
+}
+
+/// The report on the runs of base, A and B.
+fn show_runs(
+    alloc: Global,
+    base: &Outcome,
+    a: &Outcome,
+    b: &Outcome,
+    merged: &Program,
+    state: &State,
+) -> Result<Report, Stop>
+    requires base { IsSingleValued (finals_of (outcome_of base.now)) }
+    requires a { IsSingleValued (finals_of (outcome_of a.now)) }
+    requires b { IsSingleValued (finals_of (outcome_of b.now)) }
+    requires steps { steps_together (outcome_of base.now) (outcome_of a.now) (outcome_of b.now) ≤ 3000000000 }
+    ensures { Merges (ShowsTrial (outcome_of base.now) (outcome_of a.now) (outcome_of b.now) (run merged.now state.now (steps_together (outcome_of base.now) (outcome_of a.now) (outcome_of b.now)))) result }
+{
+    if has_ended(base) && has_ended(a) && has_ended(b) {
+        let text = ended_text(alloc, base, a, b, merged, state)?;
         return Ok(Report {
             kind: Kind::Done,
             text,
         });
     }
-    let text = three_lines(alloc, &base, &a, &b)?;
+    let text = three_lines(alloc, base, a, b)?;
     Ok(Report {
         kind: Kind::NotEnded,
         text,
     })
+}
+
+/// The text where the three end: the merged program runs for as many steps as they took together.
+fn ended_text(
+    alloc: Global,
+    base: &Outcome,
+    a: &Outcome,
+    b: &Outcome,
+    merged: &Program,
+    state: &State,
+) -> Result<Vec<u8>, NoMemory>
+    requires base { IsSingleValued (finals_of (outcome_of base.now)) }
+    requires a { IsSingleValued (finals_of (outcome_of a.now)) }
+    requires b { IsSingleValued (finals_of (outcome_of b.now)) }
+    requires steps { steps_together (outcome_of base.now) (outcome_of a.now) (outcome_of b.now) ≤ 3000000000 }
+    ensures { IfOk result (λ text. IsTrialText (outcome_of base.now) (outcome_of a.now) (outcome_of b.now) (run merged.now state.now (steps_together (outcome_of base.now) (outcome_of a.now) (outcome_of b.now))) text.items) }
+{
+    let together = steps_of(base) + steps_of(a) + steps_of(b);
+    let all = run(alloc, merged, state, together)?;
+    trial_text(alloc, base, a, b, &all)
 }
 
 fn has_ended(outcome: &Outcome) -> bool

@@ -16,33 +16,35 @@ use Rattle.hpr_graph.specs.Slices.{slice_of}
 use Rattle.hpr_report.specs.AffectedText.{IsAffectedText}
 use Rattle.hpr_report.specs.GraphTexts.{IsGraphText}
 use Rattle.hpr_words.specs.Request.{Request, Text, IsInRange, integrate, run, graph, slice, affected, trial, edit, tag}
-use Rattle.hpr_app.specs.Complete.{DonePrinting, Completes, IsOtherText, PrintsOther, RequestCompletes, Runs, Tries}
-use Rattle.hpr_app.specs.Decision.{Decision, OnRead, Prints, prints}
-use Rattle.hpr_app.specs.AffectedFiles.{AffectedPoints, AffectedOutcome}
-use Rattle.hpr_app.specs.EditFiles.{EditOutcome, OnScript, TagOutcome, edit_decision}
-use Rattle.hpr_app.specs.GraphFile.{IsShown, Graphed, GraphOutcome}
+use Rattle.hpr_decisions.specs.Complete.{DonePrinting, Completes, IsOtherText, PrintsOther, RequestCompletes, Runs, Tries}
+use Rattle.hpr_inputs.specs.Decision.{Decision, OnRead, Prints, prints}
+use Rattle.hpr_decisions.specs.AffectedFiles.{AffectedPoints, AffectedOutcome}
+use Rattle.hpr_decisions.specs.EditFiles.{EditOutcome, OnScript, TagOutcome, edit_decision}
+use Rattle.hpr_decisions.specs.GraphFile.{IsShown, Graphed, GraphOutcome}
 use Rattle.hpr_engine.specs.Limit.{AreInLimit, HasTooManyEdges}
 use Rattle.hpr_engine.proofs.OneAnswer.{fit_is_printed, enough}
 use Rattle.hpr_engine.proofs.OneSideAnswer.{a_unchanged, b_unchanged}
 use Rattle.hpr_rebuild.specs.Settled.{IsSettled}
-use Rattle.hpr_app.specs.Graphs.{OnGraph}
-use Rattle.hpr_app.specs.Integrate.{OnFile, OnFiles, OnGraphs, report, IsReported, Integrated, IntegrateOutcome}
-use Rattle.hpr_app.specs.Outcome.{RequestOutcome, OutcomeIfTold}
-use Rattle.hpr_app.specs.Points.{IsFirstStranger, IsNamed, IsPoint, OnPoints}
+use Rattle.hpr_decisions.specs.Graphs.{OnGraph}
+use Rattle.hpr_inputs.specs.Files.{OnFile, OnFiles}
+use Rattle.hpr_decisions.specs.Integrate.{OnGraphs, report, IsReported, Integrated, IntegrateOutcome}
+use Rattle.hpr_decisions.specs.Outcome.{RequestOutcome, OutcomeIfTold}
+use Rattle.hpr_inputs.specs.Points.{IsFirstStranger, IsNamed, IsPoint, OnPoints}
 use Rattle.hpr_edit.specs.declared.command.Command.{Command}
 use Rattle.hpr_refusals.specs.Applied.{applied, becomes}
 use Rattle.hpr_refusals.specs.Refusals.{IsFileIn, IsFileOf, IsOne, IsRefused, IsRefusedIn, IsRefusedScript, IsScriptOf}
 use Rattle.hpr_refusals.proofs.Once.{one_file, one_script_file}
-use Rattle.hpr_app.specs.RunFile.{OnState, Ran, RunOutcome}
-use Rattle.hpr_app.specs.SliceFile.{Sliced, SliceOutcome}
-use Rattle.hpr_app.specs.States.{states_of}
-use Rattle.hpr_app.specs.TrialFiles.{IsTried, Tried, TrialOutcome}
-use Rattle.hpr_app.specs.Ends.{Change, Ends, Decided, status_of, text_of}
-use Rattle.hpr_app.specs.declared.answer.Kind.TheVariants.{Done}
-use Rattle.hpr_app.specs.declared.status.Status.{Status}
-use Rattle.hpr_app.specs.declared.status.Status.TheVariants as status
-use Rattle.hpr_app.proofs.EndsLemmas.{asked_ends}
-use Rattle.hpr_app.proofs.VersionLemmas.{of_state}
+use Rattle.hpr_inputs.specs.States.{OnState}
+use Rattle.hpr_decisions.specs.RunFile.{Ran, RunOutcome}
+use Rattle.hpr_decisions.specs.SliceFile.{Sliced, SliceOutcome}
+use Rattle.hpr_inputs.specs.States.{states_of}
+use Rattle.hpr_decisions.specs.TrialFiles.{IsTried, Tried, TrialOutcome}
+use Rattle.hpr_decisions.specs.Ends.{Change, Ends, Decided, status_of, text_of}
+use Rattle.hpr_inputs.specs.declared.answer.Kind.TheVariants.{Done}
+use Rattle.hpr_decisions.specs.declared.status.Status.{Status}
+use Rattle.hpr_decisions.specs.declared.status.Status.TheVariants as status
+use Rattle.hpr_decisions.proofs.EndsLemmas.{asked_ends}
+use Rattle.hpr_inputs.proofs.VersionLemmas.{of_state}
 
 -- what is read one way is not refused
 of_read : {A : Type 0} (refused : List ℕ → Type 0) (is : A → Type 0) → IsOne refused is → (next : A → Type 0) (r : Decision) (a : A) → OnRead refused is next r → is a → next a

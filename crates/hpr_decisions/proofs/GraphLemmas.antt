@@ -5,10 +5,10 @@ use Rattle.hpr_graph.specs.Graphs.{Graph, Same}
 use Rattle.hpr_graph.specs.ProgramGraph.{graph_of}
 use Rattle.hpr_report.proofs.OneText.{one_graph_text, one_graph_json, graph_text_same, graph_json_same}
 use Rattle.hpr_words.specs.Request.{Text}
-use Rattle.hpr_app.specs.Decision.{prints}
-use Rattle.hpr_app.specs.GraphFile.{IsShown, Graphed}
+use Rattle.hpr_inputs.specs.Decision.{prints}
+use Rattle.hpr_decisions.specs.GraphFile.{IsShown, Graphed}
 use Rattle.hpr_engine.specs.Limit.{HasTooManyEdges}
-use Rattle.hpr_app.specs.declared.answer.Kind.TheVariants.{Done}
+use Rattle.hpr_inputs.specs.declared.answer.Kind.TheVariants.{Done}
 
 pub one_shown : (json : Bool) (g : Graph) (x y : List ℕ) → IsShown json g x → IsShown json g y → x ≡ y
 one_shown true g x y h k = one_graph_json g x y h k

@@ -14,35 +14,36 @@ use Rattle.hpr_graph.specs.Slices.{slice_of}
 use Rattle.hpr_report.specs.AffectedText.{IsAffectedText}
 use Rattle.hpr_report.specs.GraphTexts.{IsGraphText}
 use Rattle.hpr_report.proofs.OneText.{one_graph_text, one_affected_text}
-use Rattle.hpr_app.specs.Complete.{IsRefusedCall}
-use Rattle.hpr_app.specs.Decision.{Decision, OnRead, Prints, prints, refuses}
-use Rattle.hpr_app.specs.Ends.{Change, Ends, Decided, SaysIfAny, has_text, message_of, status_of}
-use Rattle.hpr_app.specs.GraphFile.{IsShown}
-use Rattle.hpr_app.specs.Graphs.{OnGraph}
+use Rattle.hpr_decisions.specs.Complete.{IsRefusedCall}
+use Rattle.hpr_inputs.specs.Decision.{Decision, OnRead, Prints, prints, refuses}
+use Rattle.hpr_decisions.specs.Ends.{Change, Ends, Decided, SaysIfAny, has_text, message_of, status_of}
+use Rattle.hpr_decisions.specs.GraphFile.{IsShown}
+use Rattle.hpr_decisions.specs.Graphs.{OnGraph}
 use Rattle.hpr_graph.specs.declared.conflict.Conflict.{Conflict}
 use Rattle.hpr_graph.specs.Answer.{Answer, interference, printed, no_program, spent}
 use Rattle.hpr_engine.specs.Budget as budget
 use Rattle.hpr_engine.proofs.OneAnswer.{one_answer}
 use Rattle.hpr_report.specs.ConflictsText.{conflicts_text}
-use Rattle.hpr_app.specs.Integrate.{OnFile, OnFiles, OnGraphs, report, spent_text, no_program_text, IsReported, Integrated}
-use Rattle.hpr_app.specs.Outcome.{RequestOutcome, Outcome, OutcomeIfTold, HasSearched, AgreeButForBudget}
-use Rattle.hpr_app.specs.Points.{IsFirstStranger, IsNamed, IsPoint, OnPoints, no_such_point}
+use Rattle.hpr_inputs.specs.Files.{OnFile, OnFiles}
+use Rattle.hpr_decisions.specs.Integrate.{OnGraphs, report, spent_text, no_program_text, IsReported, Integrated}
+use Rattle.hpr_decisions.specs.Outcome.{RequestOutcome, Outcome, OutcomeIfTold, HasSearched, AgreeButForBudget}
+use Rattle.hpr_inputs.specs.Points.{IsFirstStranger, IsNamed, IsPoint, OnPoints, no_such_point}
 use Rattle.hpr_edit.specs.declared.command.Command.{Command}
 use Rattle.hpr_refusals.specs.Applied.{applied}
 use Rattle.hpr_refusals.specs.Refusals.{IsFileIn, IsFileOf, IsOne, IsRefused, IsRefusedIn, IsRefusedScript, IsScriptOf}
 use Rattle.hpr_refusals.proofs.Once.{one_file, one_script_file}
-use Rattle.hpr_app.specs.EditFiles.{OnScript, OnUntagged, edit_decision}
-use Rattle.hpr_app.specs.RunFile.{OnState}
-use Rattle.hpr_app.specs.States.{RefusedWord, states_of}
-use Rattle.hpr_app.specs.TrialFiles.{IsTried, Tried}
+use Rattle.hpr_decisions.specs.EditFiles.{OnScript, OnUntagged, edit_decision}
+use Rattle.hpr_inputs.specs.States.{OnState}
+use Rattle.hpr_inputs.specs.States.{RefusedWord, states_of}
+use Rattle.hpr_decisions.specs.TrialFiles.{IsTried, Tried}
 use Rattle.hpr_words.specs.Request.{Request, Text, integrate, run, graph, slice, affected, trial, edit, tag}
-use Rattle.hpr_app.specs.declared.answer.Kind.TheVariants.{Done, Interference}
-use Rattle.hpr_app.specs.declared.status.Status.{Status}
-use Rattle.hpr_app.specs.declared.status.Status.TheVariants as status
-use Rattle.hpr_app.proofs.EndsLemmas.{asked_ends}
-use Rattle.hpr_app.proofs.Completeness.{not_stranger}
-use Rattle.hpr_app.proofs.GraphLemmas.{one_shown}
-use Rattle.hpr_app.proofs.TrialLemmas.{one_tried}
+use Rattle.hpr_inputs.specs.declared.answer.Kind.TheVariants.{Done, Interference}
+use Rattle.hpr_decisions.specs.declared.status.Status.{Status}
+use Rattle.hpr_decisions.specs.declared.status.Status.TheVariants as status
+use Rattle.hpr_decisions.proofs.EndsLemmas.{asked_ends}
+use Rattle.hpr_decisions.proofs.Completeness.{not_stranger}
+use Rattle.hpr_decisions.proofs.GraphLemmas.{one_shown}
+use Rattle.hpr_decisions.proofs.TrialLemmas.{one_tried}
 
 -- where one text has P, what prints it is one decision
 one_printed : (P : List ℕ → Type 0) → ((x y : List ℕ) → P x → P y → x ≡ y) → (r s : Decision) → Prints P r → Prints P s → r ≡ s

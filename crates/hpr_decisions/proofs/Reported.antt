@@ -21,25 +21,27 @@ use Rattle.hpr_engine.specs.Limit.{AreInLimit, HasTooManyEdges}
 use Rattle.hpr_engine.proofs.PrintedKeeps.{sides_kept}
 use Rattle.hpr_report.specs.ConflictsText.{conflicts_text}
 use Rattle.hpr_words.specs.Request.{Request, Text, integrate, run, graph, slice, affected, trial, edit, tag}
-use Rattle.hpr_app.specs.Decision.{Decision, OnRead, Prints, prints, refuses}
-use Rattle.hpr_app.specs.Ends.{Change, Ends, Decided, status_of, text_of}
-use Rattle.hpr_app.specs.Graphs.{OnGraph}
-use Rattle.hpr_app.specs.Integrate.{OnFile, OnFiles, OnGraphs, report, IsReported, Integrated, no_program_text, spent_text}
-use Rattle.hpr_app.specs.Outcome.{RequestOutcome, OutcomeIfTold}
-use Rattle.hpr_app.specs.Points.{OnPoints}
+use Rattle.hpr_inputs.specs.Decision.{Decision, OnRead, Prints, prints, refuses}
+use Rattle.hpr_decisions.specs.Ends.{Change, Ends, Decided, status_of, text_of}
+use Rattle.hpr_decisions.specs.Graphs.{OnGraph}
+use Rattle.hpr_inputs.specs.Files.{OnFile, OnFiles}
+use Rattle.hpr_decisions.specs.Integrate.{OnGraphs, report, IsReported, Integrated, no_program_text, spent_text}
+use Rattle.hpr_decisions.specs.Outcome.{RequestOutcome, OutcomeIfTold}
+use Rattle.hpr_inputs.specs.Points.{OnPoints}
 use Rattle.hpr_refusals.specs.Applied as made
 use Rattle.hpr_refusals.specs.Refusals.{IsFileIn, IsFileOf, IsRefused, IsRefusedIn, IsRefusedScript, IsScriptOf}
-use Rattle.hpr_app.specs.EditFiles.{edit_decision}
-use Rattle.hpr_app.specs.Reports.{HasAnswer, HasConflict, IsInterference, tries_of}
-use Rattle.hpr_app.specs.RunFile.{OnState, kind_of}
-use Rattle.hpr_app.specs.States.{RefusedWord, states_of}
-use Rattle.hpr_app.specs.TrialFiles.{IsTrialBy, IsTried, ShowsIf, Tried, have_ended, steps_together, trial_tries}
-use Rattle.hpr_app.specs.declared.answer.Kind.TheVariants as kind
-use Rattle.hpr_app.specs.declared.status.Status.{Status}
-use Rattle.hpr_app.specs.declared.status.Status.TheVariants as status
-use Rattle.hpr_app.proofs.Completeness.{settled, of_programs, of_program_graphs}
-use Rattle.hpr_app.proofs.Once.{one_interference}
-use Rattle.hpr_app.proofs.VersionLemmas.{on_state, of_state}
+use Rattle.hpr_decisions.specs.EditFiles.{edit_decision}
+use Rattle.hpr_decisions.specs.Reports.{HasAnswer, HasConflict, IsInterference, tries_of}
+use Rattle.hpr_inputs.specs.States.{OnState}
+use Rattle.hpr_decisions.specs.RunFile.{kind_of}
+use Rattle.hpr_inputs.specs.States.{RefusedWord, states_of}
+use Rattle.hpr_decisions.specs.TrialFiles.{IsTrialBy, IsTried, ShowsIf, Tried, have_ended, steps_together, trial_tries}
+use Rattle.hpr_inputs.specs.declared.answer.Kind.TheVariants as kind
+use Rattle.hpr_decisions.specs.declared.status.Status.{Status}
+use Rattle.hpr_decisions.specs.declared.status.Status.TheVariants as status
+use Rattle.hpr_decisions.proofs.Completeness.{settled, of_programs, of_program_graphs}
+use Rattle.hpr_decisions.proofs.Once.{one_interference}
+use Rattle.hpr_inputs.proofs.VersionLemmas.{on_state, of_state}
 
 -- an answer of the files is reported
 answer_outcome : (request : Request) (fs : Files) (cs : List Conflict) → HasAnswer request fs (interference cs)

@@ -12,14 +12,14 @@ use Rattle.hpr_graph.specs.Answer.{interference, printed, no_program, spent, IsA
 use Rattle.hpr_engine.proofs.OneAnswer.{printed_fits}
 use Rattle.hpr_engine.proofs.PrintedKeeps.{printed_keeps}
 use Rattle.hpr_words.specs.Request.{Request, integrate}
-use Rattle.hpr_app.specs.Decision.{prints}
-use Rattle.hpr_app.specs.Graphs.{OnGraph}
-use Rattle.hpr_app.specs.Integrate.{IsReported, IntegrateOutcome}
+use Rattle.hpr_inputs.specs.Decision.{prints}
+use Rattle.hpr_decisions.specs.Graphs.{OnGraph}
+use Rattle.hpr_decisions.specs.Integrate.{IsReported, IntegrateOutcome}
 use Rattle.hpr_refusals.specs.Refusals.{IsFileOf}
-use Rattle.hpr_app.specs.Outcome.{RequestOutcome}
-use Rattle.hpr_app.specs.Theorem.{IsMergedText, KeepsMeaning}
-use Rattle.hpr_app.specs.MergedText.{HasMergedGraph, PrintsMerged}
-use Rattle.hpr_app.specs.declared.answer.Kind.TheVariants as kind
+use Rattle.hpr_decisions.specs.Outcome.{RequestOutcome}
+use Rattle.hpr_decisions.specs.Theorem.{IsMergedText, KeepsMeaning}
+use Rattle.hpr_decisions.specs.MergedText.{HasMergedGraph, PrintsMerged}
+use Rattle.hpr_inputs.specs.declared.answer.Kind.TheVariants as kind
 
 -- what is so of these three programs is so of whatever the bytes spell
 pub of_spelled : (base a b : List ℕ) (p q r : Tree) → IsFileOf base p → IsFileOf a q → IsFileOf b r → (P : Tree → Tree → Tree → Type 0) → P p q r

@@ -7,21 +7,23 @@ use Rattle.hpr_syntax.specs.Values.{Values}
 use Rattle.hpr_graph.specs.Answer.{Answer, IsAnswer}
 use Rattle.hpr_refusals.specs.Applied.{applied}
 use Rattle.hpr_words.specs.Request.{Request, integrate, run, graph, slice, affected, trial, edit, tag, IsInRange}
-use Rattle.hpr_app.specs.AffectedFiles.{AffectedPoints}
-use Rattle.hpr_app.specs.Decision.{Decision, prints, refuses, usage}
-use Rattle.hpr_app.specs.GraphFile.{Graphed}
-use Rattle.hpr_app.specs.EditFiles.{OnScript, edit_decision}
-use Rattle.hpr_app.specs.Integrate.{OnFile, OnFiles, IsReported, Integrated, report}
-use Rattle.hpr_app.specs.Outcome.{RequestOutcome, Outcome}
-use Rattle.hpr_app.specs.RunFile.{OnState, Ran}
-use Rattle.hpr_app.specs.SliceFile.{Sliced}
-use Rattle.hpr_app.specs.States.{RefusedWord, refused_word_text, states_of}
-use Rattle.hpr_app.specs.TrialFiles.{IsTried, Tried, trial_tries}
-use Rattle.hpr_app.specs.declared.answer.Kind.TheVariants.{Done}
-use Rattle.hpr_app.proofs.TotalAnswers.{some_answer}
-use Rattle.hpr_app.proofs.TotalFiles.{HasOne, on_file, on_files, on_script, on_untagged}
-use Rattle.hpr_app.proofs.TotalGraphs.{on_graphs, graphed, sliced, affected_points}
-use Rattle.hpr_app.proofs.TotalTables.{tried}
+use Rattle.hpr_decisions.specs.AffectedFiles.{AffectedPoints}
+use Rattle.hpr_inputs.specs.Decision.{Decision, prints, refuses, usage}
+use Rattle.hpr_decisions.specs.GraphFile.{Graphed}
+use Rattle.hpr_decisions.specs.EditFiles.{OnScript, edit_decision}
+use Rattle.hpr_inputs.specs.Files.{OnFile, OnFiles}
+use Rattle.hpr_decisions.specs.Integrate.{IsReported, Integrated, report}
+use Rattle.hpr_decisions.specs.Outcome.{RequestOutcome, Outcome}
+use Rattle.hpr_inputs.specs.States.{OnState}
+use Rattle.hpr_decisions.specs.RunFile.{Ran}
+use Rattle.hpr_decisions.specs.SliceFile.{Sliced}
+use Rattle.hpr_inputs.specs.States.{RefusedWord, refused_word_text, states_of}
+use Rattle.hpr_decisions.specs.TrialFiles.{IsTried, Tried, trial_tries}
+use Rattle.hpr_inputs.specs.declared.answer.Kind.TheVariants.{Done}
+use Rattle.hpr_decisions.proofs.TotalAnswers.{some_answer}
+use Rattle.hpr_decisions.proofs.TotalFiles.{HasOne, on_file, on_files, on_script, on_untagged}
+use Rattle.hpr_decisions.proofs.TotalGraphs.{on_graphs, graphed, sliced, affected_points}
+use Rattle.hpr_decisions.proofs.TotalTables.{tried}
 
 reported : (p q s : Tree) (tries : ℕ) → ¬ (¬ ((x : Answer) × IsAnswer p q s tries x)) → HasOne (IsReported p q s tries)
 reported p q s tries some n = some (λ x. n (report tries x.0, (x.0, x.1, refl)))

@@ -13,10 +13,10 @@ use Rattle.hpr_graph.proofs.Lists.{in_none, in_cons}
 use Rattle.hpr_graph.proofs.VertexOrder.{vertex_total, vertex_tied, vertex_never}
 use Rattle.hpr_rebuild.proofs.Member.{member, settled, settled_fits}
 use Rattle.hpr_engine.proofs.WithinBounds.{Bounded, by_both, of_within, of_either, vertices_bounded, of_variant, ranking, proper_issued, parts_issued}
-use Rattle.hpr_app.proofs.TotalArrangements.{some_arrangements}
-use Rattle.hpr_app.proofs.TotalConflicts.{some_conflicts}
-use Rattle.hpr_app.proofs.TotalLists.{ascending, once_ascending}
-use Rattle.hpr_app.proofs.TotalRank.{some_rank}
+use Rattle.hpr_decisions.proofs.TotalArrangements.{some_arrangements}
+use Rattle.hpr_decisions.proofs.TotalConflicts.{some_conflicts}
+use Rattle.hpr_decisions.proofs.TotalLists.{ascending, once_ascending}
+use Rattle.hpr_decisions.proofs.TotalRank.{some_rank}
 
 -- where some program of a list fits, one is the first
 module _ (g : Graph) where

@@ -23,8 +23,8 @@ use Rattle.hpr_order.proofs.Ranks.{parts_once}
 use Rattle.hpr_rebuild.proofs.Parts.{part_says, says_part}
 use Rattle.hpr_engine.proofs.OneList.{one_list}
 use Rattle.hpr_engine.proofs.WithinBounds.{Bounded, by_both, of_one, of_within, of_either, of_list, of_each}
-use Rattle.hpr_app.proofs.TotalBodies.{Placed, vertex, placed, parts_placed, stands_so, one_body}
-use Rattle.hpr_app.proofs.TotalLists.{in_order}
+use Rattle.hpr_decisions.proofs.TotalBodies.{Placed, vertex, placed, parts_placed, stands_so, one_body}
+use Rattle.hpr_decisions.proofs.TotalLists.{in_order}
 
 -- ---- what the parts in preorder say of an arrangement
 

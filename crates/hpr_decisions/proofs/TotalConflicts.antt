@@ -14,7 +14,7 @@ use Rattle.hpr_graph.specs.ProgramGraph.{graph_of, IsVertexOf}
 use Rattle.hpr_graph.proofs.VertexOrder.{vertex_total, edge_total, vertex_tied}
 use Rattle.hpr_engine.proofs.WithinBounds.{Bounded, of_one, of_within, of_either, of_each, vertices_bounded, merged_listed}
 use Rattle.hpr_merge.proofs.EdgeOrder.{edge_tied}
-use Rattle.hpr_app.proofs.TotalLists.{compared, in_order}
+use Rattle.hpr_decisions.proofs.TotalLists.{compared, in_order}
 
 abbrev conflict : Side → Vertex → Edge → Conflict
 conflict s v e = record { side = s; point = v; edge = e }

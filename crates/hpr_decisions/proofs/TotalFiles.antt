@@ -19,11 +19,11 @@ use Rattle.hpr_refusals.specs.declared.files.Refusal.{Refusal}
 use Rattle.hpr_refusals.specs.declared.files.Refusal.TheVariants as refusal
 use Rattle.hpr_script.specs.ScriptGrammar as script
 use Rattle.hpr_script.specs.ScriptGrammar.{HasScript}
-use Rattle.hpr_app.specs.Decision.{Decision, OnRead, refuses}
-use Rattle.hpr_app.specs.EditFiles.{OnScript, OnUntagged}
-use Rattle.hpr_app.specs.Integrate.{OnFile, OnFiles}
-use Rattle.hpr_app.proofs.TotalPlaces.{some_place, some_reading}
-use Rattle.hpr_app.proofs.TotalTrees.{tagged_proper, untagged_proper}
+use Rattle.hpr_inputs.specs.Decision.{Decision, OnRead, refuses}
+use Rattle.hpr_decisions.specs.EditFiles.{OnScript, OnUntagged}
+use Rattle.hpr_inputs.specs.Files.{OnFile, OnFiles}
+use Rattle.hpr_decisions.proofs.TotalPlaces.{some_place, some_reading}
+use Rattle.hpr_decisions.proofs.TotalTrees.{tagged_proper, untagged_proper}
 
 -- that there is a decision can't be refuted
 abbrev pub HasOne : (Decision → Type 0) → Type 0

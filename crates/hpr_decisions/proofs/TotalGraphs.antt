@@ -19,16 +19,16 @@ use Rattle.hpr_report.specs.GraphJson.{IsGraphJson}
 use Rattle.hpr_report.specs.GraphTexts.{IsGraphText, graph_text}
 use Rattle.hpr_words.specs.Request.{Text}
 use Rattle.hpr_merge.proofs.EdgeOrder.{edge_tied}
-use Rattle.hpr_app.specs.AffectedFiles.{AffectedPoints}
-use Rattle.hpr_app.specs.Decision.{Decision, Prints, prints, refuses}
-use Rattle.hpr_app.specs.GraphFile.{IsShown, Graphed}
-use Rattle.hpr_app.specs.Graphs.{OnGraph, too_many_edges}
-use Rattle.hpr_app.specs.Integrate.{OnGraphs}
-use Rattle.hpr_app.specs.Points.{IsFirstStranger, IsNamed, IsPoint, OnPoints, no_such_point}
-use Rattle.hpr_app.specs.SliceFile.{Sliced}
-use Rattle.hpr_app.specs.declared.answer.Kind.TheVariants.{Done}
-use Rattle.hpr_app.proofs.TotalFiles.{HasOne}
-use Rattle.hpr_app.proofs.TotalLists.{ascending}
+use Rattle.hpr_decisions.specs.AffectedFiles.{AffectedPoints}
+use Rattle.hpr_inputs.specs.Decision.{Decision, Prints, prints, refuses}
+use Rattle.hpr_decisions.specs.GraphFile.{IsShown, Graphed}
+use Rattle.hpr_decisions.specs.Graphs.{OnGraph, too_many_edges}
+use Rattle.hpr_decisions.specs.Integrate.{OnGraphs}
+use Rattle.hpr_inputs.specs.Points.{IsFirstStranger, IsNamed, IsPoint, OnPoints, no_such_point}
+use Rattle.hpr_decisions.specs.SliceFile.{Sliced}
+use Rattle.hpr_inputs.specs.declared.answer.Kind.TheVariants.{Done}
+use Rattle.hpr_decisions.proofs.TotalFiles.{HasOne}
+use Rattle.hpr_decisions.proofs.TotalLists.{ascending}
 
 -- what has vertices and edges within bounds has its texts
 module _ (g : Graph) (vertices : Bounded g.vertex) (edges : Bounded g.edge) where

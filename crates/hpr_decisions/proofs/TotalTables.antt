@@ -14,13 +14,13 @@ use Rattle.hpr_graph.proofs.VertexOrder.{name_tied}
 use Rattle.hpr_engine.proofs.WithinBounds.{by_both, of_list}
 use Rattle.hpr_report.specs.GraphTexts.{on_lines}
 use Rattle.hpr_report.specs.TableText.{names_in, IsSingleValued, Row, IsValueIn, IsRow, names_of, table_line, IsTableText}
-use Rattle.hpr_app.specs.Decision.{prints}
-use Rattle.hpr_app.specs.Integrate.{report}
-use Rattle.hpr_app.specs.TrialFiles.{IsTrialBy, IsTrialOf, IsTried, ShowsIf, finals_of, have_ended, steps_together, three_lines, trial_line, trial_tries}
-use Rattle.hpr_app.specs.declared.answer.Kind.TheVariants.{Done, NotEnded}
-use Rattle.hpr_app.proofs.TotalFiles.{HasOne}
-use Rattle.hpr_app.proofs.TotalLists.{ascending}
-use Rattle.hpr_app.proofs.TrialLemmas.{single_finals}
+use Rattle.hpr_inputs.specs.Decision.{prints}
+use Rattle.hpr_decisions.specs.Integrate.{report}
+use Rattle.hpr_decisions.specs.TrialFiles.{IsTrialBy, IsTrialOf, IsTried, ShowsIf, finals_of, have_ended, steps_together, three_lines, trial_line, trial_tries}
+use Rattle.hpr_inputs.specs.declared.answer.Kind.TheVariants.{Done, NotEnded}
+use Rattle.hpr_decisions.proofs.TotalFiles.{HasOne}
+use Rattle.hpr_decisions.proofs.TotalLists.{ascending}
+use Rattle.hpr_decisions.proofs.TrialLemmas.{single_finals}
 
 -- each name has a cell in a list
 some_cell : (values : FinalValues) (x : List ℕ) → IsSingleValued values → ¬ (¬ ((cell : Option ℤ) × IsValueIn values x cell))

@@ -1,7 +1,8 @@
--- Trials: the final values of runs, and what is decided of a trial.
-use Rattle.std.proofs.Common.{◌≡◌, ℕ, Bool, true, false, List, ◌++◌, ap, sym, ◌∙◌, subst, inl, inr, Option, Ok, Result, IsOk, is_ok, codes}
+-- Trials: the final values of runs, and that one answer makes one decision.
+use Rattle.std.proofs.Common.{◌≡◌, ℕ, ◌≤◌, arith, Bool, true, false, List, ◌++◌, ap, sym, ◌∙◌, subst, inl, inr, Option, Ok, Result, IsOk, is_ok, codes}
 use Rattle.hpr_io.specs.Files.{Files}
-use Rattle.hpr_syntax.specs.Run.{Outcome, ends, faults, more, run}
+use Rattle.hpr_syntax.specs.Run as means
+use Rattle.hpr_syntax.specs.Run.{After, Outcome, ends, faults, goes, more, outcome, run, run_body, stops}
 use Rattle.hpr_syntax.specs.Shape.{IsProgram}
 use Rattle.hpr_syntax.specs.Tree.{Tree}
 use Rattle.hpr_syntax.specs.Values.{Values}
@@ -12,18 +13,18 @@ use Rattle.hpr_engine.proofs.OneAnswer.{one_answer}
 use Rattle.hpr_report.specs.TableText.{IsSingleValued}
 use Rattle.hpr_report.proofs.OneTable.{one_table_text, ended_single_valued}
 use Rattle.hpr_words.specs.Request.{Text}
-use Rattle.hpr_app.specs.Private.Answer.{Decides}
-use Rattle.hpr_app.specs.Decision.{Decision, prints}
-use Rattle.hpr_app.specs.Reads.{IfTold}
-use Rattle.hpr_app.specs.Integrate.{OnFiles, no_program_text, report, spent_text}
-use Rattle.hpr_app.specs.Outcome.{AgreeButForBudget, HasSearched}
-use Rattle.hpr_app.specs.States.{states_of}
-use Rattle.hpr_app.specs.TrialFiles.{IsTrialBy, IsTrialText, IsTried, ShowsIf, Tried, TrialOutcome, finals_of, have_ended, steps_together, three_lines, trial_line, trial_tries}
-use Rattle.hpr_app.specs.declared.answer.Kind.TheVariants.{Done}
-use Rattle.hpr_app.specs.declared.answer.Report.{Report}
-use Rattle.hpr_app.specs.declared.answer.Stop.{Stop}
-use Rattle.hpr_app.proofs.IntegrateLemmas.{IsUnprinted}
-use Rattle.hpr_app.proofs.VersionLemmas.{Reached, Reads, decides_other, on_state}
+use Rattle.hpr_inputs.specs.Answer.{Decides}
+use Rattle.hpr_inputs.specs.Decision.{Decision, prints}
+use Rattle.hpr_inputs.specs.Reads.{IfTold}
+use Rattle.hpr_inputs.specs.Files.{OnFiles}
+use Rattle.hpr_decisions.specs.Integrate.{no_program_text, report, spent_text}
+use Rattle.hpr_decisions.specs.Outcome.{AgreeButForBudget, HasSearched}
+use Rattle.hpr_inputs.specs.States.{states_of}
+use Rattle.hpr_decisions.specs.TrialFiles.{IsTrialBy, IsTrialText, IsTried, ShowsIf, Tried, TrialOutcome, finals_of, have_ended, steps_of, steps_together, three_lines, trial_line, trial_tries}
+use Rattle.hpr_inputs.specs.declared.answer.Kind.TheVariants.{Done}
+use Rattle.hpr_inputs.specs.declared.answer.Report.{Report}
+use Rattle.hpr_inputs.specs.declared.answer.Stop.{Stop}
+use Rattle.hpr_inputs.proofs.VersionLemmas.{Reached, Reads, decides_other, on_state}
 
 -- no name has two values where a run ends, and else no name has one
 pub single_finals : (p : Tree) (s : Values) (n : ℕ) (o : Outcome) → o ≡ run p s n → IsSingleValued (finals_of o)
@@ -31,29 +32,16 @@ single_finals p s n (ends f steps) e = ended_single_valued p s n steps f (sym e)
 single_finals p s n (faults tag fault steps) e = λ x v w h k. absurd (in_none (x, v) h)
 single_finals p s n (more steps) e = λ x v w h k. absurd (in_none (x, v) h)
 
--- behind a state that the words tell
-module _ (files : Option Files) (base a b : Text) (words : List Text) (steps : ℕ) (state : Values) (is : states_of words ≡ Ok state) where
-  abbrev pub Next : Tree → Tree → Tree → Decision → Type 0
-  Next p q s d = Tried base p a q b s state steps d
+-- a run takes no more steps than it may
+within : (names : List (List ℕ)) (n : ℕ) (x : After) → steps_of (outcome names n x) ≤ n
+within names n (goes s left) = omega arith
+within names n (stops t f left) = omega arith
+within names n means.spent = omega arith
 
-  known_state : IsOk (states_of words)
-  known_state = ap is_ok is
-
-  pub trial_decides : (before now : ℕ) (result : Result Report Stop) → Decides (Reached files base a b Next) (Reads files base a b) before now result
-      → Decides (λ r. IfTold files (λ fs. TrialOutcome fs base a b words steps r)) (λ file. Reads files base a b file × IsOk (states_of words)) before now result
-  trial_decides before now result h =
-      decides_other (Reached files base a b Next) (λ r. IfTold files (λ fs. TrialOutcome fs base a b words steps r)) (Reads files base a b) (λ file. Reads files base a b file × IsOk (states_of words))
-      (λ r k fs t. on_state (states_of words) state is (λ st d. OnFiles fs base a b (λ p q s. Tried base p a q b s st steps d) d) r (k fs t))
-      (λ file reads. (reads, known_state)) before now result h
+pub steps_within : (p : Tree) (s : Values) (n : ℕ) (o : Outcome) → o ≡ run p s n → steps_of o ≤ n
+steps_within p s n o e = subst (λ (x : Outcome). steps_of x ≤ n) (sym e) (within p.finals n (run_body p.body s n))
 
 module _ (p q s : Tree) (state : Values) (steps : ℕ) where
-  -- what reports an answer without a program is decided of a trial
-  pub unprinted_tried : (x : Answer) (d : Decision) → IsUnprinted x → IsAnswer p q s trial_tries x → d ≡ report trial_tries x → IsTried p q s state steps d
-  unprinted_tried (interference cs) d none answer is = (interference cs, answer, is)
-  unprinted_tried (printed m) d none answer is = absurd none
-  unprinted_tried (no_program n) d none answer is = (no_program n, answer, is)
-  unprinted_tried spent d none answer is = (spent, answer, is)
-
   -- one answer makes one decision
   module _ (o o1 o2 om : Outcome) where
     one_text : (t u : List ℕ) → IsTrialText o o1 o2 om t → IsTrialText o o1 o2 om u → t ≡ u

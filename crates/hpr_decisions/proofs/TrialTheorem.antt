@@ -15,21 +15,21 @@ use Rattle.hpr_report.specs.GraphTexts.{on_lines}
 use Rattle.hpr_report.specs.TableText.{Row, AreRows, table_line}
 use Rattle.hpr_report.proofs.OneTable.{kept_in_rows}
 use Rattle.hpr_words.specs.Request.{Request, Text, trial}
-use Rattle.hpr_app.specs.Decision.{Decision, prints, refuses}
-use Rattle.hpr_app.specs.Ends as call
-use Rattle.hpr_app.specs.Graphs.{OnGraph}
-use Rattle.hpr_app.specs.Integrate.{OnFile, OnFiles}
-use Rattle.hpr_app.specs.Outcome.{RequestOutcome, OutcomeIfTold}
+use Rattle.hpr_inputs.specs.Decision.{Decision, prints, refuses}
+use Rattle.hpr_decisions.specs.Ends as call
+use Rattle.hpr_decisions.specs.Graphs.{OnGraph}
+use Rattle.hpr_inputs.specs.Files.{OnFile, OnFiles}
+use Rattle.hpr_decisions.specs.Outcome.{RequestOutcome, OutcomeIfTold}
 use Rattle.hpr_refusals.specs.Refusals.{IsFileOf}
-use Rattle.hpr_app.specs.States.{states_of}
-use Rattle.hpr_app.specs.TrialFiles.{IsTried, ShowsIf, ShowsTrial, Tried, TrialOutcome, finals_of, has_ended, have_ended, steps_together, three_lines, trial_line, trial_tries}
-use Rattle.hpr_app.specs.TrialKeeps.{EndsTrial, IsKeptTrial, KeepsTrial}
-use Rattle.hpr_app.specs.declared.answer.Kind.TheVariants as kind
-use Rattle.hpr_app.specs.declared.status.Status.{Status}
-use Rattle.hpr_app.specs.declared.status.Status.TheVariants as status
-use Rattle.hpr_app.proofs.ExactSteps.{exact_steps}
-use Rattle.hpr_app.proofs.Theorem.{of_spelled}
-use Rattle.hpr_app.proofs.VersionLemmas.{of_state}
+use Rattle.hpr_inputs.specs.States.{states_of}
+use Rattle.hpr_decisions.specs.TrialFiles.{IsTried, ShowsIf, ShowsTrial, Tried, TrialOutcome, finals_of, has_ended, have_ended, steps_together, three_lines, trial_line, trial_tries}
+use Rattle.hpr_decisions.specs.TrialKeeps.{EndsTrial, IsKeptTrial, KeepsTrial}
+use Rattle.hpr_inputs.specs.declared.answer.Kind.TheVariants as kind
+use Rattle.hpr_decisions.specs.declared.status.Status.{Status}
+use Rattle.hpr_decisions.specs.declared.status.Status.TheVariants as status
+use Rattle.hpr_decisions.proofs.ExactSteps.{exact_steps}
+use Rattle.hpr_decisions.proofs.Theorem.{of_spelled}
+use Rattle.hpr_inputs.proofs.VersionLemmas.{of_state}
 
 -- which outcomes are no program's
 not_ended_done : (x : List ℕ) (bytes : List ℕ) → prints kind.Done bytes ≡ prints kind.NotEnded x → ⊥

@@ -9,9 +9,9 @@ use Rattle.hpr_graph.specs.Points.{IsAffected}
 use Rattle.hpr_graph.specs.ProgramGraph.{graph_of}
 use Rattle.hpr_report.specs.AffectedText.{IsAffectedText}
 use Rattle.hpr_words.specs.Request.{Text}
-use Rattle.hpr_app.specs.Decision.{Decision, Prints}
-use Rattle.hpr_app.specs.Graphs.{OnGraph}
-use Rattle.hpr_app.specs.Integrate.{OnFile}
+use Rattle.hpr_inputs.specs.Decision.{Decision, Prints}
+use Rattle.hpr_decisions.specs.Graphs.{OnGraph}
+use Rattle.hpr_inputs.specs.Files.{OnFile}
 
 abbrev pub AffectedPoints : Text → Tree → Text → Tree → Decision → Type 0
 AffectedPoints base p a q r = OnGraph base p (OnGraph a q (Prints (IsAffectedText (IsAffected (graph_of q) (graph_of p))) r) r) r

@@ -27,24 +27,24 @@ use Rattle.hpr_graph.specs.ProgramGraph.{graph_of}
 use Rattle.hpr_graph.specs.Slices.{slice_of}
 use Rattle.hpr_report.specs.AffectedText.{IsAffectedText}
 use Rattle.hpr_report.specs.GraphTexts.{IsGraphText}
-use Rattle.hpr_app.specs.Decision.{Decision}
-use Rattle.hpr_app.specs.Ends.{Change, Says, status_of, status_of_kind, text_of}
-use Rattle.hpr_app.specs.GraphFile.{IsShown}
+use Rattle.hpr_inputs.specs.Decision.{Decision}
+use Rattle.hpr_decisions.specs.Ends.{Change, Says, status_of, status_of_kind, text_of}
+use Rattle.hpr_decisions.specs.GraphFile.{IsShown}
 use Rattle.hpr_engine.specs.Limit.{AreInLimit, HasTooManyEdges}
 use Rattle.hpr_engine.specs.Budget.{AreTried}
 use Rattle.hpr_rebuild.specs.Settled.{IsSettled}
-use Rattle.hpr_app.specs.Integrate.{report}
-use Rattle.hpr_app.specs.Points.{IsNamed, IsPoint}
+use Rattle.hpr_decisions.specs.Integrate.{report}
+use Rattle.hpr_inputs.specs.Points.{IsNamed, IsPoint}
 use Rattle.hpr_edit.specs.declared.command.Command.{Command}
 use Rattle.hpr_refusals.specs.Applied.{applied, becomes}
 use Rattle.hpr_refusals.specs.Refusals.{IsFileIn, IsFileOf, IsScriptOf}
-use Rattle.hpr_app.specs.RunFile.{kind_of}
-use Rattle.hpr_app.specs.States.{states_of}
-use Rattle.hpr_app.specs.TraceText.{run_text}
-use Rattle.hpr_app.specs.TrialFiles.{IsTried}
+use Rattle.hpr_decisions.specs.RunFile.{kind_of}
+use Rattle.hpr_inputs.specs.States.{states_of}
+use Rattle.hpr_decisions.specs.TraceText.{run_text}
+use Rattle.hpr_decisions.specs.TrialFiles.{IsTried}
 use Rattle.hpr_words.specs.Request.{Request, integrate, run, graph, slice, affected, trial, edit, tag}
-use Rattle.hpr_app.specs.declared.status.Status.{Status}
-use Rattle.hpr_app.specs.declared.status.Status.TheVariants.{Done, Refused, Spent, Memory}
+use Rattle.hpr_decisions.specs.declared.status.Status.{Status}
+use Rattle.hpr_decisions.specs.declared.status.Status.TheVariants.{Done, Refused, Spent, Memory}
 
 abbrev pub DonePrinting : (List ℕ → Type 0) → Option (List ℕ) → Option (List ℕ) → Status → Type 0
 DonePrinting P old new s = (s ≡ Done) × (bytes : List ℕ) × P bytes × (new ≡ taken_then old bytes)

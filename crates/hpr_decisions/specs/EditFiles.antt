@@ -16,9 +16,9 @@ use Rattle.hpr_refusals.specs.Applied.{Applied, applied, becomes, refused}
 use Rattle.hpr_refusals.specs.Reasons.{command_text}
 use Rattle.hpr_refusals.specs.Refusals.{IsFileIn, IsRefusedIn, IsRefusedScript, IsScriptOf}
 use Rattle.hpr_words.specs.Request.{Text}
-use Rattle.hpr_app.specs.Decision.{Decision, OnRead, prints, refuses}
-use Rattle.hpr_app.specs.Integrate.{OnFile}
-use Rattle.hpr_app.specs.declared.answer.Kind.TheVariants.{Done}
+use Rattle.hpr_inputs.specs.Decision.{Decision, OnRead, prints, refuses}
+use Rattle.hpr_inputs.specs.Files.{OnFile}
+use Rattle.hpr_inputs.specs.declared.answer.Kind.TheVariants.{Done}
 
 abbrev pub OnScript : Files → Text → (List Command → Type 0) → Decision → Type 0
 OnScript files script next r = OnRead (IsRefusedScript script (bytes_of files script)) (IsScriptOf (bytes_of files script)) next r

@@ -13,11 +13,12 @@
 use Rattle.std.specs.Prelude.{◌≡◌, ◌<◌, ℕ, List, [], ◌++◌, Option, Some, None, codes}
 use Rattle.hpr_io.specs.Counts.{Rose}
 use Rattle.hpr_io.specs.Taken.{taken_then, TookStrictPrefix}
-use Rattle.hpr_app.specs.declared.answer.Kind.{Kind}
-use Rattle.hpr_app.specs.declared.answer.Kind.TheVariants as kind
-use Rattle.hpr_app.specs.declared.status.Status.{Status}
-use Rattle.hpr_app.specs.declared.status.Status.TheVariants as status
-use Rattle.hpr_app.specs.Decision.{Decision, prints, refuses, usage}
+use Rattle.hpr_inputs.specs.declared.answer.Kind.{Kind}
+use Rattle.hpr_inputs.specs.declared.answer.Kind.TheVariants as kind
+use Rattle.hpr_decisions.specs.declared.status.Status.{Status}
+use Rattle.hpr_decisions.specs.declared.status.Status.TheVariants as status
+use Rattle.hpr_inputs.specs.Decision.{Decision, prints, refuses, usage}
+use Rattle.hpr_inputs.specs.Files.{cannot_read}
 
 abbrev pub usage_text : List ℕ
 usage_text = codes "usage: hpr integrate BASE A B [--tries N]\n       hpr run FILE [STATE..] [--steps N] [--trace]\n       hpr graph FILE [--json]\n       hpr slice FILE POINT..\n       hpr affected BASE A\n       hpr trial BASE A B [STATE..] [--steps N]\n       hpr edit FILE SCRIPT --author N\n       hpr tag FILE --author N\n"
@@ -27,9 +28,6 @@ cannot_write = codes "hpr: cannot write output\n"
 
 abbrev pub no_memory : List ℕ
 no_memory = codes "hpr: no memory\n"
-
-abbrev pub cannot_read : List ℕ → List ℕ
-cannot_read file = codes "hpr: cannot read " ++ file ++ codes "\n"
 
 pub record Change : Type 0 where
   pub before : ℕ

@@ -11,9 +11,9 @@ use Rattle.hpr_graph.specs.ProgramGraph.{graph_of}
 use Rattle.hpr_report.specs.GraphTexts.{IsGraphText}
 use Rattle.hpr_report.specs.GraphJson.{IsGraphJson}
 use Rattle.hpr_words.specs.Request.{Text}
-use Rattle.hpr_app.specs.Decision.{Decision, Prints}
-use Rattle.hpr_app.specs.Graphs.{OnGraph}
-use Rattle.hpr_app.specs.Integrate.{OnFile}
+use Rattle.hpr_inputs.specs.Decision.{Decision, Prints}
+use Rattle.hpr_decisions.specs.Graphs.{OnGraph}
+use Rattle.hpr_inputs.specs.Files.{OnFile}
 
 abbrev pub IsShown : Bool → Graph → List ℕ → Type 0
 IsShown true g bytes = IsGraphJson g bytes

@@ -5,7 +5,7 @@
 use Rattle.std.specs.Prelude.{◌≡◌, ◌⊎◌, ℕ, List, codes}
 use Rattle.hpr_syntax.specs.Tree.{Tree}
 use Rattle.hpr_engine.specs.Limit.{HasTooManyEdges}
-use Rattle.hpr_app.specs.Decision.{Decision, refuses}
+use Rattle.hpr_inputs.specs.Decision.{Decision, refuses}
 use Rattle.hpr_refusals.specs.Reasons.{about}
 
 abbrev pub too_many_edges : List ℕ → List ℕ

@@ -1,7 +1,5 @@
 -- What `integrate` decides.
 --
--- OnFile files file next r           == r is the refusal of the file; or the file spells a program, and r is what next says of it
--- OnFiles files base a b next r      == that of three files, read in order; next says it of their programs
 -- no_program_text n                  == what is printed where no program has the merged graph, which has so many parts
 -- spent_text tries                   == what is printed where the budget of tries is spent
 -- report tries x                     == what is decided by the answer x, within so many tries: its text is printed
@@ -12,21 +10,15 @@
 -- IntegrateOutcome files base a b tries r == what is so decided of the programs that three files spell
 use Rattle.std.specs.Prelude.{◌≡◌, ℕ, List, ◌++◌, codes}
 use Rattle.std.specs.Fmt.{decimal}
-use Rattle.hpr_io.specs.Files.{Files, bytes_of}
+use Rattle.hpr_io.specs.Files.{Files}
 use Rattle.hpr_syntax.specs.Tree.{Tree}
 use Rattle.hpr_syntax.specs.Print.{text}
 use Rattle.hpr_graph.specs.Answer.{Answer, interference, printed, no_program, spent, IsAnswer}
 use Rattle.hpr_report.specs.ConflictsText.{conflicts_text}
-use Rattle.hpr_app.specs.Decision.{Decision, OnRead, prints}
-use Rattle.hpr_app.specs.Graphs.{OnGraph}
-use Rattle.hpr_refusals.specs.Refusals.{IsFileOf, IsRefused}
-use Rattle.hpr_app.specs.declared.answer.Kind.TheVariants as kind
-
-abbrev pub OnFile : Files → List ℕ → (Tree → Type 0) → Decision → Type 0
-OnFile files file next r = OnRead (IsRefused file (bytes_of files file)) (IsFileOf (bytes_of files file)) next r
-
-abbrev pub OnFiles : Files → List ℕ → List ℕ → List ℕ → (Tree → Tree → Tree → Type 0) → Decision → Type 0
-OnFiles files base a b next r = OnFile files base (λ p. OnFile files a (λ q. OnFile files b (λ s. next p q s) r) r) r
+use Rattle.hpr_inputs.specs.Decision.{Decision, prints}
+use Rattle.hpr_inputs.specs.Files.{OnFiles}
+use Rattle.hpr_decisions.specs.Graphs.{OnGraph}
+use Rattle.hpr_inputs.specs.declared.answer.Kind.TheVariants as kind
 
 abbrev pub no_program_text : ℕ → List ℕ
 no_program_text n = codes "no program with at most 1000 parts has the merged graph, which has " ++ decimal n ++ codes " parts\n"

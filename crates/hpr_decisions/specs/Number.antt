@@ -2,8 +2,8 @@
 --
 -- number_of status == the exit status of the program
 use Rattle.std.specs.Prelude.{ℕ}
-use Rattle.hpr_app.specs.declared.status.Status.{Status}
-use Rattle.hpr_app.specs.declared.status.Status.TheVariants as status
+use Rattle.hpr_decisions.specs.declared.status.Status.{Status}
+use Rattle.hpr_decisions.specs.declared.status.Status.TheVariants as status
 
 abbrev pub number_of : Status → ℕ
 number_of status.Done = 0

@@ -10,15 +10,15 @@
 use Rattle.std.specs.Prelude.{◌≡◌, ◌⊎◌, ℕ, List, Option, Some, None, IfSome}
 use Rattle.hpr_io.specs.Files.{Files}
 use Rattle.hpr_words.specs.Request.{Request, integrate, run, graph, slice, affected, trial, edit, tag, IsInRange}
-use Rattle.hpr_app.specs.Decision.{Decision, prints, usage}
-use Rattle.hpr_app.specs.Integrate.{IntegrateOutcome}
-use Rattle.hpr_app.specs.RunFile.{RunOutcome}
-use Rattle.hpr_app.specs.GraphFile.{GraphOutcome}
-use Rattle.hpr_app.specs.SliceFile.{SliceOutcome}
-use Rattle.hpr_app.specs.AffectedFiles.{AffectedOutcome}
-use Rattle.hpr_app.specs.TrialFiles.{TrialOutcome}
-use Rattle.hpr_app.specs.EditFiles.{EditOutcome, TagOutcome}
-use Rattle.hpr_app.specs.declared.answer.Kind.TheVariants.{Done, NoProgram, Spent, NotEnded}
+use Rattle.hpr_inputs.specs.Decision.{Decision, prints, usage}
+use Rattle.hpr_decisions.specs.Integrate.{IntegrateOutcome}
+use Rattle.hpr_decisions.specs.RunFile.{RunOutcome}
+use Rattle.hpr_decisions.specs.GraphFile.{GraphOutcome}
+use Rattle.hpr_decisions.specs.SliceFile.{SliceOutcome}
+use Rattle.hpr_decisions.specs.AffectedFiles.{AffectedOutcome}
+use Rattle.hpr_decisions.specs.TrialFiles.{TrialOutcome}
+use Rattle.hpr_decisions.specs.EditFiles.{EditOutcome, TagOutcome}
+use Rattle.hpr_inputs.specs.declared.answer.Kind.TheVariants.{Done, NoProgram, Spent, NotEnded}
 
 abbrev pub RequestOutcome : Request → Files → Decision → Type 0
 RequestOutcome (integrate base a b tries) files r = IntegrateOutcome files base a b tries r

@@ -2,17 +2,13 @@
 --
 -- files_of request         == the files that a request names, in the order in which they are read
 -- files_of_taken request   == the same; none where the words are no call
--- IfTold told P            == P of the files, for whatever files the shelf tells
--- SpellsProgram told file  == this file is of an accepted length and spells a program
--- IsReached told names file == the file is one of these, and each one that stands before it spells a program
 -- MayRead request told file == the request comes to read this file: it names it, each file that it names before spells a program, and none of its state
 --                             words is refused
-use Rattle.std.specs.Prelude.{◌≡◌, ◌⊎◌, List, [], ◌∷◌, Option, Some, None, IsOk}
-use Rattle.hpr_io.specs.Files.{Files, bytes_of}
-use Rattle.hpr_syntax.specs.Tree.{Tree}
-use Rattle.hpr_refusals.specs.Refusals.{IsFileOf}
+use Rattle.std.specs.Prelude.{◌≡◌, List, [], ◌∷◌, Option, Some, None, IsOk}
+use Rattle.hpr_io.specs.Files.{Files}
 use Rattle.hpr_words.specs.Request.{Request, Text, integrate, run, graph, slice, affected, trial, edit, tag}
-use Rattle.hpr_app.specs.States.{states_of}
+use Rattle.hpr_inputs.specs.Reads.{IsReached}
+use Rattle.hpr_inputs.specs.States.{states_of}
 
 abbrev pub files_of : Request → List Text
 files_of (integrate base a b tries) = base ∷ a ∷ b ∷ []
@@ -27,16 +23,6 @@ files_of (tag file author) = file ∷ []
 abbrev pub files_of_taken : Option Request → List Text
 files_of_taken None = []
 files_of_taken (Some request) = files_of request
-
-abbrev pub IfTold : Option Files → (Files → Type 0) → Type 0
-IfTold told P = (files : Files) → told ≡ Some files → P files
-
-abbrev pub SpellsProgram : Option Files → Text → Type 0
-SpellsProgram told file = IfTold told (λ files. (p : Tree) × IsFileOf (bytes_of files file) p)
-
-abbrev pub IsReached : Option Files → List Text → Text → Type 0
-IsReached told [] file = ⊥
-IsReached told (named ∷ behind) file = (file ≡ named) ⊎ (SpellsProgram told named × IsReached told behind file)
 
 abbrev pub MayRead : Request → Option Files → Text → Type 0
 MayRead (integrate base a b tries) told file = IsReached told (base ∷ a ∷ b ∷ []) file

@@ -21,10 +21,10 @@ use Rattle.hpr_engine.specs.Limit.{AreInLimit}
 use Rattle.hpr_report.specs.ConflictsText.{conflicts_text}
 use Rattle.hpr_words.specs.Request.{Request, integrate, trial}
 use Rattle.hpr_refusals.specs.Refusals.{IsFileOf}
-use Rattle.hpr_app.specs.States.{states_of}
-use Rattle.hpr_app.specs.TrialFiles.{trial_tries}
-use Rattle.hpr_app.specs.declared.status.Status.{Status}
-use Rattle.hpr_app.specs.declared.status.Status.TheVariants.{Interference}
+use Rattle.hpr_inputs.specs.States.{states_of}
+use Rattle.hpr_decisions.specs.TrialFiles.{trial_tries}
+use Rattle.hpr_decisions.specs.declared.status.Status.{Status}
+use Rattle.hpr_decisions.specs.declared.status.Status.TheVariants.{Interference}
 
 abbrev pub tries_of : Request → ℕ
 tries_of (integrate base a b tries) = tries

@@ -10,10 +10,10 @@ use Rattle.hpr_graph.specs.ProgramGraph.{graph_of}
 use Rattle.hpr_graph.specs.Slices.{slice_of}
 use Rattle.hpr_report.specs.GraphTexts.{IsGraphText}
 use Rattle.hpr_words.specs.Request.{Text}
-use Rattle.hpr_app.specs.Decision.{Decision, Prints}
-use Rattle.hpr_app.specs.Graphs.{OnGraph}
-use Rattle.hpr_app.specs.Integrate.{OnFile}
-use Rattle.hpr_app.specs.Points.{IsPoint, OnPoints}
+use Rattle.hpr_inputs.specs.Decision.{Decision, Prints}
+use Rattle.hpr_decisions.specs.Graphs.{OnGraph}
+use Rattle.hpr_inputs.specs.Files.{OnFile}
+use Rattle.hpr_inputs.specs.Points.{IsPoint, OnPoints}
 
 abbrev pub Sliced : Text → Tree → List Text → Decision → Type 0
 Sliced file p points r = OnGraph file p (OnPoints (graph_of p) points (Prints (IsGraphText (slice_of (graph_of p) (IsPoint points))) r) r) r

@@ -24,11 +24,12 @@ use Rattle.hpr_graph.specs.Answer.{Answer, interference, printed, no_program, sp
 use Rattle.hpr_report.specs.TableText.{IsTableText}
 use Rattle.hpr_report.specs.Texts.{outcome_text}
 use Rattle.hpr_words.specs.Request.{Text}
-use Rattle.hpr_app.specs.Decision.{Decision, Prints, prints}
-use Rattle.hpr_app.specs.Integrate.{OnFiles, OnGraphs, report}
-use Rattle.hpr_app.specs.RunFile.{OnState}
-use Rattle.hpr_app.specs.States.{states_of}
-use Rattle.hpr_app.specs.declared.answer.Kind.TheVariants.{NotEnded}
+use Rattle.hpr_inputs.specs.Decision.{Decision, Prints, prints}
+use Rattle.hpr_inputs.specs.Files.{OnFiles}
+use Rattle.hpr_decisions.specs.Integrate.{OnGraphs, report}
+use Rattle.hpr_inputs.specs.States.{OnState}
+use Rattle.hpr_inputs.specs.States.{states_of}
+use Rattle.hpr_inputs.specs.declared.answer.Kind.TheVariants.{NotEnded}
 
 abbrev pub trial_tries : ℕ
 trial_tries = 10000

@@ -18,10 +18,10 @@ use Rattle.hpr_graph.specs.Answer.{IsAnswer, printed}
 use Rattle.hpr_report.specs.GraphTexts.{on_lines}
 use Rattle.hpr_report.specs.TableText.{Row, AreRows, IsKeptIn, table_line}
 use Rattle.hpr_words.specs.Request.{Request, trial}
-use Rattle.hpr_app.specs.States.{states_of}
-use Rattle.hpr_app.specs.TrialFiles.{trial_tries, three_lines, trial_line}
-use Rattle.hpr_app.specs.declared.status.Status.{Status}
-use Rattle.hpr_app.specs.declared.status.Status.TheVariants.{NotEnded}
+use Rattle.hpr_inputs.specs.States.{states_of}
+use Rattle.hpr_decisions.specs.TrialFiles.{trial_tries, three_lines, trial_line}
+use Rattle.hpr_decisions.specs.declared.status.Status.{Status}
+use Rattle.hpr_decisions.specs.declared.status.Status.TheVariants.{NotEnded}
 
 pub record IsKeptTrial (p q s : Tree) (state : Values) (steps : ℕ) (bytes : List ℕ) : Type 0 where
   pub m : Tree

@@ -27,7 +27,7 @@ pub enum Status {
 
 impl Status {
     ghost use Rattle.std.specs.Prelude.{◌≡◌};
-    ghost use Rattle.hpr_app.specs.Number.{number_of};
+    ghost use Rattle.hpr_decisions.specs.Number.{number_of};
 
     /// The exit status of the program: 0 to 9 in the declared order.
     pub fn number(&self) -> u8

@@ -15,10 +15,10 @@ use Rattle.hpr_script.specs.declared.reader.ScriptError.{ScriptError}
 use Rattle.hpr_script.specs.declared.reader.ScriptError.TheVariants as script
 use Rattle.hpr_script.specs.Answers as answers
 use Rattle.hpr_script.specs.ScriptGrammar.{HasScript}
-use Rattle.hpr_app.specs.Private.Files.{FailsBy, IsTooLong}
-use Rattle.hpr_app.specs.Reads.{IfTold}
-use Rattle.hpr_app.specs.declared.answer.Stop.{Stop}
-use Rattle.hpr_app.specs.declared.answer.Stop.TheVariants as stop
+use Rattle.hpr_inputs.specs.ReadsFile.{FailsBy, IsTooLong}
+use Rattle.hpr_inputs.specs.Reads.{IfTold}
+use Rattle.hpr_inputs.specs.declared.answer.Stop.{Stop}
+use Rattle.hpr_inputs.specs.declared.answer.Stop.TheVariants as stop
 use Rattle.hpr_refusals.specs.Reasons.{refusal_text}
 use Rattle.hpr_refusals.specs.Refusals.{max_file, IsCauseFor, IsRefusedFor, IsRefusedIn, IsRefusedScript}
 use Rattle.hpr_refusals.specs.declared.files.Refusal.{Refusal}

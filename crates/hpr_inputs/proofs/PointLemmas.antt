@@ -9,10 +9,10 @@ use Rattle.hpr_graph.specs.Graphs.{Graph, Same}
 use Rattle.hpr_graph.specs.Numbered.{Numbered, graph_in}
 use Rattle.hpr_build.proofs.Once.{among_map, map_among, map_of_item}
 use Rattle.hpr_words.specs.Request.{Text}
-use Rattle.hpr_app.specs.Points.{IsFirstStranger, IsNamed, point_text}
-use Rattle.hpr_app.specs.Private.ReadsPoints.{AreNumbersFor, AreNumbersIn, RefusesPoint, TakesText}
-use Rattle.hpr_app.specs.declared.answer.Stop.{Stop}
-use Rattle.hpr_app.specs.declared.answer.Stop.TheVariants as stop
+use Rattle.hpr_inputs.specs.Points.{IsFirstStranger, IsNamed, point_text}
+use Rattle.hpr_inputs.specs.ReadsPoints.{AreNumbersFor, AreNumbersIn, RefusesPoint, TakesText}
+use Rattle.hpr_inputs.specs.declared.answer.Stop.{Stop}
+use Rattle.hpr_inputs.specs.declared.answer.Stop.TheVariants as stop
 
 some_same : (x y : Text) → Some x ≡ Some y → x ≡ y
 some_same x y e = cc
@@ -36,7 +36,7 @@ first_stranger P (w ∷ ws) zero word low here before not = inl (subst (λ x. ¬
 first_stranger P (w ∷ ws) (suc i) word low here before not =
     inr (before 0 w (omega arith), first_stranger P ws i word (omega (arith, low)) here (λ k d l. before (suc k) d (omega (arith, l))) not)
 
-stranger_map : (P Q : Text → Type 0) → ((w : Text) → P w ↔ Q w) → (words : List Text) (word : Text) → IsFirstStranger P words word → IsFirstStranger Q words word
+pub stranger_map : (P Q : Text → Type 0) → ((w : Text) → P w ↔ Q w) → (words : List Text) (word : Text) → IsFirstStranger P words word → IsFirstStranger Q words word
 stranger_map P Q f [] word h = h
 stranger_map P Q f (w ∷ ws) word (inl (n, is)) = inl (λ q. n ((f w).1 q), is)
 stranger_map P Q f (w ∷ ws) word (inr (p, later)) = inr ((f w).0 p, stranger_map P Q f ws word later)

@@ -2,15 +2,15 @@
 use Rattle.std.proofs.Common.{◌≡◌, ℕ, List, arith, refl, ◌∙◌, subst, inl, inr, Option, Ok, Err, Result, string_bytes}
 use Rattle.hpr_io.specs.Files.{Files, bytes_of}
 use Rattle.hpr_syntax.specs.Tree.{Tree}
-use Rattle.hpr_app.specs.Decision.{Decision, OnRead}
-use Rattle.hpr_app.specs.Integrate.{OnFile}
-use Rattle.hpr_app.specs.Private.Files.{Fails, FailsBy}
-use Rattle.hpr_app.specs.Reads.{IfTold, SpellsProgram}
+use Rattle.hpr_inputs.specs.Decision.{Decision, OnRead}
+use Rattle.hpr_inputs.specs.Files.{OnFile}
+use Rattle.hpr_inputs.specs.ReadsFile.{Fails, FailsBy}
+use Rattle.hpr_inputs.specs.Reads.{IfTold, SpellsProgram}
 use Rattle.hpr_refusals.specs.Refusals.{IsFileOf, IsRefused}
-use Rattle.hpr_app.specs.Private.Answer.{StopIs, Decides, Merges}
-use Rattle.hpr_app.specs.declared.answer.Report.{Report}
-use Rattle.hpr_app.specs.declared.answer.Stop.{Stop}
-use Rattle.hpr_app.specs.declared.answer.Stop.TheVariants as stop
+use Rattle.hpr_inputs.specs.Answer.{StopIs, Decides, Merges}
+use Rattle.hpr_inputs.specs.declared.answer.Report.{Report}
+use Rattle.hpr_inputs.specs.declared.answer.Stop.{Stop}
+use Rattle.hpr_inputs.specs.declared.answer.Stop.TheVariants as stop
 
 abbrev pub FileOf : Option Files → List ℕ → Tree → Type 0
 FileOf files file p = IfTold files (λ fs. IsFileOf (bytes_of fs file) p)

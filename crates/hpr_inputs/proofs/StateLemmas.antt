@@ -8,12 +8,12 @@ use Rattle.std.specs.List.{cons_option, filter_map}
 use Rattle.std.specs.Ordering.{nat_cmp}
 use Rattle.hpr_syntax.specs.Values.{Values}
 use Rattle.hpr_words.specs.Request.{Text}
-use Rattle.hpr_app.specs.Private.ReadsState.{RefusesState, RefusesWord, TakesWord}
-use Rattle.hpr_app.specs.States.{assignment, first_refused, refusal, refusal_of, refused_or, state_unless, states_of, told}
-use Rattle.hpr_app.specs.declared.answer.Stop.{Stop}
-use Rattle.hpr_app.specs.declared.answer.Stop.TheVariants as stop
-use Rattle.hpr_app.specs.declared.states.WordRefusal.{WordRefusal}
-use Rattle.hpr_app.specs.declared.states.WordRefusal.TheVariants.{GivenTwice}
+use Rattle.hpr_inputs.specs.ReadsState.{RefusesState, RefusesWord, TakesWord}
+use Rattle.hpr_inputs.specs.States.{assignment, first_refused, refusal, refusal_of, refused_or, state_unless, states_of, told}
+use Rattle.hpr_inputs.specs.declared.answer.Stop.{Stop}
+use Rattle.hpr_inputs.specs.declared.answer.Stop.TheVariants as stop
+use Rattle.hpr_inputs.specs.declared.states.WordRefusal.{WordRefusal}
+use Rattle.hpr_inputs.specs.declared.states.WordRefusal.TheVariants.{GivenTwice}
 
 none_of : {A : Type 0} (o : Option A) → is_some o ≡ false → o ≡ None
 none_of None e = refl

@@ -7,7 +7,7 @@ use Rattle.std.specs.Result.{result_ok}
 use Rattle.std.specs.Str.Parse.{AllDigits, IsNumeral, ParsesSigned, signed_digits_value, without_leading_sign}
 use Rattle.hpr_syntax.specs.Value.{in_range}
 use Rattle.hpr_words.specs.Request.{Text}
-use Rattle.hpr_app.specs.States.{behind_minus, value_of}
+use Rattle.hpr_inputs.specs.States.{behind_minus, value_of}
 
 both : (a b : Bool) → (a && b) ≡ true → (a ≡ true) × (b ≡ true)
 both true b e = (refl, e)

@@ -3,19 +3,19 @@ use Rattle.std.proofs.Common.{◌≡◌, ℕ, List, [], ◌∷◌, refl, sym, su
 use Rattle.hpr_io.specs.Files.{Files}
 use Rattle.hpr_syntax.specs.Tree.{Tree}
 use Rattle.hpr_syntax.specs.Values.{Values}
-use Rattle.hpr_app.specs.Private.Answer.{StopIs, Decides, Merges}
-use Rattle.hpr_app.specs.Decision.{Decision}
-use Rattle.hpr_app.specs.Private.Files.{Fails}
-use Rattle.hpr_app.specs.Reads.{IfTold, IsReached}
-use Rattle.hpr_app.specs.Integrate.{OnFile, OnFiles}
-use Rattle.hpr_app.specs.Private.ReadsFiles.{AreFilesOf, IsRefusedByFiles}
-use Rattle.hpr_app.specs.RunFile.{OnState}
-use Rattle.hpr_app.specs.States.{RefusedWord}
-use Rattle.hpr_app.specs.declared.answer.Report.{Report}
-use Rattle.hpr_app.specs.declared.answer.Stop.{Stop}
-use Rattle.hpr_app.specs.declared.answer.Stop.TheVariants as stop
-use Rattle.hpr_app.specs.declared.versions.Versions.{Versions}
-use Rattle.hpr_app.proofs.ReadLemmas.{FileOf, decides_map, merges_told, fails_from, file_fails, past_file, spelled}
+use Rattle.hpr_inputs.specs.Answer.{StopIs, Decides, Merges}
+use Rattle.hpr_inputs.specs.Decision.{Decision}
+use Rattle.hpr_inputs.specs.ReadsFile.{Fails}
+use Rattle.hpr_inputs.specs.Reads.{IfTold, IsReached}
+use Rattle.hpr_inputs.specs.Files.{OnFile, OnFiles}
+use Rattle.hpr_inputs.specs.ReadsFiles.{AreFilesOf, IsRefusedByFiles}
+use Rattle.hpr_inputs.specs.States.{OnState}
+use Rattle.hpr_inputs.specs.States.{RefusedWord}
+use Rattle.hpr_inputs.specs.declared.answer.Report.{Report}
+use Rattle.hpr_inputs.specs.declared.answer.Stop.{Stop}
+use Rattle.hpr_inputs.specs.declared.answer.Stop.TheVariants as stop
+use Rattle.hpr_inputs.specs.declared.versions.Versions.{Versions}
+use Rattle.hpr_inputs.proofs.ReadLemmas.{FileOf, decides_map, merges_told, fails_from, file_fails, past_file, spelled}
 
 module _ (files : Option Files) (base a b : List ℕ) where
   abbrev pub Reads : List ℕ → Type 0

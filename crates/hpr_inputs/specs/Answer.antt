@@ -6,11 +6,11 @@
 -- Merges P result                   == a result over what is in memory: a decision of P, unless memory runs out
 use Rattle.std.specs.Prelude.{◌≡◌, ℕ, ◌≤◌, List, Result, Ok, Err, string_bytes}
 use Rattle.hpr_io.specs.Counts.{Rose}
-use Rattle.hpr_app.specs.Decision.{Decision, prints, refuses}
-use Rattle.hpr_app.specs.Ends.{cannot_read}
-use Rattle.hpr_app.specs.declared.answer.Report.{Report}
-use Rattle.hpr_app.specs.declared.answer.Stop.{Stop}
-use Rattle.hpr_app.specs.declared.answer.Stop.TheVariants as stop
+use Rattle.hpr_inputs.specs.Decision.{Decision, prints, refuses}
+use Rattle.hpr_inputs.specs.Files.{cannot_read}
+use Rattle.hpr_inputs.specs.declared.answer.Report.{Report}
+use Rattle.hpr_inputs.specs.declared.answer.Stop.{Stop}
+use Rattle.hpr_inputs.specs.declared.answer.Stop.TheVariants as stop
 
 abbrev pub StopIs : (Decision → Type 0) → (List ℕ → Type 0) → ℕ → ℕ → Stop → Type 0
 StopIs P reads before now (stop.Refused message) = P (refuses (string_bytes message)) × (now ≡ before)

@@ -4,8 +4,8 @@
 -- Prints P r             == the command did what it is for, and r prints a text that has P
 -- OnRead refused is next r == r refuses what is read, with a message that is so; or what is read is this, and r is what next says of it
 use Rattle.std.specs.Prelude.{◌≡◌, ◌⊎◌, ℕ, List}
-use Rattle.hpr_app.specs.declared.answer.Kind.{Kind}
-use Rattle.hpr_app.specs.declared.answer.Kind.TheVariants.{Done}
+use Rattle.hpr_inputs.specs.declared.answer.Kind.{Kind}
+use Rattle.hpr_inputs.specs.declared.answer.Kind.TheVariants.{Done}
 
 pub data Decision : Type 0 where
   prints : Kind → List ℕ → Decision

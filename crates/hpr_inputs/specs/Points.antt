@@ -12,7 +12,7 @@ use Rattle.hpr_graph.specs.declared.vertex.Vertex.{Vertex}
 use Rattle.hpr_graph.specs.declared.vertex.Vertex.TheVariants.{Entry, Init, Part, Final}
 use Rattle.hpr_graph.specs.Graphs.{Graph}
 use Rattle.hpr_words.specs.Request.{Text}
-use Rattle.hpr_app.specs.Decision.{Decision, refuses}
+use Rattle.hpr_inputs.specs.Decision.{Decision, refuses}
 use Rattle.hpr_refusals.specs.Reasons.{about}
 
 abbrev pub point_text : Vertex → Text

@@ -18,10 +18,10 @@ use Rattle.hpr_edit.specs.declared.command.Command.{Command}
 use Rattle.hpr_refusals.specs.Reasons.{refusal_text}
 use Rattle.hpr_refusals.specs.Refusals.{IsFileIn, IsRefusedIn, IsRefusedScript, IsScriptOf, max_file}
 use Rattle.hpr_refusals.specs.declared.files.Refusal.TheVariants.{Longer}
-use Rattle.hpr_app.specs.Ends.{cannot_read}
-use Rattle.hpr_app.specs.Reads.{IfTold}
-use Rattle.hpr_app.specs.declared.answer.Stop.{Stop}
-use Rattle.hpr_app.specs.declared.answer.Stop.TheVariants as stop
+use Rattle.hpr_inputs.specs.Files.{cannot_read}
+use Rattle.hpr_inputs.specs.Reads.{IfTold}
+use Rattle.hpr_inputs.specs.declared.answer.Stop.{Stop}
+use Rattle.hpr_inputs.specs.declared.answer.Stop.TheVariants as stop
 
 abbrev pub FailsBy : (List ℕ → List ℕ → Type 0) → Option io.Files → List ℕ → ℕ → ℕ → Stop → Type 0
 FailsBy refused files file before now (stop.Refused message) = IfTold files (λ fs. refused (io.bytes_of fs file) (string_bytes message)) × (now ≡ before)

@@ -5,13 +5,13 @@
 -- ReadsFiles files base a b before now result == the programs that they spell; or a file is refused; or a read failed, or memory ran out
 use Rattle.std.specs.Prelude.{◌≡◌, ℕ, List, [], ◌∷◌, Option, Result, Ok, Err}
 use Rattle.hpr_io.specs.Files.{Files, bytes_of}
-use Rattle.hpr_app.specs.Private.Answer.{StopIs}
-use Rattle.hpr_app.specs.Decision.{Decision}
-use Rattle.hpr_app.specs.Reads.{IfTold, IsReached}
-use Rattle.hpr_app.specs.Integrate.{OnFiles}
+use Rattle.hpr_inputs.specs.Answer.{StopIs}
+use Rattle.hpr_inputs.specs.Decision.{Decision}
+use Rattle.hpr_inputs.specs.Reads.{IfTold, IsReached}
+use Rattle.hpr_inputs.specs.Files.{OnFiles}
 use Rattle.hpr_refusals.specs.Refusals.{IsFileOf}
-use Rattle.hpr_app.specs.declared.answer.Stop.{Stop}
-use Rattle.hpr_app.specs.declared.versions.Versions.{Versions}
+use Rattle.hpr_inputs.specs.declared.answer.Stop.{Stop}
+use Rattle.hpr_inputs.specs.declared.versions.Versions.{Versions}
 
 abbrev pub AreFilesOf : Files → List ℕ → List ℕ → List ℕ → Versions → Type 0
 AreFilesOf files base a b v = IsFileOf (bytes_of files base) v.base × IsFileOf (bytes_of files a) v.a × IsFileOf (bytes_of files b) v.b

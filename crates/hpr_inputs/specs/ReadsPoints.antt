@@ -11,9 +11,9 @@ use Rattle.std.specs.Global.{Global}
 use Rattle.hpr_graph.specs.declared.vertex.Vertex.{Vertex}
 use Rattle.hpr_graph.specs.Numbered.{Numbered, graph_in}
 use Rattle.hpr_words.specs.Request.{Text}
-use Rattle.hpr_app.specs.Points.{IsFirstStranger, IsNamed, IsPoint, no_such_point}
-use Rattle.hpr_app.specs.declared.answer.Stop.{Stop}
-use Rattle.hpr_app.specs.declared.answer.Stop.TheVariants as stop
+use Rattle.hpr_inputs.specs.Points.{IsFirstStranger, IsNamed, IsPoint, no_such_point}
+use Rattle.hpr_inputs.specs.declared.answer.Stop.{Stop}
+use Rattle.hpr_inputs.specs.declared.answer.Stop.TheVariants as stop
 
 abbrev pub RefusesPoint : (Text → Type 0) → List Text → Stop → Type 0
 RefusesPoint P words (stop.Refused message) = (word : Text) × IsFirstStranger P words word × (string_bytes message ≡ no_such_point word)

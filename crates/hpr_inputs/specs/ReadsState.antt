@@ -7,10 +7,10 @@ use Rattle.std.specs.Prelude.{◌≡◌, ℤ, List, Result, Ok, Err, Some, false
 use Rattle.std.specs.FinMap.{contains_key, insert}
 use Rattle.hpr_syntax.specs.Values.{Values}
 use Rattle.hpr_words.specs.Request.{Text}
-use Rattle.hpr_app.specs.States.{RefusedWord, assignment, refusal, refused_word_text, states_of}
-use Rattle.hpr_app.specs.declared.answer.Stop.{Stop}
-use Rattle.hpr_app.specs.declared.answer.Stop.TheVariants as stop
-use Rattle.hpr_app.specs.declared.states.WordRefusal.{WordRefusal}
+use Rattle.hpr_inputs.specs.States.{RefusedWord, assignment, refusal, refused_word_text, states_of}
+use Rattle.hpr_inputs.specs.declared.answer.Stop.{Stop}
+use Rattle.hpr_inputs.specs.declared.answer.Stop.TheVariants as stop
+use Rattle.hpr_inputs.specs.declared.states.WordRefusal.{WordRefusal}
 
 abbrev pub RefusesState : List Text → Stop → Type 0
 RefusesState words (stop.Refused message) = (r : RefusedWord) × (states_of words ≡ Err r) × (string_bytes message ≡ refused_word_text r)

@@ -8,7 +8,8 @@
 -- first_refused before words == the first of the words that is refused, where these stand before them
 -- states_of words       == the state that the words tell, where none is refused, and else the first one that is
 -- refused_word_text r   == the message on a word that is refused
-use Rattle.std.specs.Prelude.{ℕ, ℤ, ◌==◌, ◌&&◌, nat_le, List, [], ◌∷◌, ◌++◌, length, Option, Some, None, option_map, Result, Ok, Err, if◌then◌else◌, codes}
+-- OnState told next r   == r is the refusal of a state word; or r is what next says of the state
+use Rattle.std.specs.Prelude.{◌≡◌, ℕ, ℤ, ◌==◌, ◌&&◌, nat_le, List, [], ◌∷◌, ◌++◌, length, Option, Some, None, option_map, Result, Ok, Err, if◌then◌else◌, codes}
 use Rattle.std.specs.Char.{is_digit}
 use Rattle.std.specs.FinMap.{contains_key, from_entries}
 use Rattle.std.specs.List.{after_first, before_first, filter_map, list_all}
@@ -18,8 +19,9 @@ use Rattle.hpr_syntax.specs.Value.{in_range}
 use Rattle.hpr_syntax.specs.Values.{Values}
 use Rattle.hpr_words.specs.Request.{Text}
 use Rattle.hpr_refusals.specs.Reasons.{about}
-use Rattle.hpr_app.specs.declared.states.WordRefusal.{WordRefusal}
-use Rattle.hpr_app.specs.declared.states.WordRefusal.TheVariants.{Malformed, GivenTwice}
+use Rattle.hpr_inputs.specs.Decision.{Decision, refuses}
+use Rattle.hpr_inputs.specs.declared.states.WordRefusal.{WordRefusal}
+use Rattle.hpr_inputs.specs.declared.states.WordRefusal.TheVariants.{Malformed, GivenTwice}
 
 -- 45 is `-`
 abbrev pub behind_minus : Text → Text
@@ -73,3 +75,7 @@ word_reason GivenTwice = codes "variable given twice"
 
 abbrev pub refused_word_text : RefusedWord → List ℕ
 refused_word_text r = about r.word (word_reason r.why)
+
+abbrev pub OnState : Result Values RefusedWord → (Values → Type 0) → Decision → Type 0
+OnState (Ok state) next r = next state
+OnState (Err refused) next r = r ≡ refuses (refused_word_text refused)

@@ -1,7 +1,7 @@
 //! The files of a call, and the programs and scripts that they spell.
 ghost use Rattle.std.specs.Prelude.{◌≡◌, ℕ, List, IsTrue};
 ghost use Rattle.hpr_text.specs.Forms.{form_of, HasAuthor};
-ghost use Rattle.hpr_app.specs.Private.Files.{Fetches, ReadsIn, ReadsProgram, ReadsScript};
+ghost use Rattle.hpr_inputs.specs.ReadsFile.{Fetches, ReadsIn, ReadsProgram, ReadsScript};
 
 use crate::answer::Stop;
 use hpr_io::{FetchError, Shelf};

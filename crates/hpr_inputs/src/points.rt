@@ -1,7 +1,7 @@
 //! The vertices that words name.
 ghost use Rattle.std.specs.Prelude.{◌≡◌, ◌↔◌, map, Contains, IfOk, OnOk, IsTrue, string_bytes};
-ghost use Rattle.hpr_app.specs.Points.{point_text};
-ghost use Rattle.hpr_app.specs.Private.ReadsPoints.{AreNumbersIn, JudgesPoints, ReadsPoints, TakesText};
+ghost use Rattle.hpr_inputs.specs.Points.{point_text};
+ghost use Rattle.hpr_inputs.specs.ReadsPoints.{AreNumbersIn, JudgesPoints, ReadsPoints, TakesText};
 
 use crate::answer::Stop;
 use hpr_graph::{Graph, Vertex};

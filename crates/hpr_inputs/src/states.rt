@@ -1,7 +1,7 @@
 //! The state that words tell.
 ghost use Rattle.std.specs.Prelude.{◌≡◌, map, IfOk, string_bytes};
-ghost use Rattle.hpr_app.specs.States as spec;
-ghost use Rattle.hpr_app.specs.Private.ReadsState.{ReadsState, TakesWord};
+ghost use Rattle.hpr_inputs.specs.States as spec;
+ghost use Rattle.hpr_inputs.specs.ReadsState.{ReadsState, TakesWord};
 
 use crate::answer::Stop;
 use hpr_refusals::about;

@@ -1,6 +1,6 @@
 //! The programs of a base and its two variants.
 ghost use Rattle.std.specs.Prelude.{IsTrue};
-ghost use Rattle.hpr_app.specs.Private.ReadsFiles.{ReadsFiles};
+ghost use Rattle.hpr_inputs.specs.ReadsFiles.{ReadsFiles};
 
 use crate::answer::Stop;
 use crate::files::read_program;

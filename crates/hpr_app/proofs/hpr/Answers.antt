@@ -1,15 +1,15 @@
 use Rattle.std.proofs.Common.{All, IsTrue, ap, map, string_bytes, subst, sym, Err}
-use Rattle.hpr_app.specs.Reads.{files_of_taken}
-use Rattle.hpr_app.proofs.Completeness.{asked_completes, asked_prints_other}
-use Rattle.hpr_app.specs.Theorem.{KeepsMeaning}
-use Rattle.hpr_app.specs.MergedText.{PrintsMerged}
-use Rattle.hpr_app.specs.TrialKeeps.{KeepsTrial}
-use Rattle.hpr_app.proofs.EndsLemmas.{Ends-for, asked_ends, done_took}
-use Rattle.hpr_app.proofs.Reported.{conflict_ends, interference_ends, interferes_ends, no_program_ends, spent_ends}
-use Rattle.hpr_app.proofs.Once.{asked_refused}
-use Rattle.hpr_app.proofs.Theorem.{request_keeps, request_fits}
-use Rattle.hpr_app.proofs.TrialTheorem.{trial_keeps, ends_trial}
-use Rattle.hpr_app.proofs.WordLemmas.{plain_is_taken}
+use Rattle.hpr_decisions.specs.Reads.{files_of_taken}
+use Rattle.hpr_decisions.proofs.Completeness.{asked_completes, asked_prints_other}
+use Rattle.hpr_decisions.specs.Theorem.{KeepsMeaning}
+use Rattle.hpr_decisions.specs.MergedText.{PrintsMerged}
+use Rattle.hpr_decisions.specs.TrialKeeps.{KeepsTrial}
+use Rattle.hpr_decisions.proofs.EndsLemmas.{Ends-for, asked_ends, done_took}
+use Rattle.hpr_decisions.proofs.Reported.{conflict_ends, interference_ends, interferes_ends, no_program_ends, spent_ends}
+use Rattle.hpr_decisions.proofs.Once.{asked_refused}
+use Rattle.hpr_decisions.proofs.Theorem.{request_keeps, request_fits}
+use Rattle.hpr_decisions.proofs.TrialTheorem.{trial_keeps, ends_trial}
+use Rattle.hpr_decisions.proofs.WordLemmas.{plain_is_taken}
 use Rattle.hpr_app.proofs.hpr.Goals as goal
 
 pub run_asked-requires-clause-serves : goal.run_asked-requires-clause-serves

@@ -9,9 +9,9 @@ use Rattle.hpr_graph.specs.Graphs.{Same}
 use Rattle.hpr_graph.specs.Numbered.{Numbered, graph_in}
 use Rattle.hpr_graph.specs.ProgramGraph.{graph_of}
 use Rattle.hpr_engine.specs.Limit.{HasTooManyEdges}
-use Rattle.hpr_app.specs.Graphs.{too_many_edges}
-use Rattle.hpr_app.specs.declared.answer.Stop.{Stop}
-use Rattle.hpr_app.specs.declared.answer.Stop.TheVariants as stop
+use Rattle.hpr_decisions.specs.Graphs.{too_many_edges}
+use Rattle.hpr_inputs.specs.declared.answer.Stop.{Stop}
+use Rattle.hpr_inputs.specs.declared.answer.Stop.TheVariants as stop
 
 abbrev pub RefusesGraph : List ℕ → Stop → Type 0
 RefusesGraph file (stop.Refused message) = string_bytes message ≡ too_many_edges file

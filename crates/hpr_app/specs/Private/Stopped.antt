@@ -8,9 +8,9 @@ use Rattle.hpr_engine.specs.declared.stop.Stop.{Stop}
 use Rattle.hpr_engine.specs.declared.stop.Stop.TheVariants.{TooManyEdges, Interference, NoProgram, Spent, Memory}
 use Rattle.hpr_engine.specs.declared.stop.Which.{Which}
 use Rattle.hpr_engine.specs.declared.stop.Which.TheVariants.{Base, A, B}
-use Rattle.hpr_app.specs.Decision.{Decision, refuses}
-use Rattle.hpr_app.specs.Graphs.{too_many_edges}
-use Rattle.hpr_app.specs.Integrate.{report}
+use Rattle.hpr_inputs.specs.Decision.{Decision, refuses}
+use Rattle.hpr_decisions.specs.Graphs.{too_many_edges}
+use Rattle.hpr_decisions.specs.Integrate.{report}
 
 abbrev pub file_of : Which → List ℕ → List ℕ → List ℕ → List ℕ
 file_of Base base a b = base

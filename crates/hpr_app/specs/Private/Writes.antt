@@ -8,12 +8,12 @@
 use Rattle.std.specs.Prelude.{◌≡◌, ◌⊎◌, ℕ, List, Result, Ok, Err, string_bytes}
 use Rattle.hpr_io.specs.Counts.{Rose}
 use Rattle.hpr_io.specs.Taken.{taken_then, TookStrictPrefix}
-use Rattle.hpr_app.specs.Ends.{Change, IsUntouched, Says, cannot_write, no_memory, status_of_kind}
-use Rattle.hpr_app.specs.declared.answer.Report.{Report}
-use Rattle.hpr_app.specs.declared.answer.Stop.{Stop}
-use Rattle.hpr_app.specs.declared.answer.Stop.TheVariants as stop
-use Rattle.hpr_app.specs.declared.status.Status.{Status}
-use Rattle.hpr_app.specs.declared.status.Status.TheVariants as status
+use Rattle.hpr_decisions.specs.Ends.{Change, IsUntouched, Says, cannot_write, no_memory, status_of_kind}
+use Rattle.hpr_inputs.specs.declared.answer.Report.{Report}
+use Rattle.hpr_inputs.specs.declared.answer.Stop.{Stop}
+use Rattle.hpr_inputs.specs.declared.answer.Stop.TheVariants as stop
+use Rattle.hpr_decisions.specs.declared.status.Status.{Status}
+use Rattle.hpr_decisions.specs.declared.status.Status.TheVariants as status
 
 abbrev pub stop_status : Stop → Status
 stop_status (stop.Refused message) = status.Refused

@@ -3,7 +3,7 @@ use Rattle.std.proofs.lemmas.Result.{err_from_is_err_and}
 use Rattle.hpr_io.specs.Files.{bytes_of}
 use Rattle.hpr_refusals.specs.Refusals.{IsFileOf}
 use Rattle.hpr_app.proofs.AffectedLemmas.{base_fails, a_fails, decided}
-use Rattle.hpr_app.proofs.ReadLemmas.{told_same, fails_same}
+use Rattle.hpr_inputs.proofs.ReadLemmas.{told_same, fails_same}
 use Rattle.hpr_app.proofs.affected.affected_files.Goals as goal
 
 pub returns-in_err-base_program : goal.returns-in_err-base_program

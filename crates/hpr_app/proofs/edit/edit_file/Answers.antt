@@ -3,10 +3,10 @@ use Rattle.std.proofs.lemmas.Result.{err_from_is_err_and}
 use Rattle.hpr_io.specs.Files.{bytes_of}
 use Rattle.hpr_refusals.specs.Applied.{applied}
 use Rattle.hpr_refusals.specs.Refusals.{IsRefusedScript, IsScriptOf}
-use Rattle.hpr_app.specs.Private.Answer.{Merges}
-use Rattle.hpr_app.specs.EditFiles.{edit_decision}
+use Rattle.hpr_inputs.specs.Answer.{Merges}
+use Rattle.hpr_decisions.specs.EditFiles.{edit_decision}
 use Rattle.hpr_app.proofs.EditLemmas.{decided, program_fails, script_fails}
-use Rattle.hpr_app.proofs.ReadLemmas.{read_fails_behind, told_same}
+use Rattle.hpr_inputs.proofs.ReadLemmas.{read_fails_behind, told_same}
 use Rattle.hpr_app.proofs.edit.edit_file.Goals as goal
 
 pub returns-in_err-program : goal.returns-in_err-program

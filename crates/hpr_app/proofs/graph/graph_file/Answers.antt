@@ -1,5 +1,5 @@
-use Rattle.hpr_app.specs.GraphFile.{Graphed}
-use Rattle.hpr_app.proofs.ReadLemmas.{past_last_file}
+use Rattle.hpr_decisions.specs.GraphFile.{Graphed}
+use Rattle.hpr_inputs.proofs.ReadLemmas.{past_last_file}
 use Rattle.hpr_app.proofs.graph.graph_file.Goals as goal
 
 pub returns : goal.returns

@@ -1,5 +1,5 @@
 use Rattle.hpr_graph.specs.Numbered.{graph_in}
-use Rattle.hpr_app.proofs.GraphLemmas.{decided}
+use Rattle.hpr_decisions.proofs.GraphLemmas.{decided}
 use Rattle.hpr_app.proofs.graph.show_graph.Goals as goal
 
 pub returns : goal.returns

@@ -1,8 +1,8 @@
 use Rattle.std.proofs.lemmas.Result.{err_from_is_err_and}
 use Rattle.hpr_syntax.specs.Tree.{Tree}
-use Rattle.hpr_app.specs.Decision.{Decision}
-use Rattle.hpr_app.specs.Integrate.{Integrated}
-use Rattle.hpr_app.proofs.VersionLemmas.{files_fail, past_files}
+use Rattle.hpr_inputs.specs.Decision.{Decision}
+use Rattle.hpr_decisions.specs.Integrate.{Integrated}
+use Rattle.hpr_inputs.proofs.VersionLemmas.{files_fail, past_files}
 use Rattle.hpr_app.proofs.integrate.integrate_files.Goals as goal
 
 pub returns-in_err-versions : goal.returns-in_err-versions

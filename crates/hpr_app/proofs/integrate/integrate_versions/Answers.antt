@@ -1,9 +1,9 @@
 use Rattle.std.proofs.Common.{◌≡◌}
 use Rattle.hpr_syntax.specs.Print.{text}
 use Rattle.hpr_graph.specs.Answer.{printed}
-use Rattle.hpr_app.specs.Decision.{prints}
-use Rattle.hpr_app.specs.Integrate.{IsReported}
-use Rattle.hpr_app.specs.declared.answer.Kind.TheVariants as kind
+use Rattle.hpr_inputs.specs.Decision.{prints}
+use Rattle.hpr_decisions.specs.Integrate.{IsReported}
+use Rattle.hpr_inputs.specs.declared.answer.Kind.TheVariants as kind
 use Rattle.hpr_app.proofs.IntegrateLemmas.{program_merges, stop_merges}
 use Rattle.hpr_app.proofs.integrate.integrate_versions.Goals as goal
 

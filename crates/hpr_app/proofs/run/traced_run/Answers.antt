@@ -3,10 +3,10 @@ use Rattle.hpr_syntax.specs.Run.{run}
 use Rattle.hpr_report.specs.Texts.{outcome_text}
 use Rattle.hpr_meaning.specs.Instances.{instances}
 use Rattle.hpr_meaning.specs.Items.{item_in}
-use Rattle.hpr_app.specs.Decision.{prints}
+use Rattle.hpr_inputs.specs.Decision.{prints}
 use Rattle.hpr_app.specs.Private.ItemLine.{item_line}
-use Rattle.hpr_app.specs.RunFile.{kind_of}
-use Rattle.hpr_app.specs.TraceText.{trace_text}
+use Rattle.hpr_decisions.specs.RunFile.{kind_of}
+use Rattle.hpr_decisions.specs.TraceText.{trace_text}
 use Rattle.hpr_app.proofs.TraceLemmas.{lines_of}
 use Rattle.hpr_app.proofs.run.traced_run.Goals as goal
 

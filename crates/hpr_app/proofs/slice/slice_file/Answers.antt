@@ -1,6 +1,6 @@
 use Rattle.std.proofs.Common.{map}
-use Rattle.hpr_app.specs.SliceFile.{Sliced}
-use Rattle.hpr_app.proofs.ReadLemmas.{past_last_file}
+use Rattle.hpr_decisions.specs.SliceFile.{Sliced}
+use Rattle.hpr_inputs.proofs.ReadLemmas.{past_last_file}
 use Rattle.hpr_app.proofs.slice.slice_file.Goals as goal
 
 pub returns : goal.returns

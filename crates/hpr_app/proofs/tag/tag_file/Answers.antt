@@ -2,9 +2,9 @@ use Rattle.std.proofs.Common.{◌≡◌}
 use Rattle.hpr_syntax.specs.Grammar.{untagged}
 use Rattle.hpr_syntax.specs.Print.{text}
 use Rattle.hpr_refusals.specs.Refusals.{IsFileIn, IsRefusedIn}
-use Rattle.hpr_app.specs.Decision.{prints}
-use Rattle.hpr_app.specs.declared.answer.Kind.TheVariants.{Done}
-use Rattle.hpr_app.proofs.ReadLemmas.{past_last_read}
+use Rattle.hpr_inputs.specs.Decision.{prints}
+use Rattle.hpr_inputs.specs.declared.answer.Kind.TheVariants.{Done}
+use Rattle.hpr_inputs.proofs.ReadLemmas.{past_last_read}
 use Rattle.hpr_app.proofs.tag.tag_file.Goals as goal
 
 pub returns : goal.returns

@@ -1,5 +1,5 @@
 use Rattle.std.proofs.Common.{◌≡◌, ◌++◌, drop, flat_map, string_bytes}
-use Rattle.hpr_app.specs.TraceText.{comma_turn}
+use Rattle.hpr_decisions.specs.TraceText.{comma_turn}
 use Rattle.hpr_app.proofs.trace_text.put_turns.Given as goal
 
 abbrev pub invariant-loop-turn : goal.invariant-loop-turn

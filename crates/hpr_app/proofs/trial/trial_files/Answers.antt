@@ -1,7 +1,7 @@
 use Rattle.std.proofs.Common.{Bor, List, ℕ, map, Err}
 use Rattle.std.proofs.lemmas.Result.{err_from_is_err_and}
 use Rattle.hpr_app.proofs.TrialLemmas.{Next, trial_decides}
-use Rattle.hpr_app.proofs.VersionLemmas.{files_fail, past_files}
+use Rattle.hpr_inputs.proofs.VersionLemmas.{files_fail, past_files}
 use Rattle.hpr_app.proofs.trial.trial_files.Goals as goal
 
 pub returns-in_err-versions : goal.returns-in_err-versions

@@ -1,5 +1,5 @@
 use Rattle.hpr_graph.specs.Answer.{printed}
-use Rattle.hpr_app.specs.TrialFiles.{IsTried, IsTrialOf, trial_tries}
+use Rattle.hpr_decisions.specs.TrialFiles.{IsTried, IsTrialOf, trial_tries}
 use Rattle.hpr_app.proofs.IntegrateLemmas.{program_merges, stop_merges}
 use Rattle.hpr_app.proofs.TrialLemmas.{unprinted_tried}
 use Rattle.hpr_app.proofs.trial.try_versions.Goals as goal

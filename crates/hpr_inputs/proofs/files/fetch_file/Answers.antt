@@ -1,6 +1,6 @@
 use Rattle.std.proofs.Common.{rules, arith, refl}
-use Rattle.hpr_app.proofs.FileLemmas.{longer_file, whole_file}
-use Rattle.hpr_app.proofs.files.fetch_file.Goals as goal
+use Rattle.hpr_inputs.proofs.FileLemmas.{longer_file, whole_file}
+use Rattle.hpr_inputs.proofs.files.fetch_file.Goals as goal
 
 pub returns-then-len-gt-MAX_FILE-clause-fetches : goal.returns-then-len-gt-MAX_FILE-clause-fetches
 returns-then-len-gt-MAX_FILE-clause-fetches g c =

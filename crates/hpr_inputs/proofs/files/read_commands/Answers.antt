@@ -1,8 +1,8 @@
 use Rattle.std.proofs.Common.{rules}
 use Rattle.std.proofs.lemmas.Result.{err_from_is_err_and}
 use Rattle.hpr_script.specs.ScriptGrammar.{HasScript}
-use Rattle.hpr_app.proofs.FileLemmas.{refused_script, too_long_fails}
-use Rattle.hpr_app.proofs.files.read_commands.Goals as goal
+use Rattle.hpr_inputs.proofs.FileLemmas.{refused_script, too_long_fails}
+use Rattle.hpr_inputs.proofs.files.read_commands.Goals as goal
 
 pub returns-in_err-bytes-clause-reads : goal.returns-in_err-bytes-clause-reads
 returns-in_err-bytes-clause-reads g c =

@@ -1,6 +1,6 @@
 use Rattle.std.proofs.Common.{◌≡◌}
-use Rattle.hpr_app.proofs.PointLemmas.{alike, found, judged_more, not_found, unlike}
-use Rattle.hpr_app.proofs.points.is_word.Goals as goal
+use Rattle.hpr_inputs.proofs.PointLemmas.{alike, found, judged_more, not_found, unlike}
+use Rattle.hpr_inputs.proofs.points.is_word.Goals as goal
 
 pub returns-then-eq : goal.returns-then-eq
 returns-then-eq c =

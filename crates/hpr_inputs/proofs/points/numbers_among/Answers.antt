@@ -1,7 +1,7 @@
 use Rattle.std.proofs.Common.{arith, map, string_bytes}
 use Rattle.std.proofs.lemmas.List.{length-map}
-use Rattle.hpr_app.proofs.PointLemmas.{all_numbers, one_more_text, text_at}
-use Rattle.hpr_app.proofs.points.numbers_among.Goals as goal
+use Rattle.hpr_inputs.proofs.PointLemmas.{all_numbers, one_more_text, text_at}
+use Rattle.hpr_inputs.proofs.points.numbers_among.Goals as goal
 
 pub loop-at-preserved : goal.loop-at-preserved
 loop-at-preserved c =

@@ -1,8 +1,8 @@
 use Rattle.std.proofs.Common.{ap, map, string_bytes, ◌∙◌}
 use Rattle.std.proofs.lemmas.Result.{err_from_is_err_and}
-use Rattle.hpr_app.specs.Points.{point_text}
-use Rattle.hpr_app.proofs.PointLemmas.{named_all, named_refused, numbers_for}
-use Rattle.hpr_app.proofs.points.read_points.Goals as goal
+use Rattle.hpr_inputs.specs.Points.{point_text}
+use Rattle.hpr_inputs.proofs.PointLemmas.{named_all, named_refused, numbers_for}
+use Rattle.hpr_inputs.proofs.points.read_points.Goals as goal
 
 pub returns-in_err-refuse_strangers : goal.returns-in_err-refuse_strangers
 returns-in_err-refuse_strangers c =

@@ -1,6 +1,6 @@
 use Rattle.std.proofs.Common.{Contains, map, string_bytes}
-use Rattle.hpr_app.proofs.PointLemmas.{fails, judged_all, judged_more, stranger_at}
-use Rattle.hpr_app.proofs.points.refuse_strangers.Goals as goal
+use Rattle.hpr_inputs.proofs.PointLemmas.{fails, judged_all, judged_more, stranger_at}
+use Rattle.hpr_inputs.proofs.points.refuse_strangers.Goals as goal
 
 pub returns-then-not-is_text : goal.returns-then-not-is_text
 returns-then-not-is_text c =

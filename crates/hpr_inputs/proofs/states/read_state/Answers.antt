@@ -1,6 +1,6 @@
 use Rattle.std.proofs.lemmas.Result.{err_from_is_err_and}
-use Rattle.hpr_app.proofs.StateLemmas.{more_in, refused_in}
-use Rattle.hpr_app.proofs.states.read_state.Goals as goal
+use Rattle.hpr_inputs.proofs.StateLemmas.{more_in, refused_in}
+use Rattle.hpr_inputs.proofs.states.read_state.Goals as goal
 
 pub returns-in_err-take_word : goal.returns-in_err-take_word
 returns-in_err-take_word c =

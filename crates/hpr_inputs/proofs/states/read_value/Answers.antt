@@ -1,6 +1,6 @@
 use Rattle.std.proofs.Common.{◌≡◌, ◌==◌, ◌∙◌, sym, false, slice_index, arith}
-use Rattle.hpr_app.proofs.ValueLemmas.{read_is}
-use Rattle.hpr_app.proofs.states.read_value.Goals as goal
+use Rattle.hpr_inputs.proofs.ValueLemmas.{read_is}
+use Rattle.hpr_inputs.proofs.states.read_value.Goals as goal
 
 pub returns : goal.returns
 returns c =

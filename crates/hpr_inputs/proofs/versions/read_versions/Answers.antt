@@ -2,9 +2,9 @@ use Rattle.std.proofs.Common.{◌∙◌}
 use Rattle.std.proofs.lemmas.Result.{err_from_is_err_and}
 use Rattle.hpr_io.specs.Files.{bytes_of}
 use Rattle.hpr_refusals.specs.Refusals.{IsFileOf}
-use Rattle.hpr_app.proofs.VersionLemmas.{base_fails, a_fails, b_fails}
-use Rattle.hpr_app.proofs.ReadLemmas.{told_same, fails_same}
-use Rattle.hpr_app.proofs.versions.read_versions.Goals as goal
+use Rattle.hpr_inputs.proofs.VersionLemmas.{base_fails, a_fails, b_fails}
+use Rattle.hpr_inputs.proofs.ReadLemmas.{told_same, fails_same}
+use Rattle.hpr_inputs.proofs.versions.read_versions.Goals as goal
 
 pub returns-in_err-base_program : goal.returns-in_err-base_program
 returns-in_err-base_program g c =

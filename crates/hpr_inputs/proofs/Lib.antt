@@ -1,0 +1,6 @@
+pub mod FileLemmas
+pub mod ReadLemmas
+pub mod VersionLemmas
+pub mod ValueLemmas
+pub mod StateLemmas
+pub mod PointLemmas

@@ -1,0 +1,10 @@
+pub mod Decision
+pub mod Reads
+pub mod Files
+pub mod States
+pub mod Points
+pub mod Answer
+pub mod ReadsFile
+pub mod ReadsFiles
+pub mod ReadsState
+pub mod ReadsPoints
