@@ -1,5 +1,5 @@
 -- What a file's first bytes say of the file.
-use Rattle.std.proofs.Common.{◌≡◌, ℕ, ◌+◌, ◌<◌, ◌≤◌, List, length, take, arith, ap, length-take, Option, Err, IfSome, Vec, subst, ◌∙◌}
+use Rattle.std.proofs.Common.{◌≡◌, ℕ, ◌+◌, ◌<◌, ◌≤◌, List, length, take, arith, ap, length-take, Option, Err, IfSome, Vec, subst, ◌∙◌, Ok, Result, string_bytes}
 use Rattle.std.proofs.lemmas.List.{take_all}
 use Rattle.std.specs.Global.{Global}
 use Rattle.hpr_io.specs.Files.{Files, bytes_of}
@@ -15,7 +15,7 @@ use Rattle.hpr_script.specs.declared.reader.ScriptError.{ScriptError}
 use Rattle.hpr_script.specs.declared.reader.ScriptError.TheVariants as script
 use Rattle.hpr_script.specs.Answers as answers
 use Rattle.hpr_script.specs.ScriptGrammar.{HasScript}
-use Rattle.hpr_inputs.specs.ReadsFile.{FailsBy, IsTooLong}
+use Rattle.hpr_inputs.specs.ReadsFile.{FailsBy, IsTooLong, Judges, ReadsBy, Refuses, StopsBy}
 use Rattle.hpr_inputs.specs.Reads.{IfTold}
 use Rattle.hpr_inputs.specs.declared.answer.Stop.{Stop}
 use Rattle.hpr_inputs.specs.declared.answer.Stop.TheVariants as stop
@@ -45,9 +45,8 @@ module _ (files : Option Files) (name front : List ℕ) where
   told_front most is h fs t =
       subst (λ m. front ≡ take m (bytes_of fs name)) is (at_told files (λ gs. front ≡ take most (bytes_of gs name)) h fs t)
 
-  pub longer_file : (most : ℕ) (message : List ℕ) → most ≡ max_file + 1 → IsFront most → max_file < length front → message ≡ refusal_text name Longer
-      → IfTold files (λ fs. IsTooLong name (bytes_of fs name) message)
-  longer_file most message is h l e fs t = (longer (bytes_of fs name) front max_file (told_front most is h fs t) l, e)
+  pub longer_file : (most : ℕ) → most ≡ max_file + 1 → IsFront most → max_file < length front → IfTold files (λ fs. max_file < length (bytes_of fs name))
+  longer_file most is h l fs t = longer (bytes_of fs name) front max_file (told_front most is h fs t) l
 
   abbrev pub IsWhole : Type 0
   IsWhole = IfTold files (λ fs. (front ≡ bytes_of fs name) × (length front ≤ max_file))
@@ -55,32 +54,47 @@ module _ (files : Option Files) (name front : List ℕ) where
   pub whole_file : (most : ℕ) → most ≡ max_file + 1 → IsFront most → length front ≤ max_file → IsWhole
   whole_file most is h l fs t = (whole (bytes_of fs name) front max_file (told_front most is h fs t) l, l)
 
-  refused : (L : List ℕ → Type 0) (misshapen : List ℕ → ShapeError → Type 0) (why : Refusal) (message : List ℕ) → IsWhole
-      → (length front ≤ max_file → IsCauseFor L misshapen front why) → message ≡ refusal_text name why
-      → IfTold files (λ fs. IsRefusedFor (IsCauseFor L misshapen (bytes_of fs name)) name message)
-  refused L misshapen why message w h e fs t = (why, subst (λ bytes. IsCauseFor L misshapen bytes why) (w fs t).0 (h (w fs t).1), e)
+  -- what is so of the bytes that were read is so of the file
+  pub judged : {A : Type 0} (refused : List ℕ → List ℕ → Type 0) (is : List ℕ → A → Type 0) (read : List ℕ) (before now : ℕ) (result : Result A Stop) → IsWhole → read ≡ front
+      → now ≡ before → Judges refused is read result → ReadsBy refused is files name before now result
+  judged refused is read before now (Ok a) w e same h = (λ fs t. subst (λ bytes. is bytes a) (e ∙ (w fs t).0) h, same)
+  judged refused is read before now (Err (stop.Refused message)) w e same h = (λ fs t. subst (λ bytes. refused bytes (string_bytes message)) (e ∙ (w fs t).0) h, same)
+  judged refused is read before now (Err (stop.ReadFault message)) w e same h = absurd h
+  judged refused is read before now (Err stop.Memory) w e same h = omega (arith, same)
 
-  module _ (form : Form) (read : List ℕ) (error : TextError) where
-    pub refused_syntax : (place : ℕ) (message : List ℕ) → IsWhole → read ≡ front → error ≡ text.Syntax place
-        → IfSyntax {A = Tree} (Err error) (λ n. IsPlace (IsText form) read n) → message ≡ refusal_text name (Syntax place)
-        → IfTold files (λ fs. IsRefusedIn form name (bytes_of fs name) message)
-    refused_syntax place message w same is h e =
-        let at : IsPlace (IsText form) read place = subst (λ x. IfSyntax {A = Tree} (Err x) (λ n. IsPlace (IsText form) read n)) is h in
-        refused (IsText form) (IsMisshapen form) (Syntax place) message w (λ short. (short, subst (λ bytes. IsPlace (IsText form) bytes place) same at)) e
+module _ (files : Option Files) (file : List ℕ) where
+  pub too_long : (before now : ℕ) (s : Stop) → IfTold files (λ fs. max_file < length (bytes_of fs file)) → now ≡ before → Refuses file Longer s
+      → FailsBy (IsTooLong file) files file before now s
+  too_long before now (stop.Refused message) far same h = (λ fs t. (far fs t, h), same)
+  too_long before now (stop.ReadFault message) far same h = absurd h
+  too_long before now stop.Memory far same h = omega (arith, same)
 
-    pub refused_shape : (fails : ShapeError) (message : List ℕ) → IsWhole → read ≡ front → error ≡ text.Shape fails
-        → IfShape {A = Tree} (Err error) (λ x. IsMisshapen form read x) → message ≡ refusal_text name (Shape fails)
-        → IfTold files (λ fs. IsRefusedIn form name (bytes_of fs name) message)
-    refused_shape fails message w same is h e =
-        let at : IsMisshapen form read fails = subst (λ x. IfShape {A = Tree} (Err x) (λ y. IsMisshapen form read y)) is h in
-        refused (IsText form) (IsMisshapen form) (Shape fails) message w (λ short. (short, subst (λ bytes. IsMisshapen form bytes fails) same at)) e
+-- why bytes of an accepted length are refused
+module _ (file bytes : List ℕ) (short : length bytes ≤ max_file) (s : Stop) where
+  stops : (L : List ℕ → Type 0) (misshapen : List ℕ → ShapeError → Type 0) (why : Refusal) (t : Stop) → IsCauseFor L misshapen bytes why → Refuses file why t
+      → StopsBy (λ read message. IsRefusedFor (IsCauseFor L misshapen read) file message) bytes t
+  stops L misshapen why (stop.Refused message) cause h = (why, cause, h)
+  stops L misshapen why (stop.ReadFault message) cause h = absurd h
+  stops L misshapen why stop.Memory cause h = tt
 
-  pub refused_script : (read : List ℕ) (error : ScriptError) (place : ℕ) (message : List ℕ) → IsWhole → read ≡ front → error ≡ script.Syntax place
-      → answers.IfSyntax {A = Vec Command Global} (Err error) (λ n. IsPlace HasScript read n) → message ≡ refusal_text name (Syntax place)
-      → IfTold files (λ fs. IsRefusedScript name (bytes_of fs name) message)
-  refused_script read error place message w same is h e =
-      let at : IsPlace HasScript read place = subst (λ x. answers.IfSyntax {A = Vec Command Global} (Err x) (λ n. IsPlace HasScript read n)) is h in
-      refused HasScript (λ bytes error. ⊥) (Syntax place) message w (λ short. (short, subst (λ bytes. IsPlace HasScript bytes place) same at)) e
+  module _ (form : Form) (error : TextError) where
+    pub refused_syntax : (place : ℕ) → error ≡ text.Syntax place → IfSyntax {A = Tree} (Err error) (λ n. IsPlace (IsText form) bytes n) → Refuses file (Syntax place) s
+        → StopsBy (IsRefusedIn form file) bytes s
+    refused_syntax place is h e =
+        let at : IsPlace (IsText form) bytes place = subst (λ x. IfSyntax {A = Tree} (Err x) (λ n. IsPlace (IsText form) bytes n)) is h in
+        stops (IsText form) (IsMisshapen form) (Syntax place) s (short, at) e
+
+    pub refused_shape : (fails : ShapeError) → error ≡ text.Shape fails → IfShape {A = Tree} (Err error) (λ x. IsMisshapen form bytes x) → Refuses file (Shape fails) s
+        → StopsBy (IsRefusedIn form file) bytes s
+    refused_shape fails is h e =
+        let at : IsMisshapen form bytes fails = subst (λ x. IfShape {A = Tree} (Err x) (λ y. IsMisshapen form bytes y)) is h in
+        stops (IsText form) (IsMisshapen form) (Shape fails) s (short, at) e
+
+  pub refused_script : (error : ScriptError) (place : ℕ) → error ≡ script.Syntax place → answers.IfSyntax {A = Vec Command Global} (Err error) (λ n. IsPlace HasScript bytes n)
+      → Refuses file (Syntax place) s → StopsBy (IsRefusedScript file) bytes s
+  refused_script error place is h e =
+      let at : IsPlace HasScript bytes place = subst (λ x. answers.IfSyntax {A = Vec Command Global} (Err x) (λ n. IsPlace HasScript bytes n)) is h in
+      stops HasScript (λ read error. ⊥) (Syntax place) s (short, at) e
 
 -- a file that is too long is so whatever it is to spell
 pub too_long_fails : (L : List ℕ → Type 0) (misshapen : List ℕ → ShapeError → Type 0) (files : Option Files) (file : List ℕ) (before now : ℕ) (s : Stop)

@@ -8,6 +8,9 @@
 -- Fails files file before now stop            == the file spells no program, and is refused so; or as above
 -- ReadsProgram files file before now result   == the program that it spells, with the tag of each part; or as above
 -- ReadsScript files file before now result    == the commands of the script that it spells; or as above
+-- Refuses file why stop                       == the file is refused with the message for this reason; or memory ran out
+-- StopsBy refused bytes stop                  == a file with these bytes is refused so; or memory ran out
+-- Judges refused is bytes result              == what is so of these bytes; or as above
 use Rattle.std.specs.Prelude.{◌≡◌, ℕ, ◌≤◌, ◌<◌, List, length, Option, Result, Ok, Err, Vec, string_bytes}
 use Rattle.std.specs.Global.{Global}
 use Rattle.hpr_io.specs.Counts.{Rose}
@@ -17,6 +20,7 @@ use Rattle.hpr_syntax.specs.Tree.{Tree}
 use Rattle.hpr_edit.specs.declared.command.Command.{Command}
 use Rattle.hpr_refusals.specs.Reasons.{refusal_text}
 use Rattle.hpr_refusals.specs.Refusals.{IsFileIn, IsRefusedIn, IsRefusedScript, IsScriptOf, max_file}
+use Rattle.hpr_refusals.specs.declared.files.Refusal.{Refusal}
 use Rattle.hpr_refusals.specs.declared.files.Refusal.TheVariants.{Longer}
 use Rattle.hpr_inputs.specs.Files.{cannot_read}
 use Rattle.hpr_inputs.specs.Reads.{IfTold}
@@ -49,3 +53,17 @@ ReadsProgram = ReadsIn tagged
 
 abbrev pub ReadsScript : Option io.Files → List ℕ → ℕ → ℕ → Result (Vec Command Global) Stop → Type 0
 ReadsScript files file = ReadsBy (IsRefusedScript file) (λ bytes v. IsScriptOf bytes v.items) files file
+
+abbrev pub Refuses : List ℕ → Refusal → Stop → Type 0
+Refuses file why (stop.Refused message) = string_bytes message ≡ refusal_text file why
+Refuses file why (stop.ReadFault message) = ⊥
+Refuses file why stop.Memory = Unit {0}
+
+abbrev pub StopsBy : (List ℕ → List ℕ → Type 0) → List ℕ → Stop → Type 0
+StopsBy refused bytes (stop.Refused message) = refused bytes (string_bytes message)
+StopsBy refused bytes (stop.ReadFault message) = ⊥
+StopsBy refused bytes stop.Memory = Unit {0}
+
+abbrev pub Judges : {A : Type 0} → (List ℕ → List ℕ → Type 0) → (List ℕ → A → Type 0) → List ℕ → Result A Stop → Type 0
+Judges refused is bytes (Ok a) = is bytes a
+Judges refused is bytes (Err s) = StopsBy refused bytes s

@@ -1,7 +1,8 @@
 //! The files of a call, and the programs and scripts that they spell.
-ghost use Rattle.std.specs.Prelude.{◌≡◌, ℕ, List, IsTrue};
+ghost use Rattle.std.specs.Prelude.{◌≡◌, ◌≤◌, ℕ, List, IfOk, IsTrue, length};
 ghost use Rattle.hpr_text.specs.Forms.{form_of, HasAuthor};
-ghost use Rattle.hpr_inputs.specs.ReadsFile.{Fetches, ReadsIn, ReadsProgram, ReadsScript};
+ghost use Rattle.hpr_refusals.specs.Refusals.{IsFileIn, IsRefusedIn, IsRefusedScript, IsScriptOf};
+ghost use Rattle.hpr_inputs.specs.ReadsFile.{Fetches, Judges, ReadsIn, ReadsProgram, ReadsScript, Refuses};
 
 use crate::answer::Stop;
 use hpr_io::{FetchError, Shelf};
@@ -15,14 +16,14 @@ use std::alloc::Global;
 fn fetch_file<S: Shelf>(alloc: Global, file: &str, shelf: &mut S) -> Result<Vec<u8>, Stop>
     requires { IsTrue (S.serves shelf.old file.now) }
     ensures fetches { Fetches (S.files shelf.old) file.now (S.faults shelf.old) (S.faults shelf.new) result }
+    ensures short { IfOk result (λ bytes. length bytes.items ≤ 4194304) }
     ensures same_files { S.files shelf.new ≡ S.files shelf.old }
     ensures same_names { (n : List ℕ) → S.serves shelf.new n ≡ S.serves shelf.old n }
 {
     match shelf.fetch(alloc, file, MAX_FILE + 1) {
         Ok(bytes) => {
             if bytes.len() > MAX_FILE {
-                let message = Refusal::Longer.message(alloc, file)?;
-                return Err(Stop::Refused(message));
+                return Err(refused(alloc, file, Refusal::Longer));
             }
             Ok(bytes)
         }
@@ -31,6 +32,16 @@ fn fetch_file<S: Shelf>(alloc: Global, file: &str, shelf: &mut S) -> Result<Vec<
             Err(Stop::ReadFault(message))
         }
         Err(FetchError::Memory) => Err(Stop::Memory),
+    }
+}
+
+/// The refusal of a file.
+fn refused(alloc: Global, file: &str, why: Refusal) -> Stop
+    ensures { Refuses file.now why result }
+{
+    match why.message(alloc, file) {
+        Ok(message) => Stop::Refused(message),
+        Err(_) => Stop::Memory,
     }
 }
 
@@ -58,16 +69,19 @@ pub fn read_text<S: Shelf>(
     ensures same_names { (n : List ℕ) → S.serves shelf.new n ≡ S.serves shelf.old n }
 {
     let bytes = fetch_file(alloc, file, shelf)?;
-    match parse(alloc, bytes.as_slice(), mode) {
+    spelled_program(alloc, file, bytes.as_slice(), mode)
+}
+
+/// The program that the bytes of a file spell.
+fn spelled_program(alloc: Global, file: &str, bytes: &[u8], mode: Mode) -> Result<Program, Stop>
+    requires short { length bytes.now ≤ 4194304 }
+    requires author { HasAuthor mode }
+    ensures { Judges (IsRefusedIn (form_of mode) file.now) (IsFileIn (form_of mode)) bytes.now result }
+{
+    match parse(alloc, bytes, mode) {
         Ok(program) => Ok(program),
-        Err(TextError::Syntax { place }) => {
-            let message = Refusal::Syntax { place }.message(alloc, file)?;
-            Err(Stop::Refused(message))
-        }
-        Err(TextError::Shape(error)) => {
-            let message = Refusal::Shape(error).message(alloc, file)?;
-            Err(Stop::Refused(message))
-        }
+        Err(TextError::Syntax { place }) => Err(refused(alloc, file, Refusal::Syntax { place })),
+        Err(TextError::Shape(error)) => Err(refused(alloc, file, Refusal::Shape(error))),
         Err(TextError::Memory) => Err(Stop::Memory),
     }
 }
@@ -84,11 +98,18 @@ pub fn read_commands<S: Shelf>(
     ensures same_names { (n : List ℕ) → S.serves shelf.new n ≡ S.serves shelf.old n }
 {
     let bytes = fetch_file(alloc, file, shelf)?;
-    match read_script(alloc, bytes.as_slice()) {
+    spelled_commands(alloc, file, bytes.as_slice())
+}
+
+/// The commands of the script that the bytes of a file spell.
+fn spelled_commands(alloc: Global, file: &str, bytes: &[u8]) -> Result<Vec<Command>, Stop>
+    requires { length bytes.now ≤ 4194304 }
+    ensures { Judges (IsRefusedScript file.now) (λ read v. IsScriptOf read v.items) bytes.now result }
+{
+    match read_script(alloc, bytes) {
         Ok(commands) => Ok(commands),
         Err(ScriptError::Syntax { place }) => {
-            let message = Refusal::Syntax { place }.message(alloc, file)?;
-            Err(Stop::Refused(message))
+            Err(refused(alloc, file, Refusal::Syntax { place }))
         }
         Err(ScriptError::Memory) => Err(Stop::Memory),
     }
