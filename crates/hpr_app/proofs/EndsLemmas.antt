@@ -2,15 +2,10 @@
 use Rattle.std.proofs.Common.{◌≡◌, ℕ, List, [], refl, ap, sym, subst, ◌∙◌, inl, inr, Option, Some, None, Ok, Err, Result, string_bytes}
 use Rattle.std.proofs.lemmas.List.{append-nil}
 use Rattle.hpr_io.specs.Taken.{taken_then}
-use Rattle.hpr_io.specs.Files.{Files}
-use Rattle.hpr_words.specs.Request.{Request}
-use Rattle.hpr_decisions.specs.Asked.{Took}
-use Rattle.hpr_decisions.specs.Outcome.{RequestOutcome, OutcomeIfTold}
-use Rattle.hpr_decisions.specs.Reads.{MayReadIfTaken}
 use Rattle.hpr_inputs.specs.Decision.{Decision, prints, refuses}
 use Rattle.hpr_inputs.specs.Answer.{Decides}
 use Rattle.hpr_app.specs.Private.Writes.{Writes, PutsAll, PutsPrefix}
-use Rattle.hpr_decisions.specs.Ends.{Change, Ends, Decided, Says, status_of_kind, status_of, text_of}
+use Rattle.hpr_decisions.specs.Ends.{Change, Ends, Says, status_of_kind}
 use Rattle.hpr_inputs.specs.declared.answer.Kind.{Kind}
 use Rattle.hpr_inputs.specs.declared.answer.Kind.TheVariants as kind
 use Rattle.hpr_inputs.specs.declared.answer.Report.{Report}

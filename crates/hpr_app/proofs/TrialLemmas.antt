@@ -1,26 +1,18 @@
 -- What is decided of a trial.
-use Rattle.std.proofs.Common.{◌≡◌, ℕ, Bool, true, false, List, ◌++◌, ap, sym, ◌∙◌, subst, inl, inr, Option, Ok, Result, IsOk, is_ok, codes}
+use Rattle.std.proofs.Common.{◌≡◌, ℕ, List, ap, subst, Option, Ok, Result, IsOk, is_ok}
 use Rattle.hpr_io.specs.Files.{Files}
-use Rattle.hpr_syntax.specs.Run.{Outcome, ends, faults, more, run}
-use Rattle.hpr_syntax.specs.Shape.{IsProgram}
+use Rattle.hpr_syntax.specs.Run.{Outcome, run}
 use Rattle.hpr_syntax.specs.Tree.{Tree}
 use Rattle.hpr_syntax.specs.Values.{Values}
 use Rattle.hpr_graph.specs.Answer.{Answer, interference, printed, no_program, spent, IsAnswer}
-use Rattle.hpr_graph.proofs.Lists.{in_none}
-use Rattle.hpr_engine.specs.Budget as budget
-use Rattle.hpr_engine.proofs.OneAnswer.{one_answer}
-use Rattle.hpr_report.specs.TableText.{IsSingleValued}
-use Rattle.hpr_report.proofs.OneTable.{one_table_text, ended_single_valued}
 use Rattle.hpr_words.specs.Request.{Text}
 use Rattle.hpr_inputs.specs.Answer.{Decides, Merges}
-use Rattle.hpr_inputs.specs.Decision.{Decision, prints}
+use Rattle.hpr_inputs.specs.Decision.{Decision}
 use Rattle.hpr_inputs.specs.Reads.{IfTold}
 use Rattle.hpr_inputs.specs.Files.{OnFiles}
-use Rattle.hpr_decisions.specs.Integrate.{no_program_text, report, spent_text}
-use Rattle.hpr_decisions.specs.Outcome.{AgreeButForBudget, HasSearched}
+use Rattle.hpr_decisions.specs.Integrate.{report}
 use Rattle.hpr_inputs.specs.States.{states_of}
-use Rattle.hpr_decisions.specs.TrialFiles.{IsTrialBy, IsTrialText, IsTried, IsTrialOf, ShowsIf, ShowsTrial, Tried, TrialOutcome, finals_of, have_ended, steps_together, three_lines, trial_line, trial_tries}
-use Rattle.hpr_inputs.specs.declared.answer.Kind.TheVariants.{Done}
+use Rattle.hpr_decisions.specs.TrialFiles.{IsTried, IsTrialOf, ShowsTrial, Tried, TrialOutcome, steps_together, trial_tries}
 use Rattle.hpr_inputs.specs.declared.answer.Report.{Report}
 use Rattle.hpr_inputs.specs.declared.answer.Stop.{Stop}
 use Rattle.hpr_app.proofs.IntegrateLemmas.{IsUnprinted}

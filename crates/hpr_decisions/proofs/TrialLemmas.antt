@@ -1,30 +1,21 @@
 -- Trials: the final values of runs, and that one answer makes one decision.
-use Rattle.std.proofs.Common.{◌≡◌, ℕ, ◌≤◌, arith, Bool, true, false, List, ◌++◌, ap, sym, ◌∙◌, subst, inl, inr, Option, Ok, Result, IsOk, is_ok, codes}
-use Rattle.hpr_io.specs.Files.{Files}
+use Rattle.std.proofs.Common.{◌≡◌, ℕ, ◌≤◌, arith, Bool, true, false, List, ◌++◌, ap, sym, ◌∙◌, subst, inl, inr, codes}
 use Rattle.hpr_syntax.specs.Run as means
 use Rattle.hpr_syntax.specs.Run.{After, Outcome, ends, faults, goes, more, outcome, run, run_body, stops}
 use Rattle.hpr_syntax.specs.Shape.{IsProgram}
 use Rattle.hpr_syntax.specs.Tree.{Tree}
 use Rattle.hpr_syntax.specs.Values.{Values}
-use Rattle.hpr_graph.specs.Answer.{Answer, interference, printed, no_program, spent, IsAnswer}
+use Rattle.hpr_graph.specs.Answer.{Answer, interference, printed, no_program, spent}
 use Rattle.hpr_graph.proofs.Lists.{in_none}
 use Rattle.hpr_engine.specs.Budget as budget
 use Rattle.hpr_engine.proofs.OneAnswer.{one_answer}
 use Rattle.hpr_report.specs.TableText.{IsSingleValued}
 use Rattle.hpr_report.proofs.OneTable.{one_table_text, ended_single_valued}
-use Rattle.hpr_words.specs.Request.{Text}
-use Rattle.hpr_inputs.specs.Answer.{Decides}
 use Rattle.hpr_inputs.specs.Decision.{Decision, prints}
-use Rattle.hpr_inputs.specs.Reads.{IfTold}
-use Rattle.hpr_inputs.specs.Files.{OnFiles}
-use Rattle.hpr_decisions.specs.Integrate.{no_program_text, report, spent_text}
+use Rattle.hpr_decisions.specs.Integrate.{no_program_text, spent_text}
 use Rattle.hpr_decisions.specs.Outcome.{AgreeButForBudget, HasSearched}
-use Rattle.hpr_inputs.specs.States.{states_of}
-use Rattle.hpr_decisions.specs.TrialFiles.{IsTrialBy, IsTrialText, IsTried, ShowsIf, Tried, TrialOutcome, finals_of, have_ended, steps_of, steps_together, three_lines, trial_line, trial_tries}
+use Rattle.hpr_decisions.specs.TrialFiles.{IsTrialBy, IsTrialText, IsTried, ShowsIf, finals_of, have_ended, steps_of, steps_together, three_lines, trial_line, trial_tries}
 use Rattle.hpr_inputs.specs.declared.answer.Kind.TheVariants.{Done}
-use Rattle.hpr_inputs.specs.declared.answer.Report.{Report}
-use Rattle.hpr_inputs.specs.declared.answer.Stop.{Stop}
-use Rattle.hpr_inputs.proofs.VersionLemmas.{Reached, Reads, decides_other, on_state}
 
 -- no name has two values where a run ends, and else no name has one
 pub single_finals : (p : Tree) (s : Values) (n : ℕ) (o : Outcome) → o ≡ run p s n → IsSingleValued (finals_of o)

@@ -10,7 +10,7 @@
 -- CutShort P .. err    == a write failed: `out` took a prefix of the text of some decision of P, and not all of it
 -- ReadFailed reads ..  == a read failed: `out` took nothing, and the message names a file that the call reads
 -- Ends s P reads ..    == the call ends with the status s in the one case that s stands for
-use Rattle.std.specs.Prelude.{◌≡◌, ◌<◌, ℕ, List, [], ◌++◌, Option, Some, None, codes}
+use Rattle.std.specs.Prelude.{◌≡◌, ◌<◌, ℕ, List, [], Option, Some, None, codes}
 use Rattle.hpr_io.specs.Counts.{Rose}
 use Rattle.hpr_io.specs.Taken.{taken_then, TookStrictPrefix}
 use Rattle.hpr_inputs.specs.declared.answer.Kind.{Kind}

@@ -19,7 +19,6 @@ use Rattle.hpr_inputs.specs.ReadsFile.{FailsBy, IsTooLong, Judges, ReadsBy, Refu
 use Rattle.hpr_inputs.specs.Reads.{IfTold}
 use Rattle.hpr_inputs.specs.declared.answer.Stop.{Stop}
 use Rattle.hpr_inputs.specs.declared.answer.Stop.TheVariants as stop
-use Rattle.hpr_refusals.specs.Reasons.{refusal_text}
 use Rattle.hpr_refusals.specs.Refusals.{max_file, IsCauseFor, IsRefusedFor, IsRefusedIn, IsRefusedScript}
 use Rattle.hpr_refusals.specs.declared.files.Refusal.{Refusal}
 use Rattle.hpr_refusals.specs.declared.files.Refusal.TheVariants.{Longer, Syntax, Shape}
