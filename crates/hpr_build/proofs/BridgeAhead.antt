@@ -5,7 +5,8 @@ use Rattle.std.proofs.lemmas.Bool.{cases_lt}
 use Rattle.std.proofs.lemmas.List.{get_or-take}
 use Rattle.std.proofs.lemmas.List.Elements.{Contains-append_left, Contains-push, Contains-push_cases}
 use Rattle.std.proofs.lemmas.Option.{slice_get-get_or}
-use Rattle.hpr_syntax.specs.Body.{Body, done, assign, branch, loop, part_count}
+use Rattle.hpr_syntax.specs.Action.{assigns}
+use Rattle.hpr_syntax.specs.Body.{Body, done, action, branch, loop, part_count}
 use Rattle.hpr_syntax.specs.Paths.{Path, one, step}
 use Rattle.hpr_syntax.specs.Tree.{Tree}
 use Rattle.hpr_paths.specs.declared.spot.Step.{Step}
@@ -37,7 +38,7 @@ step_follows m n w le = ((λ e. le), (λ e. absurd cc))
 
 first_follows : (b : Body) (n m : ℕ) (w : List ℕ) (f : Step) → m ≤ n → Follows (n + part_count b) w f → Follows m w (first_step b n f)
 first_follows done n m w f le h = earlier (n + 0) m w f (omega (arith, le)) h
-first_follows (assign t x e rest) n m w f le h = step_follows m n w le
+first_follows (action t d rest) n m w f le h = step_follows m n w le
 first_follows (branch t e a b rest) n m w f le h = step_follows m n w le
 first_follows (loop t e b rest) n m w f le h = step_follows m n w le
 
@@ -62,11 +63,11 @@ two_follow m w a b st h k c = elim (contains_two a b st c) [ inl e ↦ subst (Fo
 -- each step leads ahead, or back to a loop around its source
 steps_follow : (b : Body) (n : ℕ) (f : Step) (w : List ℕ) (p : ℕ) (s : Spot) → Follows (n + part_count b) w f → SpotIn b n f w p s → AllFollow p s
 steps_follow done n f w p s hf h = absurd h
-steps_follow (assign t x e rest) n f w p s hf (inl h) =
-    let after : Follows (n + 1 + part_count rest) w f = earlier (n + part_count (assign t x e rest)) (n + 1 + part_count rest) w f (omega arith) hf in
+steps_follow (action t (assigns x e) rest) n f w p s hf (inl h) =
+    let after : Follows (n + 1 + part_count rest) w f = earlier (n + part_count (action t (assigns x e) rest)) (n + 1 + part_count rest) w f (omega arith) hf in
     at_head s _ p n h.0 h.1 (λ st c. one_follows (n + 1) w _ st (first_follows rest (n + 1) (n + 1) w f (omega arith) after) c)
-steps_follow (assign t x e rest) n f w p s hf (inr h) =
-    steps_follow rest (n + 1) f w p s (earlier (n + part_count (assign t x e rest)) (n + 1 + part_count rest) w f (omega arith) hf) h
+steps_follow (action t (assigns x e) rest) n f w p s hf (inr h) =
+    steps_follow rest (n + 1) f w p s (earlier (n + part_count (action t (assigns x e) rest)) (n + 1 + part_count rest) w f (omega arith) hf) h
 steps_follow (branch t e a b rest) n f w p s hf h =
     let no : ℕ = n + 1 + part_count a in
     let next : ℕ = no + part_count b in
@@ -103,8 +104,8 @@ nest_to s q l is c = subst (λ (x : Spot). Contains x.nest l) is c
 -- the loops around a block are around its parts
 nest_keeps : (b : Body) (n : ℕ) (f : Step) (w : List ℕ) (p : ℕ) (s : Spot) (l : ℕ) → SpotIn b n f w p s → Contains w l → Contains s.nest l
 nest_keeps done n f w p s l h c = absurd h
-nest_keeps (assign t x e rest) n f w p s l (inl h) c = nest_to _ s l (sym h.1) c
-nest_keeps (assign t x e rest) n f w p s l (inr h) c = nest_keeps rest (n + 1) f w p s l h c
+nest_keeps (action t d rest) n f w p s l (inl h) c = nest_to _ s l (sym h.1) c
+nest_keeps (action t d rest) n f w p s l (inr h) c = nest_keeps rest (n + 1) f w p s l h c
 nest_keeps (branch t e a b rest) n f w p s l h c =
     let no : ℕ = n + 1 + part_count a in
     let next : ℕ = no + part_count b in
@@ -135,8 +136,8 @@ low_inside w n p l le (inr c) = inr (omega (arith, c.0), c.1)
 
 nest_low : (b : Body) (n : ℕ) (f : Step) (w : List ℕ) (p : ℕ) (s : Spot) (l : ℕ) → SpotIn b n f w p s → Contains s.nest l → Low w n p l
 nest_low done n f w p s l h c = absurd h
-nest_low (assign t x e rest) n f w p s l (inl h) c = inl (nest_to s _ l h.1 c)
-nest_low (assign t x e rest) n f w p s l (inr h) c = lower w (n + 1) n p l (omega arith) (nest_low rest (n + 1) f w p s l h c)
+nest_low (action t d rest) n f w p s l (inl h) c = inl (nest_to s _ l h.1 c)
+nest_low (action t d rest) n f w p s l (inr h) c = lower w (n + 1) n p l (omega arith) (nest_low rest (n + 1) f w p s l h c)
 nest_low (branch t e a b rest) n f w p s l h c =
     let no : ℕ = n + 1 + part_count a in
     let next : ℕ = no + part_count b in
@@ -162,10 +163,10 @@ across b n f w q u l h c less = elim (nest_low b n f w q u l h c) [ inl x ↦ x 
 -- a loop with a part has each that stands between its predicate and that part
 nest_between : (b : Body) (n : ℕ) (f : Step) (w : List ℕ) (p q : ℕ) (s u : Spot) (l : ℕ) → SpotIn b n f w p s → SpotIn b n f w q u → Contains u.nest l → l ≤ p → p ≤ q → Contains s.nest l
 nest_between done n f w p q s u l h k c le le' = absurd h
-nest_between (assign t x e rest) n f w p q s u l h (inl k) c le le' = nest_keeps (assign t x e rest) n f w p s l h (nest_to u _ l k.1 c)
-nest_between (assign t x e rest) n f w p q s u l (inl h) (inr k) c le le' =
-    nest_keeps (assign t x e rest) n f w p s l (inl h) (across rest (n + 1) f w q u l k c (omega (arith, le, h.0)))
-nest_between (assign t x e rest) n f w p q s u l (inr h) (inr k) c le le' = nest_between rest (n + 1) f w p q s u l h k c le le'
+nest_between (action t (assigns x e) rest) n f w p q s u l h (inl k) c le le' = nest_keeps (action t (assigns x e) rest) n f w p s l h (nest_to u _ l k.1 c)
+nest_between (action t (assigns x e) rest) n f w p q s u l (inl h) (inr k) c le le' =
+    nest_keeps (action t (assigns x e) rest) n f w p s l (inl h) (across rest (n + 1) f w q u l k c (omega (arith, le, h.0)))
+nest_between (action t d rest) n f w p q s u l (inr h) (inr k) c le le' = nest_between rest (n + 1) f w p q s u l h k c le le'
 nest_between (branch t e a b rest) n f w p q s u l h k c le le' =
     let no : ℕ = n + 1 + part_count a in
     let next : ℕ = no + part_count b in

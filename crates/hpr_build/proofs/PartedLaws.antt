@@ -2,7 +2,8 @@
 use Rattle.std.proofs.Common.{◌≡◌, ◌<◌, ◌≤◌, ◌+◌, ℕ, true, false, ◌⊎◌, ◌↔◌, inl, inr, Option, Some, None, List, [], ◌∷◌, ◌++◌, Contains, refl, sym, ap, ◌∙◌, subst, arith}
 use Rattle.std.proofs.lemmas.List.Elements.{Contains-append_left, Contains-push, Contains-push_cases}
 use Rattle.hpr_terms.specs.declared.tag.Tag.{Tag}
-use Rattle.hpr_syntax.specs.Body.{Body, done, assign, branch, loop, part_count}
+use Rattle.hpr_syntax.specs.Action.{assigns}
+use Rattle.hpr_syntax.specs.Body.{Body, done, action, branch, loop, part_count}
 use Rattle.hpr_syntax.specs.Tree.{Tree}
 use Rattle.hpr_syntax.specs.Skeleton.{Point, at, skeleton, StandsIn}
 use Rattle.hpr_syntax.specs.Places.{StandsLeft, Parted}
@@ -33,8 +34,8 @@ others_head x t c up os r is h = subst (λ (y : Place). Contains y.others r) (sy
 
 stands_in : (b : Body) (n : ℕ) (up : Up) (os : List Span) (p : ℕ) (x : Place) → PlaceIn b n up os p x → StandsIn (skeleton b) (at x.tag)
 stands_in done n up os p x h = absurd h
-stands_in (assign t y e rest) n up os p x (inl h) = inl (head_tag x t _ up os h.1)
-stands_in (assign t y e rest) n up os p x (inr h) = inr (stands_in rest (n + 1) up os p x h)
+stands_in (action t d rest) n up os p x (inl h) = inl (head_tag x t _ up os h.1)
+stands_in (action t d rest) n up os p x (inr h) = inr (stands_in rest (n + 1) up os p x h)
 stands_in (branch t e a b rest) n up os p x (inl h) = inl (head_tag x t _ up os h.1)
 stands_in (branch t e a b rest) n up os p x (inr h) =
     let no : ℕ = n + 1 + part_count a in
@@ -50,8 +51,8 @@ stands_in (loop t e b rest) n up os p x (inr h) =
 -- the second branches around a block are around each of its parts
 others_kept : (b : Body) (n : ℕ) (up : Up) (os : List Span) (p : ℕ) (x : Place) (r : Span) → PlaceIn b n up os p x → Contains os r → Contains x.others r
 others_kept done n up os p x r h c = absurd h
-others_kept (assign t y e rest) n up os p x r (inl h) c = others_head x t _ up os r h.1 c
-others_kept (assign t y e rest) n up os p x r (inr h) c = others_kept rest (n + 1) up os p x r h c
+others_kept (action t d rest) n up os p x r (inl h) c = others_head x t _ up os r h.1 c
+others_kept (action t d rest) n up os p x r (inr h) c = others_kept rest (n + 1) up os p x r h c
 others_kept (branch t e a b rest) n up os p x r (inl h) c = others_head x t _ up os r h.1 c
 others_kept (branch t e a b rest) n up os p x r (inr h) c =
     let no : ℕ = n + 1 + part_count a in
@@ -66,8 +67,8 @@ others_kept (loop t e b rest) n up os p x r (inr h) c =
 
 place_standing : (b : Body) (n : ℕ) (up : Up) (os : List Span) (d : Point) → StandsIn (skeleton b) d → (p : ℕ) × (x : Place) × PlaceIn b n up os p x × (d ≡ at x.tag)
 place_standing done n up os d h = absurd h
-place_standing (assign t y e rest) n up os d (inl h) = (n, _, inl (refl, refl), h)
-place_standing (assign t y e rest) n up os d (inr h) = let k = place_standing rest (n + 1) up os d h in (k.0, k.1, inr k.2, k.3)
+place_standing (action t action_ rest) n up os d (inl h) = (n, _, inl (refl, refl), h)
+place_standing (action t action_ rest) n up os d (inr h) = let k = place_standing rest (n + 1) up os d h in (k.0, k.1, inr k.2, k.3)
 place_standing (branch t e a b rest) n up os d (inl h) = (n, _, inl (refl, refl), h)
 place_standing (branch t e a b rest) n up os d (inr h) =
     let no : ℕ = n + 1 + part_count a in
@@ -93,8 +94,8 @@ PartsFrom Whole b x q = (y : Place) × Whole q y × Parted (skeleton b) (at x.ta
 parted_of_among : (Whole : ℕ → Place → Type 0) (b : Body) (n : ℕ) (up : Up) (os : List Span) (p : ℕ) (x : Place) (r : Span) (q : ℕ) → ((p : ℕ) (x : Place) → PlaceIn b n up os p x → Whole p x) → PlaceIn b n up os p x → Contains x.others r → r.from ≤ q → q < r.to
     → Contains os r ⊎ PartsFrom Whole b x q
 parted_of_among Whole done n up os p x r q whole h c low high = absurd h
-parted_of_among Whole (assign t y e rest) n up os p x r q whole (inl h) c low high = inl (head_others x t _ up os r h.1 c)
-parted_of_among Whole (assign t y e rest) n up os p x r q whole (inr h) c low high = parted_of_among Whole rest (n + 1) up os p x r q (λ p x i. whole p x (inr i)) h c low high
+parted_of_among Whole (action t d rest) n up os p x r q whole (inl h) c low high = inl (head_others x t _ up os r h.1 c)
+parted_of_among Whole (action t d rest) n up os p x r q whole (inr h) c low high = parted_of_among Whole rest (n + 1) up os p x r q (λ p x i. whole p x (inr i)) h c low high
 parted_of_among Whole (branch t e a b rest) n up os p x r q whole (inl h) c low high = inl (head_others x t _ up os r h.1 c)
 parted_of_among Whole (branch t e a b rest) n up os p x r q whole (inr h) c low high =
     let no : ℕ = n + 1 + part_count a in
@@ -168,7 +169,7 @@ fork_parting t e a b rest n up os d u i j =
 
 parting_of_parted : (b : Body) (n : ℕ) (up : Up) (os : List Span) (d u : Point) → Parted (skeleton b) d u → Parting (PlaceIn b n up os) d u
 parting_of_parted done n up os d u h = absurd h
-parting_of_parted (assign t y e rest) n up os d u h = wider at_place Apart (PlaceIn rest (n + 1) up os) (PlaceIn (assign t y e rest) n up os) d u (λ p x i. inr i) (parting_of_parted rest (n + 1) up os d u h)
+parting_of_parted (action t (assigns y e) rest) n up os d u h = wider at_place Apart (PlaceIn rest (n + 1) up os) (PlaceIn (action t (assigns y e) rest) n up os) d u (λ p x i. inr i) (parting_of_parted rest (n + 1) up os d u h)
 parting_of_parted (branch t e a b rest) n up os d u (inl (inl h)) = (fork_parting t e a b rest n up os d u h.0 h.1).0
 parting_of_parted (branch t e a b rest) n up os d u (inl (inr h)) = (fork_parting t e a b rest n up os u d h.1 h.0).1
 parting_of_parted (branch t e a b rest) n up os d u (inr h) =

@@ -7,7 +7,8 @@ use Rattle.std.specs.List.{slice_get}
 use Rattle.std.proofs.lemmas.Bool.{cases_eq}
 use Rattle.std.proofs.lemmas.Option.{same_Some}
 use Rattle.hpr_syntax.specs.declared.rows.Content.TheVariants.{Assign, If, While}
-use Rattle.hpr_syntax.specs.Body.{Body, done, assign, branch, loop, part_count}
+use Rattle.hpr_syntax.specs.Rows.{content_by}
+use Rattle.hpr_syntax.specs.Body.{Body, done, action, branch, loop, part_count}
 use Rattle.hpr_syntax.specs.Tree.{Tree}
 use Rattle.hpr_build.specs.declared.places.Parent.{Parent}
 use Rattle.hpr_build.specs.declared.places.Span.{Span}
@@ -71,7 +72,7 @@ span from to = record { from = from; to = to }
 
 pub count_places : (b : Body) (n : ℕ) (up : Option Parent) (os : List Span) → length (places_of b n up os) ≡ part_count b
 count_places done n up os = refl
-count_places (assign t x e rest) n up os = omega (arith, count_places rest (n + 1) up os)
+count_places (action t d rest) n up os = omega (arith, count_places rest (n + 1) up os)
 count_places (branch t e a b rest) n up os =
     let no : ℕ = n + 1 + part_count a in
     let next : ℕ = no + part_count b in
@@ -85,7 +86,7 @@ count_places (loop t e b rest) n up os =
 
 abbrev pub PlaceIn : Body → ℕ → Option Parent → List Span → ℕ → Place → Type 0
 PlaceIn done n up os p x = ⊥
-PlaceIn (assign t y e rest) n up os p x = ((p ≡ n) × (x ≡ place_of t (Assign y e) up os)) ⊎ PlaceIn rest (n + 1) up os p x
+PlaceIn (action t d rest) n up os p x = ((p ≡ n) × (x ≡ place_of t (content_by d) up os)) ⊎ PlaceIn rest (n + 1) up os p x
 PlaceIn (branch t e a b rest) n up os p x =
     let no = n + 1 + part_count a in
     let next = no + part_count b in
@@ -97,8 +98,8 @@ PlaceIn (loop t e b rest) n up os p x =
 
 in_of_has : (b : Body) (n : ℕ) (up : Option Parent) (os : List Span) (p : ℕ) (x : Place) → HasAt (places_of b n up os) n p x → PlaceIn b n up os p x
 in_of_has done n up os p x h = absurd h
-in_of_has (assign t y e rest) n up os p x (inl h) = inl h
-in_of_has (assign t y e rest) n up os p x (inr h) = inr (in_of_has rest (n + 1) up os p x h)
+in_of_has (action t d rest) n up os p x (inl h) = inl h
+in_of_has (action t d rest) n up os p x (inr h) = inr (in_of_has rest (n + 1) up os p x h)
 in_of_has (branch t e a b rest) n up os p x (inl h) = inl h
 in_of_has (branch t e a b rest) n up os p x (inr h) =
     let no : ℕ = n + 1 + part_count a in
@@ -124,8 +125,8 @@ in_of_has (loop t e b rest) n up os p x (inr h) =
 
 has_of_in : (b : Body) (n : ℕ) (up : Option Parent) (os : List Span) (p : ℕ) (x : Place) → PlaceIn b n up os p x → HasAt (places_of b n up os) n p x
 has_of_in done n up os p x h = absurd h
-has_of_in (assign t y e rest) n up os p x (inl h) = inl h
-has_of_in (assign t y e rest) n up os p x (inr h) = inr (has_of_in rest (n + 1) up os p x h)
+has_of_in (action t d rest) n up os p x (inl h) = inl h
+has_of_in (action t d rest) n up os p x (inr h) = inr (has_of_in rest (n + 1) up os p x h)
 has_of_in (branch t e a b rest) n up os p x (inl h) = inl h
 has_of_in (branch t e a b rest) n up os p x (inr h) =
     let no : ℕ = n + 1 + part_count a in

@@ -5,7 +5,9 @@ use Rattle.std.proofs.lemmas.Option.{same_Some}
 use Rattle.hpr_terms.specs.declared.tag.Tag.{Tag}
 use Rattle.hpr_syntax.specs.declared.rows.Content.{Content}
 use Rattle.hpr_syntax.specs.declared.rows.Content.TheVariants.{Assign, If, While}
-use Rattle.hpr_syntax.specs.Body.{Body, done, assign, branch, loop, part_count}
+use Rattle.hpr_syntax.specs.Action.{assigns}
+use Rattle.hpr_syntax.specs.Rows.{content_by}
+use Rattle.hpr_syntax.specs.Body.{Body, done, action, branch, loop, part_count}
 use Rattle.hpr_syntax.specs.Rows.{assigned}
 use Rattle.hpr_syntax.specs.Tree.{Tree}
 use Rattle.hpr_syntax.specs.Skeleton as points
@@ -37,8 +39,8 @@ role_of x t c up os is = ap (λ (y : Place). part y.tag y.content) (sym is)
 
 spot_of_place : (b : Body) (n : ℕ) (f : Step) (w : List ℕ) (up : Up) (os : List Span) (p : ℕ) (x : Place) → PlaceIn b n up os p x → SpotSo b n f w p x
 spot_of_place done n f w up os p x h = absurd h
-spot_of_place (assign t y e rest) n f w up os p x (inl h) = (_, inl (h.0, refl), role_of x t (Assign y e) up os h.1)
-spot_of_place (assign t y e rest) n f w up os p x (inr h) = let k = spot_of_place rest (n + 1) f w up os p x h in (k.0, inr k.1, k.2)
+spot_of_place (action t d rest) n f w up os p x (inl h) = (_, inl (h.0, refl), role_of x t (content_by d) up os h.1)
+spot_of_place (action t d rest) n f w up os p x (inr h) = let k = spot_of_place rest (n + 1) f w up os p x h in (k.0, inr k.1, k.2)
 spot_of_place (branch t e a b rest) n f w up os p x (inl h) = (_, inl (h.0, refl), role_of x t (If e) up os h.1)
 spot_of_place (branch t e a b rest) n f w up os p x (inr h) =
     let no : ℕ = n + 1 + part_count a in
@@ -112,8 +114,8 @@ module _ (S : List Spot) where
 
   stands_of_place : (b : Body) (n : ℕ) (up : Up) (os : List Span) (nest : List Tag) (tup : TagUp) (p : ℕ) (x : Place) → Tagged b n up os → IsParentOf S up tup → PlaceIn b n up os p x → StandsSo nest tup b x
   stands_of_place done n up os nest tup p x tagged parent h = absurd h
-  stands_of_place (assign t y e rest) n up os nest tup p x tagged parent (inl h) = here nest nest tup (assign t y e rest) t (Assign y e) up os x h.1 parent (λ is. inl (is, refl))
-  stands_of_place (assign t y e rest) n up os nest tup p x tagged parent (inr h) =
+  stands_of_place (action t (assigns y e) rest) n up os nest tup p x tagged parent (inl h) = here nest nest tup (action t (assigns y e) rest) t (Assign y e) up os x h.1 parent (λ is. inl (is, refl))
+  stands_of_place (action t d rest) n up os nest tup p x tagged parent (inr h) =
       let k = stands_of_place rest (n + 1) up os nest tup p x (λ p x i. tagged p x (inr i)) parent h in (k.0, inr k.1, k.2, k.3)
   stands_of_place (branch t e a b rest) n up os nest tup p x tagged parent (inl h) = here nest nest tup (branch t e a b rest) t (If e) up os x h.1 parent (λ is. inl (is, refl))
   stands_of_place (branch t e a b rest) n up os nest tup p x tagged parent (inr h) =
@@ -160,9 +162,9 @@ module _ (S : List Spot) where
 
   place_of_stands : (b : Body) (n : ℕ) (up : Up) (os : List Span) (nest : List Tag) (tup : TagUp) (v : Tag) (s : Standing) → Tagged b n up os → IsParentOf S up tup → StandsAs nest tup b v s → PlaceSo (PlaceIn b n up os) v s
   place_of_stands done n up os nest tup v s tagged parent h = absurd h
-  place_of_stands (assign t y e rest) n up os nest tup v s tagged parent (inl h) = there (PlaceIn (assign t y e rest) n up os) n t v (Assign y e) nest up tup os s (inl (refl, refl)) h.0 h.1 parent
-  place_of_stands (assign t y e rest) n up os nest tup v s tagged parent (inr h) =
-      wider (PlaceIn rest (n + 1) up os) (PlaceIn (assign t y e rest) n up os) v s (λ p x i. inr i) (place_of_stands rest (n + 1) up os nest tup v s (λ p x i. tagged p x (inr i)) parent h)
+  place_of_stands (action t (assigns y e) rest) n up os nest tup v s tagged parent (inl h) = there (PlaceIn (action t (assigns y e) rest) n up os) n t v (Assign y e) nest up tup os s (inl (refl, refl)) h.0 h.1 parent
+  place_of_stands (action t (assigns y e) rest) n up os nest tup v s tagged parent (inr h) =
+      wider (PlaceIn rest (n + 1) up os) (PlaceIn (action t (assigns y e) rest) n up os) v s (λ p x i. inr i) (place_of_stands rest (n + 1) up os nest tup v s (λ p x i. tagged p x (inr i)) parent h)
   place_of_stands (branch t e a b rest) n up os nest tup v s tagged parent (inl h) = there (PlaceIn (branch t e a b rest) n up os) n t v (If e) nest up tup os s (inl (refl, refl)) h.0 h.1 parent
   place_of_stands (branch t e a b rest) n up os nest tup v s tagged parent (inr h) =
       let no : ℕ = n + 1 + part_count a in

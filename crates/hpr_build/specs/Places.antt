@@ -14,7 +14,8 @@ use Rattle.std.specs.Prelude.{◌≡◌, ℕ, Bool, ◌+◌, ◌-◌, ◌<◌, �
 use Rattle.hpr_terms.specs.declared.tag.Tag.{Tag}
 use Rattle.hpr_syntax.specs.declared.rows.Content.{Content}
 use Rattle.hpr_syntax.specs.declared.rows.Content.TheVariants.{Assign, If, While}
-use Rattle.hpr_syntax.specs.Body.{Body, done, assign, branch, loop, part_count}
+use Rattle.hpr_syntax.specs.Rows.{content_by}
+use Rattle.hpr_syntax.specs.Body.{Body, done, action, branch, loop, part_count}
 use Rattle.hpr_syntax.specs.Tree.{Tree}
 use Rattle.hpr_paths.specs.Spots.{Spot, tag_at}
 use Rattle.hpr_build.specs.declared.places.Parent.{Parent}
@@ -31,7 +32,7 @@ place_of t c up others = record { tag = t; content = c; parent = up; others = ot
 
 abbrev pub places_of : Body → ℕ → Option Parent → List Span → List Place
 places_of done n up others = []
-places_of (assign t x e rest) n up others = place_of t (Assign x e) up others ∷ places_of rest (n + 1) up others
+places_of (action t d rest) n up others = place_of t (content_by d) up others ∷ places_of rest (n + 1) up others
 places_of (branch t e a b rest) n up others =
     let no = n + 1 + part_count a in
     let next = no + part_count b in

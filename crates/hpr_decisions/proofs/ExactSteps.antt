@@ -3,7 +3,10 @@ use Rattle.std.proofs.Common.{◌≡◌, ℕ, zero, suc, ◌+◌, ◌-◌, ◌�
 use Rattle.std.specs.FinMap.{insert}
 use Rattle.hpr_terms.specs.declared.tag.Tag.{Tag}
 use Rattle.hpr_terms.specs.declared.expr.Expr.{Expr}
-use Rattle.hpr_syntax.specs.Body.{Body, done, assign, branch, loop}
+use Rattle.hpr_syntax.specs.Action.{assigns}
+use Rattle.hpr_syntax.specs.declared.rows.Content.TheVariants.{Assign, If, While}
+use Rattle.hpr_syntax.specs.Contents.{answer_of}
+use Rattle.hpr_syntax.specs.Body.{Body, done, action, branch, loop}
 use Rattle.hpr_syntax.specs.Run.{FinalValues, ends, final_values, run, outcome, After, goes, stops, spent, step, then_go, turns, run_body}
 use Rattle.hpr_syntax.specs.Tree.{Tree}
 use Rattle.hpr_syntax.specs.Value.{Answer, Fault, value, is_true}
@@ -36,7 +39,7 @@ same_left s l = omega arith
 turns_leaves : (n : ℕ) (t : Tag) (e : Expr) (f : Values → ℕ → After) → ((s : Values) (l : ℕ) → LeavesAtMost (f s l) l) → (s : Values) (l : ℕ) → LeavesAtMost (turns n t e f s l) l
 turns_leaves zero t e f h s l = tt
 turns_leaves (suc n) t e f h s l =
-    step_leaves t (value e s) l _ (λ v m. if_leaves (is_true v) _ _ m (then_leaves (f s m) m (turns n t e f) (turns_leaves n t e f h) (h s m)) (same_left s m))
+    step_leaves t (answer_of (While e) s) l _ (λ v m. if_leaves (is_true v) _ _ m (then_leaves (f s m) m (turns n t e f) (turns_leaves n t e f h) (h s m)) (same_left s m))
 
 left_within : (x : After) (n : ℕ) (s : Values) (l : ℕ) → LeavesAtMost x n → x ≡ goes s l → l ≤ n
 left_within x n s l h e = subst (λ y. LeavesAtMost y n) e h
@@ -116,14 +119,14 @@ module _ (k : ℕ) where
     turns_less zero few s m n is low u l goes_on = absurd (never_goes u (l + k) goes_on)
     turns_less (suc many) zero s m n is low u l goes_on = absurd (omega (arith, low))
     turns_less (suc many) (suc few) s m n is low u l goes_on =
-        turn_less many few (λ x i j both lower. turns_less many few x i j both lower) s (value e s) m n is low u l goes_on
+        turn_less many few (λ x i j both lower. turns_less many few x i j both lower) s (answer_of (While e) s) m n is low u l goes_on
 
   body_less : (b : Body) (s : Values) (m n : ℕ) → m ≡ n + k → IsLess (run_body b s m) (run_body b s n)
   body_less done s m n is = goes_less s m n is
-  body_less (assign t x e rest) s m n is =
-      step_less t (value e s) m n _ _ is (λ v l. run_body_leaves rest (insert s x v) l) (λ v i j same. body_less rest (insert s x v) i j same)
+  body_less (action t (assigns x e) rest) s m n is =
+      step_less t (answer_of (Assign x e) s) m n _ _ is (λ v l. run_body_leaves rest (insert s x v) l) (λ v i j same. body_less rest (insert s x v) i j same)
   body_less (branch t e a b rest) s m n is =
-      step_less t (value e s) m n _ _ is
+      step_less t (answer_of (If e) s) m n _ _ is
       (λ v l. then_leaves _ l (run_body rest) (run_body_leaves rest) (if_leaves (is_true v) _ _ l (run_body_leaves a s l) (run_body_leaves b s l)))
       (λ v i j same. then_less _ _ (run_body rest) (run_body rest) (run_body_leaves rest) (λ u i j both at. body_less rest u i j both)
       (if_less (is_true v) _ _ _ _ (body_less a s i j same) (body_less b s i j same)))

@@ -5,7 +5,8 @@ use Rattle.hpr_terms.specs.declared.tag.Tag.{Tag}
 use Rattle.hpr_syntax.specs.declared.tree.Stmt.{Stmt}
 use Rattle.hpr_syntax.specs.declared.tree.Stmt.TheVariants.{Assign, If, While}
 use Rattle.hpr_terms.specs.declared.expr.Expr.{Expr}
-use Rattle.hpr_syntax.specs.Body.{Body, done, assign, branch, loop}
+use Rattle.hpr_syntax.specs.Action.{assigns}
+use Rattle.hpr_syntax.specs.Body.{Body, done, action, branch, loop}
 use Rattle.hpr_syntax.specs.BodyOf.{before}
 use Rattle.std.specs.Option.{option_or}
 use Rattle.hpr_syntax.specs.Parts.{same_tag, tag_of, find_stmt}
@@ -93,7 +94,7 @@ times_plug t (inside u e c rest) x = omega (arith, times_plug t c x)
 -- nothing changes where the tag doesn't stand
 pub absent : (t : Tag) (f : Stmt → Body → Body) (b : Body) → times t b ≡ 0 → at_part t f b ≡ b
 absent t f done h = refl
-absent t f (assign u x e rest) h = rw (no_one (same_tag u t) (omega (arith, h))) (ap (assign u x e) (absent t f rest (omega (arith, h))))
+absent t f (action u (assigns x e) rest) h = rw (no_one (same_tag u t) (omega (arith, h))) (ap (action u (assigns x e)) (absent t f rest (omega (arith, h))))
 absent t f (branch u e a b rest) h =
     let i : at_part t f a ≡ a = absent t f a (omega (arith, h)) in
     let j : at_part t f b ≡ b = absent t f b (omega (arith, h)) in
@@ -106,7 +107,7 @@ absent t f (loop u e b rest) h =
 
 pub absent_found : (t : Tag) (b : Body) → times t b ≡ 0 → find_stmt t b ≡ None
 absent_found t done h = refl
-absent_found t (assign u x e rest) h = rw (no_one (same_tag u t) (omega (arith, h))) (absent_found t rest (omega (arith, h)))
+absent_found t (action u (assigns x e) rest) h = rw (no_one (same_tag u t) (omega (arith, h))) (absent_found t rest (omega (arith, h)))
 absent_found t (branch u e a b rest) h =
     let i : find_stmt t a ≡ None = absent_found t a (omega (arith, h)) in
     let j : find_stmt t b ≡ None = absent_found t b (omega (arith, h)) in
@@ -119,7 +120,7 @@ absent_found t (loop u e b rest) h =
 
 pub absent_place : (t : Tag) (p : Parent) (i : ℕ) (b : Body) → times t b ≡ 0 → place_from t p i b ≡ None
 absent_place t p i done h = refl
-absent_place t p i (assign u x e rest) h = rw (no_one (same_tag u t) (omega (arith, h))) (absent_place t p (i + 1) rest (omega (arith, h)))
+absent_place t p i (action u d rest) h = rw (no_one (same_tag u t) (omega (arith, h))) (absent_place t p (i + 1) rest (omega (arith, h)))
 absent_place t p i (branch u e a b rest) h =
     let l : place_from t (Some (u, true)) 0 a ≡ None = absent_place t (Some (u, true)) 0 a (omega (arith, h)) in
     let j : place_from t (Some (u, false)) 0 b ≡ None = absent_place t (Some (u, false)) 0 b (omega (arith, h)) in
@@ -224,9 +225,9 @@ wider t a s d body w f = record {
 
 pub found_in : (t : Tag) (body : Body) (s : Stmt) → find_stmt t body ≡ Some s → FoundIn t body s
 found_in t done s h = absurd (grind (arith, h))
-found_in t (assign u x e rest) s h = elim (if_some (same_tag u t) (Assign u x e) s (find_stmt t rest) h) [
+found_in t (action u (assigns x e) rest) s h = elim (if_some (same_tag u t) (Assign u x e) s (find_stmt t rest) h) [
   | inl p ↦ record { around = here; rest = rest; is = ap (λ y. before y rest) p.1; tag = subst (λ y. same_tag (tag_of y) t ≡ true) p.1 p.0 }
-  | inr q ↦ wider t rest s (past (Assign u x e) here) (assign u x e rest) (λ y i. ap (assign u x e) (sym i)) (found_in t rest s q)
+  | inr q ↦ wider t rest s (past (Assign u x e) here) (action u (assigns x e) rest) (λ y i. ap (action u (assigns x e)) (sym i)) (found_in t rest s q)
 ]
 found_in t (branch u e a b rest) s h = elim (if_some (same_tag u t) (If u e a b) s (option_or (find_stmt t a) (option_or (find_stmt t b) (find_stmt t rest))) h) [
   | inl p ↦ record { around = here; rest = rest; is = ap (λ y. before y rest) p.1; tag = subst (λ y. same_tag (tag_of y) t ≡ true) p.1 p.0 }

@@ -11,7 +11,8 @@ use Rattle.hpr_terms.specs.declared.expr.Expr.{Expr}
 use Rattle.hpr_syntax.specs.declared.tree.Stmt.{Stmt}
 use Rattle.hpr_syntax.specs.declared.tree.Stmt.TheVariants.{Assign, If, While}
 use Rattle.hpr_syntax.specs.declared.rows.Content.{Content}
-use Rattle.hpr_syntax.specs.Body.{Body, done, assign, branch, loop}
+use Rattle.hpr_syntax.specs.Action.{assigns}
+use Rattle.hpr_syntax.specs.Body.{Body, done, action, branch, loop}
 use Rattle.hpr_syntax.specs.BodyOf.{before, body_of}
 use Rattle.hpr_syntax.specs.Parts.{same_tag, tag_of}
 use Rattle.hpr_edit.specs.Places.{width, joined}
@@ -44,13 +45,13 @@ joined_append p q = body_of_append p q ∙ sym (joined_onto p (body_of q))
 
 pub joined_twice : (a b c : Body) → joined (joined a b) c ≡ joined a (joined b c)
 joined_twice done b c = refl
-joined_twice (assign t x e rest) b c = ap (assign t x e) (joined_twice rest b c)
+joined_twice (action t (assigns x e) rest) b c = ap (action t (assigns x e)) (joined_twice rest b c)
 joined_twice (branch t e x y rest) b c = ap (branch t e x y) (joined_twice rest b c)
 joined_twice (loop t e x rest) b c = ap (loop t e x) (joined_twice rest b c)
 
 pub joined_done : (a : Body) → joined a done ≡ a
 joined_done done = refl
-joined_done (assign t x e rest) = ap (assign t x e) (joined_done rest)
+joined_done (action t (assigns x e) rest) = ap (action t (assigns x e)) (joined_done rest)
 joined_done (branch t e x y rest) = ap (branch t e x y) (joined_done rest)
 joined_done (loop t e x rest) = ap (loop t e x) (joined_done rest)
 
@@ -152,7 +153,7 @@ poured_at n xs ys d h e =
 pub firsts_take : (n : ℕ) (xs : List Stmt) → body_of (take n xs) ≡ firsts n (body_of xs)
 firsts_take zero xs = refl
 firsts_take (suc n) [] = refl
-firsts_take (suc n) (Assign t x e ∷ xs) = ap (assign t x e) (firsts_take n xs)
+firsts_take (suc n) (Assign t x e ∷ xs) = ap (action t (assigns x e)) (firsts_take n xs)
 firsts_take (suc n) (If t e a b ∷ xs) = ap (branch t e a b) (firsts_take n xs)
 firsts_take (suc n) (While t e b ∷ xs) = ap (loop t e b) (firsts_take n xs)
 
@@ -202,7 +203,7 @@ at_it t f n xs d h z is =
 
 -- a part that holds it but isn't it
 at_holding : (t : Tag) (f : Stmt → Body → Body) (s : Stmt) (rest : Body) → same_tag (tag_of s) t ≡ false → times t rest ≡ 0 → at_part t f (before s rest) ≡ before (in_part t f s) rest
-at_holding t f (Assign u x e) rest h z = rw h (ap (assign u x e) (absent t f rest z))
+at_holding t f (Assign u x e) rest h z = rw h (ap (action u (assigns x e)) (absent t f rest z))
 at_holding t f (If u e a b) rest h z = rw h (ap (branch u e (at_part t f a) (at_part t f b)) (absent t f rest z))
 at_holding t f (While u e b) rest h z = rw h (ap (loop u e (at_part t f b)) (absent t f rest z))
 
@@ -233,7 +234,7 @@ firsts_all : (n : ℕ) (xs : List Stmt) → length xs ≤ n → firsts n (body_o
 firsts_all zero [] h = refl
 firsts_all zero (s ∷ xs) h = absurd (omega (arith, h))
 firsts_all (suc n) [] h = refl
-firsts_all (suc n) (Assign t x e ∷ xs) h = ap (assign t x e) (firsts_all n xs (omega (arith, h)))
+firsts_all (suc n) (Assign t x e ∷ xs) h = ap (action t (assigns x e)) (firsts_all n xs (omega (arith, h)))
 firsts_all (suc n) (If t e a b ∷ xs) h = ap (branch t e a b) (firsts_all n xs (omega (arith, h)))
 firsts_all (suc n) (While t e b ∷ xs) h = ap (loop t e b) (firsts_all n xs (omega (arith, h)))
 

@@ -9,7 +9,8 @@ use Rattle.hpr_syntax.specs.declared.tree.Stmt.TheVariants as stmt
 use Rattle.hpr_syntax.specs.declared.rows.Row.{Row}
 use Rattle.hpr_syntax.specs.declared.rows.Content.{Content}
 use Rattle.hpr_syntax.specs.declared.rows.Content.TheVariants.{Assign, If, While}
-use Rattle.hpr_syntax.specs.Body.{Body, done, assign, branch, loop}
+use Rattle.hpr_syntax.specs.Rows.{content_by}
+use Rattle.hpr_syntax.specs.Body.{Body, done, action, branch, loop}
 use Rattle.hpr_syntax.specs.BodyOf.{before}
 use Rattle.hpr_syntax.specs.Parts.{same_tag, tag_of, find_stmt, tags_of}
 use Rattle.hpr_syntax.specs.Rows.{Parent, rows_of, content_of, made}
@@ -32,7 +33,7 @@ use Rattle.hpr_edit.proofs.Undone.{refuse_is, found_is, FoundIs, settled_is, not
 -- tag and content of each part in preorder, and then these
 abbrev listed : Body → List (Tag × Content) → List (Tag × Content)
 listed done after = after
-listed (assign t x e rest) after = (t, Assign x e) ∷ listed rest after
+listed (action t d rest) after = (t, content_by d) ∷ listed rest after
 listed (branch t e a b rest) after = (t, If e) ∷ listed a (listed b (listed rest after))
 listed (loop t e b rest) after = (t, While e) ∷ listed b (listed rest after)
 
@@ -45,7 +46,7 @@ says_both (r ∷ x) y after = ap (λ l. says r ∷ l) (says_both x y after)
 
 says_then : (p : Parent) (i : ℕ) (b : Body) (after : List (Tag × Content)) → map says (rows_of p i b) ++ after ≡ listed b after
 says_then p i done after = refl
-says_then p i (assign t x e rest) after = ap (λ l. (t, Assign x e) ∷ l) (says_then p (i + 1) rest after)
+says_then p i (action t d rest) after = ap (λ l. (t, content_by d) ∷ l) (says_then p (i + 1) rest after)
 says_then p i (branch t e a b rest) after =
     let l = rows_of (Some (t, true)) 0 a in
     let m = rows_of (Some (t, false)) 0 b in
@@ -67,7 +68,7 @@ told_listed b = sym (append-nil (told b)) ∙ says_then None 0 b []
 -- what is told of a body with a hole: so much ahead of what stands there, and so much behind
 listed_append : (b : Body) (p q : List (Tag × Content)) → listed b (p ++ q) ≡ listed b p ++ q
 listed_append done p q = refl
-listed_append (assign t x e rest) p q = ap (λ r. (t, Assign x e) ∷ r) (listed_append rest p q)
+listed_append (action t d rest) p q = ap (λ r. (t, content_by d) ∷ r) (listed_append rest p q)
 listed_append (branch t e a b rest) p q =
     ap (λ r. (t, If e) ∷ r) (ap (λ r. listed a (listed b r)) (listed_append rest p q) ∙ ap (listed a) (listed_append b (listed rest p) q) ∙ listed_append a (listed b (listed rest p)) q)
 listed_append (loop t e b rest) p q =
@@ -127,8 +128,8 @@ alone t c rows = not_told (t ∷ []) t c rows (rw (same_self t) refl)
 
 none_told : (ts : List Tag) (b : Body) → ((u : Tag) → 1 ≤ times u b → list_any (same_tag u) ts ≡ true) → (after : List (Tag × Content)) → filter (is_other ts) (listed b after) ≡ filter (is_other ts) after
 none_told ts done h after = refl
-none_told ts (assign t x e rest) h after =
-    not_told ts t (Assign x e) (listed rest after) (h t (rw (same_self t) (omega arith))) ∙ none_told ts rest (λ u k. h u (omega (arith, k))) after
+none_told ts (action t d rest) h after =
+    not_told ts t (content_by d) (listed rest after) (h t (rw (same_self t) (omega arith))) ∙ none_told ts rest (λ u k. h u (omega (arith, k))) after
 none_told ts (branch t e a b rest) h after =
     not_told ts t (If e) (listed a (listed b (listed rest after))) (h t (rw (same_self t) (omega arith)))
     ∙ none_told ts a (λ u k. h u (omega (arith, k))) (listed b (listed rest after))
@@ -191,7 +192,7 @@ same_wrapped t (While e) s rest h after =
 
 listed_joined : (a x : Body) (after : List (Tag × Content)) → listed (joined a x) after ≡ listed a (listed x after)
 listed_joined done x after = refl
-listed_joined (assign t y e rest) x after = ap (λ r. (t, Assign y e) ∷ r) (listed_joined rest x after)
+listed_joined (action t d rest) x after = ap (λ r. (t, content_by d) ∷ r) (listed_joined rest x after)
 listed_joined (branch t e a b rest) x after = ap (λ r. (t, If e) ∷ listed a (listed b r)) (listed_joined rest x after)
 listed_joined (loop t e b rest) x after = ap (λ r. (t, While e) ∷ listed b r) (listed_joined rest x after)
 

@@ -4,7 +4,8 @@ use Rattle.std.proofs.lemmas.Bool.{leb-true}
 use Rattle.hpr_terms.specs.declared.tag.Tag.{Tag}
 use Rattle.hpr_syntax.specs.declared.tree.Stmt.{Stmt}
 use Rattle.hpr_syntax.specs.declared.tree.Stmt.TheVariants.{Assign, If, While}
-use Rattle.hpr_syntax.specs.Body.{Body, done, assign, branch, loop}
+use Rattle.hpr_syntax.specs.Action.{assigns}
+use Rattle.hpr_syntax.specs.Body.{Body, done, action, branch, loop}
 use Rattle.hpr_syntax.specs.BodyOf.{before}
 use Rattle.hpr_syntax.specs.Parts.{same_tag, find_stmt}
 use Rattle.hpr_syntax.specs.Rows.{Parent}
@@ -159,7 +160,7 @@ flat_more n s rest f = record {
 flat_in : (n : ℕ) (body : Body) → n ≤ width body → FlatIn n body
 flat_in zero body h = record { around = here; rest = body; is = refl; change = λ g. refl }
 flat_in (suc n) done h = absurd (omega (arith, h))
-flat_in (suc n) (assign t x e rest) h = flat_more n (Assign t x e) rest (flat_in n rest (omega (arith, h)))
+flat_in (suc n) (action t (assigns x e) rest) h = flat_more n (Assign t x e) rest (flat_in n rest (omega (arith, h)))
 flat_in (suc n) (branch t e a b rest) h = flat_more n (If t e a b) rest (flat_in n rest (omega (arith, h)))
 flat_in (suc n) (loop t e b rest) h = flat_more n (While t e b) rest (flat_in n rest (omega (arith, h)))
 

@@ -3,7 +3,7 @@ use Rattle.std.proofs.Common.{◌≡◌, ℕ, ◌+◌, ◌≤◌, ◌<◌, ◌==
 use Rattle.std.specs.List.{list_any}
 use Rattle.std.proofs.lemmas.Bool.{ltb-false, le-ltb, eqb-false, ne_eqb}
 use Rattle.hpr_terms.specs.declared.tag.Tag.{Tag}
-use Rattle.hpr_syntax.specs.Body.{Body, done, assign, branch, loop}
+use Rattle.hpr_syntax.specs.Body.{Body, done, action, branch, loop}
 use Rattle.hpr_syntax.specs.Parts.{same_tag, tags_of}
 use Rattle.hpr_syntax.specs.Issued.{Issued, issued_to}
 use Rattle.hpr_syntax.specs.Tree.{Tree}
@@ -20,7 +20,7 @@ count t (u ∷ us) = one_if (same_tag u t) + count t us
 
 pub counted : (t : Tag) (b : Body) (ts : List Tag) → count t (tags_of b ts) ≡ times t b + count t ts
 counted t done ts = omega arith
-counted t (assign u x e rest) ts = omega (arith, counted t rest ts)
+counted t (action u d rest) ts = omega (arith, counted t rest ts)
 counted t (branch u e a b rest) ts =
     omega (arith, counted t a (tags_of b (tags_of rest ts)), counted t b (tags_of rest ts), counted t rest ts)
 counted t (loop u e b rest) ts = omega (arith, counted t b (tags_of rest ts), counted t rest ts)

@@ -5,7 +5,8 @@ use Rattle.hpr_syntax.specs.declared.tree.Stmt.{Stmt}
 use Rattle.hpr_syntax.specs.declared.tree.Stmt.TheVariants.{Assign, If, While}
 use Rattle.hpr_syntax.specs.declared.rows.Content.{Content}
 use Rattle.hpr_syntax.specs.declared.rows.Content.TheVariants as content
-use Rattle.hpr_syntax.specs.Body.{Body, done, assign, branch, loop}
+use Rattle.hpr_syntax.specs.Action.{assigns}
+use Rattle.hpr_syntax.specs.Body.{Body, done, action, branch, loop}
 use Rattle.hpr_syntax.specs.BodyOf.{before}
 use Rattle.hpr_syntax.specs.Parts.{same_tag, tag_of, find_stmt}
 use Rattle.hpr_syntax.specs.Rows.{content_of, made}
@@ -190,19 +191,19 @@ wrap_back t new body s old c k z h =
 -- Unwrap
 firsts_joined : (a x : Body) → firsts (width a) (joined a x) ≡ a
 firsts_joined done x = refl
-firsts_joined (assign t y e rest) x = rw add-one (ap (assign t y e) (firsts_joined rest x))
+firsts_joined (action t (assigns y e) rest) x = rw add-one (ap (action t (assigns y e)) (firsts_joined rest x))
 firsts_joined (branch t e a b rest) x = rw add-one (ap (branch t e a b) (firsts_joined rest x))
 firsts_joined (loop t e b rest) x = rw add-one (ap (loop t e b) (firsts_joined rest x))
 
 later_joined : (a x : Body) → later (width a) (joined a x) ≡ x
 later_joined done x = refl
-later_joined (assign t y e rest) x = rw add-one (later_joined rest x)
+later_joined (action t d rest) x = rw add-one (later_joined rest x)
 later_joined (branch t e a b rest) x = rw add-one (later_joined rest x)
 later_joined (loop t e b rest) x = rw add-one (later_joined rest x)
 
 pub times_joined : (t : Tag) (a x : Body) → times t (joined a x) ≡ times t a + times t x
 times_joined t done x = omega arith
-times_joined t (assign u y e rest) x = omega (arith, times_joined t rest x)
+times_joined t (action u d rest) x = omega (arith, times_joined t rest x)
 times_joined t (branch u e a b rest) x = omega (arith, times_joined t rest x)
 times_joined t (loop u e b rest) x = omega (arith, times_joined t rest x)
 

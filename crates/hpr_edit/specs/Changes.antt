@@ -20,7 +20,9 @@ use Rattle.hpr_terms.specs.declared.tag.Tag.{Tag}
 use Rattle.hpr_syntax.specs.declared.tree.Stmt.{Stmt}
 use Rattle.hpr_syntax.specs.declared.tree.Stmt.TheVariants.{Assign, If, While}
 use Rattle.hpr_syntax.specs.declared.rows.Content.{Content}
-use Rattle.hpr_syntax.specs.Body.{Body, done, assign, branch, loop}
+use Rattle.hpr_syntax.specs.declared.rows.Content.TheVariants as content
+use Rattle.hpr_syntax.specs.Action.{assigns}
+use Rattle.hpr_syntax.specs.Body.{Body, done, action, branch, loop}
 use Rattle.hpr_syntax.specs.BodyOf.{before}
 use Rattle.hpr_syntax.specs.Parts.{same_tag}
 use Rattle.hpr_syntax.specs.Rows.{Parent, made}
@@ -30,14 +32,14 @@ use Rattle.hpr_edit.specs.Places.{joined}
 -- a change at a part; a program has at most one with a tag
 abbrev pub at_part : Tag → (Stmt → Body → Body) → Body → Body
 at_part t f done = done
-at_part t f (assign u x e rest) = if same_tag u t then f (Assign u x e) rest else assign u x e (at_part t f rest)
+at_part t f (action u (assigns x e) rest) = if same_tag u t then f (Assign u x e) rest else action u (assigns x e) (at_part t f rest)
 at_part t f (branch u e a b rest) = if same_tag u t then f (If u e a b) rest else branch u e (at_part t f a) (at_part t f b) (at_part t f rest)
 at_part t f (loop u e b rest) = if same_tag u t then f (While u e b) rest else loop u e (at_part t f b) (at_part t f rest)
 
 abbrev pub from : ℕ → (Body → Body) → Body → Body
 from zero f block = f block
 from (suc n) f done = done
-from (suc n) f (assign t x e rest) = assign t x e (from n f rest)
+from (suc n) f (action t d rest) = action t d (from n f rest)
 from (suc n) f (branch t e a b rest) = branch t e a b (from n f rest)
 from (suc n) f (loop t e b rest) = loop t e b (from n f rest)
 
@@ -85,7 +87,7 @@ unwrapped part rest = joined (first_block part) (joined (second_block part) rest
 abbrev pub firsts : ℕ → Body → Body
 firsts zero block = done
 firsts (suc n) done = done
-firsts (suc n) (assign t x e rest) = assign t x e (firsts n rest)
+firsts (suc n) (action t d rest) = action t d (firsts n rest)
 firsts (suc n) (branch t e a b rest) = branch t e a b (firsts n rest)
 firsts (suc n) (loop t e b rest) = loop t e b (firsts n rest)
 
@@ -93,7 +95,7 @@ firsts (suc n) (loop t e b rest) = loop t e b (firsts n rest)
 abbrev pub later : ℕ → Body → Body
 later zero block = block
 later (suc n) done = done
-later (suc n) (assign t x e rest) = later n rest
+later (suc n) (action t d rest) = later n rest
 later (suc n) (branch t e a b rest) = later n rest
 later (suc n) (loop t e b rest) = later n rest
 

@@ -15,7 +15,8 @@ use Rattle.hpr_terms.specs.declared.tag.Tag.{Tag}
 use Rattle.hpr_syntax.specs.declared.tree.Stmt.{Stmt}
 use Rattle.hpr_syntax.specs.declared.tree.Stmt.TheVariants.{Assign, If, While}
 use Rattle.hpr_syntax.specs.declared.rows.Content.{Content}
-use Rattle.hpr_syntax.specs.Body.{Body, done, assign, branch, loop}
+use Rattle.hpr_syntax.specs.Action.{assigns}
+use Rattle.hpr_syntax.specs.Body.{Body, done, action, branch, loop}
 use Rattle.hpr_syntax.specs.BodyOf.{before}
 use Rattle.hpr_syntax.specs.Parts.{tag_of, same_tag, find_stmt}
 use Rattle.hpr_syntax.specs.Tree.{Tree}
@@ -40,7 +41,7 @@ one_if false = 0
 
 abbrev pub times : Tag → Body → ℕ
 times t done = 0
-times t (assign u x e rest) = one_if (same_tag u t) + times t rest
+times t (action u d rest) = one_if (same_tag u t) + times t rest
 times t (branch u e a b rest) = one_if (same_tag u t) + times t a + times t b + times t rest
 times t (loop u e b rest) = one_if (same_tag u t) + times t b + times t rest
 
@@ -57,7 +58,7 @@ done_by (change.Put w n x) part rest = before (with_block w (from n (put_by x)) 
 
 abbrev pub on_first : (Stmt → Body → Body) → Body → Body
 on_first f done = done
-on_first f (assign t x e rest) = f (Assign t x e) rest
+on_first f (action t (assigns x e) rest) = f (Assign t x e) rest
 on_first f (branch t e a b rest) = f (If t e a b) rest
 on_first f (loop t e b rest) = f (While t e b) rest
 

@@ -11,20 +11,20 @@ use Rattle.std.specs.Option.{option_or}
 use Rattle.hpr_terms.specs.declared.tag.Tag.{Tag}
 use Rattle.hpr_syntax.specs.declared.tree.Stmt.{Stmt}
 use Rattle.hpr_syntax.specs.declared.tree.Stmt.TheVariants.{Assign, If, While}
-use Rattle.hpr_syntax.specs.Body.{Body, done, assign, branch, loop}
+use Rattle.hpr_syntax.specs.Body.{Body, done, action, branch, loop}
 use Rattle.hpr_syntax.specs.Parts.{same_tag, find_stmt}
 use Rattle.hpr_syntax.specs.Rows.{Parent}
 use Rattle.hpr_edit.specs.declared.command.Place.{Place}
 
 abbrev pub width : Body → ℕ
 width done = 0
-width (assign t x e rest) = width rest + 1
+width (action t d rest) = width rest + 1
 width (branch t e a b rest) = width rest + 1
 width (loop t e b rest) = width rest + 1
 
 abbrev pub joined : Body → Body → Body
 joined done next = next
-joined (assign t x e rest) next = assign t x e (joined rest next)
+joined (action t d rest) next = action t d (joined rest next)
 joined (branch t e a b rest) next = branch t e a b (joined rest next)
 joined (loop t e b rest) next = loop t e b (joined rest next)
 
@@ -54,7 +54,7 @@ is_place place body = is_within place.at (block_at place.parent body)
 -- where the first part with this tag stands, in a block under this parent, of which the first part stands at the place i
 abbrev pub place_from : Tag → Parent → ℕ → Body → Option Place
 place_from t p i done = None
-place_from t p i (assign u x e rest) = if same_tag u t then Some (record { parent = p; at = i }) else place_from t p (i + 1) rest
+place_from t p i (action u d rest) = if same_tag u t then Some (record { parent = p; at = i }) else place_from t p (i + 1) rest
 place_from t p i (branch u e a b rest) =
     if same_tag u t then Some (record { parent = p; at = i })
     else option_or (place_from t (Some (u, true)) 0 a) (option_or (place_from t (Some (u, false)) 0 b) (place_from t p (i + 1) rest))

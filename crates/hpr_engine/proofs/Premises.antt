@@ -4,7 +4,7 @@ use Rattle.std.proofs.lemmas.Bool.Decides.{nat_tests}
 use Rattle.std.proofs.lemmas.List.Sorted.{IsPermutation-refl}
 use Rattle.hpr_terms.specs.declared.tag.Tag.{Tag}
 use Rattle.hpr_syntax.specs.declared.rows.Content.{Content}
-use Rattle.hpr_syntax.specs.Body.{Body, done, assign, branch, loop}
+use Rattle.hpr_syntax.specs.Body.{Body, done, action, branch, loop}
 use Rattle.hpr_syntax.specs.Issued.{Issued, issued_to}
 use Rattle.hpr_syntax.specs.Nests.{Says}
 use Rattle.hpr_syntax.specs.Parts.{tags_of}
@@ -28,7 +28,7 @@ use Rattle.hpr_rebuild.proofs.Parts.{says_part}
 each_issued : (issued : Issued) (b : Body) (after : List Tag) → first_unissued issued (tags_of b after) ≡ None
     → (first_unissued issued after ≡ None) × ((t : Tag) (c : Content) → Says b t c → is_unissued issued t ≡ false)
 each_issued issued done after none = (none, λ t c h. absurd h)
-each_issued issued (assign t x e rest) after none =
+each_issued issued (action t d rest) after none =
     let (this, more) = if_none (is_unissued issued t) t (first_unissued issued (tags_of rest after)) none in
     let (last, those) = each_issued issued rest after more in
     (last, λ u c h. elim h [ inl here ↦ subst (λ (w : Tag). is_unissued issued w ≡ false) (sym here.0) this | inr later ↦ those u c later ])

@@ -18,6 +18,7 @@
 use Rattle.std.specs.Prelude.{◌≡◌, ℕ, Bool, true, ◌⊎◌, Option, Some, None, List, Contains}
 use Rattle.hpr_terms.specs.declared.tag.Tag.{Tag}
 use Rattle.hpr_terms.specs.Uses.{Uses}
+use Rattle.hpr_syntax.specs.Contents.{UsesIn}
 use Rattle.hpr_syntax.specs.declared.rows.Content.{Content}
 use Rattle.hpr_syntax.specs.Tree.{Tree}
 use Rattle.hpr_syntax.specs.Skeleton.{Point, enter, at, exit, skeleton}
@@ -42,7 +43,7 @@ Defines tree x (Final y) a = ⊥
 abbrev pub Reads : Tree → List ℕ → Vertex → Point → Type 0
 Reads tree x Entry a = ⊥
 Reads tree x (Init y) a = ⊥
-Reads tree x (Part t c) a = Uses (expr_in c) x × Says tree.body t c × (a ≡ at t)
+Reads tree x (Part t c) a = UsesIn c x × Says tree.body t c × (a ≡ at t)
 Reads tree x (Final y) a = (y ≡ x) × Contains tree.finals x × (a ≡ exit)
 
 abbrev pub IsFlowPath : Tree → List ℕ → Vertex → Vertex → Point → Point → List (Option Tag) → Type 0

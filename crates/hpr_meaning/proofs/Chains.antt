@@ -4,7 +4,9 @@ use Rattle.std.proofs.lemmas.List.{length-append}
 use Rattle.hpr_terms.specs.declared.tag.Tag.{Tag}
 use Rattle.hpr_syntax.specs.declared.rows.Content.{Content}
 use Rattle.hpr_syntax.specs.declared.rows.Content.TheVariants.{Assign, If, While}
-use Rattle.hpr_syntax.specs.Body.{Body, done, assign, branch, loop}
+use Rattle.hpr_syntax.specs.Action.{Action, assigns}
+use Rattle.hpr_syntax.specs.Rows.{content_by}
+use Rattle.hpr_syntax.specs.Body.{Body, done, action, branch, loop}
 use Rattle.hpr_syntax.specs.Skeleton.{at, StandsIn, Distinct, skeleton}
 use Rattle.hpr_syntax.specs.Nests.{Standing, StandsAs, StandsAsIn}
 use Rattle.hpr_paths.specs.Times.{Place}
@@ -17,6 +19,9 @@ abbrev pub own_nest : Content → Tag → List Tag → List Tag
 own_nest (Assign x e) t nest = nest
 own_nest (If e) t nest = nest
 own_nest (While e) t nest = nest ++ (t ∷ [])
+
+own_said : (d : Action) (t : Tag) (nest : List Tag) → own_nest (content_by d) t nest ≡ nest
+own_said (assigns x e) t nest = refl
 
 pub data Chain (p : Body) : Tag → List Tag → Type 0 where
   top : {t : Tag} (r : Standing) → StandsAsIn p t r → r.parent ≡ None → Chain p t (own_nest r.content t [])
@@ -37,9 +42,9 @@ module _ (p : Body) where
   pub chain_in : (B : Body) (nest : List Tag) (up : Parent) → ((v : Tag) (r : Standing) → StandsAs nest up B v r → StandsAsIn p v r) → ChainOver p up nest
       → (v : Tag) (r : Standing) → StandsAs nest up B v r → Chain p v r.nest
   chain_in done nest up inc u v r h = absurd h
-  chain_in (assign t x e k) nest up inc u v r (inl h) =
-      nest_chain v r nest (chain_at up nest v r u (inc v r (inl h)) (ap (λ (q : Standing). q.parent) h.1)) (subst (λ (q : Standing). q.nest ≡ own_nest q.content v nest) (sym h.1) refl)
-  chain_in (assign t x e k) nest up inc u v r (inr h) = chain_in k nest up (λ v r g. inc v r (inr g)) u v r h
+  chain_in (action t d k) nest up inc u v r (inl h) =
+      nest_chain v r nest (chain_at up nest v r u (inc v r (inl h)) (ap (λ (q : Standing). q.parent) h.1)) (subst (λ (q : Standing). q.nest ≡ own_nest q.content v nest) (sym h.1) (sym (own_said d v nest)))
+  chain_in (action t d k) nest up inc u v r (inr h) = chain_in k nest up (λ v r g. inc v r (inr g)) u v r h
   chain_in (branch t e a b k) nest up inc u v r (inl h) =
       nest_chain v r nest (chain_at up nest v r u (inc v r (inl h)) (ap (λ (q : Standing). q.parent) h.1)) (subst (λ (q : Standing). q.nest ≡ own_nest q.content v nest) (sym h.1) refl)
   chain_in (branch t e a b k) nest up inc u v r (inr (inl h)) =
@@ -84,8 +89,8 @@ HasTurns nest up B π = (r : Standing) × StandsAs nest up B π.0 r × (length �
 
 pub place_has_turns : (B : Body) (T : List ℕ) (nest : List Tag) (up : Parent) (π : Place) → length T ≡ length nest → IsPlaceUnder (skeleton B) T π → HasTurns nest up B π
 place_has_turns done T nest up π l h = absurd h
-place_has_turns (assign t x e k) T nest up π l (inl q) = (_, inl (ap (λ (z : Place). z.0) q, refl), ap (λ (z : Place). length z.1) q ∙ l)
-place_has_turns (assign t x e k) T nest up π l (inr h) = let g = place_has_turns k T nest up π l h in (g.0, inr g.1, g.2)
+place_has_turns (action t d k) T nest up π l (inl q) = (_, inl (ap (λ (z : Place). z.0) q, refl), ap (λ (z : Place). length z.1) q ∙ l)
+place_has_turns (action t d k) T nest up π l (inr h) = let g = place_has_turns k T nest up π l h in (g.0, inr g.1, g.2)
 place_has_turns (branch t e a b k) T nest up π l (inl q) = (_, inl (ap (λ (z : Place). z.0) q, refl), ap (λ (z : Place). length z.1) q ∙ l)
 place_has_turns (branch t e a b k) T nest up π l (inr (inl h)) = let g = place_has_turns a T nest (Some (t, true)) π l h in (g.0, inr (inl g.1), g.2)
 place_has_turns (branch t e a b k) T nest up π l (inr (inr (inl h))) = let g = place_has_turns b T nest (Some (t, false)) π l h in (g.0, inr (inr (inl g.1)), g.2)
@@ -121,10 +126,10 @@ nest_longer B nest t up v r h = go (nest_begins B (nest ++ (t ∷ [])) up v r h)
 pub place_by_turns : (B : Body) (T : List ℕ) (nest : List Tag) (up : Parent) (π : Place) (r : Standing) → StandsAs nest up B π.0 r → length T ≡ length nest
     → (rest : List ℕ) → π.1 ≡ T ++ rest → length π.1 ≡ length r.nest → IsPlaceUnder (skeleton B) T π
 place_by_turns done T nest up π r h l rest q e = h
-place_by_turns (assign t x v k) T nest up π r (inl h) l rest q e =
+place_by_turns (action t d k) T nest up π r (inl h) l rest q e =
     let m = none_left T rest (length nest) l (sym (ap length q) ∙ (e ∙ ap (λ (z : Standing). length z.nest) h.1)) in
     let s = q ∙ (ap (λ z. T ++ z) m ∙ append-nil T) in inl (λ i. (h.0 i, s i))
-place_by_turns (assign t x v k) T nest up π r (inr h) l rest q e = inr (place_by_turns k T nest up π r h l rest q e)
+place_by_turns (action t d k) T nest up π r (inr h) l rest q e = inr (place_by_turns k T nest up π r h l rest q e)
 place_by_turns (branch t v a b k) T nest up π r (inl h) l rest q e =
     let m = none_left T rest (length nest) l (sym (ap length q) ∙ (e ∙ ap (λ (z : Standing). length z.nest) h.1)) in
     let s = q ∙ (ap (λ z. T ++ z) m ∙ append-nil T) in inl (λ i. (h.0 i, s i))

@@ -2,7 +2,8 @@
 use Rattle.std.proofs.Common.{◌≡◌, ℕ, zero, suc, ◌+◌, Bool, true, false, List, [], ◌∷◌, ◌++◌, ◌⊎◌, Some, length, refl, ap, subst, ◌∙◌, inl, inr, arith, append_assoc, append-nil, eqb-true, ◌==◌}
 use Rattle.hpr_terms.specs.declared.tag.Tag.{Tag}
 use Rattle.hpr_syntax.specs.Parts.{same_tag}
-use Rattle.hpr_syntax.specs.Body.{Body, done, assign, branch, loop}
+use Rattle.hpr_syntax.specs.Action.{assigns}
+use Rattle.hpr_syntax.specs.Body.{Body, done, action, branch, loop}
 use Rattle.hpr_syntax.specs.Skeleton.{Skeleton, round, at, StandsIn, Distinct, skeleton}
 use Rattle.hpr_syntax.specs.Nests.{Standing, StandsAs}
 use Rattle.hpr_meaning.specs.OrderLaw.{common_loops}
@@ -26,8 +27,8 @@ below I J nest r t j (inr h) = inr (t, h.0 ∷ h.1, h.2 ∙ append_assoc nest (t
 
 pub nest_begins : (B : Body) (nest : List Tag) (up : Parent) (v : Tag) (r : Standing) → StandsAs nest up B v r → BeginsWith (λ w. StandsIn (skeleton B) (at w)) nest r.nest
 nest_begins done nest up v r h = absurd h
-nest_begins (assign t x e rest) nest up v r (inl h) = inl (ap (λ (q : Standing). q.nest) h.1)
-nest_begins (assign t x e rest) nest up v r (inr h) = wider _ _ nest r.nest (λ w i. inr i) (nest_begins rest nest up v r h)
+nest_begins (action t d rest) nest up v r (inl h) = inl (ap (λ (q : Standing). q.nest) h.1)
+nest_begins (action t d rest) nest up v r (inr h) = wider _ _ nest r.nest (λ w i. inr i) (nest_begins rest nest up v r h)
 nest_begins (branch t e a b rest) nest up v r (inl h) = inl (ap (λ (q : Standing). q.nest) h.1)
 nest_begins (branch t e a b rest) nest up v r (inr (inl h)) = wider _ _ nest r.nest (λ w i. inr (inl i)) (nest_begins a nest (Some (t, true)) v r h)
 nest_begins (branch t e a b rest) nest up v r (inr (inr (inl h))) = wider _ _ nest r.nest (λ w i. inr (inr (inl i))) (nest_begins b nest (Some (t, false)) v r h)
@@ -93,11 +94,11 @@ AreCounted B nest v w r s = (c : ℕ) × HaveCommon B (at v) (at w) c × (common
 pub loops_counted : (B : Body) (nest : List Tag) (up : Parent) → Distinct (skeleton B) → (v w : Tag) (r s : Standing) → StandsAs nest up B v r → StandsAs nest up B w s
     → AreCounted (skeleton B) nest v w r.nest s.nest
 loops_counted done nest up di v w r s h g = absurd h
-loops_counted (assign t x e rest) nest up di v w r s (inl h) g =
-    (0, inl (inl (ap at h.0, standing_in (assign t x e rest) nest up w s g), refl), first_is_nest nest r.nest s.nest _ (ap (λ (q : Standing). q.nest) h.1) (nest_begins (assign t x e rest) nest up w s g))
-loops_counted (assign t x e rest) nest up di v w r s (inr h) (inl g) =
+loops_counted (action t (assigns x e) rest) nest up di v w r s (inl h) g =
+    (0, inl (inl (ap at h.0, standing_in (action t (assigns x e) rest) nest up w s g), refl), first_is_nest nest r.nest s.nest _ (ap (λ (q : Standing). q.nest) h.1) (nest_begins (action t (assigns x e) rest) nest up w s g))
+loops_counted (action t d rest) nest up di v w r s (inr h) (inl g) =
     (0, inl (inr (inr (standing_in rest nest up v r h), ap at g.0), refl), second_is_nest nest r.nest s.nest _ (nest_begins rest nest up v r h) (ap (λ (q : Standing). q.nest) g.1))
-loops_counted (assign t x e rest) nest up di v w r s (inr h) (inr g) = let n = loops_counted rest nest up di.1 v w r s h g in (n.0, inr n.1, n.2)
+loops_counted (action t d rest) nest up di v w r s (inr h) (inr g) = let n = loops_counted rest nest up di.1 v w r s h g in (n.0, inr n.1, n.2)
 loops_counted (branch t e a b rest) nest up di v w r s (inl h) g =
     (0, inl (inl (ap at h.0, standing_in (branch t e a b rest) nest up w s g), refl), first_is_nest nest r.nest s.nest _ (ap (λ (q : Standing). q.nest) h.1) (nest_begins (branch t e a b rest) nest up w s g))
 loops_counted (branch t e a b rest) nest up di v w r s (inr h) (inl g) =

@@ -3,7 +3,9 @@
 use Rattle.std.proofs.Common.{◌≡◌, ℕ, suc, Bool, true, false, List, [], ◌∷◌, ◌++◌, ◌⊎◌, Some, None, refl, ap, sym, subst, ◌∙◌, inl, inr}
 use Rattle.hpr_terms.specs.declared.tag.Tag.{Tag}
 use Rattle.hpr_syntax.specs.declared.rows.Content.TheVariants.{While}
-use Rattle.hpr_syntax.specs.Body.{Body, done, assign, branch, loop}
+use Rattle.hpr_syntax.specs.Action.{Action, assigns}
+use Rattle.hpr_syntax.specs.Rows.{content_by}
+use Rattle.hpr_syntax.specs.Body.{Body, done, action, branch, loop}
 use Rattle.hpr_syntax.specs.Skeleton.{Skeleton, act, fork, round, at, StandsIn, Distinct, skeleton}
 use Rattle.hpr_syntax.specs.Nests.{Standing, StandsAs}
 use Rattle.hpr_paths.specs.Times.{Place}
@@ -17,10 +19,16 @@ use Rattle.hpr_paths.proofs.Says.{standing_in}
 abbrev pub StandsFirst : List Tag → Parent → Body → List ℕ → Place → Type 0
 StandsFirst nest up B T σ = (r : Standing) × StandsAs nest up B σ.0 r × (r.parent ≡ up) × (σ.1 ≡ first_turns r.content T)
 
+first_said : (d : Action) (T : List ℕ) → first_turns (content_by d) T ≡ T
+first_said (assigns x e) T = refl
+
+no_loop_said : (d : Action) → ¬ IsLoop (content_by d)
+no_loop_said (assigns x e) h = h
+
 pub standing_of_first : (B : Body) (T : List ℕ) (nest : List Tag) (up : Parent) (σ : Place) → IsFirstOnTop (skeleton B) 0 T σ → StandsFirst nest up B T σ
 standing_of_first done T nest up σ h = absurd h
-standing_of_first (assign t x e rest) T nest up σ (inl q) = (_, inl (same_part q, refl), refl, same_turns q)
-standing_of_first (assign t x e rest) T nest up σ (inr h) = let g = standing_of_first rest T nest up σ h in (g.0, inr g.1, g.2, g.3)
+standing_of_first (action t d rest) T nest up σ (inl q) = (_, inl (same_part q, refl), refl, same_turns q ∙ sym (first_said d T))
+standing_of_first (action t d rest) T nest up σ (inr h) = let g = standing_of_first rest T nest up σ h in (g.0, inr g.1, g.2, g.3)
 standing_of_first (branch t e a b rest) T nest up σ (inl q) = (_, inl (same_part q, refl), refl, same_turns q)
 standing_of_first (branch t e a b rest) T nest up σ (inr h) = let g = standing_of_first rest T nest up σ h in (g.0, inr (inr (inr g.1)), g.2, g.3)
 standing_of_first (loop t e b rest) T nest up σ (inl q) = (_, inl (same_part q, refl), refl, same_turns q)
@@ -34,7 +42,7 @@ calls_below r σ π v w t T e f a q = inl (a ∙ (λ i. Some (same_part (sym e) 
 
 pub standing_of_called : (B : Body) (T : List ℕ) (nest : List Tag) (up : Parent) (σ π : Place) (v : Bool) → IsCalledBy (skeleton B) T σ π v → StandsCalled nest up B σ π v
 standing_of_called done T nest up σ π v h = absurd h
-standing_of_called (assign t x e rest) T nest up σ π v h = let g = standing_of_called rest T nest up σ π v h in (g.0, inr g.1, g.2)
+standing_of_called (action t d rest) T nest up σ π v h = let g = standing_of_called rest T nest up σ π v h in (g.0, inr g.1, g.2)
 standing_of_called (branch t e a b rest) T nest up σ π v (inl (q, inl h)) =
     let g = standing_of_first a T nest (Some (t, true)) σ h.1 in (g.0, inr (inl g.1), calls_below g.0 σ π v true t T q h.0 g.2 g.3)
 standing_of_called (branch t e a b rest) T nest up σ π v (inl (q, inr h)) =
@@ -68,8 +76,8 @@ either_wider B C r up f (inr h) = inr (parent_wider B C r f h)
 
 pub parent_in : (B : Body) (nest : List Tag) (up : Parent) (v : Tag) (r : Standing) → StandsAs nest up B v r → (r.parent ≡ up) ⊎ ParentIn (skeleton B) r
 parent_in done nest up v r h = absurd h
-parent_in (assign t x e rest) nest up v r (inl h) = inl (ap (λ (q : Standing). q.parent) h.1)
-parent_in (assign t x e rest) nest up v r (inr h) = either_wider (skeleton rest) (act t (skeleton rest)) r up (λ w i. inr i) (parent_in rest nest up v r h)
+parent_in (action t d rest) nest up v r (inl h) = inl (ap (λ (q : Standing). q.parent) h.1)
+parent_in (action t d rest) nest up v r (inr h) = either_wider (skeleton rest) (act t (skeleton rest)) r up (λ w i. inr i) (parent_in rest nest up v r h)
 parent_in (branch t e a b rest) nest up v r (inl h) = inl (ap (λ (q : Standing). q.parent) h.1)
 parent_in (branch t e a b rest) nest up v r (inr (inl h)) =
     inr (parent_either (skeleton a) (fork t (skeleton a) (skeleton b) (skeleton rest)) r t true (inl refl) (λ w i. inr (inl i)) (parent_in a nest (Some (t, true)) v r h))
@@ -115,8 +123,8 @@ outside_of_rest B C up o f w y e i = o w y e (f w i)
 pub first_of_standing : (B : Body) (T : List ℕ) (nest : List Tag) (up : Parent) (σ : Place) (r : Standing) → StandsAs nest up B σ.0 r → ParentOutside up (skeleton B)
     → r.parent ≡ up → σ.1 ≡ first_turns r.content T → IsFirstOnTop (skeleton B) 0 T σ
 first_of_standing done T nest up σ r h o a q = absurd h
-first_of_standing (assign t x e rest) T nest up σ r (inl h) o a q = inl (place_of h.0 (q ∙ ap (λ (y : Standing). first_turns y.content T) h.1))
-first_of_standing (assign t x e rest) T nest up σ r (inr h) o a q = inr (first_of_standing rest T nest up σ r h (outside_of_rest (skeleton rest) (act t (skeleton rest)) up o (λ w i. inr i)) a q)
+first_of_standing (action t d rest) T nest up σ r (inl h) o a q = inl (place_of h.0 (q ∙ (ap (λ (y : Standing). first_turns y.content T) h.1 ∙ first_said d T)))
+first_of_standing (action t d rest) T nest up σ r (inr h) o a q = inr (first_of_standing rest T nest up σ r h (outside_of_rest (skeleton rest) (act t (skeleton rest)) up o (λ w i. inr i)) a q)
 first_of_standing (branch t e a b rest) T nest up σ r (inl h) o u q = inl (place_of h.0 (q ∙ ap (λ (y : Standing). first_turns y.content T) h.1))
 first_of_standing (branch t e a b rest) T nest up σ r (inr (inl h)) o u q =
     absurd (not_above (skeleton a) (fork t (skeleton a) (skeleton b) (skeleton rest)) r up t true o (inl refl) (λ w i. inr (inl i)) (parent_in a nest (Some (t, true)) σ.0 r h) u)
@@ -181,9 +189,9 @@ no_caller C r up σ π v o p a n (inr c) = absurd (n c.0)
 pub called_of_standing : (B : Body) (T : List ℕ) (nest : List Tag) (up : Parent) (σ π : Place) (v : Bool) (r : Standing) → Distinct (skeleton B) → ParentOutside up (skeleton B)
     → StandsAs nest up B σ.0 r → IsPlaceUnder (skeleton B) T π → Calls r σ π v → IsCalledBy (skeleton B) T σ π v
 called_of_standing done T nest up σ π v r di o h p c = absurd h
-called_of_standing (assign t x e rest) T nest up σ π v r di o (inl h) p c =
-    no_caller (act t (skeleton rest)) r up σ π v o (place_stands (act t (skeleton rest)) T π p) (ap (λ (q : Standing). q.parent) h.1) (subst (λ (q : Standing). ¬ IsLoop q.content) (sym h.1) (λ z. z)) c
-called_of_standing (assign t x e rest) T nest up σ π v r di o (inr h) p c =
+called_of_standing (action t d rest) T nest up σ π v r di o (inl h) p c =
+    no_caller (act t (skeleton rest)) r up σ π v o (place_stands (act t (skeleton rest)) T π p) (ap (λ (q : Standing). q.parent) h.1) (subst (λ (q : Standing). ¬ IsLoop q.content) (sym h.1) (no_loop_said d)) c
+called_of_standing (action t d rest) T nest up σ π v r di o (inr h) p c =
     let i = caller_in_rest (skeleton rest) (act t (skeleton rest)) r up σ π v (standing_in rest nest up σ.0 r h) o (place_stands (act t (skeleton rest)) T π p) (parent_in rest nest up σ.0 r h) c in
     called_of_standing rest T nest up σ π v r di.1 (outside_of_rest (skeleton rest) (act t (skeleton rest)) up o (λ w j. inr j)) h (place_after_act t (skeleton rest) T π di p i) c
 called_of_standing (branch t e a b rest) T nest up σ π v r di o (inl h) p c =

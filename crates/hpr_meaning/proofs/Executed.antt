@@ -5,7 +5,9 @@ use Rattle.hpr_terms.specs.declared.tag.Tag.{Tag}
 use Rattle.hpr_terms.specs.declared.expr.Expr.{Expr}
 use Rattle.hpr_syntax.specs.declared.rows.Content.{Content}
 use Rattle.hpr_syntax.specs.declared.rows.Content.TheVariants.{Assign, If, While}
-use Rattle.hpr_syntax.specs.Body.{Body, done, assign, branch, loop}
+use Rattle.hpr_syntax.specs.Action.{assigns}
+use Rattle.hpr_syntax.specs.Contents.{answer_of}
+use Rattle.hpr_syntax.specs.Body.{Body, done, action, branch, loop}
 use Rattle.hpr_syntax.specs.Value.{Fault, Answer, value, is_true}
 use Rattle.hpr_syntax.specs.Values.{Values}
 use Rattle.hpr_syntax.specs.Skeleton.{Skeleton, act, fork, round, skeleton}
@@ -19,14 +21,14 @@ use Rattle.hpr_paths.proofs.Listed.{where_stopped}
 module _ (p : Body) (s : Values) where
   -- what a part does after a log
   abbrev pub Does : Tag → List Instance → Did → Type 0
-  Does t g d = Says p t d.content × (d.reads ≡ reads_of (expr_in d.content) s g) × (value (expr_in d.content) (state_after s g) ≡ Ok d.gave)
+  Does t g d = Says p t d.content × (d.reads ≡ reads_of (expr_in d.content) s g) × (answer_of d.content (state_after s g) ≡ Ok d.gave)
 
   abbrev pub Runs : Skeleton → ℕ → List ℕ → List Instance → List Place → Bool → List Instance → Type 0
   Runs B j T g ss e h = Execution Did truth Does B j T g ss e h
 
   abbrev pub StopsFor : Place → Option Fault → List Instance → ℕ → Type 0
   StopsFor at None g l = l ≡ 0
-  StopsFor at (Some f) g l = (c : Content) × Says p at.0 c × (value (expr_in c) (state_after s g) ≡ Err f)
+  StopsFor at (Some f) g l = (c : Content) × Says p at.0 c × (answer_of c (state_after s g) ≡ Err f)
 
   abbrev pub HasSpent : Option Fault → ℕ → ℕ → Type 0
   HasSpent None a b = a ≡ b
@@ -110,11 +112,11 @@ module _ (p : Body) (s : Values) where
       ((t, T ++ (j ∷ [])) ∷ x.0, runs.body_stops d w y x.1, x.2, x.3, spent_one why (length h + m) (length g) l left e x.4)
 
   -- what a step did
-  given : (t : Tag) (c : Content) (g : List Instance) (v : ℤ) → Says p t c → value (expr_in c) (state_after s g) ≡ Ok v
+  given : (t : Tag) (c : Content) (g : List Instance) (v : ℤ) → Says p t c → answer_of c (state_after s g) ≡ Ok v
       → Does t g (record { content = c; reads = reads_of (expr_in c) s g; gave = v })
   given t c g v h e = (h, refl, e)
 
-  assign_step : (t : Tag) (c : Content) (k : Skeleton) (T : List ℕ) (g : List Instance) (a : Answer) (left : ℕ) → Says p t c → value (expr_in c) (state_after s g) ≡ a
+  assign_step : (t : Tag) (c : Content) (k : Skeleton) (T : List ℕ) (g : List Instance) (a : Answer) (left : ℕ) → Says p t c → answer_of c (state_after s g) ≡ a
       → (go : ℤ → ℕ → Course) → ((v : ℤ) (l : ℕ) → HasRun k 0 T (logged (t, T) c (expr_in c) v s g) l (go v l)) → HasRun (act t k) 0 T g left (step_at (t, T) a g left go)
   unfolding where_stopped
   assign_step t c k T g a zero h e go f = ((t, T) ∷ [], runs.act_stops, refl, refl, omega arith)
@@ -167,18 +169,18 @@ module _ (p : Body) (s : Values) where
       → HasRun (round t (skeleton b) (skeleton rest)) j T g left (then_go (turns_from j n t e (trace s b) s T g left) (trace s rest T))
   loop_has_run t e b rest h fb fk zero j T g left lt = absurd (omega (arith, lt))
   loop_has_run t e b rest h fb fk (suc n) j T g left lt =
-      loop_step t e (skeleton b) (skeleton rest) j T g (value e (state_after s g)) left n h refl lt (trace s b (T ++ (j ∷ []))) (λ g' m. fb (T ++ (j ∷ [])) g' m)
+      loop_step t e (skeleton b) (skeleton rest) j T g (answer_of (While e) (state_after s g)) left n h refl lt (trace s b (T ++ (j ∷ []))) (λ g' m. fb (T ++ (j ∷ [])) g' m)
       (turns_from (suc j) n t e (trace s b) s T) (trace s rest T) (λ g' m lt'. loop_has_run t e b rest h fb fk n (suc j) T g' m lt') (λ g' m. fk T g' m)
 
   -- the course of a block is an execution of it
   pub course_has_run : (B : Body) → ((t : Tag) (c : Content) → Says B t c → Says p t c) → (T : List ℕ) (g : List Instance) (left : ℕ)
       → HasRun (skeleton B) 0 T g left (trace s B T g left)
   course_has_run done inc T g left = ([], runs.ended, refl, omega arith)
-  course_has_run (assign t x e rest) inc T g left =
-      assign_step t (Assign x e) (skeleton rest) T g (value e (state_after s g)) left (inc t (Assign x e) (inl (refl, refl))) refl _
+  course_has_run (action t (assigns x e) rest) inc T g left =
+      assign_step t (Assign x e) (skeleton rest) T g (answer_of (Assign x e) (state_after s g)) left (inc t (Assign x e) (inl (refl, refl))) refl _
       (λ v l. course_has_run rest (λ u c h. inc u c (inr h)) T (logged (t, T) (Assign x e) e v s g) l)
   course_has_run (branch t e a b rest) inc T g left =
-      branch_step t e (skeleton a) (skeleton b) (skeleton rest) T g (value e (state_after s g)) left (inc t (If e) (inl (refl, refl))) refl (trace s a T) (trace s b T)
+      branch_step t e (skeleton a) (skeleton b) (skeleton rest) T g (answer_of (If e) (state_after s g)) left (inc t (If e) (inl (refl, refl))) refl (trace s a T) (trace s b T)
       (λ h m. course_has_run a (λ u c q. inc u c (inr (inl q))) T h m) (λ h m. course_has_run b (λ u c q. inc u c (inr (inr (inl q)))) T h m) (trace s rest T)
       (λ h m. course_has_run rest (λ u c q. inc u c (inr (inr (inr q)))) T h m)
   course_has_run (loop t e b rest) inc T g left =

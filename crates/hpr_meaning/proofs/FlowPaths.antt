@@ -3,7 +3,7 @@ use Rattle.std.proofs.Common.{◌≡◌, ℕ, List, [], ◌∷◌, ◌⊎◌, Op
 use Rattle.hpr_terms.specs.declared.tag.Tag.{Tag}
 use Rattle.hpr_syntax.specs.declared.rows.Content.{Content}
 use Rattle.hpr_syntax.specs.declared.rows.Content.TheVariants.{While}
-use Rattle.hpr_syntax.specs.Body.{Body, done, assign, branch, loop}
+use Rattle.hpr_syntax.specs.Body.{Body, done, action, branch, loop}
 use Rattle.hpr_syntax.specs.Tree.{Tree}
 use Rattle.hpr_syntax.specs.Skeleton.{Skeleton, nil, act, fork, round, Point, at, StandsIn, skeleton}
 use Rattle.hpr_syntax.specs.Pairs.{FollowsIn}
@@ -56,7 +56,7 @@ encloses? (round t b k) d u w =
 -- a loop around two points says something
 pub encloser_says : (B : Body) (d u : Point) (w : Tag) → EnclosesBoth (skeleton B) d u w → (c : Content) × Says B w c
 encloser_says done d u w h = absurd h
-encloser_says (assign t x e k) d u w h = let g = encloser_says k d u w h in (g.0, inr g.1)
+encloser_says (action t action_ k) d u w h = let g = encloser_says k d u w h in (g.0, inr g.1)
 encloser_says (branch t e a b k) d u w (inl h) = let g = encloser_says a d u w h in (g.0, inr (inl g.1))
 encloser_says (branch t e a b k) d u w (inr (inl h)) = let g = encloser_says b d u w h in (g.0, inr (inr (inl g.1)))
 encloser_says (branch t e a b k) d u w (inr (inr h)) = let g = encloser_says k d u w h in (g.0, inr (inr (inr g.1)))

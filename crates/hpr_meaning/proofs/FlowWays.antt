@@ -4,6 +4,7 @@ use Rattle.hpr_terms.specs.declared.tag.Tag.{Tag}
 use Rattle.hpr_terms.specs.Uses.{Uses}
 use Rattle.hpr_syntax.specs.declared.rows.Content.{Content}
 use Rattle.hpr_syntax.specs.declared.rows.Content.TheVariants.{Assign, If, While}
+use Rattle.hpr_syntax.specs.Contents.{UsesIn}
 use Rattle.hpr_syntax.specs.Body.{Body}
 use Rattle.hpr_syntax.specs.Tree.{Tree}
 use Rattle.hpr_syntax.specs.Rows.{assigned, expr_in}
@@ -40,7 +41,7 @@ pub flow_source : (p : Tree) (x : List ℕ) (t : Tag) (c : Content) (to : Vertex
 flow_source p x t c to (inl (a, z, ms, (d, r, q), n)) = (d.0, d.1)
 flow_source p x t c to (inr (w, (a, z, ms, l, k, (d, r, q), same, says', both, there))) = (d.0, d.1)
 
-pub flow_target : (p : Tree) (x : List ℕ) (from : Vertex) (t : Tag) (c : Content) → HasFlow p x from (Part t c) → Uses (expr_in c) x × Says p.body t c
+pub flow_target : (p : Tree) (x : List ℕ) (from : Vertex) (t : Tag) (c : Content) → HasFlow p x from (Part t c) → UsesIn c x × Says p.body t c
 flow_target p x from t c (inl (a, z, ms, (d, r, q), n)) = (r.0, r.1)
 flow_target p x from t c (inr (w, (a, z, ms, l, k, (d, r, q), same, says', both, there))) = (r.0, r.1)
 
@@ -57,7 +58,7 @@ independent_way p x t v c e (a, z, ms, (d, r, q), n) = (
   none_encloses p.body (at t) (at v) ms (subst (λ y. AvoidsCommon p y (at v) ms) d.2 (subst (λ y. AvoidsCommon p a y ms) r.2 n)),
 )
 
-pub way_independent : (p : Tree) (x : List ℕ) (t v : Tag) (c e : Content) → assigned c ≡ Some x → Says p.body t c → Uses (expr_in e) x → Says p.body v e
+pub way_independent : (p : Tree) (x : List ℕ) (t v : Tag) (c e : Content) → assigned c ≡ Some x → Says p.body t c → UsesIn e x → Says p.body v e
     → DirectWay (skeleton p.body) at_end (DefinesAt p.body x) (at t) (at v) → IsIndependent p x (Part t c) (Part v e)
 way_independent p x t v c e is says uses says' w =
     (at t, at v, w.0, ((is, says, refl), (uses, says', refl), path_outside p.body w.1), avoids_common p.body (at t) (at v) w.0 w.2)

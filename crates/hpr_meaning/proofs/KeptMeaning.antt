@@ -118,5 +118,5 @@ module _ (base a b m : Tree) (i0 : IsProgram base) (i1 : IsProgram a) (i2 : IsPr
 
   pub meaning_kept : Keeps base a b m
   meaning_kept s n0 n1 n2 f0 f1 f2 e0 e1 e2 =
-      let g = merged_ends base a b m s n0 n1 n2 i0 i1 i2 im fits sides (ends_over base s n0 e0.0 f0 (known base s n0 (distinct_program base i0)) e0.1) (ends_over a s n1 e1.0 f1 (known a s n1 (distinct_program a i1)) e1.1) (ends_over b s n2 e2.0 f2 (known b s n2 (distinct_program b i2)) e2.1) in
+      let g = merged_ends base a b m s n0 n1 n2 i0 i1 i2 im fits sides f0 f1 f2 e0 e1 e2 in
       (g.0, g.1, finals_kept s n0 n1 n2 (n0 + n1 + n2) f0 f1 f2 g.0 e0 e1 e2 g.1)

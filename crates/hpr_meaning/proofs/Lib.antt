@@ -19,6 +19,7 @@ pub mod SameSlices
 pub mod SharedSlices
 pub mod SidesKept
 pub mod Unions
+pub mod CoveredEnd
 pub mod MergedEnd
 pub mod KeptMeaning
 pub mod WithoutConflict

@@ -1,250 +1,84 @@
--- A program with the merged graph ends where base and both variants do: each of its steps is a step of one of the three, so it faults
--- nowhere, and it has no more steps than the three together.
-use Rattle.std.proofs.Common.{◌≡◌, ℕ, zero, suc, ◌<◌, ◌≤◌, ◌+◌, ℤ, pos, Bool, true, false, List, [], ◌++◌, ◌⊎◌, Some, None, length, refl, ap, sym, subst, ◌∙◌, inl, inr, arith, Ok, Err}
-use native.Mathlib.Decide.{ℕ_discrete, dec_lt}
+-- A program with the merged graph is covered by base and both variants, so it ends where they do.
+use Rattle.std.proofs.Common.{◌≡◌, ℕ, ◌+◌, List, [], ◌∷◌, ◌⊎◌, Contains, refl, sym, subst, inl, inr, arith}
 use Rattle.hpr_terms.specs.declared.tag.Tag.{Tag}
-use Rattle.hpr_syntax.specs.declared.rows.Content.TheVariants.{If}
-use Rattle.hpr_terms.specs.declared.expr.Expr.TheVariants.{Num}
+use Rattle.hpr_syntax.specs.declared.rows.Content.{Content}
 use Rattle.hpr_syntax.specs.Tree.{Tree}
-use Rattle.hpr_syntax.specs.Value.{Fault, Answer, value}
-use Rattle.hpr_syntax.specs.Run.{Outcome, ends, faults, more, run, outcome, FinalValues}
-use Rattle.hpr_syntax.specs.Values.{Values}
-use Rattle.hpr_syntax.specs.Skeleton.{Distinct, skeleton}
+use Rattle.hpr_syntax.specs.Shape.{IsProgram}
 use Rattle.hpr_syntax.specs.Nests.{Says}
-use Rattle.hpr_paths.specs.Times.{Place, IsBefore}
-use Rattle.hpr_meaning.specs.Instances.{Instance, state_after, trace, log_of, after_of}
-use Rattle.hpr_syntax.specs.Rows.{expr_in}
-use mathlib.Core.List.{reverse_aux}
+use Rattle.hpr_syntax.specs.Values.{Values}
+use Rattle.hpr_syntax.specs.Run.{FinalValues}
+use Rattle.hpr_syntax.specs.Meaning.{Ends}
+use Rattle.hpr_graph.specs.declared.conflict.Side.TheVariants.{A, B}
 use Rattle.hpr_graph.specs.declared.vertex.Vertex.{Vertex}
+use Rattle.hpr_graph.specs.declared.vertex.Vertex.TheVariants.{Part}
 use Rattle.hpr_graph.specs.Graphs.{Graph, Same}
-use Rattle.hpr_graph.specs.Slices.{ReachesOne, slice_at}
+use Rattle.hpr_graph.specs.Slices.{ReachesOne, slice_at, slice_of}
 use Rattle.hpr_graph.specs.Points.{IsAffected, IsPreserved}
 use Rattle.hpr_graph.specs.ProgramGraph.{graph_of}
 use Rattle.hpr_graph.specs.Answer.{merged_of, Fits}
-use Rattle.hpr_syntax.specs.Meaning.{Ends}
-use Rattle.hpr_paths.proofs.Among.{Among, among_left, among_right, no_both}
-use Rattle.hpr_paths.proofs.TimeOrder.{never_before_itself}
-use Rattle.hpr_meaning.proofs.Timely.{run_of_course}
-use Rattle.hpr_meaning.proofs.RunFacts.{Ending}
-use Rattle.hpr_meaning.proofs.Items.{Spot, spot_of, item_at, log_before, item_of_among, among_of_item}
-use Rattle.hpr_paths.proofs.Says.{says_one}
-use Rattle.hpr_meaning.proofs.RunRecords.{vertex_at, nth_step, IsStepAt, step_says, steps_rise, at_stop, run_record, known}
-use Rattle.hpr_meaning.proofs.SameSlices.{InBoth, both_of_first, shares}
 use Rattle.hpr_graph.proofs.Laws.{same_turned, slice_at_same, same_then}
-use Rattle.hpr_meaning.proofs.TwoRuns.{order3, shared}
-use Rattle.hpr_meaning.proofs.SharedSlices.{faults_at}
-use Rattle.std.proofs.lemmas.List.{length-append}
-use Rattle.std.proofs.Math.ListN.{length-reverse_aux}
-use Rattle.hpr_syntax.specs.Shape.{IsProgram}
-use Rattle.hpr_graph.specs.declared.conflict.Side.TheVariants.{A, B}
+use Rattle.hpr_paths.proofs.Among.{Among, here, there, among_cons, among_none, among_contains, contains_among}
+use Rattle.hpr_meaning.specs.CoverLaw.{Version, HasPartFrom, IsCovered, steps_of, DoesEnd}
 use Rattle.hpr_meaning.specs.UnionLaw.{KeepsSides}
+use Rattle.hpr_meaning.proofs.CoveredEnd.{covered_end}
 use Rattle.hpr_meaning.proofs.Unions.{keeps_preserved}
-use Rattle.hpr_paths.proofs.Different.{distinct_program}
 
--- there are no n + 1 different numbers below n
-abbrev Moved : (ℕ → ℕ) → ℕ → ℕ → ℕ → Type 0
-Moved g n y k = (z : ℕ) × (((g k ≡ n) × (z ≡ y)) ⊎ ((¬ (g k ≡ n)) × (z ≡ g k)))
+-- a vertex of the slice of some vertices, each of which has one slice in both graphs
+part_from : (p m : Tree) (S : Vertex → Type 0) → ((v : Vertex) → S v → Same (slice_at (graph_of p) v) (slice_at (graph_of m) v)) → (w : Vertex) → (slice_of (graph_of p) S).vertex w
+    → HasPartFrom p m w
+part_from p m S same w (is, (v, es, one, leads)) = (v, same v one, (is, (v, es, refl, leads)))
 
-moved : (g : ℕ → ℕ) (n y k : ℕ) → Moved g n y k
-moved g n y k = go (ℕ_discrete (g k) n)
-  where
-    go : Dec (g k ≡ n) → Moved g n y k
-    go (yes e) = (y, inl (e, refl))
-    go (no m) = (g k, inr (m, refl))
-
-no_more_numbers : (n : ℕ) (g : ℕ → ℕ) → ((k : ℕ) → k < suc n → g k < n) → ((j k : ℕ) → j < k → k < suc n → ¬ (g j ≡ g k)) → ⊥
-no_more_numbers zero g low far = let a = low 0 (omega arith) in absurd (omega (arith, a))
-no_more_numbers (suc n) g low far = no_more_numbers n (λ k. (moved g n (g (suc n)) k).0) low' far'
-  where
-    y : ℕ
-    y = g (suc n)
-
-    below : (z : ℕ) → z < suc n → ¬ (z ≡ n) → z < n
-    below z a m = go (order3 z n)
-      where
-        go : (z < n) ⊎ ((z ≡ n) ⊎ (n < z)) → z < n
-        go (inl b) = b
-        go (inr (inl e)) = absurd (m e)
-        go (inr (inr b)) = absurd (omega (arith, a, b))
-
-    low_go : (k : ℕ) → k < suc n → (s : Moved g n (g (suc n)) k) → s.0 < n
-    low_go k a (z, inl (e, q)) = subst (λ w. w < n) (sym q) (below (g (suc n)) (low (suc n) (omega arith)) (λ h. far k (suc n) a (omega arith) (e ∙ sym h)))
-    low_go k a (z, inr (m, q)) = subst (λ w. w < n) (sym q) (below (g k) (low k (omega (arith, a))) m)
-
-    low' : (k : ℕ) → k < suc n → (moved g n (g (suc n)) k).0 < n
-    low' k a = low_go k a (moved g n (g (suc n)) k)
-
-    far_go : (j k : ℕ) → j < k → k < suc n → (s : Moved g n (g (suc n)) j) (t : Moved g n (g (suc n)) k) → ¬ (s.0 ≡ t.0)
-    far_go j k a b (z, inl (e, q)) (w, inl (d, r)) h = far j k a (omega (arith, b)) (e ∙ sym d)
-    far_go j k a b (z, inl (e, q)) (w, inr (m, r)) h = far k (suc n) b (omega arith) (sym r ∙ (sym h ∙ q))
-    far_go j k a b (z, inr (m, q)) (w, inl (d, r)) h = far j (suc n) (omega (arith, a, b)) (omega arith) (sym q ∙ (h ∙ r))
-    far_go j k a b (z, inr (m, q)) (w, inr (l, r)) h = far j k a (omega (arith, b)) (sym q ∙ (h ∙ r))
-
-    far' : (j k : ℕ) → j < k → k < suc n → ¬ ((moved g n (g (suc n)) j).0 ≡ (moved g n (g (suc n)) k).0)
-    far' j k a b = far_go j k a b (moved g n (g (suc n)) j) (moved g n (g (suc n)) k)
-
--- the items of a run are as many as its steps at most
-items_at_most : (p : Tree) (s : Values) (n : ℕ) (di : Distinct (skeleton p.body)) → (known p s n di).over ≡ true → length (known p s n di).is ≤ n
-items_at_most p s n di e = go (known p s n di).how
-  where
-    l : length (reverse_aux (known p s n di).is []) ≡ length (known p s n di).is + 0
-    l = length-reverse_aux (known p s n di).is []
-
-    go : Ending p.body s n (trace s p.body [] [] n) (known p s n di).over (known p s n di).stop → length (known p s n di).is ≤ n
-    go (inl (a, (log, left, b, c))) =
-        let d : length log ≡ length (reverse_aux (known p s n di).is []) = ap length (sym (ap log_of b) ∙ (known p s n di).log) in omega (arith, c, d, l)
-    go (inr h) = absurd (subst (λ (y : Bool). elim y as (λ x. Type 0) [ true ↦ Unit {0} | false ↦ ⊥ ]) (sym e ∙ h.0) tt)
-
-abbrev IsMore : Outcome → Type 0
-IsMore (ends g k) = ⊥
-IsMore (faults u y k) = ⊥
-IsMore (more k) = Unit {0}
-
--- a run that wants steps has spent all
-spent_all : (p : Tree) (s : Values) (n : ℕ) (di : Distinct (skeleton p.body)) → IsMore (run p s n) → ((known p s n di).over ≡ false) × (length (known p s n di).is ≡ n)
-spent_all p s n di m = go (known p s n di).how
-  where
-    l : length (reverse_aux (known p s n di).is []) ≡ length (known p s n di).is + 0
-    l = length-reverse_aux (known p s n di).is []
-
-    is : IsMore (outcome p.finals n (after_of s (trace s p.body [] [] n)))
-    is = subst IsMore (sym (run_of_course p s n)) m
-
-    go : Ending p.body s n (trace s p.body [] [] n) (known p s n di).over (known p s n di).stop → ((known p s n di).over ≡ false) × (length (known p s n di).is ≡ n)
-    go (inl (a, (log, left, b, c))) = absurd (subst (λ tr. IsMore (outcome p.finals n (after_of s tr))) b is)
-    go (inr (a, (None, log, left, b, w, c))) =
-        let d : length log ≡ length (reverse_aux (known p s n di).is []) = ap length (sym (ap log_of b) ∙ (known p s n di).log) in (a, omega (arith, c, d, l, w))
-    go (inr (a, (Some y, log, left, b, w, c))) = absurd (subst (λ tr. IsMore (outcome p.finals n (after_of s tr))) b is)
-
--- a step of m that lies in a slice which m has from a program that ends
-IsDoneBy : (p m : Tree) (s : Values) (n k : ℕ) (dp : Distinct (skeleton p.body)) (dm : Distinct (skeleton m.body)) (N : ℕ) → Type 0
-IsDoneBy p m s n k dp dm N = (i : ℕ) × (i < length (known p s n dp).is) × (spot_of (nth_step p s n dp i) ≡ spot_of (nth_step m s N dm k))
-    × (v : ℤ) × (value (expr_in (nth_step m s N dm k).1.content) (state_after s (log_before (known m s N dm).is [] k)) ≡ Ok v)
-
-done_by : (p m : Tree) (s : Values) (n N : ℕ) (dp : Distinct (skeleton p.body)) (dm : Distinct (skeleton m.body)) → (known p s n dp).over ≡ true → (v : Vertex)
-    → Same (slice_at (graph_of p) v) (slice_at (graph_of m) v) → (k : ℕ) → IsStepAt m s N dm k → (slice_at (graph_of p) v).vertex (vertex_at (spot_of (nth_step m s N dm k))) → IsDoneBy p m s n k dp dm N
-unfolding IsDoneBy
-done_by p m s n N dp dm is_over v same k st x =
-    let h = shared (run_record p s n dp) (run_record m s N dm) (InBoth p m (λ z. z ≡ v)) (shares p m s n N dp dm (λ z. z ≡ v) same (λ e. no_both is_over e)) k st
-    (both_of_first p m s n N dp dm (λ z. z ≡ v) same (spot_of (nth_step m s N dm k)) x.0 x.1) in
-    (h.0, h.1, h.2, (nth_step p s n dp h.0).1.gave, h.4)
-
--- a vertex of the slice of some vertices leads to one of them
-reach_point : (g : Graph) (S : Vertex → Type 0) (w : Vertex) → ReachesOne g S w → (s : Vertex) × S s × ReachesOne g (λ z. z ≡ s) w
-reach_point g S w (s, es, one, leads) = (s, one, (s, es, refl, leads))
-
-module _ (base a b m : Tree) (s : Values) (n0 n1 n2 : ℕ) (i0 : IsProgram base) (i1 : IsProgram a) (i2 : IsProgram b) (im : IsProgram m)
-    (fits : Fits (merged_of base a b) m) (sides : KeepsSides base a b) (e0 : (known base s n0 (distinct_program base i0)).over ≡ true) (e1 : (known a s n1 (distinct_program a i1)).over ≡ true) (e2 : (known b s n2 (distinct_program b i2)).over ≡ true) where
-  merged_graph : Graph
-  merged_graph = merged_of base a b
-
-  N : ℕ
-  N = n0 + n1 + n2
-
-  all : List Instance
-  all = (known base s n0 (distinct_program base i0)).is ++ ((known a s n1 (distinct_program a i1)).is ++ (known b s n2 (distinct_program b i2)).is)
-
-  none : Instance
-  none = ((record { author = 0; serial = 0 }, []), record { content = If (Num 0); reads = []; gave = pos 0 })
-
-  IsDone : ℕ → Type 0
-  IsDone k = (y : ℕ) × (y < length all) × (spot_of (item_at all none y) ≡ spot_of (nth_step m s N (distinct_program m im) k))
-      × (v : ℤ) × (value (expr_in (nth_step m s N (distinct_program m im) k).1.content) (state_after s (log_before (known m s N (distinct_program m im)).is [] k)) ≡ Ok v)
-
-  done_in : (p : Tree) (n : ℕ) (dp : Distinct (skeleton p.body)) → ((i : Instance) → Among i (known p s n dp).is → Among i all) → (k : ℕ) → IsDoneBy p m s n k dp (distinct_program m im) N → IsDone k
-  unfolding IsDoneBy IsDone
-  done_in p n dp inc k (i, l, e, v, o) =
-      let j = item_of_among none _ all (inc _ (among_of_item _ i (known p s n dp).is l)) in
-      (j.0, j.1, ap spot_of j.2 ∙ e, v, o)
-
+module _ (base a b m : Tree) (i0 : IsProgram base) (i1 : IsProgram a) (i2 : IsProgram b) (fits : Fits (merged_of base a b) m) (sides : KeepsSides base a b) where
   -- the slice of a point in m's graph, from one in the merged graph
-  in_program : (g : Graph) (v : Vertex) → Same (slice_at merged_graph v) (slice_at g v) → Same (slice_at g v) (slice_at (graph_of m) v)
-  unfolding merged_graph
+  in_program : (g : Graph) (v : Vertex) → Same (slice_at (merged_of base a b) v) (slice_at g v) → Same (slice_at g v) (slice_at (graph_of m) v)
   in_program g v e = same_then (slice_at g v) (slice_at (merged_of base a b) v) (slice_at (graph_of m) v) (same_turned (slice_at (merged_of base a b) v) (slice_at g v) e)
       (same_turned (slice_at (graph_of m) v) (slice_at (merged_of base a b) v) (slice_at_same (graph_of m) (merged_of base a b) v fits))
 
-  -- each step of m is a step of one of the three, and gives a number
-  is_done : (k : ℕ) → IsStepAt m s N (distinct_program m im) k → IsDone k
-  unfolding merged_graph all
-  is_done k st = go ((fits.0 (vertex_at (spot_of (nth_step m s N (distinct_program m im) k)))).0 (step_says m s N (distinct_program m im) k st))
-    where
-      w : Vertex
-      w = vertex_at (spot_of (nth_step m s N (distinct_program m im) k))
+  abbrev versions : ℕ → ℕ → ℕ → List Version
+  versions n0 n1 n2 = (base, n0) ∷ (a, n1) ∷ (b, n2) ∷ []
 
-      go : (merged_of base a b).vertex (vertex_at (spot_of (nth_step m s N (distinct_program m im) k))) → IsDone k
-      go (inl (inl h)) =
-          let p = reach_point (graph_of a) (IsAffected (graph_of a) (graph_of base)) _ h.1 in
-          done_in a n1 (distinct_program a i1) (λ i x. among_right (known base s n0 (distinct_program base i0)).is (among_left (known b s n2 (distinct_program b i2)).is x)) k
-          (done_by a m s n1 N (distinct_program a i1) (distinct_program m im) e1 p.0 (in_program (graph_of a) p.0 (sides A p.0 p.1)) k st (h.0, p.2))
-      go (inl (inr h)) =
-          let p = reach_point (graph_of b) (IsAffected (graph_of b) (graph_of base)) _ h.1 in
-          done_in b n2 (distinct_program b i2) (λ i x. among_right (known base s n0 (distinct_program base i0)).is (among_right (known a s n1 (distinct_program a i1)).is x)) k
-          (done_by b m s n2 N (distinct_program b i2) (distinct_program m im) e2 p.0 (in_program (graph_of b) p.0 (sides B p.0 p.1)) k st (h.0, p.2))
+  merged_covered : (n0 n1 n2 : ℕ) → IsCovered (versions n0 n1 n2) m
+  merged_covered n0 n1 n2 t c says = go ((fits.0 (Part t c)).0 says)
+    where
+      is_base : Contains (versions n0 n1 n2) (base, n0)
+      is_base = contains_among (base, n0) (versions n0 n1 n2) here
+
+      is_a : Contains (versions n0 n1 n2) (a, n1)
+      is_a = contains_among (a, n1) (versions n0 n1 n2) (there here)
+
+      is_b : Contains (versions n0 n1 n2) (b, n2)
+      is_b = contains_among (b, n2) (versions n0 n1 n2) (there (there here))
+
+      go : (merged_of base a b).vertex (Part t c) → (i : Version) × Contains (versions n0 n1 n2) i × HasPartFrom i.0 m (Part t c)
+      go (inl (inl h)) = ((a, n1), is_a, part_from a m (IsAffected (graph_of a) (graph_of base)) (λ v one. in_program (graph_of a) v (sides A v one)) (Part t c) h)
+      go (inl (inr h)) = ((b, n2), is_b, part_from b m (IsAffected (graph_of b) (graph_of base)) (λ v one. in_program (graph_of b) v (sides B v one)) (Part t c) h)
       go (inr h) =
-          let p = reach_point (graph_of base) (IsPreserved (graph_of base) (graph_of a) (graph_of b)) _ h.1 in
-          done_in base n0 (distinct_program base i0) (λ i x. among_left ((known a s n1 (distinct_program a i1)).is ++ (known b s n2 (distinct_program b i2)).is) x) k
-          (done_by base m s n0 N (distinct_program base i0) (distinct_program m im) e0 p.0 (in_program (graph_of base) p.0 (keeps_preserved base a b i0 i1 i2 p.0 p.1)) k st (h.0, p.2))
+          ((base, n0), is_base, part_from base m (IsPreserved (graph_of base) (graph_of a) (graph_of b)) (λ v one. in_program (graph_of base) v (keeps_preserved base a b i0 i1 i2 v one)) (Part t c) h)
 
-  few : length all ≤ N
-  unfolding all N
-  few =
-      let l0 = items_at_most base s n0 (distinct_program base i0) e0 in let l1 = items_at_most a s n1 (distinct_program a i1) e1 in let l2 = items_at_most b s n2 (distinct_program b i2) e2 in
-      let x = length-append (known base s n0 (distinct_program base i0)).is ((known a s n1 (distinct_program a i1)).is ++ (known b s n2 (distinct_program b i2)).is) in let y = length-append (known a s n1 (distinct_program a i1)).is (known b s n2 (distinct_program b i2)).is in
-      omega (arith, l0, l1, l2, x, y)
+pub merged_ends : (base a b m : Tree) (s : Values) (n0 n1 n2 : ℕ) → IsProgram base → IsProgram a → IsProgram b → IsProgram m → Fits (merged_of base a b) m → KeepsSides base a b
+    → (f0 f1 f2 : FinalValues) → Ends base s n0 f0 → Ends a s n1 f1 → Ends b s n2 f2 → (g : FinalValues) × Ends m s (n0 + n1 + n2) g
+merged_ends base a b m s n0 n1 n2 i0 i1 i2 im fits sides f0 f1 f2 e0 e1 e2 =
+    let g = covered_end m s versions im end (merged_covered base a b m i0 i1 i2 fits sides n0 n1 n2) in
+    let sum : n0 + (n1 + (n2 + 0)) ≡ n0 + n1 + n2 = omega arith in
+    (g.0, subst (λ n. Ends m s n g.0) sum g.1)
+  where
+    versions : List Version
+    versions = (base, n0) ∷ (a, n1) ∷ (b, n2) ∷ []
 
-  -- no step of m faults
-  no_fault : (t : Tag) (x : Fault) (steps : ℕ) → ¬ (run m s N ≡ faults t x steps)
-  unfolding IsDone
-  no_fault t x steps e =
-      let b' = faults_at m s N (distinct_program m im) t x steps e in
-      let k = length (known m s N (distinct_program m im)).is in
-      let h = is_done k (inr (refl, b'.0)) in
-      let pl = ap (λ (y : Place). y.0) (at_stop m s N (distinct_program m im) k refl) ∙ b'.1 in
-      let sy = subst (λ z. Says m.body z (nth_step m s N (distinct_program m im) k).1.content) pl (step_says m s N (distinct_program m im) k (inr (refl, b'.0))) in
-      let er = subst (λ z. value (expr_in z) (state_after s (log_before (known m s N (distinct_program m im)).is [] k)) ≡ Err x) (says_one m.body (distinct_program m im) t b'.2.0 (nth_step m s N (distinct_program m im) k).1.content b'.2.1 sy) b'.2.2 in
-      ok_or_err _ h.3 x h.4 er
-    where
-      ok_or_err : (a : Answer) (v : ℤ) (x : Fault) → a ≡ Ok v → a ≡ Err x → ⊥
-      ok_or_err a v x o e = absurd cc
+    is_one : (i j : Version) → DoesEnd s j → j ≡ i → DoesEnd s i
+    is_one i j e is = subst (DoesEnd s) is e
 
-  -- it doesn't want steps: N + 1 different steps would be among N items
-  not_spent : ¬ IsMore (run m s N)
-  unfolding IsDone
-  not_spent w = no_more_numbers N (λ k. (number k).0) low far
-    where
-      sp : ((known m s N (distinct_program m im)).over ≡ false) × (length (known m s N (distinct_program m im)).is ≡ N)
-      sp = spent_all m s N (distinct_program m im) w
+    end : (i : Version) → Contains versions i → DoesEnd s i
+    end i c = first (among_cons (among_contains i versions c))
+      where
+        third : ((b, n2) ≡ i) ⊎ Among i [] → DoesEnd s i
+        third (inl e) = is_one i (b, n2) (i2, (f2, e2)) e
+        third (inr h) = absurd (among_none i h)
 
-      step_is : (k : ℕ) → k < suc N → IsStepAt m s N (distinct_program m im) k
-      step_is k l = go (order3 k N)
-        where
-          go : (k < N) ⊎ ((k ≡ N) ⊎ (N < k)) → IsStepAt m s N (distinct_program m im) k
-          go (inl x) = let y = sp.1 in inl (omega (arith, x, y))
-          go (inr (inl x)) = let y = sp.1 in inr (omega (arith, x, y), sp.0)
-          go (inr (inr x)) = absurd (omega (arith, l, x))
+        second : ((a, n1) ≡ i) ⊎ Among i ((b, n2) ∷ []) → DoesEnd s i
+        second (inl e) = is_one i (a, n1) (i1, (f1, e1)) e
+        second (inr h) = third (among_cons h)
 
-      number : (k : ℕ) → (y : ℕ) × ((k < suc N) → (y < length all) × (spot_of (item_at all none y) ≡ spot_of (nth_step m s N (distinct_program m im) k)))
-      number k = go (dec_lt k (suc N))
-        where
-          go : Dec (k < suc N) → (y : ℕ) × ((k < suc N) → (y < length all) × (spot_of (item_at all none y) ≡ spot_of (nth_step m s N (distinct_program m im) k)))
-          go (yes l) = let h = is_done k (step_is k l) in (h.0, λ _. (h.1, h.2))
-          go (no n) = (0, λ l. absurd (n l))
-
-      low : (k : ℕ) → k < suc N → (number k).0 < N
-      low k l = let x = ((number k).1 l).0 in let y = few in omega (arith, x, y)
-
-      far : (j k : ℕ) → j < k → k < suc N → ¬ ((number j).0 ≡ (number k).0)
-      far j k a' l e =
-          let x = ((number j).1 (omega (arith, a', l))).1 in let y = ((number k).1 l).1 in
-          let same : spot_of (nth_step m s N (distinct_program m im) j) ≡ spot_of (nth_step m s N (distinct_program m im) k) = sym x ∙ (ap (λ z. spot_of (item_at all none z)) e ∙ y) in
-          let h = steps_rise m s N (distinct_program m im) j k a' (step_is k l) in
-          never_before_itself (skeleton m.body) 0 (distinct_program m im) (nth_step m s N (distinct_program m im) k).0 (subst (λ (z : Spot). IsBefore m.body z.0 (nth_step m s N (distinct_program m im) k).0) same h)
-
-  ends_by : (o : Outcome) → run m s N ≡ o → (g : FinalValues) × (steps : ℕ) × (run m s N ≡ ends g steps)
-  ends_by (ends g k) e = (g, k, e)
-  ends_by (faults t x k) e = absurd (no_fault t x k e)
-  ends_by (more k) e = absurd (not_spent (subst IsMore (sym e) tt))
-
-  pub merged_ends : (g : FinalValues) × Ends m s (n0 + n1 + n2) g
-  unfolding N
-  merged_ends = let g = ends_by (run m s N) refl in (g.0, (g.1, g.2))
+        first : ((base, n0) ≡ i) ⊎ Among i ((a, n1) ∷ (b, n2) ∷ []) → DoesEnd s i
+        first (inl e) = is_one i (base, n0) (i0, (f0, e0)) e
+        first (inr h) = second (among_cons h)

@@ -2,6 +2,7 @@
 use Rattle.std.proofs.Common.{◌≡◌, ℕ, zero, suc, List, [], ◌⊎◌, ◌↔◌, None, refl, sym, subst, inl, inr, arith, Some}
 use Rattle.hpr_terms.specs.declared.tag.Tag.{Tag}
 use Rattle.hpr_syntax.specs.declared.rows.Content.{Content}
+use Rattle.hpr_syntax.specs.Contents.{UsesIn}
 use Rattle.hpr_syntax.specs.Body.{Body}
 use Rattle.hpr_syntax.specs.Tree.{Tree}
 use Rattle.hpr_syntax.specs.Shape.{IsProgram}
@@ -88,7 +89,7 @@ module _ (p : Tree) (di : Distinct (skeleton p.body)) where
         s : (assigned c ≡ Some x) × Says p.body i.0 c
         s = flow_source p x i.0 c (Part j.0 e) f
 
-        u : Uses (expr_in e) x × Says p.body j.0 e
+        u : UsesIn e x × Says p.body j.0 e
         u = flow_target p x (Part i.0 c) j.0 e f
 
         rule : IsBefore p.body i j ↔ ((k : ℕ) × HaveCommon B (at i.0) (at j.0) k × ByEdges B at_end (DefinesAt p.body x) k i j)

@@ -4,12 +4,14 @@ use Rattle.hpr_terms.specs.declared.expr.Expr.TheVariants.{Num}
 use Rattle.hpr_syntax.specs.declared.rows.Content.{Content}
 use Rattle.hpr_syntax.specs.declared.rows.Content.TheVariants.{If}
 use Rattle.hpr_terms.specs.TermOf.{term_of}
+use Rattle.hpr_syntax.specs.Contents.{UsesIn}
+use Rattle.hpr_syntax.specs.Contents.{answer_of}
 use Rattle.hpr_syntax.specs.Body.{Body}
 use Rattle.hpr_syntax.specs.Tree.{Tree}
 use Rattle.hpr_syntax.specs.Values.{Values, value_at}
 use Rattle.hpr_syntax.specs.Value.{Answer, value, is_true}
 use Rattle.hpr_terms.specs.Uses.{Uses}
-use Rattle.hpr_syntax.proofs.ValueByUses.{value_by_uses}
+use Rattle.hpr_syntax.proofs.ActByUses.{act_by_uses}
 use Rattle.hpr_syntax.specs.Skeleton.{at, exit, Distinct, skeleton}
 use Rattle.hpr_syntax.specs.Pairs.{first_of, FollowsIn}
 use Rattle.hpr_syntax.specs.Nests.{Standing, StandsAsIn, Says}
@@ -53,10 +55,10 @@ language s = record {
   ok_inj = same_ok;
   truth = is_true;
   Defines = λ x a. Assigns a.1 x;
-  Uses = λ x a. Uses (expr_in a.1) x;
+  Uses = λ x a. UsesIn a.1 x;
   defines? = λ x a. assigns? a.1 x;
-  act = λ a st. value (expr_in a.1) st;
-  act_by_uses = λ a f g h. value_by_uses (term_of (expr_in a.1)) f g h;
+  act = λ a st. answer_of a.1 st;
+  act_by_uses = λ a f g h. act_by_uses a.1 f g h;
   start = s;
 }
 
@@ -202,7 +204,7 @@ module _ (p : Tree) (s : Values) (n : ℕ) (di : Distinct (skeleton p.body)) whe
       before_end (inr c) = let e = c.0 in omega (arith, a, e)
 
   pub flow_at : (k j : ℕ) (x : List ℕ) → IsStepAt k → j < k → Assigns (nth_step j).1.content x → ((i : ℕ) → j < i → i < k → ¬ Assigns (nth_step i).1.content x)
-      → Uses (expr_in (nth_step k).1.content) x → HasFlow p x (vertex_at (spot_of (nth_step j))) (vertex_at (spot_of (nth_step k)))
+      → UsesIn (nth_step k).1.content x → HasFlow p x (vertex_at (spot_of (nth_step j))) (vertex_at (spot_of (nth_step k)))
   flow_at k j x b a y m u =
       let q = path_between_steps (FollowsIn (skeleton p.body) at_end) (DefinesAt p.body x) stop_item known.over exit j k known.is (first_of (skeleton p.body) at_end).0 known.walks b a (λ i c e. passes x i k b e (m i c e)) in
       flow_of p x (at (nth_step j).0.0) (at (nth_step k).0.0) (vertex_at (spot_of (nth_step j))) (vertex_at (spot_of (nth_step k))) q.0

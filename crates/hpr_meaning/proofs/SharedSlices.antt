@@ -1,4 +1,7 @@
 -- The law of shared slices: what one program does in a slice, the other does too.
+use Rattle.hpr_syntax.specs.Contents.{UsesIn}
+use Rattle.hpr_syntax.proofs.ActByUses.{uses_in}
+use Rattle.hpr_syntax.specs.Contents.{answer_of}
 use Rattle.std.proofs.Common.{◌≡◌, ◌↔◌, ℕ, ◌<◌, ◌≤◌, ℤ, true, false, List, [], ◌∷◌, ◌⊎◌, Option, Some, None, length, Contains, refl, ap, sym, subst, ◌∙◌, inl, inr, arith, Ok, Err, map}
 use Rattle.hpr_terms.specs.declared.tag.Tag.{Tag}
 use Rattle.hpr_syntax.specs.declared.rows.Content.{Content}
@@ -73,8 +76,8 @@ module _ (p q : Tree) (s : Values) (n m : ℕ) (dp : Distinct (skeleton p.body))
   item_shared k a b = (h.0, h.1, whole)
     where
       h : (i : ℕ) × (i < length (known p s n dp).is) × (spot_of (nth_step p s n dp i) ≡ spot_of (nth_step q s m dq k))
-          × ((x : List ℕ) → Uses (expr_in (nth_step q s m dq k).1.content) x → SameOrigin (run_record p s n dp) (run_record q s m dq) x i k)
-          × (value (expr_in (nth_step q s m dq k).1.content) (state_after s (log_before (known q s m dq).is [] k)) ≡ Ok (nth_step p s n dp i).1.gave)
+          × ((x : List ℕ) → UsesIn (nth_step q s m dq k).1.content x → SameOrigin (run_record p s n dp) (run_record q s m dq) x i k)
+          × (answer_of (nth_step q s m dq k).1.content (state_after s (log_before (known q s m dq).is [] k)) ≡ Ok (nth_step p s n dp i).1.gave)
       h = shared (run_record p s n dp) (run_record q s m dq) (InBoth p q S) runs_share k (inl a) b
 
       gp : Does p.body s (nth_step p s n dp h.0).0.0 (log_before (known p s n dp).is [] h.0) (nth_step p s n dp h.0).1
@@ -92,7 +95,8 @@ module _ (p q : Tree) (s : Values) (n m : ℕ) (dp : Distinct (skeleton p.body))
       reads : (nth_step p s n dp h.0).1.reads ≡ (nth_step q s m dq k).1.reads
       reads = gp.1 ∙ (ap (λ c. reads_of (expr_in c) s (log_before (known p s n dp).is [] h.0)) content
           ∙ (same_reads (expr_in (nth_step q s m dq k).1.content) s (log_before (known p s n dp).is [] h.0) (log_before (known q s m dq).is [] k)
-          (λ x u. (sym (same_value x h.0 k (omega (arith, h.1)) (omega (arith, a)) (h.3 x u)), sym (same_definer x h.0 k (omega (arith, h.1)) (omega (arith, a)) (h.3 x u))))
+          (λ x u. let v = (uses_in (nth_step q s m dq k).1.content x).0 u in
+          (sym (same_value x h.0 k (omega (arith, h.1)) (omega (arith, a)) (h.3 x v)), sym (same_definer x h.0 k (omega (arith, h.1)) (omega (arith, a)) (h.3 x v))))
           ∙ sym gq.1))
 
       whole : nth_step p s n dp h.0 ≡ nth_step q s m dq k
@@ -110,7 +114,7 @@ module _ (p q : Tree) (s : Values) (n m : ℕ) (dp : Distinct (skeleton p.body))
   -- where q stops in the slice, it is no fault
   pub stop_shared : (known q s m dq).over ≡ false → InBoth p q S (spot_of (nth_step q s m dq (length (known q s m dq).is)))
       → (v : ℤ) × (i : ℕ) × (i < length (known p s n dp).is) × (spot_of (nth_step p s n dp i) ≡ spot_of (nth_step q s m dq (length (known q s m dq).is)))
-      × (value (expr_in (nth_step q s m dq (length (known q s m dq).is)).1.content) (state_after s (log_before (known q s m dq).is [] (length (known q s m dq).is))) ≡ Ok v)
+      × (answer_of (nth_step q s m dq (length (known q s m dq).is)).1.content (state_after s (log_before (known q s m dq).is [] (length (known q s m dq).is))) ≡ Ok v)
   stop_shared e b =
       let h = shared (run_record p s n dp) (run_record q s m dq) (InBoth p q S) runs_share (length (known q s m dq).is) (inr (refl, e)) b in
       ((nth_step p s n dp h.0).1.gave, h.0, h.1, h.2, h.4)
@@ -132,7 +136,7 @@ EndsWith (more k) h = ⊥
 module _ (q : Tree) (s : Values) (m : ℕ) (dq : Distinct (skeleton q.body)) where
   abbrev pub FaultsAt : Tag → Fault → Type 0
   FaultsAt t x = ((known q s m dq).over ≡ false) × ((known q s m dq).stop.0 ≡ t) × ((c : Content) × Says q.body t c
-      × (value (expr_in c) (state_after s (log_before (known q s m dq).is [] (length (known q s m dq).is))) ≡ Err x))
+      × (answer_of c (state_after s (log_before (known q s m dq).is [] (length (known q s m dq).is))) ≡ Err x))
 
   whole_log : (log : List Instance) → log_of (trace s q.body [] [] m) ≡ log → log ≡ log_before (known q s m dq).is [] (length (known q s m dq).is)
   whole_log log e = sym e ∙ ((known q s m dq).log ∙ sym (log_before_end (known q s m dq).is []))
@@ -147,7 +151,7 @@ module _ (q : Tree) (s : Values) (m : ℕ) (dq : Distinct (skeleton q.body)) whe
         (
           w.0,
           subst (λ v. Says q.body v w.0) o.0 w.1,
-          subst (λ g. value (expr_in w.0) (state_after s g) ≡ Err x) l (subst (λ z. value (expr_in w.0) (state_after s log) ≡ Err z) o.1 w.2),
+          subst (λ g. answer_of w.0 (state_after s g) ≡ Err x) l (subst (λ z. answer_of w.0 (state_after s log) ≡ Err z) o.1 w.2),
         ),
       )
 
@@ -238,13 +242,13 @@ module _ (p q : Tree) (s : Values) (n m : ℕ) (dp : Distinct (skeleton p.body))
       vq = subst (λ z. (slice_of (graph_of p) S).vertex z) ev v
 
       w : (v : ℤ) × (i : ℕ) × (i < length (known p s n dp).is) × (spot_of (nth_step p s n dp i) ≡ spot_of (nth_step q s m dq k))
-          × (value (expr_in (nth_step q s m dq k).1.content) (state_after s (log_before (known q s m dq).is [] k)) ≡ Ok v)
+          × (answer_of (nth_step q s m dq k).1.content (state_after s (log_before (known q s m dq).is [] k)) ≡ Ok v)
       w = stop_shared p q s n m dp dq S same is_over b.0 (both_of_first p q s n m dp dq S same (spot_of (nth_step q s m dq k)) vq.0 vq.1)
 
-      err : value (expr_in (nth_step q s m dq k).1.content) (state_after s (log_before (known q s m dq).is [] k)) ≡ Err x
-      err = subst (λ z. value (expr_in z) (state_after s (log_before (known q s m dq).is [] k)) ≡ Err x) (says_one q.body dq t b.2.0 (nth_step q s m dq k).1.content b.2.1 says) b.2.2
+      err : answer_of (nth_step q s m dq k).1.content (state_after s (log_before (known q s m dq).is [] k)) ≡ Err x
+      err = subst (λ z. answer_of z (state_after s (log_before (known q s m dq).is [] k)) ≡ Err x) (says_one q.body dq t b.2.0 (nth_step q s m dq k).1.content b.2.1 says) b.2.2
 
-      differ : value (expr_in (nth_step q s m dq k).1.content) (state_after s (log_before (known q s m dq).is [] k)) ≡ Ok w.0 → ⊥
+      differ : answer_of (nth_step q s m dq k).1.content (state_after s (log_before (known q s m dq).is [] k)) ≡ Ok w.0 → ⊥
       differ o = ok_or_err _ w.0 x o err
 
   pub same_final_value_of : (known p s n dp).over ≡ true → (known q s m dq).over ≡ true → (x : List ℕ) → (slice_of (graph_of p) S).vertex (Final x)

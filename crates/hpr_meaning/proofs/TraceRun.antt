@@ -3,7 +3,9 @@ use Rattle.std.proofs.Common.{◌≡◌, ℕ, zero, suc, ◌+◌, ℤ, Bool, tru
 use Rattle.hpr_terms.specs.declared.tag.Tag.{Tag}
 use Rattle.hpr_terms.specs.declared.expr.Expr.{Expr}
 use Rattle.hpr_syntax.specs.declared.rows.Content.TheVariants.{Assign, If, While}
-use Rattle.hpr_syntax.specs.Body.{Body, done, assign, branch, loop}
+use Rattle.hpr_syntax.specs.Action.{assigns}
+use Rattle.hpr_syntax.specs.Contents.{answer_of}
+use Rattle.hpr_syntax.specs.Body.{Body, done, action, branch, loop}
 use Rattle.hpr_syntax.specs.Values.{Values}
 use Rattle.hpr_syntax.specs.Value.{Answer, value, is_true}
 use Rattle.hpr_syntax.specs.Run.{After, run_body}
@@ -33,7 +35,7 @@ turns_run : (s : Values) (k n : ℕ) (t : Tag) (e : Expr) (body : List ℕ → L
     → after_of s (turns_from k n t e body s around log left) ≡ run.turns n t e body' (state_after s log) left
 turns_run s k zero t e body body' h around log left = refl
 turns_run s k (suc n) t e body body' h around log left =
-    step_run s (t, around ++ k ∷ []) (value e (state_after s log)) log left _ _ (λ v l.
+    step_run s (t, around ++ k ∷ []) (answer_of (While e) (state_after s log)) log left _ _ (λ v l.
     if_run s (is_true v) _ _ _ _
     (then_run s (body (around ++ k ∷ []) (logged (t, around ++ k ∷ []) (While e) e v s log) l) _ _ _ (h _ _ l)
     (λ log' l'. turns_run s (suc k) n t e body body' h around log' l'))
@@ -42,10 +44,10 @@ turns_run s k (suc n) t e body body' h around log left =
 pub trace_run : (s : Values) (b : Body) (around : List ℕ) (log : List Instance) (left : ℕ)
     → after_of s (trace s b around log left) ≡ run_body b (state_after s log) left
 trace_run s done around log left = refl
-trace_run s (assign t x e rest) around log left =
-    step_run s (t, around) (value e (state_after s log)) log left _ _ (λ v l. trace_run s rest around (logged (t, around) (Assign x e) e v s log) l)
+trace_run s (action t (assigns x e) rest) around log left =
+    step_run s (t, around) (answer_of (Assign x e) (state_after s log)) log left _ _ (λ v l. trace_run s rest around (logged (t, around) (Assign x e) e v s log) l)
 trace_run s (branch t e a b rest) around log left =
-    step_run s (t, around) (value e (state_after s log)) log left _ _ (λ v l.
+    step_run s (t, around) (answer_of (If e) (state_after s log)) log left _ _ (λ v l.
     then_run s (if is_true v then trace s a around (logged (t, around) (If e) e v s log) l else trace s b around (logged (t, around) (If e) e v s log) l) _ _ _
     (if_run s (is_true v) _ _ _ _ (trace_run s a around (logged (t, around) (If e) e v s log) l) (trace_run s b around (logged (t, around) (If e) e v s log) l))
     (λ log' l'. trace_run s rest around log' l'))

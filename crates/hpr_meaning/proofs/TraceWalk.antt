@@ -4,6 +4,8 @@
 -- notes_of s log == what is kept after the log, from the state s
 -- way_of s course == the course with its notes
 use Rattle.std.proofs.Common.{◌≡◌, ℕ, zero, suc, ◌+◌, ℤ, Bool, true, false, List, [], ◌∷◌, ◌++◌, map, length, reverse, Option, Some, None, refl, sym, ap, ◌∙◌, if◌then◌else◌, cond, Ok, Err}
+use Rattle.hpr_syntax.specs.Action.{assigns}
+use Rattle.hpr_syntax.specs.Contents.{answer_of}
 use mathlib.Core.List.{reverse_aux, reverse-cons}
 use Rattle.std.proofs.lemmas.List.{reverse-reverse, length-reverse}
 use Rattle.std.specs.FinMap.{empty, get, insert, get-insert, get-empty}
@@ -13,7 +15,7 @@ use Rattle.hpr_terms.specs.declared.tag.Tag.{Tag}
 use Rattle.hpr_terms.specs.declared.expr.Expr.{Expr}
 use Rattle.hpr_syntax.specs.declared.rows.Content.{Content}
 use Rattle.hpr_syntax.specs.declared.rows.Content.TheVariants.{Assign, If, While}
-use Rattle.hpr_syntax.specs.Body.{Body, done, assign, branch, loop}
+use Rattle.hpr_syntax.specs.Body.{Body, done, action, branch, loop}
 use Rattle.hpr_syntax.specs.Rows.{assigned}
 use Rattle.hpr_syntax.specs.Tree.{Tree}
 use Rattle.hpr_syntax.specs.Values.{Values, value_at}
@@ -135,7 +137,7 @@ turns_walk : (s : Values) (k n : ℕ) (t : Tag) (e : Expr) (body : List ℕ → 
     → way_of s (turns_from k n t e body s around log left) ≡ walk_turns k n t e body' around (notes_of s log) left
 turns_walk s k zero t e body body' h around log left = refl
 turns_walk s k (suc n) t e body body' h around log left =
-    step_walk s (t, around ++ k ∷ []) (value e (state_after s log)) log left _ _ (λ v l.
+    step_walk s (t, around ++ k ∷ []) (answer_of (While e) (state_after s log)) log left _ _ (λ v l.
     let seen = while_noted s (t, around ++ k ∷ []) e v log in
     if_walk s (is_true v) _ _ _ _
     (then_walk s (body (around ++ k ∷ []) (logged (t, around ++ k ∷ []) (While e) e v s log) l) _ _ _
@@ -146,11 +148,11 @@ turns_walk s k (suc n) t e body body' h around log left =
 pub trace_walk : (s : Values) (b : Body) (around : List ℕ) (log : List Instance) (left : ℕ)
     → way_of s (trace s b around log left) ≡ walk b around (notes_of s log) left
 trace_walk s done around log left = refl
-trace_walk s (assign t x e rest) around log left =
-    step_walk s (t, around) (value e (state_after s log)) log left _ _ (λ v l.
+trace_walk s (action t (assigns x e) rest) around log left =
+    step_walk s (t, around) (answer_of (Assign x e) (state_after s log)) log left _ _ (λ v l.
     trace_walk s rest around (logged (t, around) (Assign x e) e v s log) l ∙ ap (λ (m : Notes). walk rest around m l) (assign_noted s (t, around) x e v log))
 trace_walk s (branch t e a b rest) around log left =
-    step_walk s (t, around) (value e (state_after s log)) log left _ _ (λ v l.
+    step_walk s (t, around) (answer_of (If e) (state_after s log)) log left _ _ (λ v l.
     let seen = if_noted s (t, around) e v log in
     then_walk s (if is_true v then trace s a around (logged (t, around) (If e) e v s log) l else trace s b around (logged (t, around) (If e) e v s log) l) _ _ _
     (if_walk s (is_true v) _ _ _ _

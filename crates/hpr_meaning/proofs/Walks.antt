@@ -5,7 +5,10 @@ use Rattle.hpr_terms.specs.declared.expr.Expr.{Expr}
 use Rattle.hpr_syntax.specs.declared.tree.Stmt.{Stmt}
 use Rattle.hpr_syntax.specs.declared.tree.Stmt.TheVariants.{Assign, If, While}
 use Rattle.hpr_syntax.specs.BodyOf.{before, body_of}
-use Rattle.hpr_syntax.specs.Body.{Body, done, assign, branch, loop}
+use Rattle.hpr_syntax.specs.Action.{assigns}
+use Rattle.hpr_syntax.specs.declared.rows.Content.TheVariants.{Assign, If, While}
+use Rattle.hpr_syntax.specs.Contents.{answer_of}
+use Rattle.hpr_syntax.specs.Body.{Body, done, action, branch, loop}
 use Rattle.hpr_syntax.specs.Value.{Answer, value, is_true}
 use Rattle.hpr_meaning.specs.Notes.{Notes, noted, defined}
 use Rattle.hpr_meaning.specs.declared.tracing.Stop.{Stop}
@@ -41,7 +44,7 @@ if_leaves false x y n p q = q
 turns_leaves : (k n : ℕ) (t : Tag) (e : Expr) (b : List ℕ → Notes → ℕ → Way) → ((a : List ℕ) (m : Notes) (l : ℕ) → LeavesAtMost (b a m l) l)
     → (around : List ℕ) (m : Notes) (left : ℕ) → LeavesAtMost (walk_turns k n t e b around m left) left
 turns_leaves k zero t e b h around m left = tt
-turns_leaves k (suc n) t e b h around m left = step_leaves t (value e m.state) m left _ (λ v l.
+turns_leaves k (suc n) t e b h around m left = step_leaves t (answer_of (While e) m.state) m left _ (λ v l.
     let le : l ≤ l = omega arith in
     if_leaves (is_true v) _ _ l
     (then_leaves (b (around ++ k ∷ []) (noted (t, around ++ k ∷ []) e v m) l) l (walk_turns (suc k) n t e b around) (turns_leaves (suc k) n t e b h around)
@@ -50,10 +53,10 @@ turns_leaves k (suc n) t e b h around m left = step_leaves t (value e m.state) m
 
 pub walk_leaves : (b : Body) (around : List ℕ) (m : Notes) (left : ℕ) → LeavesAtMost (walk b around m left) left
 walk_leaves done around m left = omega arith
-walk_leaves (assign t x e rest) around m left =
-    step_leaves t (value e m.state) m left _ (λ v l. walk_leaves rest around (defined x v (length m.items) (noted (t, around) e v m)) l)
+walk_leaves (action t (assigns x e) rest) around m left =
+    step_leaves t (answer_of (Assign x e) m.state) m left _ (λ v l. walk_leaves rest around (defined x v (length m.items) (noted (t, around) e v m)) l)
 walk_leaves (branch t e a b rest) around m left =
-    step_leaves t (value e m.state) m left _ (λ v l. then_leaves _ l (walk rest around) (walk_leaves rest around)
+    step_leaves t (answer_of (If e) m.state) m left _ (λ v l. then_leaves _ l (walk rest around) (walk_leaves rest around)
     (if_leaves (is_true v) _ _ l (walk_leaves a around (noted (t, around) e v m) l) (walk_leaves b around (noted (t, around) e v m) l)))
 walk_leaves (loop t e b rest) around m left =
     then_leaves _ left (walk rest around) (walk_leaves rest around) (turns_leaves 0 (left + 1) t e (walk b) (walk_leaves b) around m left)
@@ -76,7 +79,7 @@ turns_enough k (suc i) (suc n) t e b h around m zero p q = refl
 turns_enough k (suc i) (suc n) t e b h around m (suc l) p q =
     let both : (m' : Notes) (l' : ℕ) → l' ≤ l → walk_turns (suc k) i t e b around m' l' ≡ walk_turns (suc k) n t e b around m' l' =
     λ m' l' r. turns_enough (suc k) i n t e b h around m' l' (omega arith) (omega arith) in
-    step_same t (value e m.state) m l _ _ (λ v. ap (λ x. if is_true v then x else goes (noted (t, around ++ k ∷ []) e v m) l)
+    step_same t (answer_of (While e) m.state) m l _ _ (λ v. ap (λ x. if is_true v then x else goes (noted (t, around ++ k ∷ []) e v m) l)
     (then_same (b (around ++ k ∷ []) (noted (t, around ++ k ∷ []) e v m) l) l (walk_turns (suc k) i t e b around) (walk_turns (suc k) n t e b around) both
     (h (around ++ k ∷ []) (noted (t, around ++ k ∷ []) e v m) l)))
 
@@ -112,10 +115,10 @@ then_then (spent m) f g = refl
 pub walk_before : (s : Stmt) (rest : Body) (around : List ℕ) (m : Notes) (left : ℕ)
     → walk (before s rest) around m left ≡ then_way (walk (before s done) around m left) (walk rest around)
 walk_before (Assign t x e) rest around m left =
-    step_ends t (value e m.state) m left (λ v l. goes (defined x v (length m.items) (noted (t, around) e v m)) l) (walk rest around)
+    step_ends t (answer_of (While e) m.state) m left (λ v l. goes (defined x v (length m.items) (noted (t, around) e v m)) l) (walk rest around)
 walk_before (If t e a b) rest around m left =
-    step_same_all t (value e m.state) m left _ _ (λ v l. then_then (if is_true v then walk a around (noted (t, around) e v m) l else walk b around (noted (t, around) e v m) l) goes (walk rest around))
-    ∙ step_ends t (value e m.state) m left (λ v l. then_way (if is_true v then walk a around (noted (t, around) e v m) l else walk b around (noted (t, around) e v m) l) goes) (walk rest around)
+    step_same_all t (answer_of (While e) m.state) m left _ _ (λ v l. then_then (if is_true v then walk a around (noted (t, around) e v m) l else walk b around (noted (t, around) e v m) l) goes (walk rest around))
+    ∙ step_ends t (answer_of (While e) m.state) m left (λ v l. then_way (if is_true v then walk a around (noted (t, around) e v m) l else walk b around (noted (t, around) e v m) l) goes) (walk rest around)
 walk_before (While t e b) rest around m left = then_then (walk_turns 0 (left + 1) t e (walk b) around m left) goes (walk rest around)
 
 -- what a part's failure says of the block that begins with it

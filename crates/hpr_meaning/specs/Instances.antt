@@ -35,7 +35,9 @@ use Rattle.hpr_terms.specs.Uses.{names_in}
 use Rattle.hpr_terms.specs.TermOf.{term_of}
 use Rattle.hpr_syntax.specs.declared.rows.Content.{Content}
 use Rattle.hpr_syntax.specs.declared.rows.Content.TheVariants.{Assign, If, While}
-use Rattle.hpr_syntax.specs.Body.{Body, done, assign, branch, loop}
+use Rattle.hpr_syntax.specs.Action.{assigns}
+use Rattle.hpr_syntax.specs.Contents.{answer_of}
+use Rattle.hpr_syntax.specs.Body.{Body, done, action, branch, loop}
 use Rattle.hpr_syntax.specs.Tree.{Tree}
 use Rattle.hpr_syntax.specs.Rows.{assigned}
 use Rattle.hpr_syntax.specs.Values.{Values, value_at}
@@ -116,7 +118,7 @@ then_go (stops a why log left) go = stops a why log left
 abbrev pub turns_from : ℕ → ℕ → Tag → Expr → (List ℕ → List Instance → ℕ → Course) → Values → List ℕ → List Instance → ℕ → Course
 turns_from k zero t e body s around log left = stops (t, around ++ k ∷ []) None log left
 turns_from k (suc n) t e body s around log left =
-    step_at (t, around ++ k ∷ []) (value e (state_after s log)) log left (λ v left'.
+    step_at (t, around ++ k ∷ []) (answer_of (While e) (state_after s log)) log left (λ v left'.
     if is_true v
     then then_go (body (around ++ k ∷ []) (logged (t, around ++ k ∷ []) (While e) e v s log) left') (turns_from (suc k) n t e body s around)
     else goes (logged (t, around ++ k ∷ []) (While e) e v s log) left')
@@ -124,10 +126,10 @@ turns_from k (suc n) t e body s around log left =
 -- A loop makes no more turns than it has steps, and one to see that none is left.
 abbrev pub trace : Values → Body → List ℕ → List Instance → ℕ → Course
 trace s done around log left = goes log left
-trace s (assign t x e rest) around log left =
-    step_at (t, around) (value e (state_after s log)) log left (λ v left'. trace s rest around (logged (t, around) (Assign x e) e v s log) left')
+trace s (action t (assigns x e) rest) around log left =
+    step_at (t, around) (answer_of (Assign x e) (state_after s log)) log left (λ v left'. trace s rest around (logged (t, around) (Assign x e) e v s log) left')
 trace s (branch t e a b rest) around log left =
-    step_at (t, around) (value e (state_after s log)) log left (λ v left'.
+    step_at (t, around) (answer_of (If e) (state_after s log)) log left (λ v left'.
     then_go
     (if is_true v
     then trace s a around (logged (t, around) (If e) e v s log) left'

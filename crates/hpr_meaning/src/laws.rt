@@ -16,6 +16,7 @@ ghost use Rattle.hpr_meaning.specs.TimeLaw.{IsTimely};
 ghost use Rattle.hpr_meaning.specs.OrderLaw.{IsOrdered};
 ghost use Rattle.hpr_meaning.specs.SliceLaw.{SharesSlice};
 ghost use Rattle.hpr_meaning.specs.UnionLaw.{KeepsSides, IsUnionKept};
+ghost use Rattle.hpr_meaning.specs.CoverLaw.{Version, IsCovered, DoesEnd, steps_of};
 
 /// A trace is the run: it ends where the run ends, in the same state and with as many steps left; and
 /// else it stops at the part where the run stops, for the same reason.
@@ -62,6 +63,13 @@ pub fn shared_slices()
 /// graph lies in one of the three slices that it is made of.
 pub fn union_kept()
     ensures { (base a b : Tree) → IsProgram base → IsProgram a → IsProgram b → IsUnionKept base a b }
+{}
+
+/// The law of the covered end. A program each of whose parts lies in a slice that it has from one of some
+/// programs ends on every state on which they end, within as many steps as they have together.
+pub fn covered_end()
+    ensures { (m : Tree) (versions : List Version) (s : Values) → IsProgram m → ((i : Version) → Contains versions i → DoesEnd s i) → IsCovered versions m
+        → (f : FinalValues) × Ends m s (steps_of versions) f }
 {}
 
 /// The law of the merged end. A program whose graph is the merged graph of a base and two variants, where

@@ -6,9 +6,11 @@ use Rattle.hpr_terms.specs.Uses.{Uses}
 use Rattle.hpr_syntax.specs.declared.rows.Content.{Content}
 use Rattle.hpr_syntax.specs.declared.rows.Content.TheVariants.{Assign, If, While}
 use Rattle.hpr_syntax.specs.Initial.{UsedBy}
-use Rattle.hpr_syntax.specs.Body.{Body, done, assign, branch, loop}
+use Rattle.hpr_syntax.specs.Action.{assigns}
+use Rattle.hpr_syntax.specs.declared.rows.Content.TheVariants.{Assign, If, While}
+use Rattle.hpr_syntax.specs.Contents.{UsesIn}
+use Rattle.hpr_syntax.specs.Body.{Body, done, action, branch, loop}
 use Rattle.hpr_syntax.specs.Nests.{Says}
-use Rattle.hpr_syntax.specs.Rows.{expr_in}
 use Rattle.hpr_syntax.specs.Skeleton.{Point, enter, at, exit}
 use Rattle.hpr_syntax.specs.Tree.{Tree}
 use Rattle.hpr_graph.specs.declared.vertex.Vertex.{Vertex}
@@ -32,8 +34,8 @@ is_part v s t c d is same content = cc
 
 said_bounded : (b : Body) → Bounded (IsSaid b)
 said_bounded done = of_within (IsSaid done) (λ v. ⊥) (λ v (t, c, is, says). says) of_none
-said_bounded (assign t x e rest) =
-    of_within (IsSaid (assign t x e rest)) (λ v. IsFirst t (Assign x e) v ⊎ IsSaid rest v)
+said_bounded (action t (assigns x e) rest) =
+    of_within (IsSaid (action t (assigns x e) rest)) (λ v. IsFirst t (Assign x e) v ⊎ IsSaid rest v)
     (λ v (s, c, is, says). elim says [
       | inl first ↦ inl (is_part v s t c (Assign x e) is first.0 first.1)
       | inr later ↦ inr (s, c, is, later)
@@ -63,13 +65,15 @@ said_bounded (loop t e b rest) =
 abbrev UsesAt : Vertex → List ℕ → Type 0
 UsesAt Entry x = ⊥
 UsesAt (Init y) x = ⊥
-UsesAt (Part t c) x = Uses (expr_in c) x
+UsesAt (Part t c) x = UsesIn c x
 UsesAt (Final y) x = ⊥
 
 uses_bounded : (v : Vertex) → Bounded (UsesAt v)
 uses_bounded Entry = of_none
 uses_bounded (Init y) = of_none
-uses_bounded (Part t c) = of_term (term_of (expr_in c))
+uses_bounded (Part t (Assign y e)) = of_term (term_of e)
+uses_bounded (Part t (If e)) = of_term (term_of e)
+uses_bounded (Part t (While e)) = of_term (term_of e)
 uses_bounded (Final y) = of_none
 
 module _ (t : Tree) where

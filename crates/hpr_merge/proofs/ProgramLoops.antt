@@ -3,7 +3,8 @@ use Rattle.std.proofs.Common.{◌≡◌, ℕ, Bool, true, false, inl, inr, Some,
 use Rattle.hpr_terms.specs.declared.tag.Tag.{Tag}
 use Rattle.hpr_syntax.specs.declared.rows.Content.{Content}
 use Rattle.hpr_syntax.specs.declared.rows.Content.TheVariants.{Assign, If, While}
-use Rattle.hpr_syntax.specs.Body.{Body, done, assign, branch, loop}
+use Rattle.hpr_syntax.specs.Rows.{content_by}
+use Rattle.hpr_syntax.specs.Body.{Body, done, action, branch, loop}
 use Rattle.hpr_syntax.specs.Rows.{Parent}
 use Rattle.hpr_syntax.specs.Tree.{Tree}
 use Rattle.hpr_syntax.specs.Skeleton.{Point, at, exit, StandsIn, skeleton}
@@ -53,8 +54,8 @@ module _ (t : Tree) where
   -- a part leads to each part in its blocks
   under : (b : Body) (nest : List Tag) (p : Tag) (label : Bool) (c : Content) → Says t.body p c → Inside nest (Some (p, label)) b → (w : Tag) → StandsIn (skeleton b) (at w) → Leads p c w
   under done nest p label c says inside w h = absurd h
-  under (assign v x e rest) nest p label c says inside w (inl is) = here p c label v w (Assign x e) nest says (inside v (standing (Assign x e) nest (Some (p, label))) (inl (refl, refl))) (tag_of w v is)
-  under (assign v x e rest) nest p label c says inside w (inr h) = under rest nest p label c says (λ u s g. inside u s (inr g)) w h
+  under (action v d rest) nest p label c says inside w (inl is) = here p c label v w (content_by d) nest says (inside v (standing (content_by d) nest (Some (p, label))) (inl (refl, refl))) (tag_of w v is)
+  under (action v d rest) nest p label c says inside w (inr h) = under rest nest p label c says (λ u s g. inside u s (inr g)) w h
   under (branch v e a b rest) nest p label c says inside w (inl is) = here p c label v w (If e) nest says (inside v (standing (If e) nest (Some (p, label))) (inl (refl, refl))) (tag_of w v is)
   under (branch v e a b rest) nest p label c says inside w (inr (inl h)) =
       let stands = inside v (standing (If e) nest (Some (p, label))) (inl (refl, refl)) in
@@ -77,7 +78,7 @@ module _ (t : Tree) where
   -- a loop leads to each part that it encloses, itself too
   enclosed : (b : Body) (nest : List Tag) (up : Parent) → Inside nest up b → (a : Point) (w l : Tag) → EnclosesBoth (skeleton b) a (at w) l → LoopLeads l w
   enclosed done nest up inside a w l h = absurd h
-  enclosed (assign v x e rest) nest up inside a w l h = enclosed rest nest up (λ u s g. inside u s (inr g)) a w l h
+  enclosed (action v d rest) nest up inside a w l h = enclosed rest nest up (λ u s g. inside u s (inr g)) a w l h
   enclosed (branch v e b c rest) nest up inside a w l (inl h) = enclosed b nest (Some (v, true)) (λ u s g. inside u s (inr (inl g))) a w l h
   enclosed (branch v e b c rest) nest up inside a w l (inr (inl h)) = enclosed c nest (Some (v, false)) (λ u s g. inside u s (inr (inr (inl g)))) a w l h
   enclosed (branch v e b c rest) nest up inside a w l (inr (inr h)) = enclosed rest nest up (λ u s g. inside u s (inr (inr (inr g)))) a w l h

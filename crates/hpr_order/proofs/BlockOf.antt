@@ -4,7 +4,8 @@ use Rattle.std.proofs.lemmas.List.Elements.{Contains-append_left, Contains-appen
 use Rattle.hpr_terms.specs.declared.tag.Tag.{Tag}
 use Rattle.hpr_syntax.specs.declared.rows.Content.{Content}
 use Rattle.hpr_syntax.specs.declared.rows.Content.TheVariants.{Assign, If, While}
-use Rattle.hpr_syntax.specs.Body.{Body, done, assign, branch, loop}
+use Rattle.hpr_syntax.specs.Rows.{content_by}
+use Rattle.hpr_syntax.specs.Body.{Body, done, action, branch, loop}
 use Rattle.hpr_syntax.specs.Rows.{Parent}
 use Rattle.hpr_syntax.specs.Nests.{Standing, StandsAs, Says}
 use Rattle.hpr_forest.proofs.Unique.{in_none, in_cons, in_first, in_later}
@@ -15,11 +16,11 @@ use Rattle.hpr_order.specs.Items.{IsItem}
 -- the block of a tree: each part is that of its item, and an item has the blocks that its part has
 abbrev pub IsBlockOf : List Item → Tree → Body → Type 0
 IsBlockOf items empty done = Unit {0}
-IsBlockOf items empty (assign t x e rest) = ⊥
+IsBlockOf items empty (action t d rest) = ⊥
 IsBlockOf items empty (branch t e p q rest) = ⊥
 IsBlockOf items empty (loop t e p rest) = ⊥
 IsBlockOf items (node c y n r) done = ⊥
-IsBlockOf items (node c y n r) (assign t x e rest) = IsItem items c t (Assign x e) × IsBlockOf items y done × IsBlockOf items n done × IsBlockOf items r rest
+IsBlockOf items (node c y n r) (action t d rest) = IsItem items c t (content_by d) × IsBlockOf items y done × IsBlockOf items n done × IsBlockOf items r rest
 IsBlockOf items (node c y n r) (branch t e p q rest) = IsItem items c t (If e) × IsBlockOf items y p × IsBlockOf items n q × IsBlockOf items r rest
 IsBlockOf items (node c y n r) (loop t e p rest) = IsItem items c t (While e) × IsBlockOf items y p × IsBlockOf items n done × IsBlockOf items r rest
 
@@ -112,12 +113,12 @@ module _ (items : List Item) where
   -- what is said is said by an item, and the other way round
   pub says_in : (t : Tree) (b : Body) (u : Tag) (d : Content) → IsBlockOf items t b → Says b u d → (k : ℕ) × Contains (preorder t) k × IsItem items k u d
   says_in empty done u d h s = absurd s
-  says_in empty (assign t x e rest) u d h s = absurd h
+  says_in empty (action t action_ rest) u d h s = absurd h
   says_in empty (branch t e p q rest) u d h s = absurd h
   says_in empty (loop t e p rest) u d h s = absurd h
   says_in (node c y n r) done u d h s = absurd h
-  says_in (node c y n r) (assign t x e rest) u d h (inl s) = (c, in_first c _, said_at c t u (Assign x e) d h.0 s.0 s.1)
-  says_in (node c y n r) (assign t x e rest) u d h (inr s) = (let (k, a, i) = says_in r rest u d h.3 s in (k, in_three c y n r k a, i))
+  says_in (node c y n r) (action t action_ rest) u d h (inl s) = (c, in_first c _, said_at c t u (content_by action_) d h.0 s.0 s.1)
+  says_in (node c y n r) (action t action_ rest) u d h (inr s) = (let (k, a, i) = says_in r rest u d h.3 s in (k, in_three c y n r k a, i))
   says_in (node c y n r) (branch t e p q rest) u d h (inl s) = (c, in_first c _, said_at c t u (If e) d h.0 s.0 s.1)
   says_in (node c y n r) (branch t e p q rest) u d h (inr (inl s)) = (let (k, a, i) = says_in y p u d h.1 s in (k, in_one c y n r k a, i))
   says_in (node c y n r) (branch t e p q rest) u d h (inr (inr (inl s))) = (let (k, a, i) = says_in n q u d h.2 s in (k, in_two c y n r k a, i))
@@ -129,8 +130,8 @@ module _ (items : List Item) where
   pub in_says : (t : Tree) (b : Body) (u : Tag) (d : Content) (k : ℕ) → IsBlockOf items t b → Contains (preorder t) k → IsItem items k u d → Says b u d
   in_says empty b u d k h a i = absurd (in_none k a)
   in_says (node c y n r) done u d k h a i = absurd h
-  in_says (node c y n r) (assign t x e rest) u d k h a i = elim (in_which c y n r k a) [
-    | inl is ↦ inl (same_part k u t d (Assign x e) i (subst (λ z. IsItem items z t (Assign x e)) is h.0))
+  in_says (node c y n r) (action t action_ rest) u d k h a i = elim (in_which c y n r k a) [
+    | inl is ↦ inl (same_part k u t d (content_by action_) i (subst (λ z. IsItem items z t (content_by action_)) is h.0))
     | inr (inl none) ↦ absurd (none_there y h.1 k none)
     | inr (inr (inl none)) ↦ absurd (none_there n h.2 k none)
     | inr (inr (inr later)) ↦ inr (in_says r rest u d k h.3 later i)
@@ -159,13 +160,13 @@ module _ (items : List Item) where
   pub stands_so : (t : Tree) (b : Body) (nest : List Tag) (up : Parent) (v : Slot) (u : Tag) (s : Standing) → IsBlockOf items t b → IsParent items v up → StandsAs nest up b u s
       → (k : ℕ) × (w : Slot) × Places t v k w × IsItem items k u s.content × IsParent items w s.parent
   stands_so empty done nest up v u s h is_up st = absurd st
-  stands_so empty (assign t x e rest) nest up v u s h is_up st = absurd h
+  stands_so empty (action t d rest) nest up v u s h is_up st = absurd h
   stands_so empty (branch t e p q rest) nest up v u s h is_up st = absurd h
   stands_so empty (loop t e p rest) nest up v u s h is_up st = absurd h
   stands_so (node c y n r) done nest up v u s h is_up st = absurd h
-  stands_so (node c y n r) (assign t x e rest) nest up v u s h is_up (inl st) =
-      stands_here (node c y n r) v v c u t (Assign x e) up s (inl (refl, refl)) h.0 is_up st.0 (ap (λ (z : Standing). z.content) st.1) (ap (λ (z : Standing). z.parent) st.1)
-  stands_so (node c y n r) (assign t x e rest) nest up v u s h is_up (inr st) =
+  stands_so (node c y n r) (action t d rest) nest up v u s h is_up (inl st) =
+      stands_here (node c y n r) v v c u t (content_by d) up s (inl (refl, refl)) h.0 is_up st.0 (ap (λ (z : Standing). z.content) st.1) (ap (λ (z : Standing). z.parent) st.1)
+  stands_so (node c y n r) (action t d rest) nest up v u s h is_up (inr st) =
       (let (k, w, a, i, o) = stands_so r rest nest up v u s h.3 is_up st in (k, w, inr (inr (inr a)), i, o))
   stands_so (node c y n r) (branch t e p q rest) nest up v u s h is_up (inl st) =
       stands_here (node c y n r) v v c u t (If e) up s (inl (refl, refl)) h.0 is_up st.0 (ap (λ (z : Standing). z.content) st.1) (ap (λ (z : Standing). z.parent) st.1)
@@ -186,12 +187,12 @@ module _ (items : List Item) where
       → Places t v k w → IsItem items k u d → (s : Standing) × StandsAs nest up b u s × (s.content ≡ d) × IsParent items w s.parent
   so_stands empty b nest up v k w u d h is_up p i = absurd p
   so_stands (node c y n r) done nest up v k w u d h is_up p i = absurd h
-  so_stands (node c y n r) (assign t x e rest) nest up v k w u d h is_up (inl p) i =
-      (let (a, b) = same_part k u t d (Assign x e) i (subst (λ z. IsItem items z t (Assign x e)) (sym p.0) h.0) in
-      (record { content = Assign x e; nest = nest; parent = up }, inl (a, refl), sym b, subst (λ z. IsParent items z up) (sym p.1) is_up))
-  so_stands (node c y n r) (assign t x e rest) nest up v k w u d h is_up (inr (inl p)) i = absurd (none_there y h.1 k (place_in y (Some (c, true)) k w p))
-  so_stands (node c y n r) (assign t x e rest) nest up v k w u d h is_up (inr (inr (inl p))) i = absurd (none_there n h.2 k (place_in n (Some (c, false)) k w p))
-  so_stands (node c y n r) (assign t x e rest) nest up v k w u d h is_up (inr (inr (inr p))) i =
+  so_stands (node c y n r) (action t action_ rest) nest up v k w u d h is_up (inl p) i =
+      (let (a, b) = same_part k u t d (content_by action_) i (subst (λ z. IsItem items z t (content_by action_)) (sym p.0) h.0) in
+      (record { content = content_by action_; nest = nest; parent = up }, inl (a, refl), sym b, subst (λ z. IsParent items z up) (sym p.1) is_up))
+  so_stands (node c y n r) (action t action_ rest) nest up v k w u d h is_up (inr (inl p)) i = absurd (none_there y h.1 k (place_in y (Some (c, true)) k w p))
+  so_stands (node c y n r) (action t action_ rest) nest up v k w u d h is_up (inr (inr (inl p))) i = absurd (none_there n h.2 k (place_in n (Some (c, false)) k w p))
+  so_stands (node c y n r) (action t action_ rest) nest up v k w u d h is_up (inr (inr (inr p))) i =
       (let (s, st, o, o2) = so_stands r rest nest up v k w u d h.3 is_up p i in (s, inr st, o, o2))
   so_stands (node c y n r) (branch t e f g rest) nest up v k w u d h is_up (inl p) i =
       (let (a, b) = same_part k u t d (If e) i (subst (λ z. IsItem items z t (If e)) (sym p.0) h.0) in

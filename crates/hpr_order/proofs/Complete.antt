@@ -8,7 +8,8 @@ use Rattle.std.proofs.lemmas.List.{append-nil}
 use Rattle.hpr_terms.specs.declared.tag.Tag.{Tag}
 use Rattle.hpr_syntax.specs.declared.rows.Content.{Content}
 use Rattle.hpr_syntax.specs.declared.rows.Content.TheVariants.{Assign, If, While}
-use Rattle.hpr_syntax.specs.Body.{Body, done, assign, branch, loop}
+use Rattle.hpr_syntax.specs.Rows.{content_by}
+use Rattle.hpr_syntax.specs.Body.{Body, done, action, branch, loop}
 use Rattle.hpr_syntax.specs.Issued.{Issued}
 use Rattle.hpr_syntax.specs.Nests.{Says}
 use Rattle.hpr_syntax.specs.Rows.{Parent}
@@ -86,8 +87,8 @@ same_names xs ys a b to from =
 -- the tree of a block whose parts are items
 tree_there : (items : List Item) (b : Body) → ((u : Tag) (c : Content) → Says b u c → (k : ℕ) × IsItem items k u c) → (t : ItemTree) × IsBlockOf items t b
 tree_there items done all = (empty, tt)
-tree_there items (assign t x e rest) all =
-    let (k, i) = all t (Assign x e) (inl (refl, refl)) in
+tree_there items (action t d rest) all =
+    let (k, i) = all t (content_by d) (inl (refl, refl)) in
     let (r, hr) = tree_there items rest (λ u c s. all u c (inr s)) in
     (node k empty empty r, (i, tt, tt, hr))
 tree_there items (branch t e p q rest) all =
@@ -106,8 +107,8 @@ tree_there items (loop t e p rest) all =
 item_of : (items : List Item) (t : ItemTree) (b : Body) (k : ℕ) → IsBlockOf items t b → Contains (preorder t) k → (u : Tag) × (c : Content) × IsItem items k u c
 item_of items empty b k h a = absurd (in_none k a)
 item_of items (node c y n r) done k h a = absurd h
-item_of items (node c y n r) (assign t x e rest) k h a = elim (in_which c y n r k a) [
-  | inl is ↦ (t, Assign x e, subst (λ z. IsItem items z t (Assign x e)) is h.0)
+item_of items (node c y n r) (action t d rest) k h a = elim (in_which c y n r k a) [
+  | inl is ↦ (t, content_by d, subst (λ z. IsItem items z t (content_by d)) is h.0)
   | inr (inl one) ↦ item_of items y done k h.1 one
   | inr (inr (inl two)) ↦ item_of items n done k h.2 two
   | inr (inr (inr three)) ↦ item_of items r rest k h.3 three

@@ -8,7 +8,8 @@ use Rattle.hpr_terms.specs.declared.tag.Tag.{Tag}
 use Rattle.hpr_syntax.specs.declared.rows.Row.{Row}
 use Rattle.hpr_syntax.specs.declared.rows.Content.{Content}
 use Rattle.hpr_syntax.specs.declared.rows.Content.TheVariants.{Assign, If, While}
-use Rattle.hpr_syntax.specs.Body.{Body, done, assign, branch, loop}
+use Rattle.hpr_syntax.specs.Rows.{content_by}
+use Rattle.hpr_syntax.specs.Body.{Body, done, action, branch, loop}
 use Rattle.hpr_syntax.specs.Issued.{Issued}
 use Rattle.hpr_syntax.specs.Nests.{Says}
 use Rattle.hpr_syntax.specs.Parts.{same_tag, tags_of}
@@ -37,8 +38,8 @@ use Rattle.hpr_order.proofs.Sound.{IsKnown, item_at, part_same}
 -- the rows of a block say what its parts say, and have their tags
 says_row : (b : Body) (up : Parent) (i : ℕ) (t : Tag) (c : Content) → Says b t c → (row : Row) × Contains (rows_of up i b) row × (row.tag ≡ t) × (row.content ≡ c)
 says_row done up i t c s = absurd s
-says_row (assign u x e rest) up i t c (inl s) = (row_of u up i (Assign x e), in_first _ _, sym s.0, sym s.1)
-says_row (assign u x e rest) up i t c (inr s) = (let (r, h, a, d) = says_row rest up (i + 1) t c s in (r, in_later _ r (rows_of up (i + 1) rest) h, a, d))
+says_row (action u d rest) up i t c (inl s) = (row_of u up i (content_by d), in_first _ _, sym s.0, sym s.1)
+says_row (action u action_ rest) up i t c (inr s) = (let (r, h, a, d) = says_row rest up (i + 1) t c s in (r, in_later _ r (rows_of up (i + 1) rest) h, a, d))
 says_row (branch u e p q rest) up i t c (inl s) = (row_of u up i (If e), in_first _ _, sym s.0, sym s.1)
 says_row (branch u e p q rest) up i t c (inr (inl s)) =
     (let (r, h, a, d) = says_row p (Some (u, true)) 0 t c s in
@@ -57,7 +58,7 @@ says_row (loop u e p rest) up i t c (inr (inr s)) =
 
 tags_rows : (b : Body) (up : Parent) (i : ℕ) (after : List Tag) → tags_of b after ≡ map (λ (row : Row). row.tag) (rows_of up i b) ++ after
 tags_rows done up i after = refl
-tags_rows (assign t x e rest) up i after = ap (λ z. t ∷ z) (tags_rows rest up (i + 1) after)
+tags_rows (action t d rest) up i after = ap (λ z. t ∷ z) (tags_rows rest up (i + 1) after)
 tags_rows (branch t e p q rest) up i after =
     let f : Row → Tag = λ row. row.tag in
     let ps = rows_of (Some (t, true)) 0 p in

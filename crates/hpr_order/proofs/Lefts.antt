@@ -4,7 +4,8 @@ use Rattle.std.proofs.lemmas.List.Elements.{Contains-append_left, Contains-appen
 use Rattle.hpr_terms.specs.declared.tag.Tag.{Tag}
 use Rattle.hpr_syntax.specs.declared.rows.Content.{Content}
 use Rattle.hpr_syntax.specs.declared.rows.Content.TheVariants.{Assign, If, While}
-use Rattle.hpr_syntax.specs.Body.{Body, done, assign, branch, loop}
+use Rattle.hpr_syntax.specs.Rows.{content_by}
+use Rattle.hpr_syntax.specs.Body.{Body, done, action, branch, loop}
 use Rattle.hpr_syntax.specs.Skeleton.{at, StandsIn, skeleton}
 use Rattle.hpr_syntax.specs.Places.{StandsLeft}
 use Rattle.hpr_forest.proofs.Unique.{in_none, in_cons, in_first, in_later}
@@ -101,12 +102,12 @@ module _ (items : List Item) where
   -- what stands in a block is an item of its tree, and the other way round
   pub stands_in : (t : Tree) (b : Body) (u : Tag) → IsBlockOf items t b → StandsIn (skeleton b) (at u) → (k : ℕ) × Contains (preorder t) k × HasTag items k u
   stands_in empty done u h s = absurd s
-  stands_in empty (assign t x e rest) u h s = absurd h
+  stands_in empty (action t d rest) u h s = absurd h
   stands_in empty (branch t e p q rest) u h s = absurd h
   stands_in empty (loop t e p rest) u h s = absurd h
   stands_in (node c y n r) done u h s = absurd h
-  stands_in (node c y n r) (assign t x e rest) u h (inl s) = (c, in_first c _, tag_at c t u (Assign x e) h.0 s)
-  stands_in (node c y n r) (assign t x e rest) u h (inr s) = (let (k, a, i) = stands_in r rest u h.3 s in (k, in_three c y n r k a, i))
+  stands_in (node c y n r) (action t d rest) u h (inl s) = (c, in_first c _, tag_at c t u (content_by d) h.0 s)
+  stands_in (node c y n r) (action t d rest) u h (inr s) = (let (k, a, i) = stands_in r rest u h.3 s in (k, in_three c y n r k a, i))
   stands_in (node c y n r) (branch t e p q rest) u h (inl s) = (c, in_first c _, tag_at c t u (If e) h.0 s)
   stands_in (node c y n r) (branch t e p q rest) u h (inr (inl s)) = (let (k, a, i) = stands_in y p u h.1 s in (k, in_one c y n r k a, i))
   stands_in (node c y n r) (branch t e p q rest) u h (inr (inr (inl s))) = (let (k, a, i) = stands_in n q u h.2 s in (k, in_two c y n r k a, i))
@@ -121,8 +122,8 @@ module _ (items : List Item) where
   pub in_stands : (t : Tree) (b : Body) (u : Tag) (k : ℕ) → IsBlockOf items t b → Contains (preorder t) k → HasTag items k u → StandsIn (skeleton b) (at u)
   in_stands empty b u k h a i = absurd (in_none k a)
   in_stands (node c y n r) done u k h a i = absurd h
-  in_stands (node c y n r) (assign t x e rest) u k h a i = elim (in_which c y n r k a) [
-    | inl is ↦ inl (tag_of c k t u (Assign x e) is h.0 i)
+  in_stands (node c y n r) (action t d rest) u k h a i = elim (in_which c y n r k a) [
+    | inl is ↦ inl (tag_of c k t u (content_by d) is h.0 i)
     | inr (inl none) ↦ absurd (none_there y h.1 k none)
     | inr (inr (inl none)) ↦ absurd (none_there n h.2 k none)
     | inr (inr (inr later)) ↦ inr (in_stands r rest u k h.3 later i)
@@ -174,13 +175,13 @@ module _ (items : List Item) where
 
   pub stands_left : (f : Tree) (b : Body) (s t : Tag) → IsBlockOf items f b → StandsLeft (skeleton b) (at s) (at t) → TagsLeft (preorder f) s t
   stands_left empty done s t h l = absurd l
-  stands_left empty (assign u x e rest) s t h l = absurd h
+  stands_left empty (action u d rest) s t h l = absurd h
   stands_left empty (branch u e p q rest) s t h l = absurd h
   stands_left empty (loop u e p rest) s t h l = absurd h
   stands_left (node c y n r) done s t h l = absurd h
-  stands_left (node c y n r) (assign u x e rest) s t h (inl l) =
-      left_head c y n r s t u (Assign x e) h.0 l.0 (in_back (preorder y) _ t (in_back (preorder n) (preorder r) t (stands_in r rest t h.3 l.1)))
-  stands_left (node c y n r) (assign u x e rest) s t h (inr l) = left_three c y n r s t (stands_left r rest s t h.3 l)
+  stands_left (node c y n r) (action u d rest) s t h (inl l) =
+      left_head c y n r s t u (content_by d) h.0 l.0 (in_back (preorder y) _ t (in_back (preorder n) (preorder r) t (stands_in r rest t h.3 l.1)))
+  stands_left (node c y n r) (action u d rest) s t h (inr l) = left_three c y n r s t (stands_left r rest s t h.3 l)
   stands_left (node c y n r) (branch u e p q rest) s t h (inl (a, inl l)) =
       left_head c y n r s t u (If e) h.0 a (in_front (preorder y) _ t (stands_in y p t h.1 l))
   stands_left (node c y n r) (branch u e p q rest) s t h (inl (a, inr (inl l))) =
@@ -227,10 +228,10 @@ module _ (items : List Item) where
       → StandsLeft (skeleton b) (at s) (at t)
   left_stands empty b s t k j h l i i' = absurd l
   left_stands (node c y n r) done s t k j h l i i' = absurd h
-  left_stands (node c y n r) (assign u x e rest) s t k j h l i i' = elim (left_which c y n r k j l) [
+  left_stands (node c y n r) (action u d rest) s t k j h l i i' = elim (left_which c y n r k j l) [
     | inl (is, inl none) ↦ absurd (none_there y h.1 j none)
     | inl (is, inr (inl none)) ↦ absurd (none_there n h.2 j none)
-    | inl (is, inr (inr three)) ↦ inl (tag_of c k u s (Assign x e) is h.0 i, in_stands r rest t j h.3 three i')
+    | inl (is, inr (inr three)) ↦ inl (tag_of c k u s (content_by d) is h.0 i, in_stands r rest t j h.3 three i')
     | inr (inl none) ↦ absurd (none_there y h.1 k (left_in (preorder y) k j none).0)
     | inr (inr (inl (none, _))) ↦ absurd (none_there y h.1 k none)
     | inr (inr (inr (inl none))) ↦ absurd (none_there n h.2 k (left_in (preorder n) k j none).0)

@@ -8,7 +8,7 @@ use Rattle.std.proofs.lemmas.Bool.{ltb-true, ltb-false}
 use Rattle.std.proofs.lemmas.Option.{slice_get-get_or, slice_get_past, slice_get_within, get_or_from_slice_get}
 use Rattle.hpr_terms.specs.declared.tag.Tag.{Tag}
 use Rattle.hpr_syntax.specs.declared.rows.Row.{Row}
-use Rattle.hpr_syntax.specs.Body.{Body, done, assign, branch, loop}
+use Rattle.hpr_syntax.specs.Body.{Body, done, action, branch, loop}
 use Rattle.hpr_syntax.specs.Parts.{same_tag, tags_of}
 use Rattle.hpr_syntax.specs.Rows.{Parent, rows_of}
 use Rattle.hpr_syntax.specs.Shape.{IsProgram}
@@ -26,7 +26,7 @@ use Rattle.hpr_order.proofs.Lists.{split_at, put_has, put_once}
 -- the tags of the rows are those of the parts
 row_tags : (p : Parent) (i : ℕ) (body : Body) → map (λ (row : Row). row.tag) (rows_of p i body) ≡ tags_of body []
 row_tags p i done = refl
-row_tags p i (assign t x e rest) = ap (λ (ts : List Tag). t ∷ ts) (row_tags p (i + 1) rest)
+row_tags p i (action t d rest) = ap (λ (ts : List Tag). t ∷ ts) (row_tags p (i + 1) rest)
 row_tags p i (branch t e a b rest) =
     let yes : List Row = rows_of (Some (t, true)) 0 a in
     let no : List Row = rows_of (Some (t, false)) 0 b in

@@ -6,7 +6,8 @@ use Rattle.std.proofs.lemmas.Bool.{eqb-true, eq-eqb}
 use Rattle.hpr_terms.specs.declared.tag.Tag.{Tag}
 use Rattle.hpr_syntax.specs.declared.rows.Content.{Content}
 use Rattle.hpr_syntax.specs.declared.rows.Content.TheVariants.{Assign, If, While}
-use Rattle.hpr_syntax.specs.Body.{Body, done, assign, branch, loop}
+use Rattle.hpr_syntax.specs.Action.{assigns}
+use Rattle.hpr_syntax.specs.Body.{Body, done, action, branch, loop}
 use Rattle.hpr_forest.proofs.Unique.{in_none, in_first, in_later}
 use Rattle.hpr_forest.specs.Forest.{IsDistinct}
 use Rattle.hpr_forest.specs.Trees.{Tree, empty, node, preorder, Slot, StandsIn}
@@ -129,7 +130,7 @@ module _ (items : List Item) where
   pub read_back : (t : Tree) (b : Body) (v : Slot) (s : List ℕ) → StandsIn (slot_at items) v t → IsBlockOf items t b → IsDistinct (preorder t)
       → Outside (preorder t) v → Clear v (preorder t) s → block_at items (preorder t ++ s) v ≡ b
   read_back empty done v s st h once out clear = ap (λ z. block_at items z v) (sym (append-nil s)) ∙ skip v s [] (λ z a. (clear z a).0)
-  read_back empty (assign t x e rest) v s st h once out clear = absurd h
+  read_back empty (action t d rest) v s st h once out clear = absurd h
   read_back empty (branch t e p q rest) v s st h once out clear = absurd h
   read_back empty (loop t e p rest) v s st h once out clear = absurd h
   read_back (node c y n r) b v s st h once out clear =
@@ -205,7 +206,7 @@ module _ (items : List Item) where
           → ((q : Body) → IsBlockOf items n q → block_at items l (Some (c, false)) ≡ q)
           → ((o : Body) → IsBlockOf items r o → block_at items l v ≡ o) → IsBlockOf items (node c y n r) b → block_at items (c ∷ l) v ≡ b
       at done l ry rn rr h = absurd h
-      at (assign t x e rest) l ry rn rr h = one_part l t (Assign x e) done done rest h.0 (ry done h.1) (rn done h.2) (rr rest h.3)
+      at (action t (assigns x e) rest) l ry rn rr h = one_part l t (Assign x e) done done rest h.0 (ry done h.1) (rn done h.2) (rr rest h.3)
       at (branch t e p q rest) l ry rn rr h = one_part l t (If e) p q rest h.0 (ry p h.1) (rn q h.2) (rr rest h.3)
       at (loop t e p rest) l ry rn rr h = one_part l t (While e) p done rest h.0 (ry p h.1) (rn done h.2) (rr rest h.3)
 
@@ -240,7 +241,7 @@ module _ (items : List Item) where
       at : (d : Content) (i : Item) → slice_get items c ≡ Some i → i.content ≡ d → (p : Body) → IsBlockOf items y p → (q : Body) → IsBlockOf items n q → (o : Body) → IsBlockOf items r o
           → (b : Body) × IsBlockOf items (node c y n r) b
       at (Assign x e) i is says p hp q hq o ho = (
-        assign i.tag x e o,
+        action i.tag (assigns x e) o,
         (
           (i, is, refl, says),
           block_of_none y c true i.tag (Assign x e) held (λ k a. within k (in_one c y n r k a)) st.1 (i, is, refl, says) (λ may. may),

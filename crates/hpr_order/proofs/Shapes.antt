@@ -8,7 +8,9 @@ use Rattle.hpr_terms.specs.declared.tag.Tag.{Tag}
 use Rattle.hpr_syntax.specs.declared.rows.Row.{Row}
 use Rattle.hpr_syntax.specs.declared.rows.Content.{Content}
 use Rattle.hpr_syntax.specs.declared.rows.Content.TheVariants.{Assign, If, While}
-use Rattle.hpr_syntax.specs.Body.{Body, done, assign, branch, loop, part_count}
+use Rattle.hpr_syntax.specs.Action.{assigns}
+use Rattle.hpr_syntax.specs.Rows.{content_by}
+use Rattle.hpr_syntax.specs.Body.{Body, done, action, branch, loop, part_count}
 use Rattle.hpr_syntax.specs.Issued.{Issued, issued_to}
 use Rattle.hpr_syntax.specs.Parts.{same_tag, tags_of}
 use Rattle.hpr_syntax.specs.Proper.{IsProperBody, IsProperTag}
@@ -64,12 +66,12 @@ module _ (items : List Item) where
   pub parts_in : (t : Tree) (b : Body) (up : Parent) (i : ℕ) → IsBlockOf items t b
       → map (λ (row : Row). Part row.tag row.content) (rows_of up i b) ≡ map (vertex_of items) (preorder t)
   parts_in empty done up i h = refl
-  parts_in empty (assign t x e rest) up i h = absurd h
+  parts_in empty (action t d rest) up i h = absurd h
   parts_in empty (branch t e p q rest) up i h = absurd h
   parts_in empty (loop t e p rest) up i h = absurd h
   parts_in (node c y n r) done up i h = absurd h
-  parts_in (node c y n r) (assign t x e rest) up i h =
-      ap₂ (λ (v : Vertex) (vs : List Vertex). v ∷ vs) (sym (vertex_is items c t (Assign x e) h.0)) (parts_in r rest up (i + 1) h.3 ∙ only_rest (vertex_of items) y n r h.1 h.2)
+  parts_in (node c y n r) (action t d rest) up i h =
+      ap₂ (λ (v : Vertex) (vs : List Vertex). v ∷ vs) (sym (vertex_is items c t (content_by d) h.0)) (parts_in r rest up (i + 1) h.3 ∙ only_rest (vertex_of items) y n r h.1 h.2)
   parts_in (node c y n r) (branch t e p q rest) up i h =
       let f : Row → Vertex = λ row. Part row.tag row.content in
       let ps = rows_of (Some (t, true)) 0 p in
@@ -96,11 +98,11 @@ module _ (items : List Item) where
 
   pub count_in : (t : Tree) (b : Body) → IsBlockOf items t b → part_count b ≡ length (preorder t)
   count_in empty done h = refl
-  count_in empty (assign t x e rest) h = absurd h
+  count_in empty (action t d rest) h = absurd h
   count_in empty (branch t e p q rest) h = absurd h
   count_in empty (loop t e p rest) h = absurd h
   count_in (node c y n r) done h = absurd h
-  count_in (node c y n r) (assign t x e rest) h =
+  count_in (node c y n r) (action t d rest) h =
       omega (arith, count_in r rest h.3, ap length (none_of items y h.1), ap length (none_of items n h.2), length-append (preorder y) (preorder n ++ preorder r), length-append (preorder n) (preorder r))
   count_in (node c y n r) (branch t e p q rest) h =
       omega (arith, count_in y p h.1, count_in n q h.2, count_in r rest h.3, length-append (preorder y) (preorder n ++ preorder r), length-append (preorder n) (preorder r))
@@ -109,12 +111,12 @@ module _ (items : List Item) where
 
   pub tags_in : (t : Tree) (b : Body) (after : List Tag) → IsBlockOf items t b → tags_of b after ≡ map (tag_of items) (preorder t) ++ after
   tags_in empty done after h = refl
-  tags_in empty (assign t x e rest) after h = absurd h
+  tags_in empty (action t d rest) after h = absurd h
   tags_in empty (branch t e p q rest) after h = absurd h
   tags_in empty (loop t e p rest) after h = absurd h
   tags_in (node c y n r) done after h = absurd h
-  tags_in (node c y n r) (assign t x e rest) after h =
-      ap₂ (λ (u : Tag) (us : List Tag). u ∷ us) (sym (tag_is items c t (Assign x e) h.0))
+  tags_in (node c y n r) (action t d rest) after h =
+      ap₂ (λ (u : Tag) (us : List Tag). u ∷ us) (sym (tag_is items c t (content_by d) h.0))
       (tags_in r rest after h.3 ∙ ap (λ z. z ++ after) (only_rest (tag_of items) y n r h.1 h.2))
   tags_in (node c y n r) (branch t e p q rest) after h =
       let g = tag_of items in
@@ -143,11 +145,11 @@ module _ (items : List Item) where
 
   pub proper_in : (t : Tree) (b : Body) → All IsProperItem items → IsBlockOf items t b → IsProperBody b
   proper_in empty done all h = tt
-  proper_in empty (assign t x e rest) all h = absurd h
+  proper_in empty (action t d rest) all h = absurd h
   proper_in empty (branch t e p q rest) all h = absurd h
   proper_in empty (loop t e p rest) all h = absurd h
   proper_in (node c y n r) done all h = absurd h
-  proper_in (node c y n r) (assign t x e rest) all h =
+  proper_in (node c y n r) (action t (assigns x e) rest) all h =
       (let i = proper_item c t (Assign x e) all h.0 in (i.0, i.1.0, i.1.1, proper_in r rest all h.3))
   proper_in (node c y n r) (branch t e p q rest) all h =
       (let i = proper_item c t (If e) all h.0 in (i.0, i.1, proper_in y p all h.1, proper_in n q all h.2, proper_in r rest all h.3))
@@ -169,11 +171,11 @@ module _ (items : List Item) where
 
   pub small_in : (t : Tree) (b : Body) → ((k : ℕ) (u : Tag) (c : Content) → IsItem items k u c → is_large (expr_in c) ≡ false) → IsBlockOf items t b → first_large b ≡ None
   small_in empty done all h = refl
-  small_in empty (assign t x e rest) all h = absurd h
+  small_in empty (action t d rest) all h = absurd h
   small_in empty (branch t e p q rest) all h = absurd h
   small_in empty (loop t e p rest) all h = absurd h
   small_in (node c y n r) done all h = absurd h
-  small_in (node c y n r) (assign t x e rest) all h = small_if (is_large e) t (first_large rest) (all c t (Assign x e) h.0) (small_in r rest all h.3)
+  small_in (node c y n r) (action t (assigns x e) rest) all h = small_if (is_large e) t (first_large rest) (all c t (Assign x e) h.0) (small_in r rest all h.3)
   small_in (node c y n r) (branch t e p q rest) all h =
       small_if (is_large e) t _ (all c t (If e) h.0) (none_or _ _ (small_in y p all h.1) (none_or _ _ (small_in n q all h.2) (small_in r rest all h.3)))
   small_in (node c y n r) (loop t e p rest) all h =
@@ -190,7 +192,7 @@ module _ (items : List Item) where
       → is_large (expr_in d) ≡ false
   in_small empty b k u d small h a i = absurd (in_none k a)
   in_small (node c y n r) done k u d small h a i = absurd h
-  in_small (node c y n r) (assign t x e rest) k u d small h a i =
+  in_small (node c y n r) (action t (assigns x e) rest) k u d small h a i =
       let (now, later) = if_small (is_large e) t (first_large rest) small in
       elim (in_which c y n r k a) [
         | inl is ↦ small_at c k t u (Assign x e) d is h.0 i now
@@ -291,17 +293,17 @@ module _ (slot : ℕ → Slot) where
   pub shallow_in : (items : List Item) (n d : ℕ) (t : Tree) (b : Body) (v : Slot) → n + d ≡ 64 → IsFar d v → StandsIn slot v t → IsBlockOf items t b
       → ((k : ℕ) → Contains (preorder t) k → IsSome (level_in slot 63 (slot k))) → first_deep n b ≡ None
   shallow_in items n d empty done v sum far st h all = refl
-  shallow_in items n d empty (assign t x e rest) v sum far st h all = absurd h
+  shallow_in items n d empty (action t action_ rest) v sum far st h all = absurd h
   shallow_in items n d empty (branch t e p q rest) v sum far st h all = absurd h
   shallow_in items n d empty (loop t e p rest) v sum far st h all = absurd h
   shallow_in items n d (node c y m r) done v sum far st h all = absurd h
-  shallow_in items zero d (node c y m r) (assign t x e rest) v sum far st h all =
+  shallow_in items zero d (node c y m r) (action t action_ rest) v sum far st h all =
       absurd (let le : d ≤ 63 = in_reach 63 d v far (subst (λ z. IsSome (level_in slot 63 z)) st.0 (all c (in_first c (preorder y ++ (preorder m ++ preorder r))))) in omega arith)
   shallow_in items zero d (node c y m r) (branch t e p q rest) v sum far st h all =
       absurd (let le : d ≤ 63 = in_reach 63 d v far (subst (λ z. IsSome (level_in slot 63 z)) st.0 (all c (in_first c (preorder y ++ (preorder m ++ preorder r))))) in omega arith)
   shallow_in items zero d (node c y m r) (loop t e p rest) v sum far st h all =
       absurd (let le : d ≤ 63 = in_reach 63 d v far (subst (λ z. IsSome (level_in slot 63 z)) st.0 (all c (in_first c (preorder y ++ (preorder m ++ preorder r))))) in omega arith)
-  shallow_in items (suc n) d (node c y m r) (assign t x e rest) v sum far st h all =
+  shallow_in items (suc n) d (node c y m r) (action t action_ rest) v sum far st h all =
       shallow_in items (suc n) d r rest v sum far st.3 h.3 (λ k a. all k (in_three c y m r k a))
   shallow_in items (suc n) d (node c y m r) (branch t e p q rest) v sum far st h all =
       none_or' (first_deep n p) (option_or (first_deep n q) (first_deep (suc n) rest))
@@ -321,10 +323,10 @@ module _ (slot : ℕ → Slot) where
       → first_deep n b ≡ None → Contains (preorder t) k → IsSome (level_in slot 63 (slot k))
   in_shallow items n d empty b v k sum far st h none a = absurd (in_none k a)
   in_shallow items n d (node c y m r) done v k sum far st h none a = absurd h
-  in_shallow items zero d (node c y m r) (assign t x e rest) v k sum far st h none a = absurd cc
+  in_shallow items zero d (node c y m r) (action t action_ rest) v k sum far st h none a = absurd cc
   in_shallow items zero d (node c y m r) (branch t e p q rest) v k sum far st h none a = absurd cc
   in_shallow items zero d (node c y m r) (loop t e p rest) v k sum far st h none a = absurd cc
-  in_shallow items (suc n) d (node c y m r) (assign t x e rest) v k sum far st h none a = elim (in_which c y m r k a) [
+  in_shallow items (suc n) d (node c y m r) (action t action_ rest) v k sum far st h none a = elim (in_which c y m r k a) [
     | inl is ↦ head_reached n d c k v sum far st.0 is
     | inr (inl one) ↦ absurd (none_there items y h.1 k one)
     | inr (inr (inl two)) ↦ absurd (none_there items m h.2 k two)

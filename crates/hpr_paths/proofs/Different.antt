@@ -1,7 +1,7 @@
 -- No tag stands twice in a program.
 use Rattle.std.proofs.Common.{◌≡◌, Bool, true, false, ◌||◌, List, [], ◌∷◌, Option, Some, None, refl, ap, sym, subst, inl, inr, eq-eqb}
 use Rattle.hpr_terms.specs.declared.tag.Tag.{Tag}
-use Rattle.hpr_syntax.specs.Body.{Body, done, assign, branch, loop}
+use Rattle.hpr_syntax.specs.Body.{Body, done, action, branch, loop}
 use Rattle.hpr_syntax.specs.Parts.{same_tag, tags_of}
 use Rattle.std.specs.List.{list_any}
 use Rattle.hpr_syntax.specs.Tree.{Tree}
@@ -80,7 +80,7 @@ part_at (round t b k) p (inr (inr h)) = part_at k p h
 
 pub are_new : (B : Body) (seen after : List Tag) → first_repeated same_tag seen (tags_of B after) ≡ None → AreNew (skeleton B) seen after
 are_new done seen after e = (tt, (λ t i. absurd i), (seen, e, (λ t s. s), (λ t i. absurd i)))
-are_new (assign t x e rest) seen after q =
+are_new (action t action_ rest) seen after q =
     let n = if_none (is_seen t seen) t (first_repeated same_tag (t ∷ seen) (tags_of rest after)) q in
     let r = are_new rest (t ∷ seen) after n.1 in (
       (stays_out (skeleton rest) (t ∷ seen) t r.1 (seen_itself t seen), r.0),

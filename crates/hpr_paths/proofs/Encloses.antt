@@ -6,7 +6,8 @@ use Rattle.std.proofs.lemmas.Option.{same_Some}
 use Rattle.std.proofs.lemmas.List.Elements.{Contains-append_left, Contains-append_right, Contains-append_cases}
 use Rattle.hpr_terms.specs.declared.tag.Tag.{Tag}
 use Rattle.hpr_terms.specs.declared.expr.Expr.{Expr}
-use Rattle.hpr_syntax.specs.Body.{Body, done, assign, branch, loop, part_count}
+use Rattle.hpr_syntax.specs.Action.{assigns}
+use Rattle.hpr_syntax.specs.Body.{Body, done, action, branch, loop, part_count}
 use Rattle.hpr_syntax.specs.Tree.{Tree}
 use Rattle.hpr_syntax.specs.Skeleton.{Point, skeleton, at, StandsIn}
 use Rattle.hpr_syntax.specs.Places.{EnclosesBoth}
@@ -45,8 +46,8 @@ inside_range w n l hi hi' a b (inr c) = inr (omega (arith, c.0), omega (arith, c
 
 nest_range : (b : Body) (n : ℕ) (f : Step) (w : List ℕ) (p : ℕ) (s : Spot) (l : ℕ) → SpotIn b n f w p s → Contains s.nest l → Range w l n (n + part_count b)
 nest_range done n f w p s l h c = absurd h
-nest_range (assign t x e rest) n f w p s l (inl h) c = inl (nest_to s _ l h.1 c)
-nest_range (assign t x e rest) n f w p s l (inr h) c = widen w l (n + 1) (n + 1 + part_count rest) n _ (omega arith) (omega arith) (nest_range rest (n + 1) f w p s l h c)
+nest_range (action t d rest) n f w p s l (inl h) c = inl (nest_to s _ l h.1 c)
+nest_range (action t d rest) n f w p s l (inr h) c = widen w l (n + 1) (n + 1 + part_count rest) n _ (omega arith) (omega arith) (nest_range rest (n + 1) f w p s l h c)
 nest_range (branch t e a b rest) n f w p s l (inl h) c = inl (nest_to s _ l h.1 c)
 nest_range (branch t e a b rest) n f w p s l (inr h) c =
     let no : ℕ = n + 1 + part_count a in
@@ -76,8 +77,8 @@ apart w l lo hi lo' hi' out le (inr c) (inr d) = absurd (omega (arith, c.1, d.0)
 
 pub stands : (b : Body) (n : ℕ) (f : Step) (w : List ℕ) (p : ℕ) (s : Spot) → SpotIn b n f w p s → StandsIn (skeleton b) (point_of s.role)
 stands done n f w p s h = absurd h
-stands (assign t x e rest) n f w p s (inl h) = inl (ap (λ (q : Spot). point_of q.role) h.1)
-stands (assign t x e rest) n f w p s (inr h) = inr (stands rest (n + 1) f w p s h)
+stands (action t d rest) n f w p s (inl h) = inl (ap (λ (q : Spot). point_of q.role) h.1)
+stands (action t d rest) n f w p s (inr h) = inr (stands rest (n + 1) f w p s h)
 stands (branch t e a b rest) n f w p s (inl h) = inl (ap (λ (q : Spot). point_of q.role) h.1)
 stands (branch t e a b rest) n f w p s (inr h) =
     let no : ℕ = n + 1 + part_count a in
@@ -102,9 +103,9 @@ head_point s q is = ap (λ (x : Spot). point_of x.role) is
 pub encloses_of_nests : (S : List Spot) (b : Body) (n : ℕ) (f : Step) (w : List ℕ) (p q : ℕ) (s u : Spot) (l : ℕ) (v : Tag) → Holds S b n f w → (Contains w l → ⊥) → SpotIn b n f w p s → SpotIn b n f w q u → Contains s.nest l → Contains u.nest l → tag_at S l ≡ Some v
     → EnclosesBoth (skeleton b) (point_of s.role) (point_of u.role) v
 encloses_of_nests S done n f w p q s u l v holds out h k c d tag = absurd h
-encloses_of_nests S (assign t x e rest) n f w p q s u l v holds out (inl h) k c d tag = absurd (out (nest_to s _ l h.1 c))
-encloses_of_nests S (assign t x e rest) n f w p q s u l v holds out (inr h) (inl k) c d tag = absurd (out (nest_to u _ l k.1 d))
-encloses_of_nests S (assign t x e rest) n f w p q s u l v holds out (inr h) (inr k) c d tag =
+encloses_of_nests S (action t action_ rest) n f w p q s u l v holds out (inl h) k c d tag = absurd (out (nest_to s _ l h.1 c))
+encloses_of_nests S (action t action_ rest) n f w p q s u l v holds out (inr h) (inl k) c d tag = absurd (out (nest_to u _ l k.1 d))
+encloses_of_nests S (action t action_ rest) n f w p q s u l v holds out (inr h) (inr k) c d tag =
     encloses_of_nests S rest (n + 1) f w p q s u l v (λ p s i. holds p s (inr i)) out h k c d tag
 encloses_of_nests S (branch t e a b rest) n f w p q s u l v holds out (inl h) k c d tag = absurd (out (nest_to s _ l h.1 c))
 encloses_of_nests S (branch t e a b rest) n f w p q s u l v holds out (inr h) (inl k) c d tag = absurd (out (nest_to u _ l k.1 d))
@@ -190,8 +191,8 @@ Share S v _ s _ o = (l : ℕ) × Contains s.nest l × Contains o.nest l × (tag_
 
 outer_in : (b : Body) (n : ℕ) (f : Step) (w : List ℕ) (p : ℕ) (s : Spot) (l : ℕ) → SpotIn b n f w p s → Contains w l → Contains s.nest l
 outer_in done n f w p s l h c = absurd h
-outer_in (assign t x e rest) n f w p s l (inl h) c = nest_to _ s l (sym h.1) c
-outer_in (assign t x e rest) n f w p s l (inr h) c = outer_in rest (n + 1) f w p s l h c
+outer_in (action t d rest) n f w p s l (inl h) c = nest_to _ s l (sym h.1) c
+outer_in (action t d rest) n f w p s l (inr h) c = outer_in rest (n + 1) f w p s l h c
 outer_in (branch t e a b rest) n f w p s l (inl h) c = nest_to _ s l (sym h.1) c
 outer_in (branch t e a b rest) n f w p s l (inr h) c =
     let no : ℕ = n + 1 + part_count a in
@@ -210,8 +211,8 @@ outer_in (loop t e b rest) n f w p s l (inr h) c =
 
 pub spot_standing : (b : Body) (n : ℕ) (f : Step) (w : List ℕ) (a : Point) → StandsIn (skeleton b) a → (p : ℕ) × (s : Spot) × SpotIn b n f w p s × (a ≡ point_of s.role)
 spot_standing done n f w a h = absurd h
-spot_standing (assign t x e rest) n f w a (inl h) = (n, _, inl (refl, refl), h)
-spot_standing (assign t x e rest) n f w a (inr h) = let k = spot_standing rest (n + 1) f w a h in (k.0, k.1, inr k.2, k.3)
+spot_standing (action t d rest) n f w a (inl h) = (n, _, inl (refl, refl), h)
+spot_standing (action t d rest) n f w a (inr h) = let k = spot_standing rest (n + 1) f w a h in (k.0, k.1, inr k.2, k.3)
 spot_standing (branch t e b c rest) n f w a (inl h) = (n, _, inl (refl, refl), h)
 spot_standing (branch t e b c rest) n f w a (inr h) =
     let no : ℕ = n + 1 + part_count b in
@@ -241,8 +242,8 @@ in_loop t e b rest n f w a (inr h) =
 
 pub nests_of_encloses : (S : List Spot) (b : Body) (n : ℕ) (f : Step) (w : List ℕ) (d u : Point) (v : Tag) → Holds S b n f w → EnclosesBoth (skeleton b) d u v → TwoIn at_spot (Share S v) (SpotIn b n f w) d u
 nests_of_encloses S done n f w d u v holds h = absurd h
-nests_of_encloses S (assign t x e rest) n f w d u v holds h =
-    wider at_spot (Share S v) (SpotIn rest (n + 1) f w) (SpotIn (assign t x e rest) n f w) d u (λ p s i. inr i) (nests_of_encloses S rest (n + 1) f w d u v (λ p s i. holds p s (inr i)) h)
+nests_of_encloses S (action t (assigns x e) rest) n f w d u v holds h =
+    wider at_spot (Share S v) (SpotIn rest (n + 1) f w) (SpotIn (action t (assigns x e) rest) n f w) d u (λ p s i. inr i) (nests_of_encloses S rest (n + 1) f w d u v (λ p s i. holds p s (inr i)) h)
 nests_of_encloses S (branch t e a b rest) n f w d u v holds h =
     let no : ℕ = n + 1 + part_count a in
     let next : ℕ = no + part_count b in

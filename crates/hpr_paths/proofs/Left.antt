@@ -2,7 +2,8 @@
 use Rattle.std.proofs.Common.{◌≡◌, ◌<◌, ◌≤◌, ◌+◌, ℕ, inl, inr, Some, List, [], ◌∷◌, ◌++◌, refl, sym, ap, ◌∙◌, subst, arith}
 use Rattle.std.specs.List.{slice_get}
 use Rattle.hpr_terms.specs.declared.tag.Tag.{Tag}
-use Rattle.hpr_syntax.specs.Body.{Body, done, assign, branch, loop, part_count}
+use Rattle.hpr_syntax.specs.Action.{assigns}
+use Rattle.hpr_syntax.specs.Body.{Body, done, action, branch, loop, part_count}
 use Rattle.hpr_syntax.specs.Tree.{Tree}
 use Rattle.hpr_syntax.specs.Skeleton.{Point, skeleton, enter, exit, at}
 use Rattle.hpr_syntax.specs.Places.{StandsLeft}
@@ -29,10 +30,10 @@ behind p q lo hi lo' hi' l le a b = absurd (omega (arith, a.0, b.1))
 
 pub left_of_numbers : (b : Body) (n : ℕ) (f : Step) (w : List ℕ) (p q : ℕ) (s u : Spot) → SpotIn b n f w p s → SpotIn b n f w q u → p < q → StandsLeft (skeleton b) (point_of s.role) (point_of u.role)
 left_of_numbers done n f w p q s u h k l = absurd h
-left_of_numbers (assign t x e rest) n f w p q s u (inl h) (inl k) l = absurd (omega (arith, h.0, k.0))
-left_of_numbers (assign t x e rest) n f w p q s u (inl h) (inr k) l = inl (head_point s _ h.1, stands rest (n + 1) f w q u k)
-left_of_numbers (assign t x e rest) n f w p q s u (inr h) (inl k) l = absurd (omega (arith, (spot_range rest (n + 1) f w p s h).0, k.0))
-left_of_numbers (assign t x e rest) n f w p q s u (inr h) (inr k) l = inr (left_of_numbers rest (n + 1) f w p q s u h k l)
+left_of_numbers (action t d rest) n f w p q s u (inl h) (inl k) l = absurd (omega (arith, h.0, k.0))
+left_of_numbers (action t d rest) n f w p q s u (inl h) (inr k) l = inl (head_point s _ h.1, stands rest (n + 1) f w q u k)
+left_of_numbers (action t d rest) n f w p q s u (inr h) (inl k) l = absurd (omega (arith, (spot_range rest (n + 1) f w p s h).0, k.0))
+left_of_numbers (action t d rest) n f w p q s u (inr h) (inr k) l = inr (left_of_numbers rest (n + 1) f w p q s u h k l)
 left_of_numbers (branch t e a b rest) n f w p q s u (inl h) (inl k) l = absurd (omega (arith, h.0, k.0))
 left_of_numbers (branch t e a b rest) n f w p q s u (inl h) (inr k) l =
     let no : ℕ = n + 1 + part_count a in
@@ -145,9 +146,9 @@ led In d u s c n m g v first point two le y = record {
 
 pub numbers_of_left : (b : Body) (n : ℕ) (f : Step) (w : List ℕ) (d u : Point) → StandsLeft (skeleton b) d u → InOrder (SpotIn b n f w) d u
 numbers_of_left done n f w d u h = absurd h
-numbers_of_left (assign t x e rest) n f w d u (inl h) =
-    led (SpotIn (assign t x e rest) n f w) d u _ rest n (n + 1) f w (inl (refl, refl)) h.0 (λ p s i. inr i) (omega arith) (spot_standing rest (n + 1) f w u h.1)
-numbers_of_left (assign t x e rest) n f w d u (inr h) = wider at_spot Before (SpotIn rest (n + 1) f w) (SpotIn (assign t x e rest) n f w) d u (λ p s i. inr i) (numbers_of_left rest (n + 1) f w d u h)
+numbers_of_left (action t (assigns x e) rest) n f w d u (inl h) =
+    led (SpotIn (action t (assigns x e) rest) n f w) d u _ rest n (n + 1) f w (inl (refl, refl)) h.0 (λ p s i. inr i) (omega arith) (spot_standing rest (n + 1) f w u h.1)
+numbers_of_left (action t (assigns x e) rest) n f w d u (inr h) = wider at_spot Before (SpotIn rest (n + 1) f w) (SpotIn (action t (assigns x e) rest) n f w) d u (λ p s i. inr i) (numbers_of_left rest (n + 1) f w d u h)
 numbers_of_left (branch t e a b rest) n f w d u (inl h) =
     let no : ℕ = n + 1 + part_count a in
     let next : ℕ = no + part_count b in

@@ -10,7 +10,9 @@ use Rattle.std.proofs.lemmas.Option.{same_Some}
 use Rattle.hpr_terms.specs.declared.tag.Tag.{Tag}
 use Rattle.hpr_terms.specs.declared.expr.Expr.{Expr}
 use Rattle.hpr_syntax.specs.declared.rows.Content.TheVariants.{Assign, If, While}
-use Rattle.hpr_syntax.specs.Body.{Body, done, assign, branch, loop, part_count}
+use Rattle.hpr_syntax.specs.Action.{assigns}
+use Rattle.hpr_syntax.specs.Rows.{content_by}
+use Rattle.hpr_syntax.specs.Body.{Body, done, action, branch, loop, part_count}
 use Rattle.hpr_syntax.specs.Skeleton.{Point, skeleton, at}
 use Rattle.hpr_syntax.specs.Pairs.{Next, first_of, FollowsIn}
 use Rattle.hpr_paths.specs.declared.spot.Step.{Step}
@@ -43,7 +45,7 @@ names_again S n t e h = (part t (While e), h, ap (λ (m : Option Tag). (at t, m)
 -- a block begins at its first part, or at what follows it
 pub first_names : (S : List Spot) (b : Body) (n : ℕ) (f : Step) (w : List ℕ) (z : Next) → Holds S b n f w → Names S f z → Names S (first_step b n f) (first_of (skeleton b) z)
 first_names S done n f w z holds h = h
-first_names S (assign t x e rest) n f w z holds h = (part t (Assign x e), role_of_get S n _ (holds n _ (inl (refl, refl))), refl)
+first_names S (action t d rest) n f w z holds h = (part t (content_by d), role_of_get S n _ (holds n _ (inl (refl, refl))), refl)
 first_names S (branch t e a b rest) n f w z holds h = (part t (If e), role_of_get S n _ (holds n _ (inl (refl, refl))), refl)
 first_names S (loop t e b rest) n f w z holds h = (part t (While e), role_of_get S n _ (holds n _ (inl (refl, refl))), refl)
 
@@ -59,9 +61,9 @@ from_spot s q st is h = let P : Spot → Type 0 = λ x. Contains x.next st in su
 
 pub follows_of_step : (S : List Spot) (b : Body) (n : ℕ) (f : Step) (w : List ℕ) (z : Next) (p : ℕ) (s : Spot) (st : Step) (y : Next) → Holds S b n f w → Names S f z → SpotIn b n f w p s → Contains s.next st → Names S st y → FollowsIn (skeleton b) z (point_of s.role) y.0 y.1
 follows_of_step S done n f w z p s st y holds hf h c hy = absurd h
-follows_of_step S (assign t x e rest) n f w z p s st y holds hf (inl h) c hy =
+follows_of_step S (action t d rest) n f w z p s st y holds hf (inl h) c hy =
     inl (ap (λ (q : Spot). point_of q.role) h.1, taken S st _ y _ (contains_one _ st (from_spot s _ st h.1 c)) hy (first_names S rest (n + 1) f w z (λ p s i. holds p s (inr i)) hf))
-follows_of_step S (assign t x e rest) n f w z p s st y holds hf (inr h) c hy =
+follows_of_step S (action t d rest) n f w z p s st y holds hf (inr h) c hy =
     inr (follows_of_step S rest (n + 1) f w z p s st y (λ p s i. holds p s (inr i)) hf h c hy)
 follows_of_step S (branch t e a b rest) n f w z p s st y holds hf (inl h) c hy =
     let no : ℕ = n + 1 + part_count a in
@@ -124,18 +126,18 @@ renamed S st y z is h = (h.0, h.1, is ∙ h.2)
 
 pub step_of_follows : (S : List Spot) (b : Body) (n : ℕ) (f : Step) (w : List ℕ) (z : Next) (a : Point) (y : Point) (m : Option Tag) → Holds S b n f w → Names S f z → FollowsIn (skeleton b) z a y m → StepOf S (SpotIn b n f w) a (y, m)
 step_of_follows S done n f w z a y m holds hf h = absurd h
-step_of_follows S (assign t x e rest) n f w z a y m holds hf (inl h) =
+step_of_follows S (action t d rest) n f w z a y m holds hf (inl h) =
     record {
       from = n;
-      spot = spot_of (first_step rest (n + 1) f ∷ []) w (part t (Assign x e));
+      spot = spot_of (first_step rest (n + 1) f ∷ []) w (part t (content_by d));
       step = first_step rest (n + 1) f;
       stands = inl (refl, refl);
       point = h.0;
       there = has_one (first_step rest (n + 1) f);
       named = renamed S (first_step rest (n + 1) f) (y, m) (first_of (skeleton rest) z) h.1 (first_names S rest (n + 1) f w z (λ p s i. holds p s (inr i)) hf);
     }
-step_of_follows S (assign t x e rest) n f w z a y m holds hf (inr h) =
-    wider S (SpotIn rest (n + 1) f w) (SpotIn (assign t x e rest) n f w) a (y, m) (λ p s i. inr i) (step_of_follows S rest (n + 1) f w z a y m (λ p s i. holds p s (inr i)) hf h)
+step_of_follows S (action t (assigns x e) rest) n f w z a y m holds hf (inr h) =
+    wider S (SpotIn rest (n + 1) f w) (SpotIn (action t (assigns x e) rest) n f w) a (y, m) (λ p s i. inr i) (step_of_follows S rest (n + 1) f w z a y m (λ p s i. holds p s (inr i)) hf h)
 step_of_follows S (branch t e b c rest) n f w z a y m holds hf (inl h) =
     let no : ℕ = n + 1 + part_count b in
     let next : ℕ = no + part_count c in
@@ -218,10 +220,10 @@ step_of_follows S (loop t e b rest) n f w z a y m holds hf (inr h) =
 -- each step that a point has leads to some point
 pub step_named : (S : List Spot) (b : Body) (n : ℕ) (f : Step) (w : List ℕ) (z : Next) (p : ℕ) (s : Spot) (st : Step) → Holds S b n f w → Names S f z → SpotIn b n f w p s → Contains s.next st → (y : Next) × Names S st y
 step_named S done n f w z p s st holds hf h c = absurd h
-step_named S (assign t x e rest) n f w z p s st holds hf (inl h) c =
+step_named S (action t d rest) n f w z p s st holds hf (inl h) c =
     let P : Step → Type 0 = λ q. (y : Next) × Names S q y in
     subst P (sym (contains_one _ st (from_spot s _ st h.1 c))) (first_of (skeleton rest) z, first_names S rest (n + 1) f w z (λ p s i. holds p s (inr i)) hf)
-step_named S (assign t x e rest) n f w z p s st holds hf (inr h) c =
+step_named S (action t d rest) n f w z p s st holds hf (inr h) c =
     step_named S rest (n + 1) f w z p s st (λ p s i. holds p s (inr i)) hf h c
 step_named S (branch t e a b rest) n f w z p s st holds hf (inl h) c =
     let P : Step → Type 0 = λ q. (y : Next) × Names S q y in

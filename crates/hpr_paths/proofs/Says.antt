@@ -4,7 +4,7 @@ use Rattle.hpr_terms.specs.declared.tag.Tag.{Tag}
 use Rattle.hpr_syntax.specs.declared.rows.Content.{Content}
 use Rattle.hpr_syntax.specs.declared.rows.Content.TheVariants.{Assign, If, While}
 use Rattle.hpr_syntax.specs.Rows.{Parent, assigned}
-use Rattle.hpr_syntax.specs.Body.{Body, done, assign, branch, loop}
+use Rattle.hpr_syntax.specs.Body.{Body, done, action, branch, loop}
 use Rattle.hpr_syntax.specs.Skeleton.{at, StandsIn, Apart, Distinct, skeleton}
 use Rattle.hpr_syntax.specs.Nests.{Standing, StandsAs, Says}
 use Rattle.hpr_syntax.specs.Paths.{DefinesAt}
@@ -13,8 +13,8 @@ use Rattle.hpr_paths.proofs.DirectWays.{OnlyActsStop}
 
 pub standing_in : (B : Body) (nest : List Tag) (up : Parent) (v : Tag) (r : Standing) → StandsAs nest up B v r → StandsIn (skeleton B) (at v)
 standing_in done nest up v r h = h
-standing_in (assign t x e rest) nest up v r (inl h) = inl (ap at h.0)
-standing_in (assign t x e rest) nest up v r (inr h) = inr (standing_in rest nest up v r h)
+standing_in (action t d rest) nest up v r (inl h) = inl (ap at h.0)
+standing_in (action t d rest) nest up v r (inr h) = inr (standing_in rest nest up v r h)
 standing_in (branch t e a b rest) nest up v r (inl h) = inl (ap at h.0)
 standing_in (branch t e a b rest) nest up v r (inr (inl h)) = inr (inl (standing_in a nest (Some (t, true)) v r h))
 standing_in (branch t e a b rest) nest up v r (inr (inr (inl h))) = inr (inr (inl (standing_in b nest (Some (t, false)) v r h)))
@@ -25,8 +25,8 @@ standing_in (loop t e b rest) nest up v r (inr (inr h)) = inr (inr (standing_in 
 
 pub says_stands : (B : Body) (t : Tag) (c : Content) → Says B t c → StandsIn (skeleton B) (at t)
 says_stands done t c h = h
-says_stands (assign u x e k) t c (inl h) = inl (ap at h.0)
-says_stands (assign u x e k) t c (inr h) = inr (says_stands k t c h)
+says_stands (action u d k) t c (inl h) = inl (ap at h.0)
+says_stands (action u d k) t c (inr h) = inr (says_stands k t c h)
 says_stands (branch u e a b k) t c (inl h) = inl (ap at h.0)
 says_stands (branch u e a b k) t c (inr (inl h)) = inr (inl (says_stands a t c h))
 says_stands (branch u e a b k) t c (inr (inr (inl h))) = inr (inr (inl (says_stands b t c h)))
@@ -43,10 +43,10 @@ says_apart B C t c d f h g = absurd (f (at t) (says_stands B t c h) (says_stands
 
 pub says_one : (B : Body) → Distinct (skeleton B) → (t : Tag) (c d : Content) → Says B t c → Says B t d → c ≡ d
 says_one done di t c d h g = absurd h
-says_one (assign u x e k) di t c d (inl h) (inl g) = h.1 ∙ sym g.1
-says_one (assign u x e k) di t c d (inl h) (inr g) = says_not k u t d di.0 h.0 g
-says_one (assign u x e k) di t c d (inr h) (inl g) = says_not k u t c di.0 g.0 h
-says_one (assign u x e k) di t c d (inr h) (inr g) = says_one k di.1 t c d h g
+says_one (action u action_ k) di t c d (inl h) (inl g) = h.1 ∙ sym g.1
+says_one (action u action_ k) di t c d (inl h) (inr g) = says_not k u t d di.0 h.0 g
+says_one (action u action_ k) di t c d (inr h) (inl g) = says_not k u t c di.0 g.0 h
+says_one (action u action_ k) di t c d (inr h) (inr g) = says_one k di.1 t c d h g
 says_one (branch u e a b k) di t c d (inl h) (inl g) = h.1 ∙ sym g.1
 says_one (branch u e a b k) di t c d (inl h) (inr (inl g)) = says_not a u t d di.0 h.0 g
 says_one (branch u e a b k) di t c d (inl h) (inr (inr (inl g))) = says_not b u t d di.1 h.0 g
@@ -81,10 +81,10 @@ standing_apart B C nb nc ub uc t r q f h g = absurd (f (at t) (standing_in B nb 
 
 pub standing_one : (B : Body) (nest : List Tag) (up : Parent) → Distinct (skeleton B) → (t : Tag) (c d : Standing) → StandsAs nest up B t c → StandsAs nest up B t d → c ≡ d
 standing_one done nest up di t c d h g = absurd h
-standing_one (assign u x e k) nest up di t c d (inl h) (inl g) = h.1 ∙ sym g.1
-standing_one (assign u x e k) nest up di t c d (inl h) (inr g) = standing_not k nest up u t d di.0 h.0 g
-standing_one (assign u x e k) nest up di t c d (inr h) (inl g) = standing_not k nest up u t c di.0 g.0 h
-standing_one (assign u x e k) nest up di t c d (inr h) (inr g) = standing_one k nest up di.1 t c d h g
+standing_one (action u action_ k) nest up di t c d (inl h) (inl g) = h.1 ∙ sym g.1
+standing_one (action u action_ k) nest up di t c d (inl h) (inr g) = standing_not k nest up u t d di.0 h.0 g
+standing_one (action u action_ k) nest up di t c d (inr h) (inl g) = standing_not k nest up u t c di.0 g.0 h
+standing_one (action u action_ k) nest up di t c d (inr h) (inr g) = standing_one k nest up di.1 t c d h g
 standing_one (branch u e a b k) nest up di t c d (inl h) (inl g) = h.1 ∙ sym g.1
 standing_one (branch u e a b k) nest up di t c d (inl h) (inr (inl g)) = standing_not a nest (Some (u, true)) u t d di.0 h.0 g
 standing_one (branch u e a b k) nest up di t c d (inl h) (inr (inr (inl g))) = standing_not b nest (Some (u, false)) u t d di.1 h.0 g
@@ -114,8 +114,8 @@ standing_one (loop u e b k) nest up di t c d (inr (inr h)) (inr (inr g)) = stand
 -- a part says what its standing says
 pub says_of_standing : (B : Body) (nest : List Tag) (up : Parent) (t : Tag) (r : Standing) → StandsAs nest up B t r → Says B t r.content
 says_of_standing done nest up t r h = h
-says_of_standing (assign u x e k) nest up t r (inl h) = inl (h.0, ap (λ (q : Standing). q.content) h.1)
-says_of_standing (assign u x e k) nest up t r (inr h) = inr (says_of_standing k nest up t r h)
+says_of_standing (action u d k) nest up t r (inl h) = inl (h.0, ap (λ (q : Standing). q.content) h.1)
+says_of_standing (action u d k) nest up t r (inr h) = inr (says_of_standing k nest up t r h)
 says_of_standing (branch u e a b k) nest up t r (inl h) = inl (h.0, ap (λ (q : Standing). q.content) h.1)
 says_of_standing (branch u e a b k) nest up t r (inr (inl h)) = inr (inl (says_of_standing a nest (Some (u, true)) t r h))
 says_of_standing (branch u e a b k) nest up t r (inr (inr (inl h))) = inr (inr (inl (says_of_standing b nest (Some (u, false)) t r h)))
@@ -126,8 +126,8 @@ says_of_standing (loop u e b k) nest up t r (inr (inr h)) = inr (inr (says_of_st
 
 pub standing_of_says : (B : Body) (nest : List Tag) (up : Parent) (t : Tag) (c : Content) → Says B t c → (r : Standing) × StandsAs nest up B t r × (r.content ≡ c)
 standing_of_says done nest up t c h = absurd h
-standing_of_says (assign u x e k) nest up t c (inl h) = (_, inl (h.0, refl), sym h.1)
-standing_of_says (assign u x e k) nest up t c (inr h) = let g = standing_of_says k nest up t c h in (g.0, inr g.1, g.2)
+standing_of_says (action u d k) nest up t c (inl h) = (_, inl (h.0, refl), sym h.1)
+standing_of_says (action u d k) nest up t c (inr h) = let g = standing_of_says k nest up t c h in (g.0, inr g.1, g.2)
 standing_of_says (branch u e a b k) nest up t c (inl h) = (_, inl (h.0, refl), sym h.1)
 standing_of_says (branch u e a b k) nest up t c (inr (inl h)) = let g = standing_of_says a nest (Some (u, true)) t c h in (g.0, inr (inl g.1), g.2)
 standing_of_says (branch u e a b k) nest up t c (inr (inr (inl h))) = let g = standing_of_says b nest (Some (u, false)) t c h in (g.0, inr (inr (inl g.1)), g.2)
@@ -146,7 +146,7 @@ module _ (p : Body) (di : Distinct (skeleton p)) (x : List ℕ) where
 
   pub only_acts_define : (B : Body) → ((t : Tag) (c : Content) → Says B t c → Says p t c) → OnlyActsStop (skeleton B) (DefinesAt p x)
   only_acts_define done inc = tt
-  only_acts_define (assign u y e k) inc = only_acts_define k (λ t c h. inc t c (inr h))
+  only_acts_define (action u d k) inc = only_acts_define k (λ t c h. inc t c (inr h))
   only_acts_define (branch u e a b k) inc = (
     (λ d. predicate_defines u (If e) (inc u (If e) (inl (refl, refl))) refl d),
     only_acts_define a (λ t c h. inc t c (inr (inl h))),

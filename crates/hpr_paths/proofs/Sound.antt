@@ -7,7 +7,7 @@ use Rattle.std.proofs.lemmas.List.{take-append-le, take_all}
 use Rattle.std.proofs.lemmas.List.Elements.{All-contains_itself, All-weaker}
 use Rattle.hpr_terms.specs.declared.tag.Tag.{Tag}
 use Rattle.hpr_syntax.specs.declared.rows.Content.{Content}
-use Rattle.hpr_syntax.specs.Body.{Body, done, assign, branch, loop, part_count}
+use Rattle.hpr_syntax.specs.Body.{Body, done, action, branch, loop, part_count}
 use Rattle.hpr_syntax.specs.Tree.{Tree}
 use Rattle.hpr_paths.specs.declared.spot.Step.{Step}
 use Rattle.hpr_paths.specs.Spots.{part, Spot, tag_of, loops_of, tag_at, next_at, nest_at, IsLoopAt}
@@ -44,8 +44,8 @@ at_loop S t e b rest n f w holds chain =
 
 pub nest_chained : (S : List Spot) (b : Body) (n : ℕ) (f : Step) (w : List ℕ) (p : ℕ) (s : Spot) → Holds S b n f w → Chained S w → SpotIn b n f w p s → Chained S s.nest
 nest_chained S done n f w p s holds chain h = absurd h
-nest_chained S (assign t x e rest) n f w p s holds chain (inl h) = let P : Spot → Type 0 = λ q. Chained S q.nest in subst P (sym h.1) chain
-nest_chained S (assign t x e rest) n f w p s holds chain (inr h) = nest_chained S rest (n + 1) f w p s (λ p s i. holds p s (inr i)) chain h
+nest_chained S (action t d rest) n f w p s holds chain (inl h) = let P : Spot → Type 0 = λ q. Chained S q.nest in subst P (sym h.1) chain
+nest_chained S (action t d rest) n f w p s holds chain (inr h) = nest_chained S rest (n + 1) f w p s (λ p s i. holds p s (inr i)) chain h
 nest_chained S (branch t e a b rest) n f w p s holds chain (inl h) = let P : Spot → Type 0 = λ q. Chained S q.nest in subst P (sym h.1) chain
 nest_chained S (branch t e a b rest) n f w p s holds chain (inr h) =
     let no : ℕ = n + 1 + part_count a in
@@ -85,8 +85,8 @@ chained_at t p = elim (slice_get (spots t) p) as (λ o. slice_get (spots t) p �
 -- a part of a block: its role and its number
 pub part_in : (b : Body) (n : ℕ) (f : Step) (w : List ℕ) (p : ℕ) (s : Spot) → SpotIn b n f w p s → (t : Tag) × (c : Content) × (s.role ≡ part t c)
 part_in done n f w p s h = absurd h
-part_in (assign t x e rest) n f w p s (inl h) = (t, _, ap (λ (q : Spot). q.role) h.1)
-part_in (assign t x e rest) n f w p s (inr h) = part_in rest (n + 1) f w p s h
+part_in (action t d rest) n f w p s (inl h) = (t, _, ap (λ (q : Spot). q.role) h.1)
+part_in (action t d rest) n f w p s (inr h) = part_in rest (n + 1) f w p s h
 part_in (branch t e a b rest) n f w p s (inl h) = (t, _, ap (λ (q : Spot). q.role) h.1)
 part_in (branch t e a b rest) n f w p s (inr h) =
     let no : ℕ = n + 1 + part_count a in

@@ -7,7 +7,8 @@ use Rattle.std.proofs.Common.{◌≡◌, ◌≤◌, ◌+◌, ℕ, zero, suc, tru
 use Rattle.std.specs.List.{slice_get}
 use Rattle.std.proofs.lemmas.Option.{same_Some}
 use Rattle.hpr_syntax.specs.declared.rows.Content.TheVariants.{Assign, If, While}
-use Rattle.hpr_syntax.specs.Body.{Body, done, assign, branch, loop, part_count}
+use Rattle.hpr_syntax.specs.Rows.{content_by}
+use Rattle.hpr_syntax.specs.Body.{Body, done, action, branch, loop, part_count}
 use Rattle.hpr_syntax.specs.Tree.{Tree}
 use Rattle.hpr_paths.specs.declared.spot.Step.{Step}
 use Rattle.hpr_paths.specs.Spots.{enter, part, exit, Spot}
@@ -50,7 +51,7 @@ has_of_get (x ∷ xs) n p (suc k) s e h = inr (has_of_get xs (n + 1) p k s (omeg
 
 pub count_spots : (b : Body) (n : ℕ) (f : Step) (w : List ℕ) → length (spots_of b n f w) ≡ part_count b
 count_spots done n f w = refl
-count_spots (assign t x e rest) n f w = omega (arith, count_spots rest (n + 1) f w)
+count_spots (action t d rest) n f w = omega (arith, count_spots rest (n + 1) f w)
 count_spots (branch t e a b rest) n f w =
     let no : ℕ = n + 1 + part_count a in
     let next : ℕ = no + part_count b in
@@ -68,8 +69,8 @@ count_spots (loop t e b rest) n f w =
 
 abbrev pub SpotIn : Body → ℕ → Step → List ℕ → ℕ → Spot → Type 0
 SpotIn done n f w p s = ⊥
-SpotIn (assign t x e rest) n f w p s =
-    ((p ≡ n) × (s ≡ spot_of (first_step rest (n + 1) f ∷ []) w (part t (Assign x e)))) ⊎ SpotIn rest (n + 1) f w p s
+SpotIn (action t d rest) n f w p s =
+    ((p ≡ n) × (s ≡ spot_of (first_step rest (n + 1) f ∷ []) w (part t (content_by d)))) ⊎ SpotIn rest (n + 1) f w p s
 SpotIn (branch t e a b rest) n f w p s =
     let no = n + 1 + part_count a in
     let next = no + part_count b in
@@ -85,8 +86,8 @@ SpotIn (loop t e b rest) n f w p s =
 
 pub in_of_has : (b : Body) (n : ℕ) (f : Step) (w : List ℕ) (p : ℕ) (s : Spot) → HasAt (spots_of b n f w) n p s → SpotIn b n f w p s
 in_of_has done n f w p s h = absurd h
-in_of_has (assign t x e rest) n f w p s (inl h) = inl h
-in_of_has (assign t x e rest) n f w p s (inr h) = inr (in_of_has rest (n + 1) f w p s h)
+in_of_has (action t d rest) n f w p s (inl h) = inl h
+in_of_has (action t d rest) n f w p s (inr h) = inr (in_of_has rest (n + 1) f w p s h)
 in_of_has (branch t e a b rest) n f w p s (inl h) = inl h
 in_of_has (branch t e a b rest) n f w p s (inr h) =
     let no : ℕ = n + 1 + part_count a in
@@ -114,8 +115,8 @@ in_of_has (loop t e b rest) n f w p s (inr h) =
 
 pub has_of_in : (b : Body) (n : ℕ) (f : Step) (w : List ℕ) (p : ℕ) (s : Spot) → SpotIn b n f w p s → HasAt (spots_of b n f w) n p s
 has_of_in done n f w p s h = absurd h
-has_of_in (assign t x e rest) n f w p s (inl h) = inl h
-has_of_in (assign t x e rest) n f w p s (inr h) = inr (has_of_in rest (n + 1) f w p s h)
+has_of_in (action t d rest) n f w p s (inl h) = inl h
+has_of_in (action t d rest) n f w p s (inr h) = inr (has_of_in rest (n + 1) f w p s h)
 has_of_in (branch t e a b rest) n f w p s (inl h) = inl h
 has_of_in (branch t e a b rest) n f w p s (inr h) =
     let no : ℕ = n + 1 + part_count a in

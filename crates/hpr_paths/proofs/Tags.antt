@@ -5,7 +5,7 @@ use Rattle.std.specs.Option.{option_map, option_and_then}
 use Rattle.std.proofs.lemmas.Option.{same_Some, slice_get-map}
 use Rattle.std.proofs.lemmas.List.{map-append}
 use Rattle.hpr_terms.specs.declared.tag.Tag.{Tag}
-use Rattle.hpr_syntax.specs.Body.{Body, done, assign, branch, loop, part_count}
+use Rattle.hpr_syntax.specs.Body.{Body, done, action, branch, loop, part_count}
 use Rattle.hpr_syntax.specs.Tree.{Tree}
 use Rattle.hpr_syntax.specs.Parts.{tags_of, same_tag}
 use Rattle.hpr_syntax.specs.Shape.{IsProgram, first_repeated}
@@ -32,7 +32,7 @@ some_tags tags = map (λ (t : Tag). Some t) tags
 
 pub tags_of_spots : (b : Body) (n : ℕ) (f : Step) (w : List ℕ) → spot_tags (spots_of b n f w) ≡ some_tags (tags_of b [])
 tags_of_spots done n f w = refl
-tags_of_spots (assign t x e rest) n f w = ap (λ (r : Tags). Some t ∷ r) (tags_of_spots rest (n + 1) f w)
+tags_of_spots (action t d rest) n f w = ap (λ (r : Tags). Some t ∷ r) (tags_of_spots rest (n + 1) f w)
 tags_of_spots (branch t e a b rest) n f w =
     let no : ℕ = n + 1 + part_count a in
     let next : ℕ = no + part_count b in

@@ -25,6 +25,7 @@ use Rattle.hpr_terms.specs.declared.tag.Tag.{Tag}
 use Rattle.hpr_terms.specs.declared.expr.Expr.{Expr}
 use Rattle.hpr_terms.specs.TermOf.{term_of}
 use Rattle.hpr_terms.specs.Uses.{Uses, names_in}
+use Rattle.hpr_syntax.specs.Contents.{UsesIn}
 use Rattle.hpr_syntax.specs.declared.rows.Content.{Content}
 use Rattle.hpr_syntax.specs.declared.rows.Content.TheVariants.{While}
 use Rattle.hpr_syntax.specs.Skeleton as points
@@ -63,7 +64,7 @@ names_of (exit finals) = finals
 
 abbrev pub RoleUses : Role → List ℕ → Type 0
 RoleUses enter x = ⊥
-RoleUses (part t c) x = Uses (expr_in c) x
+RoleUses (part t c) x = UsesIn c x
 RoleUses (exit finals) x = Contains finals x
 
 abbrev pub uses_of : Option Role → List (List ℕ)

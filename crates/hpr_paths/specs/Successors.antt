@@ -10,7 +10,8 @@
 use Rattle.std.specs.Prelude.{◌≡◌, ℕ, ◌+◌, ◌<◌, ◌≤◌, ◌⊎◌, ◌↔◌, true, false, Some, None, List, [], ◌∷◌, ◌++◌, length, take, All}
 use Rattle.std.specs.List.{slice_get}
 use Rattle.hpr_syntax.specs.declared.rows.Content.TheVariants.{Assign, If, While}
-use Rattle.hpr_syntax.specs.Body.{Body, done, assign, branch, loop, part_count}
+use Rattle.hpr_syntax.specs.Rows.{content_by}
+use Rattle.hpr_syntax.specs.Body.{Body, done, action, branch, loop, part_count}
 use Rattle.hpr_syntax.specs.Tree.{Tree}
 use Rattle.hpr_paths.specs.declared.spot.Step.{Step}
 use Rattle.hpr_paths.specs.Spots.{Role, enter, part, exit, Spot, next_at, nest_at, tag_at, IsLoopAt}
@@ -20,7 +21,7 @@ step_to n = record { to = n; back = false }
 
 abbrev pub first_step : Body → ℕ → Step → Step
 first_step done first follow = follow
-first_step (assign t x e rest) first follow = step_to first
+first_step (action t d rest) first follow = step_to first
 first_step (branch t e a b rest) first follow = step_to first
 first_step (loop t e b rest) first follow = step_to first
 
@@ -30,8 +31,8 @@ spot_of next nest role = record { next = next; nest = nest; role = role }
 -- After the last part of a loop's body its predicate follows, by a back edge.
 abbrev pub spots_of : Body → ℕ → Step → List ℕ → List Spot
 spots_of done first follow nest = []
-spots_of (assign t x e rest) first follow nest =
-    spot_of (first_step rest (first + 1) follow ∷ []) nest (part t (Assign x e)) ∷ spots_of rest (first + 1) follow nest
+spots_of (action t d rest) first follow nest =
+    spot_of (first_step rest (first + 1) follow ∷ []) nest (part t (content_by d)) ∷ spots_of rest (first + 1) follow nest
 spots_of (branch t e a b rest) first follow nest =
     let no = first + 1 + part_count a in
     let next = no + part_count b in

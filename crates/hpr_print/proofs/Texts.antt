@@ -4,7 +4,7 @@ use Rattle.std.proofs.Math.Seq.{drop-cons}
 use Rattle.std.proofs.lemmas.List.{replicate-append-replicate, append-nil}
 use Rattle.hpr_syntax.specs.declared.tree.Stmt.{Stmt}
 use Rattle.hpr_syntax.specs.declared.tree.Stmt.TheVariants.{Assign, If, While}
-use Rattle.hpr_syntax.specs.Body.{Body, done, assign, branch, loop, depth}
+use Rattle.hpr_syntax.specs.Body.{Body, done, action, branch, loop, depth}
 use Rattle.hpr_syntax.specs.BodyOf.{before, body_of}
 use Rattle.hpr_syntax.specs.Print.{indent, body_text, is_done, else_text, line}
 
@@ -25,7 +25,7 @@ no_parts n = refl
 
 depth_positive : (body : Body) → 1 ≤ depth body
 depth_positive done = omega arith
-depth_positive (assign t x e rest) = depth_positive rest
+depth_positive (action t d rest) = depth_positive rest
 depth_positive (branch t e a b rest) = let h = depth_positive rest in omega arith
 depth_positive (loop t e b rest) = let h = depth_positive rest in omega arith
 

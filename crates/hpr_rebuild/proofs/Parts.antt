@@ -6,7 +6,8 @@ use Rattle.hpr_terms.specs.declared.tag.Tag.{Tag}
 use Rattle.hpr_syntax.specs.declared.rows.Row.{Row}
 use Rattle.hpr_syntax.specs.declared.rows.Content.{Content}
 use Rattle.hpr_syntax.specs.declared.rows.Content.TheVariants.{Assign, If, While}
-use Rattle.hpr_syntax.specs.Body.{Body, done, assign, branch, loop, part_count}
+use Rattle.hpr_syntax.specs.Rows.{content_by}
+use Rattle.hpr_syntax.specs.Body.{Body, done, action, branch, loop, part_count}
 use Rattle.hpr_syntax.specs.Issued.{Issued, issued_to}
 use Rattle.hpr_syntax.specs.Nests.{Says}
 use Rattle.hpr_syntax.specs.Parts.{tags_of, same_tag}
@@ -29,13 +30,13 @@ vertex_of row = Part row.tag row.content
 -- the parts of a block as vertices
 abbrev parts_in : Body → List Vertex
 parts_in done = []
-parts_in (assign t x e rest) = Part t (Assign x e) ∷ parts_in rest
+parts_in (action t d rest) = Part t (content_by d) ∷ parts_in rest
 parts_in (branch t e a b rest) = Part t (If e) ∷ (parts_in a ++ (parts_in b ++ parts_in rest))
 parts_in (loop t e b rest) = Part t (While e) ∷ (parts_in b ++ parts_in rest)
 
 rows_parts : (p : Parent) (i : ℕ) (b : Body) → map vertex_of (rows_of p i b) ≡ parts_in b
 rows_parts p i done = refl
-rows_parts p i (assign t x e rest) = ap (λ (r : List Vertex). Part t (Assign x e) ∷ r) (rows_parts p (i + 1) rest)
+rows_parts p i (action t d rest) = ap (λ (r : List Vertex). Part t (content_by d) ∷ r) (rows_parts p (i + 1) rest)
 rows_parts p i (branch t e a b rest) =
     let ra : List Row = rows_of (Some (t, true)) 0 a in
     let rb : List Row = rows_of (Some (t, false)) 0 b in
@@ -58,8 +59,8 @@ SaysIn b v = (t : Tag) × (c : Content) × (v ≡ Part t c) × Says b t c
 
 says_of : (b : Body) (v : Vertex) → Contains (parts_in b) v → SaysIn b v
 says_of done v h = absurd (in_none v h)
-says_of (assign t x e rest) v h = elim (in_cons (Part t (Assign x e)) v (parts_in rest) h) [
-  | inl same ↦ (t, Assign x e, sym same, inl (refl, refl))
+says_of (action t d rest) v h = elim (in_cons (Part t (content_by d)) v (parts_in rest) h) [
+  | inl same ↦ (t, content_by d, sym same, inl (refl, refl))
   | inr later ↦ (let (u, c, is, says) = says_of rest v later in (u, c, is, inr says))
 ]
 says_of (branch t e a b rest) v h = elim (in_cons (Part t (If e)) v (parts_in a ++ (parts_in b ++ parts_in rest)) h) [
@@ -85,8 +86,8 @@ here v t c d rest e f = subst (λ (w : Vertex). Contains (Part t d ∷ rest) w) 
 
 of_says : (b : Body) (v : Tag) (c : Content) → Says b v c → Contains (parts_in b) (Part v c)
 of_says done v c h = absurd h
-of_says (assign t x e rest) v c (inl (same, is)) = here v t c (Assign x e) (parts_in rest) same is
-of_says (assign t x e rest) v c (inr h) = in_later (Part t (Assign x e)) (Part v c) (parts_in rest) (of_says rest v c h)
+of_says (action t d rest) v c (inl (same, is)) = here v t c (content_by d) (parts_in rest) same is
+of_says (action t d rest) v c (inr h) = in_later (Part t (content_by d)) (Part v c) (parts_in rest) (of_says rest v c h)
 of_says (branch t e a b rest) v c (inl (same, is)) = here v t c (If e) (parts_in a ++ (parts_in b ++ parts_in rest)) same is
 of_says (branch t e a b rest) v c (inr h) =
     in_later (Part t (If e)) (Part v c) (parts_in a ++ (parts_in b ++ parts_in rest)) (elim h [
@@ -121,7 +122,7 @@ some_tags ts = map (λ (t : Tag). Some t) ts
 
 tags_in : (b : Body) → map tag_in (parts_in b) ≡ some_tags (tags_of b [])
 tags_in done = refl
-tags_in (assign t x e rest) = ap (λ (r : List (Option Tag)). Some t ∷ r) (tags_in rest)
+tags_in (action t d rest) = ap (λ (r : List (Option Tag)). Some t ∷ r) (tags_in rest)
 tags_in (branch t e a b rest) =
     let tb : List Tag = tags_of b [] in
     let tc : List Tag = tags_of rest [] in
@@ -167,8 +168,8 @@ parts_count p =
 pub issued_all : (issued : Issued) (b : Body) (after : List Tag) → ((t : Tag) (c : Content) → Says b t c → is_unissued issued t ≡ false)
     → first_unissued issued after ≡ None → first_unissued issued (tags_of b after) ≡ None
 issued_all issued done after all none = none
-issued_all issued (assign t x e rest) after all none =
-    unless (is_unissued issued t) t (first_unissued issued (tags_of rest after)) (all t (Assign x e) (inl (refl, refl)))
+issued_all issued (action t d rest) after all none =
+    unless (is_unissued issued t) t (first_unissued issued (tags_of rest after)) (all t (content_by d) (inl (refl, refl)))
     (issued_all issued rest after (λ u c h. all u c (inr h)) none)
 issued_all issued (branch t e a b rest) after all none =
     unless (is_unissued issued t) t (first_unissued issued (tags_of a (tags_of b (tags_of rest after)))) (all t (If e) (inl (refl, refl)))

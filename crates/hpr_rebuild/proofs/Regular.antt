@@ -4,7 +4,8 @@ use Rattle.std.proofs.lemmas.Option.{same_Some}
 use Rattle.hpr_terms.specs.declared.tag.Tag.{Tag}
 use Rattle.hpr_syntax.specs.declared.rows.Content.{Content}
 use Rattle.hpr_syntax.specs.declared.rows.Content.TheVariants.{Assign, If, While}
-use Rattle.hpr_syntax.specs.Body.{Body, done, assign, branch, loop}
+use Rattle.hpr_syntax.specs.Rows.{content_by}
+use Rattle.hpr_syntax.specs.Body.{Body, done, action, branch, loop}
 use Rattle.hpr_syntax.specs.Nests.{Standing, StandsAs, StandsAsIn, Says}
 use Rattle.hpr_syntax.specs.Rows.{Parent}
 use Rattle.hpr_syntax.specs.Shape.{IsProgram}
@@ -144,8 +145,8 @@ module _ (t : Tree) (prog : IsProgram t) where
 
   held : (b : Body) (nest : List Tag) (up : Parent) → Held up → Inside nest up b → (v : Tag) (s : Standing) → StandsAs nest up b v s → Held s.parent
   held done nest up h inside v s stands = absurd stands
-  held (assign w x e rest) nest up h inside v s (inl (tag, is)) = held_here up (Assign x e) nest s h is
-  held (assign w x e rest) nest up h inside v s (inr later) = held rest nest up h (λ u r i. inside u r (inr i)) v s later
+  held (action w d rest) nest up h inside v s (inl (tag, is)) = held_here up (content_by d) nest s h is
+  held (action w d rest) nest up h inside v s (inr later) = held rest nest up h (λ u r i. inside u r (inr i)) v s later
   held (branch w e a b rest) nest up h inside v s (inl (tag, is)) = held_here up (If e) nest s h is
   held (branch w e a b rest) nest up h inside v s (inr (inl in_a)) =
       held a nest (Some (w, true)) (holds w (If e) nest up true h (inside w (standing (If e) nest up) (inl (refl, refl))) tt) (λ u r i. inside u r (inr (inl i))) v s in_a

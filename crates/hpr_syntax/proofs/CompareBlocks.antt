@@ -7,7 +7,8 @@ use Rattle.hpr_syntax.specs.declared.tree.Stmt.TheVariants.{Assign, If, While}
 use Rattle.hpr_terms.specs.declared.expr.Expr.{Expr}
 use Rattle.hpr_terms.specs.TermOrder.{term_code}
 use Rattle.hpr_terms.specs.TermOf.{term_of}
-use Rattle.hpr_syntax.specs.Body.{Body, done, assign, branch, loop}
+use Rattle.hpr_syntax.specs.Action.{assigns}
+use Rattle.hpr_syntax.specs.Body.{Body, done, action, branch, loop}
 use Rattle.hpr_syntax.specs.BodyOrder.{body_code, block_code}
 use Rattle.hpr_syntax.specs.BodyOf.{body_of}
 pub use Rattle.hpr_terms.proofs.Equal.{expr_equal}
@@ -20,7 +21,7 @@ tag_eq t u = (t.author == u.author) && (t.serial == u.serial)
 
 abbrev block_eq : Body → Body → Bool
 block_eq done done = true
-block_eq (assign t x e r) (assign u y f q) = tag_eq t u && (same x y && ((eqs.ghosts).eq e f && block_eq r q))
+block_eq (action t (assigns x e) r) (action u (assigns y f) q) = tag_eq t u && (same x y && ((eqs.ghosts).eq e f && block_eq r q))
 block_eq (branch t e a b r) (branch u f c d q) = tag_eq t u && ((eqs.ghosts).eq e f && (block_eq a c && (block_eq b d && block_eq r q)))
 block_eq (loop t e a r) (loop u f c q) = tag_eq t u && ((eqs.ghosts).eq e f && (block_eq a c && block_eq r q))
 block_eq _ _ = false
@@ -30,7 +31,7 @@ expr_part e f s t = term_same (term_of e) (term_of f) s t ∙ ap (λ r. r && sam
 
 block_same : (b c : Body) (s t : List ℕ) → same (body_code b s) (body_code c t) ≡ block_eq b c && same s t
 block_same done done s t = refl
-block_same (assign t x e r) (assign u y f q) s s' = rw (name_same x y _ _, expr_part e f _ _, block_same r q s s') (simp and_assoc)
+block_same (action t (assigns x e) r) (action u (assigns y f) q) s s' = rw (name_same x y _ _, expr_part e f _ _, block_same r q s s') (simp and_assoc)
 block_same (branch t e a b r) (branch u f c d q) s s' = rw (expr_part e f _ _, block_same a c _ _, block_same b d _ _, block_same r q s s') (simp and_assoc)
 block_same (loop t e a r) (loop u f c q) s s' = rw (expr_part e f _ _, block_same a c _ _, block_same r q s s') (simp and_assoc)
 block_same _ _ s t = refl

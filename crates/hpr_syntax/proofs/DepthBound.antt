@@ -1,7 +1,7 @@
 -- A program's blocks stand less than 2 ^ 32 deep in one another.
 use Rattle.std.proofs.Common.{◌≡◌, ℕ, zero, suc, ◌+◌, ◌<◌, ◌≤◌, arith, None}
 use Rattle.std.specs.Option.{option_or}
-use Rattle.hpr_syntax.specs.Body.{Body, done, assign, branch, loop, depth}
+use Rattle.hpr_syntax.specs.Body.{Body, done, action, branch, loop, depth}
 use Rattle.hpr_syntax.specs.Tree.{Tree}
 use Rattle.hpr_syntax.specs.Shape.{IsProgram, first_deep, max_levels}
 use Rattle.hpr_syntax.proofs.NoRefusal.{or_none, no_refusal}
@@ -9,10 +9,10 @@ use Rattle.hpr_syntax.proofs.NoRefusal.{or_none, no_refusal}
 -- a block without a part below so many levels
 pub not_deep : (n : ℕ) (body : Body) → first_deep n body ≡ None → depth body ≤ n + 1
 not_deep n done h = omega arith
-not_deep zero (assign t x e rest) h = absurd cc
+not_deep zero (action t d rest) h = absurd cc
 not_deep zero (branch t e a b rest) h = absurd cc
 not_deep zero (loop t e b rest) h = absurd cc
-not_deep (suc n) (assign t x e rest) h = not_deep (suc n) rest h
+not_deep (suc n) (action t d rest) h = not_deep (suc n) rest h
 not_deep (suc n) (branch t e a b rest) h =
     let h1 : (first_deep n a ≡ None) × (option_or (first_deep n b) (first_deep (suc n) rest) ≡ None) = or_none _ _ h in
     let h2 : (first_deep n b ≡ None) × (first_deep (suc n) rest ≡ None) = or_none _ _ h1.1 in

@@ -5,6 +5,7 @@ pub mod DepthBound
 pub mod Runs
 pub mod MoreSteps
 pub mod ValueByUses
+pub mod ActByUses
 pub mod IssuedLemmas
 pub mod ShapeLemmas
 pub mod RowLemmas

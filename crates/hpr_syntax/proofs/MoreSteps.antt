@@ -4,11 +4,14 @@ use Rattle.std.specs.FinMap.{insert}
 use Rattle.hpr_terms.specs.declared.tag.Tag.{Tag}
 use Rattle.hpr_terms.specs.declared.expr.Expr.{Expr}
 use Rattle.hpr_syntax.specs.Tree.{Tree}
-use Rattle.hpr_syntax.specs.Body.{Body, done, assign, branch, loop}
+use Rattle.hpr_syntax.specs.Action.{assigns}
+use Rattle.hpr_syntax.specs.declared.rows.Content.TheVariants.{Assign, If, While}
+use Rattle.hpr_syntax.specs.Contents.{answer_of}
+use Rattle.hpr_syntax.specs.Body.{Body, done, action, branch, loop}
 use Rattle.hpr_syntax.specs.Run.{ends, FinalValues}
 use Rattle.hpr_syntax.specs.Meaning.{Ends}
 use Rattle.hpr_syntax.specs.Values.{Values}
-use Rattle.hpr_syntax.specs.Value.{Answer, value, is_true}
+use Rattle.hpr_syntax.specs.Value.{Answer, is_true}
 use Rattle.hpr_syntax.specs.Run.{After, goes, stops, spent, step, then_go, turns, run_body}
 use Rattle.hpr_syntax.specs.Run.{run, outcome}
 use Rattle.hpr_syntax.proofs.Runs.{LeavesAtMost, run_body_leaves}
@@ -37,13 +40,13 @@ turns_more : (k n m : ℕ) (t : Tag) (e : Expr) (f : Values → ℕ → After) �
 turns_more k zero m t e f le h s left = tt
 turns_more k (suc n) zero t e f le h s left = absurd (omega arith)
 turns_more k (suc n) (suc m) t e f le h s left =
-    step_more k t (value e s) left _ _ (λ v l. if_more k (is_true v) _ _ _ _ (then_more k (f s l) (f s (l + k)) _ _ (turns_more k n m t e f (omega arith) h) (h s l)) refl)
+    step_more k t (answer_of (While e) s) left _ _ (λ v l. if_more k (is_true v) _ _ _ _ (then_more k (f s l) (f s (l + k)) _ _ (turns_more k n m t e f (omega arith) h) (h s l)) refl)
 
 pub run_body-more : (k : ℕ) (b : Body) (s : Values) (left : ℕ) → IsMore k (run_body b s left) (run_body b s (left + k))
 run_body-more k done s left = refl
-run_body-more k (assign t x e rest) s left = step_more k t (value e s) left _ _ (λ v l. run_body-more k rest (insert s x v) l)
+run_body-more k (action t (assigns x e) rest) s left = step_more k t (answer_of (Assign x e) s) left _ _ (λ v l. run_body-more k rest (insert s x v) l)
 run_body-more k (branch t e a b rest) s left =
-    step_more k t (value e s) left _ _ (λ v l. then_more k _ _ _ _ (run_body-more k rest) (if_more k (is_true v) _ _ _ _ (run_body-more k a s l) (run_body-more k b s l)))
+    step_more k t (answer_of (If e) s) left _ _ (λ v l. then_more k _ _ _ _ (run_body-more k rest) (if_more k (is_true v) _ _ _ _ (run_body-more k a s l) (run_body-more k b s l)))
 run_body-more k (loop t e b rest) s left =
     then_more k _ _ _ _ (run_body-more k rest) (turns_more k (left + 1) (left + k + 1) t e (run_body b) (omega arith) (run_body-more k b) s left)
 

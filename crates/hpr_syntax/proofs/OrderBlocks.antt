@@ -9,7 +9,8 @@ use Rattle.hpr_syntax.specs.declared.tree.Stmt.TheVariants.{Assign, If, While}
 use Rattle.hpr_terms.specs.declared.expr.Expr.{Expr}
 use Rattle.hpr_terms.specs.TermOrder.{term_code}
 use Rattle.hpr_terms.specs.TermOf.{term_of}
-use Rattle.hpr_syntax.specs.Body.{Body, done, assign, branch, loop}
+use Rattle.hpr_syntax.specs.Action.{assigns}
+use Rattle.hpr_syntax.specs.Body.{Body, done, action, branch, loop}
 use Rattle.hpr_syntax.specs.BodyOrder.{body_code, block_code}
 use Rattle.hpr_syntax.specs.BodyOf.{body_of}
 use Rattle.hpr_terms.specs.contracts.expr.ExprOrd.TheImpl as ords
@@ -25,7 +26,7 @@ expr_part e f s t = term_order (term_of e) (term_of f) s t ∙ ap (λ r. orderin
 
 block_order : (b c : Body) (s t : List ℕ) → order (body_code b s) (body_code c t) ≡ ordering_then (order (block_code b) (block_code c)) (order s t)
 block_order done done s t = refl
-block_order (assign t x e r) (assign u y f q) s s' =
+block_order (action t (assigns x e) r) (action u (assigns y f) q) s s' =
     rw (name_order x y (term_code (term_of e) (body_code r s)) (term_code (term_of f) (body_code q s')), expr_part e f (body_code r s) (body_code q s'), block_order r q s s', name_order x y (term_code (term_of e) (body_code r [])) (term_code (term_of f) (body_code q [])), expr_part e f (body_code r []) (body_code q [])) (simp then_assoc)
 block_order (branch t e a b r) (branch u f c d q) s s' =
     rw (expr_part e f (body_code a (body_code b (body_code r s))) (body_code c (body_code d (body_code q s'))), block_order a c (body_code b (body_code r s)) (body_code d (body_code q s')), block_order b d (body_code r s) (body_code q s'), block_order r q s s', expr_part e f (body_code a (body_code b (body_code r []))) (body_code c (body_code d (body_code q []))), block_order a c (body_code b (body_code r [])) (body_code d (body_code q [])), block_order b d (body_code r []) (body_code q [])) (simp then_assoc)

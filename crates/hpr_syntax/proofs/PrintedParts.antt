@@ -11,7 +11,8 @@ use Rattle.hpr_terms.specs.Keywords.{keyword_text}
 use Rattle.hpr_terms.specs.Names.{IsName}
 use Rattle.hpr_terms.specs.Tokens.{Text}
 use Rattle.hpr_terms.specs.TermOf.{term_of}
-use Rattle.hpr_syntax.specs.Body.{Body, done, assign, branch, loop}
+use Rattle.hpr_syntax.specs.Action.{assigns}
+use Rattle.hpr_syntax.specs.Body.{Body, done, action, branch, loop}
 use Rattle.hpr_syntax.specs.Print.{term_text, tag_text, line, is_done, else_text, body_text}
 use Rattle.hpr_syntax.specs.Proper.{IsProperBody}
 use Rattle.hpr_syntax.proofs.Printed.{Printed, weaker, space, newline, indented, mark, word, number, name, term_is}
@@ -67,7 +68,7 @@ five a b c d f ts p =
 pub body_is : (n : ℕ) (body : Body) → IsProperBody body → Printed false false (body_text n body) (shown_body body)
 unfolding body_text
 body_is n done h = λ rest ts k. k
-body_is n (assign t x e rest) h =
+body_is n (action t (assigns x e) rest) h =
     assign_line n t x (term_text (term_of e)) (body_text n rest) (shown_expr e) (shown_body rest) h.1 (term_is (term_of e) h.2) (body_is n rest h.3)
 body_is n (branch t e a b rest) h =
     let test : List ℕ = term_text (term_of e) in

@@ -3,9 +3,12 @@ use Rattle.std.proofs.Common.{subst, ◌≡◌, ℕ, zero, suc, ◌+◌, ◌≤�
 use Rattle.std.specs.FinMap.{insert}
 use Rattle.hpr_terms.specs.declared.tag.Tag.{Tag}
 use Rattle.hpr_terms.specs.declared.expr.Expr.{Expr}
-use Rattle.hpr_syntax.specs.Body.{Body, done, assign, branch, loop}
+use Rattle.hpr_syntax.specs.Action.{assigns}
+use Rattle.hpr_syntax.specs.declared.rows.Content.TheVariants.{Assign, If, While}
+use Rattle.hpr_syntax.specs.Contents.{answer_of}
+use Rattle.hpr_syntax.specs.Body.{Body, done, action, branch, loop}
 use Rattle.hpr_syntax.specs.Values.{Values}
-use Rattle.hpr_syntax.specs.Value.{Answer, value, is_true}
+use Rattle.hpr_syntax.specs.Value.{Answer, is_true}
 use Rattle.hpr_syntax.specs.Run.{After, goes, stops, spent, step, then_go, turns, run_body}
 
 -- no more steps are left than there were
@@ -38,13 +41,13 @@ turns_leaves zero t e k h s left = tt
 turns_leaves (suc n) t e k h s left =
     let step_k : (v : ℤ) (l : ℕ) → LeavesAtMost (if is_true v then then_go (k s l) (turns n t e k) else goes s l) l =
     λ v l. let le : l ≤ l = omega arith in if_leaves (is_true v) _ _ l (then_leaves (k s l) l (turns n t e k) (turns_leaves n t e k h) (h s l)) le in
-    step_leaves t (value e s) left _ step_k
+    step_leaves t (answer_of (While e) s) left _ step_k
 
 pub run_body_leaves : (b : Body) (s : Values) (left : ℕ) → LeavesAtMost (run_body b s left) left
 run_body_leaves done s left = omega arith
-run_body_leaves (assign t x e rest) s left = step_leaves t (value e s) left _ (λ v l. run_body_leaves rest (insert s x v) l)
+run_body_leaves (action t (assigns x e) rest) s left = step_leaves t (answer_of (Assign x e) s) left _ (λ v l. run_body_leaves rest (insert s x v) l)
 run_body_leaves (branch t e a b rest) s left =
-    step_leaves t (value e s) left _ (λ v l. then_leaves _ l (run_body rest) (run_body_leaves rest) (if_leaves (is_true v) _ _ l (run_body_leaves a s l) (run_body_leaves b s l)))
+    step_leaves t (answer_of (If e) s) left _ (λ v l. then_leaves _ l (run_body rest) (run_body_leaves rest) (if_leaves (is_true v) _ _ l (run_body_leaves a s l) (run_body_leaves b s l)))
 run_body_leaves (loop t e b rest) s left =
     then_leaves _ left (run_body rest) (run_body_leaves rest) (turns_leaves (left + 1) t e (run_body b) (run_body_leaves b) s left)
 
@@ -67,9 +70,9 @@ turns_enough (suc m) (suc n) t e k h s (suc l) p q =
       | Ok z ↦ ap (λ x. if is_true z then x else goes s l) a
       | Err f ↦ refl
     ] in
-    answered (value e s)
+    answered (answer_of (While e) s)
 
-module _ (t : Tag) (e : Expr) (k : Values → ℕ → After) (s : Values) (l l' : ℕ) (v : ℤ) (one : l ≡ suc l') (is : value e s ≡ Ok v) where
+module _ (t : Tag) (e : Expr) (k : Values → ℕ → After) (s : Values) (l l' : ℕ) (v : ℤ) (one : l ≡ suc l') (is : answer_of (While e) s ≡ Ok v) where
   turn : is_true v ≡ true → turns (l + 1) t e k s l ≡ then_go (k s l') (turns l t e k)
   turn holds = rw (add-one, one, is, holds) refl
 

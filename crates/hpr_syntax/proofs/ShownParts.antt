@@ -10,7 +10,8 @@ use Rattle.hpr_terms.specs.declared.token.Token.{Token}
 use Rattle.hpr_terms.specs.declared.token.Token.TheVariants.{Word, Name, Number, Mark}
 use Rattle.hpr_terms.specs.Term.{operators}
 use Rattle.hpr_terms.specs.TermOf.{term_of}
-use Rattle.hpr_syntax.specs.Body.{Body, done, assign, branch, loop}
+use Rattle.hpr_syntax.specs.Action.{assigns}
+use Rattle.hpr_syntax.specs.Body.{Body, done, action, branch, loop}
 use Rattle.hpr_syntax.specs.Parts.{tags_of}
 use Rattle.hpr_syntax.specs.Issued.{Issued, issued_to}
 use Rattle.hpr_syntax.specs.Shape.{max_operators, is_unissued, first_unissued, first_deep, is_large, first_large}
@@ -33,7 +34,7 @@ shown_else block second = if is_done block then [] else (Word keyword.Else ∷ s
 
 abbrev pub shown_body : Body → List Token
 shown_body done = []
-shown_body (assign t x e rest) = label t ++ (Name x ∷ Mark sign.Becomes ∷ (shown_expr e ++ (Mark sign.Semicolon ∷ shown_body rest)))
+shown_body (action t (assigns x e) rest) = label t ++ (Name x ∷ Mark sign.Becomes ∷ (shown_expr e ++ (Mark sign.Semicolon ∷ shown_body rest)))
 shown_body (branch t e a b rest) =
     label t ++ (Word keyword.If ∷ (shown_expr e ++ (Word keyword.Then ∷ (shown_body a ++ (shown_else b (shown_body b) ++ (Word keyword.Fi ∷ shown_body rest))))))
 shown_body (loop t e b rest) = label t ++ (Word keyword.While ∷ (shown_expr e ++ (Word keyword.Do ∷ (shown_body b ++ (Word keyword.Od ∷ shown_body rest)))))
@@ -47,7 +48,7 @@ if_none true x o h = absurd cc
 -- each part's serial is at least 1
 abbrev pub HasSerials : Body → Type 0
 HasSerials done = Unit {0}
-HasSerials (assign t x e rest) = (1 ≤ t.serial) × HasSerials rest
+HasSerials (action t d rest) = (1 ≤ t.serial) × HasSerials rest
 HasSerials (branch t e a b rest) = (1 ≤ t.serial) × HasSerials a × HasSerials b × HasSerials rest
 HasSerials (loop t e b rest) = (1 ≤ t.serial) × HasSerials b × HasSerials rest
 
@@ -61,7 +62,7 @@ first_issued issued t ts h =
 
 pub has_serials : (issued : Issued) (body : Body) (after : List Tag) → first_unissued issued (tags_of body after) ≡ None → HasSerials body × (first_unissued issued after ≡ None)
 has_serials issued done after h = (tt, h)
-has_serials issued (assign t x e rest) after h =
+has_serials issued (action t d rest) after h =
     let i = first_issued issued t (tags_of rest after) h in
     let r = has_serials issued rest after i.1 in
     ((i.0, r.0), r.1)
@@ -114,10 +115,10 @@ branch_spelled l t e then_part else_part rest ht he hy hn hr =
 
 parts_spelled : (l : ℕ) (body : Body) → IsProperBody body → HasSerials body → first_deep l body ≡ None → first_large body ≡ None → Spelled l body
 parts_spelled l done h s deep large = record { spelled = λ n. (n, nothing) }
-parts_spelled zero (assign t x e rest) h s deep large = absurd cc
+parts_spelled zero (action t d rest) h s deep large = absurd cc
 parts_spelled zero (branch t e a b rest) h s deep large = absurd cc
 parts_spelled zero (loop t e b rest) h s deep large = absurd cc
-parts_spelled (suc l) (assign t x e rest) h s deep large =
+parts_spelled (suc l) (action t (assigns x e) rest) h s deep large =
     let g : (is_large e ≡ false) × (first_large rest ≡ None) = if_none (is_large e) t (first_large rest) large in
     let more = parts_spelled (suc l) rest h.3 s.1 deep g.1 in
     record {

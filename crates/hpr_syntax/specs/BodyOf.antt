@@ -5,10 +5,11 @@
 use Rattle.std.specs.Prelude.{List, [], ◌∷◌}
 use Rattle.hpr_syntax.specs.declared.tree.Stmt.{Stmt}
 use Rattle.hpr_syntax.specs.declared.tree.Stmt.TheVariants.{Assign, If, While}
-use Rattle.hpr_syntax.specs.Body.{Body, done, assign, branch, loop}
+use Rattle.hpr_syntax.specs.Action.{assigns}
+use Rattle.hpr_syntax.specs.Body.{Body, done, action, branch, loop}
 
 abbrev pub before : Stmt → Body → Body
-before (Assign t x e) rest = assign t x e rest
+before (Assign t x e) rest = action t (assigns x e) rest
 before (If t e a b) rest = branch t e a b rest
 before (While t e b) rest = loop t e b rest
 

@@ -51,7 +51,8 @@ use Rattle.hpr_terms.specs.declared.token.Token.{Token}
 use Rattle.hpr_terms.specs.declared.token.Token.TheVariants.{Word, Name, Number, Mark}
 use Rattle.hpr_terms.specs.Term.{Term, num, var, prefix, infix', operators}
 use Rattle.hpr_terms.specs.TermOf.{term_of}
-use Rattle.hpr_syntax.specs.Body.{Body, done, assign, branch, loop}
+use Rattle.hpr_syntax.specs.Action.{assigns}
+use Rattle.hpr_syntax.specs.Body.{Body, done, action, branch, loop}
 use Rattle.hpr_syntax.specs.Parts.{tags_of}
 use Rattle.hpr_syntax.specs.Issued as issued
 use Rattle.hpr_syntax.specs.Shape.{max_levels, max_operators}
@@ -136,7 +137,7 @@ pub data SpellsParts : Form → ℕ → ℕ → ℕ → List Token → Body → 
   nothing : {f : Form} {l n : ℕ} → SpellsParts f l n n [] done
   assignment : {f : Form} {l n m : ℕ} {t : Tag} {x : List ℕ} {e : Expr} {label value more : List Token} {rest : Body}
       → Labels f n label t → SpellsExpr value e → SpellsParts f (suc l) (n + 1) m more rest
-      → SpellsParts f (suc l) n m (label ++ (Name x ∷ Mark sign.Becomes ∷ (value ++ (Mark sign.Semicolon ∷ more)))) (assign t x e rest)
+      → SpellsParts f (suc l) n m (label ++ (Name x ∷ Mark sign.Becomes ∷ (value ++ (Mark sign.Semicolon ∷ more)))) (action t (assigns x e) rest)
   conditional : {f : Form} {l n k m : ℕ} {t : Tag} {e : Expr} {label test first more : List Token} {yes rest : Body}
       → Labels f n label t → SpellsExpr test e → SpellsParts f l (n + 1) k first yes → SpellsParts f (suc l) k m more rest
       → SpellsParts f (suc l) n m (label ++ (Word keyword.If ∷ (test ++ (Word keyword.Then ∷ (first ++ (Word keyword.Fi ∷ more)))))) (branch t e yes done rest)

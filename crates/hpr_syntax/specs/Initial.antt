@@ -4,17 +4,16 @@
 -- IsInitial tree x == an undisturbed path for x goes from Enter to a point that uses x
 use Rattle.std.specs.Prelude.{ℕ, List, Option, Contains}
 use Rattle.hpr_terms.specs.declared.tag.Tag.{Tag}
-use Rattle.hpr_terms.specs.Uses.{Uses}
+use Rattle.hpr_syntax.specs.Contents.{UsesIn}
 use Rattle.hpr_syntax.specs.declared.rows.Content.{Content}
 use Rattle.hpr_syntax.specs.Tree.{Tree}
 use Rattle.hpr_syntax.specs.Skeleton.{Point, enter, at, exit}
-use Rattle.hpr_syntax.specs.Rows.{expr_in}
 use Rattle.hpr_syntax.specs.Nests.{Says}
 use Rattle.hpr_syntax.specs.Paths.{IsUndisturbed}
 
 abbrev pub UsedBy : Tree → List ℕ → Point → Type 0
 UsedBy tree x enter = ⊥
-UsedBy tree x (at v) = (c : Content) × Says tree.body v c × Uses (expr_in c) x
+UsedBy tree x (at v) = (c : Content) × Says tree.body v c × UsesIn c x
 UsedBy tree x exit = Contains tree.finals x
 
 abbrev pub IsInitial : Tree → List ℕ → Type 0

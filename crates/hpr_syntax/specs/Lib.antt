@@ -1,3 +1,4 @@
+pub mod Action
 pub mod Body
 pub mod BodyOrder
 pub mod BodyOf
@@ -18,6 +19,7 @@ pub mod Paths
 pub mod Initial
 pub mod Values
 pub mod Value
+pub mod Contents
 pub mod Run
 pub mod Meaning
 pub mod Comparisons

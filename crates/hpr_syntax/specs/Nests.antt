@@ -8,8 +8,9 @@
 use Rattle.std.specs.Prelude.{◌≡◌, true, false, ◌⊎◌, List, [], ◌∷◌, ◌++◌, Some, None}
 use Rattle.hpr_terms.specs.declared.tag.Tag.{Tag}
 use Rattle.hpr_syntax.specs.declared.rows.Content.{Content}
-use Rattle.hpr_syntax.specs.declared.rows.Content.TheVariants.{Assign, If, While}
-use Rattle.hpr_syntax.specs.Body.{Body, done, assign, branch, loop}
+use Rattle.hpr_syntax.specs.declared.rows.Content.TheVariants.{If, While}
+use Rattle.hpr_syntax.specs.Rows.{content_by}
+use Rattle.hpr_syntax.specs.Body.{Body, done, action, branch, loop}
 use Rattle.hpr_syntax.specs.Rows.{Parent}
 
 pub record Standing : Type 0 where
@@ -19,8 +20,8 @@ pub record Standing : Type 0 where
 
 abbrev pub StandsAs : List Tag → Parent → Body → Tag → Standing → Type 0
 StandsAs nest up done v s = ⊥
-StandsAs nest up (assign t x e rest) v s =
-    ((v ≡ t) × (s ≡ record { content = Assign x e; nest = nest; parent = up })) ⊎ StandsAs nest up rest v s
+StandsAs nest up (action t d rest) v s =
+    ((v ≡ t) × (s ≡ record { content = content_by d; nest = nest; parent = up })) ⊎ StandsAs nest up rest v s
 StandsAs nest up (branch t e a b rest) v s =
     ((v ≡ t) × (s ≡ record { content = If e; nest = nest; parent = up }))
     ⊎ (StandsAs nest (Some (t, true)) a v s ⊎ (StandsAs nest (Some (t, false)) b v s ⊎ StandsAs nest up rest v s))
@@ -33,6 +34,6 @@ StandsAsIn p v s = StandsAs [] None p v s
 
 abbrev pub Says : Body → Tag → Content → Type 0
 Says done v c = ⊥
-Says (assign t x e rest) v c = ((v ≡ t) × (c ≡ Assign x e)) ⊎ Says rest v c
+Says (action t d rest) v c = ((v ≡ t) × (c ≡ content_by d)) ⊎ Says rest v c
 Says (branch t e a b rest) v c = ((v ≡ t) × (c ≡ If e)) ⊎ (Says a v c ⊎ (Says b v c ⊎ Says rest v c))
 Says (loop t e b rest) v c = ((v ≡ t) × (c ≡ While e)) ⊎ (Says b v c ⊎ Says rest v c)

@@ -21,7 +21,8 @@ use Rattle.hpr_terms.specs.Term.{Term, num, var, prefix, infix'}
 use Rattle.hpr_terms.specs.TermOf.{term_of}
 use Rattle.hpr_syntax.specs.Issued.{Issued}
 use Rattle.hpr_syntax.specs.Tree.{Tree}
-use Rattle.hpr_syntax.specs.Body.{Body, done, assign, branch, loop}
+use Rattle.hpr_syntax.specs.Action.{assigns}
+use Rattle.hpr_syntax.specs.Body.{Body, done, action, branch, loop}
 use Rattle.hpr_terms.specs.declared.expr.Unary.{Unary}
 use Rattle.hpr_terms.specs.declared.expr.Unary.TheVariants.{Neg, Not}
 use Rattle.hpr_terms.specs.declared.expr.Binary.{Binary}
@@ -97,7 +98,7 @@ line n text = indent n ++ text ++ 10 ∷ []
 
 abbrev pub is_done : Body → Bool
 is_done done = true
-is_done (assign t x e r) = false
+is_done (action t d r) = false
 is_done (branch t e a b r) = false
 is_done (loop t e b r) = false
 
@@ -106,7 +107,7 @@ else_text n block shown = if is_done block then [] else (line n (codes "else") +
 
 unfoldable pub body_text : ℕ → Body → List ℕ
 body_text n done = []
-body_text n (assign t x e rest) = line n (tag_text t ++ codes ": " ++ x ++ codes " := " ++ term_text (term_of e) ++ codes ";") ++ body_text n rest
+body_text n (action t (assigns x e) rest) = line n (tag_text t ++ codes ": " ++ x ++ codes " := " ++ term_text (term_of e) ++ codes ";") ++ body_text n rest
 body_text n (branch t e a b rest) =
     line n (tag_text t ++ codes ": if " ++ term_text (term_of e) ++ codes " then") ++ body_text (n + 1) a
     ++ else_text n b (body_text (n + 1) b) ++ line n (codes "fi") ++ body_text n rest

@@ -10,7 +10,8 @@ use Rattle.hpr_terms.specs.declared.tag.Tag.{Tag}
 use Rattle.hpr_terms.specs.Names.{IsName}
 use Rattle.hpr_terms.specs.Term.{Term, num, var, prefix, infix'}
 use Rattle.hpr_terms.specs.TermOf.{term_of}
-use Rattle.hpr_syntax.specs.Body.{Body, done, assign, branch, loop}
+use Rattle.hpr_syntax.specs.Action.{assigns}
+use Rattle.hpr_syntax.specs.Body.{Body, done, action, branch, loop}
 use Rattle.hpr_syntax.specs.Issued.{IsIssued}
 use Rattle.hpr_syntax.specs.Tree.{Tree}
 
@@ -25,7 +26,7 @@ IsProperTag t = (t.author < 2 ^ 32) × (t.serial < 2 ^ 32)
 
 abbrev pub IsProperBody : Body → Type 0
 IsProperBody done = Unit {0}
-IsProperBody (assign t x e rest) = IsProperTag t × IsName x × IsProperTerm (term_of e) × IsProperBody rest
+IsProperBody (action t (assigns x e) rest) = IsProperTag t × IsName x × IsProperTerm (term_of e) × IsProperBody rest
 IsProperBody (branch t e a b rest) = IsProperTag t × IsProperTerm (term_of e) × IsProperBody a × IsProperBody b × IsProperBody rest
 IsProperBody (loop t e b rest) = IsProperTag t × IsProperTerm (term_of e) × IsProperBody b × IsProperBody rest
 

@@ -14,12 +14,17 @@ use Rattle.hpr_syntax.specs.declared.tree.Stmt.{Stmt}
 use Rattle.hpr_syntax.specs.declared.rows.Row.{Row}
 use Rattle.hpr_syntax.specs.declared.rows.Content.{Content}
 use Rattle.hpr_syntax.specs.declared.rows.Content.TheVariants.{Assign, If, While}
-use Rattle.hpr_syntax.specs.Body.{Body, done, assign, branch, loop}
+use Rattle.hpr_syntax.specs.Action.{Action, assigns}
+use Rattle.hpr_syntax.specs.Body.{Body, done, action, branch, loop}
 use Rattle.hpr_syntax.specs.declared.tree.Stmt.TheVariants as stmt
 
 -- where a part stands: the part around it with the branch, or none at the top
 abbrev pub Parent : Type 0
 Parent = Option (Tag × Bool)
+
+-- an action as what its part says
+abbrev pub content_by : Action → Content
+content_by (assigns x e) = Assign x e
 
 abbrev pub row_of : Tag → Parent → ℕ → Content → Row
 row_of t p i c = record { tag = t; parent = p; at = i; content = c }
@@ -27,7 +32,7 @@ row_of t p i c = record { tag = t; parent = p; at = i; content = c }
 -- the rows of a block's parts from the place i on
 abbrev pub rows_of : Parent → ℕ → Body → List Row
 rows_of p i done = []
-rows_of p i (assign t x e rest) = row_of t p i (Assign x e) ∷ rows_of p (i + 1) rest
+rows_of p i (action t d rest) = row_of t p i (content_by d) ∷ rows_of p (i + 1) rest
 rows_of p i (branch t e a b rest) =
     row_of t p i (If e) ∷ rows_of (Some (t, true)) 0 a ++ rows_of (Some (t, false)) 0 b ++ rows_of p (i + 1) rest
 rows_of p i (loop t e b rest) = row_of t p i (While e) ∷ rows_of (Some (t, true)) 0 b ++ rows_of p (i + 1) rest

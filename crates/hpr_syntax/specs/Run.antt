@@ -13,10 +13,13 @@ use Rattle.std.specs.Prelude.{ℕ, zero, suc, ◌+◌, ◌-◌, ℤ, if◌then�
 use Rattle.std.specs.FinMap.{insert}
 use Rattle.hpr_terms.specs.declared.tag.Tag.{Tag}
 use Rattle.hpr_terms.specs.declared.expr.Expr.{Expr}
-use Rattle.hpr_syntax.specs.Body.{Body, done, assign, branch, loop}
+use Rattle.hpr_syntax.specs.Action.{assigns}
+use Rattle.hpr_syntax.specs.declared.rows.Content.TheVariants.{Assign, If, While}
+use Rattle.hpr_syntax.specs.Contents.{answer_of}
+use Rattle.hpr_syntax.specs.Body.{Body, done, action, branch, loop}
 use Rattle.hpr_syntax.specs.Tree.{Tree}
 use Rattle.hpr_syntax.specs.Values.{Values, value_at}
-use Rattle.hpr_syntax.specs.Value.{Fault, Answer, value, is_true}
+use Rattle.hpr_syntax.specs.Value.{Fault, Answer, is_true}
 
 pub data After : Type 0 where
   goes : (state : Values) → (left : ℕ) → After
@@ -36,14 +39,14 @@ then_go spent go = spent
 abbrev pub turns : ℕ → Tag → Expr → (Values → ℕ → After) → Values → ℕ → After
 turns zero t e body s left = spent
 turns (suc n) t e body s left =
-    step t (value e s) left (λ v left'. if is_true v then then_go (body s left') (turns n t e body) else goes s left')
+    step t (answer_of (While e) s) left (λ v left'. if is_true v then then_go (body s left') (turns n t e body) else goes s left')
 
 -- A loop makes no more turns than it has steps, and one to see that none is left.
 abbrev pub run_body : Body → Values → ℕ → After
 run_body done s left = goes s left
-run_body (assign t x e rest) s left = step t (value e s) left (λ v left'. run_body rest (insert s x v) left')
+run_body (action t (assigns x e) rest) s left = step t (answer_of (Assign x e) s) left (λ v left'. run_body rest (insert s x v) left')
 run_body (branch t e a b rest) s left =
-    step t (value e s) left (λ v left'. then_go (if is_true v then run_body a s left' else run_body b s left') (run_body rest))
+    step t (answer_of (If e) s) left (λ v left'. then_go (if is_true v then run_body a s left' else run_body b s left') (run_body rest))
 run_body (loop t e b rest) s left = then_go (turns (left + 1) t e (run_body b) s left) (run_body rest)
 
 -- names and their values

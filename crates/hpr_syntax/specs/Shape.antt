@@ -18,7 +18,8 @@ use Rattle.hpr_terms.specs.Term.{operators}
 use Rattle.hpr_terms.specs.TermOf.{term_of}
 use Rattle.hpr_syntax.specs.declared.shape.ShapeError.{ShapeError}
 use Rattle.hpr_syntax.specs.declared.shape.ShapeError.TheVariants.{DuplicateTag, Unissued, TooDeep, ExprTooLarge, TooManyParts, DuplicateFinal}
-use Rattle.hpr_syntax.specs.Body.{Body, done, assign, branch, loop, part_count}
+use Rattle.hpr_syntax.specs.Action.{assigns}
+use Rattle.hpr_syntax.specs.Body.{Body, done, action, branch, loop, part_count}
 use Rattle.hpr_syntax.specs.Parts.{same_tag, tags_of}
 use Rattle.hpr_syntax.specs.Issued.{Issued, issued_to}
 use Rattle.hpr_syntax.specs.Tree.{Tree}
@@ -49,10 +50,10 @@ first_unissued issued (t ∷ ts) = if is_unissued issued t then Some t else firs
 
 abbrev pub first_deep : ℕ → Body → Option Tag
 first_deep n done = None
-first_deep zero (assign t x e rest) = Some t
+first_deep zero (action t d rest) = Some t
 first_deep zero (branch t e a b rest) = Some t
 first_deep zero (loop t e b rest) = Some t
-first_deep (suc n) (assign t x e rest) = first_deep (suc n) rest
+first_deep (suc n) (action t d rest) = first_deep (suc n) rest
 first_deep (suc n) (branch t e a b rest) = option_or (first_deep n a) (option_or (first_deep n b) (first_deep (suc n) rest))
 first_deep (suc n) (loop t e b rest) = option_or (first_deep n b) (first_deep (suc n) rest)
 
@@ -64,7 +65,7 @@ left_after most k = if nat_le k most then Some (most - k) else None
 
 abbrev pub first_large : Body → Option Tag
 first_large done = None
-first_large (assign t x e rest) = if is_large e then Some t else first_large rest
+first_large (action t (assigns x e) rest) = if is_large e then Some t else first_large rest
 first_large (branch t e a b rest) = if is_large e then Some t else option_or (first_large a) (option_or (first_large b) (first_large rest))
 first_large (loop t e b rest) = if is_large e then Some t else option_or (first_large b) (first_large rest)
 

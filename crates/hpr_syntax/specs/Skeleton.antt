@@ -9,7 +9,7 @@
 -- Distinct sk       == no tag stands twice
 use Rattle.std.specs.Prelude.{◌≡◌, ◌⊎◌}
 use Rattle.hpr_terms.specs.declared.tag.Tag.{Tag}
-use Rattle.hpr_syntax.specs.Body.{Body, done, assign, branch, loop}
+use Rattle.hpr_syntax.specs.Body.{Body, done, action, branch, loop}
 
 pub data Skeleton : Type 0 where
   nil : Skeleton
@@ -24,7 +24,7 @@ pub data Point : Type 0 where
 
 abbrev pub skeleton : Body → Skeleton
 skeleton done = nil
-skeleton (assign t x e rest) = act t (skeleton rest)
+skeleton (action t d rest) = act t (skeleton rest)
 skeleton (branch t e a b rest) = fork t (skeleton a) (skeleton b) (skeleton rest)
 skeleton (loop t e b rest) = round t (skeleton b) (skeleton rest)
 

@@ -8,7 +8,8 @@ use Rattle.hpr_terms.specs.declared.keyword.Keyword.TheVariants.{Program, Issued
 use Rattle.hpr_terms.specs.declared.token.Sign.TheVariants.{Colon, Becomes, Dot, Comma, Semicolon, Open, Close}
 use Rattle.hpr_terms.specs.declared.token.Token.{Token}
 use Rattle.hpr_terms.specs.declared.token.Token.TheVariants.{Word, Name, Number, Mark}
-use Rattle.hpr_syntax.specs.Body.{Body, done, assign, branch, loop}
+use Rattle.hpr_syntax.specs.Action.{assigns}
+use Rattle.hpr_syntax.specs.Body.{Body, done, action, branch, loop}
 use Rattle.hpr_syntax.specs.Shape.{max_levels, max_parts}
 use Rattle.hpr_scan.specs.Steps.{runs}
 use Rattle.hpr_scan.proofs.Words.{some_is}
@@ -423,7 +424,7 @@ part_same f t n le e = e
 
 ends_same : (f : Found) (p : Purpose) (o : Option Expr) (n : State) → n.found.count ≤ max_parts → ends_here None f p o ≡ Some n → ends_here limit f p o ≡ Some n
 ends_same f p None n le e = absurd cc
-ends_same f (Assign t x) (Some v) n le e = kept_same f f.blocks f.parts (assign t x v done) n le e
+ends_same f (Assign t x) (Some v) n le e = kept_same f f.blocks f.parts (action t (assigns x v) done) n le e
 ends_same f (Test t) (Some v) n le e = e
 ends_same f (Guard t) (Some v) n le e = e
 

@@ -4,7 +4,8 @@ use Rattle.std.proofs.lemmas.List.{map-append}
 use Rattle.hpr_terms.specs.declared.tag.Tag.{Tag}
 use Rattle.hpr_syntax.specs.declared.tree.Stmt.{Stmt}
 use Rattle.hpr_syntax.specs.declared.tree.Stmt.TheVariants.{Assign, If, While}
-use Rattle.hpr_syntax.specs.Body.{Body, done, assign, branch, loop}
+use Rattle.hpr_syntax.specs.Action.{assigns}
+use Rattle.hpr_syntax.specs.Body.{Body, done, action, branch, loop}
 use Rattle.hpr_syntax.specs.BodyOf.{before, body_of}
 use Rattle.hpr_syntax.specs.Parts.{tags_of}
 use Rattle.hpr_syntax.specs.Issued.{Issued, raised, raised_by}
@@ -19,31 +20,31 @@ use Rattle.hpr_text.specs.Machine.{then_parts}
 
 pub pushed_body : (ss : List Stmt) (s : Stmt) → body_of (ss ++ (s ∷ [])) ≡ then_parts (body_of ss) (before s done)
 pushed_body [] s = refl
-pushed_body (Assign t x e ∷ ss) s = ap (assign t x e) (pushed_body ss s)
+pushed_body (Assign t x e ∷ ss) s = ap (action t (assigns x e)) (pushed_body ss s)
 pushed_body (If t e a b ∷ ss) s = ap (branch t e a b) (pushed_body ss s)
 pushed_body (While t e b ∷ ss) s = ap (loop t e b) (pushed_body ss s)
 
 pub then_done : (b : Body) → then_parts b done ≡ b
 then_done done = refl
-then_done (assign t x e r) = ap (assign t x e) (then_done r)
+then_done (action t (assigns x e) r) = ap (action t (assigns x e)) (then_done r)
 then_done (branch t e a b r) = ap (branch t e a b) (then_done r)
 then_done (loop t e b r) = ap (loop t e b) (then_done r)
 
 pub then_assoc : (a b c : Body) → then_parts (then_parts a b) c ≡ then_parts a (then_parts b c)
 then_assoc done b c = refl
-then_assoc (assign t x e r) b c = ap (assign t x e) (then_assoc r b c)
+then_assoc (action t (assigns x e) r) b c = ap (action t (assigns x e)) (then_assoc r b c)
 then_assoc (branch t e y n r) b c = ap (branch t e y n) (then_assoc r b c)
 then_assoc (loop t e y r) b c = ap (loop t e y) (then_assoc r b c)
 
 pub tags_then : (b c : Body) (after : List Tag) → tags_of (then_parts b c) after ≡ tags_of b (tags_of c after)
 tags_then done c after = refl
-tags_then (assign t x e r) c after = ap (λ ts. t ∷ ts) (tags_then r c after)
+tags_then (action t d r) c after = ap (λ ts. t ∷ ts) (tags_then r c after)
 tags_then (branch t e y n r) c after = ap (λ ts. t ∷ tags_of y (tags_of n ts)) (tags_then r c after)
 tags_then (loop t e y r) c after = ap (λ ts. t ∷ tags_of y ts) (tags_then r c after)
 
 pub tags_after : (b : Body) (after : List Tag) → tags_of b after ≡ tags_of b [] ++ after
 tags_after done after = refl
-tags_after (assign t x e r) after = ap (λ ts. t ∷ ts) (tags_after r after)
+tags_after (action t d r) after = ap (λ ts. t ∷ ts) (tags_after r after)
 tags_after (branch t e y n r) after =
     let inner : tags_of n (tags_of r after) ≡ tags_of n (tags_of r []) ++ after =
     tags_after n (tags_of r after) ∙ ap (λ ts. tags_of n [] ++ ts) (tags_after r after) ∙ sym (append_assoc (tags_of n []) (tags_of r []) after)

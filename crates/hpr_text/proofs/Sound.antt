@@ -8,7 +8,8 @@ use Rattle.hpr_terms.specs.declared.keyword.Keyword.TheVariants.{Program, Issued
 use Rattle.hpr_terms.specs.declared.token.Sign.TheVariants.{Colon, Becomes, Dot, Comma, Semicolon, Open, Close}
 use Rattle.hpr_terms.specs.declared.token.Token.{Token}
 use Rattle.hpr_terms.specs.declared.token.Token.TheVariants.{Word, Name, Number, Mark}
-use Rattle.hpr_syntax.specs.Body.{Body, done, assign, branch, loop}
+use Rattle.hpr_syntax.specs.Action.{assigns}
+use Rattle.hpr_syntax.specs.Body.{Body, done, action, branch, loop}
 use Rattle.hpr_syntax.specs.Issued as issued
 use Rattle.hpr_syntax.specs.Shape.{max_levels}
 use Rattle.hpr_syntax.specs.Tree.{Tree}
@@ -469,7 +470,7 @@ assigned m (suc l) f t x e past label value ts p room is v q = (
     header_is = p.header_is;
     blocks = p.blocks;
     spelled = parts_then p.spelled (grammar.assignment {x = x} is v grammar.nothing);
-    numbers = renumbered p.pairs f (with_part None t x e f) (t ∷ []) [] refl refl (sym (read_then f.blocks f.parts (assign t x e done) [])) p.numbers;
+    numbers = renumbered p.pairs f (with_part None t x e f) (t ∷ []) [] refl refl (sym (read_then f.blocks f.parts (action t (assigns x e) done) [])) p.numbers;
     no_names = p.no_names;
     tokens = rw (q, p.tokens) (simp append_assoc);
   },

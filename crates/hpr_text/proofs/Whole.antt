@@ -8,7 +8,8 @@ use Rattle.hpr_terms.specs.declared.keyword.Keyword.TheVariants.{Program, Issued
 use Rattle.hpr_terms.specs.declared.token.Sign.TheVariants.{Colon, Becomes, Dot, Comma, Semicolon, Open, Close}
 use Rattle.hpr_terms.specs.declared.token.Token.{Token}
 use Rattle.hpr_terms.specs.declared.token.Token.TheVariants.{Word, Name, Number, Mark}
-use Rattle.hpr_syntax.specs.Body.{Body, done, assign, branch, loop}
+use Rattle.hpr_syntax.specs.Action.{assigns}
+use Rattle.hpr_syntax.specs.Body.{Body, done, action, branch, loop}
 use Rattle.hpr_syntax.specs.Parts.{tags_of}
 use Rattle.hpr_syntax.specs.Issued as issued
 use Rattle.hpr_syntax.specs.Shape.{max_levels}
@@ -231,7 +232,7 @@ part_then : (f : Found) (c m : ℕ) (is : issued.Issued) (part rest : Body) → 
 part_then f c m is part rest e =
     λ i. record { mode = f.mode; count = tally f.mode m; has_header = f.has_header; issued = e i; blocks = f.blocks; parts = then_assoc f.parts part rest i; names = f.names }
 
-assign_raises : (h : Bool) (t : Tag) (x : List ℕ) (e : Expr) (rest : Body) (is : issued.Issued) → parts_raised h rest (tag_raised h t is) ≡ parts_raised h (assign t x e rest) is
+assign_raises : (h : Bool) (t : Tag) (x : List ℕ) (e : Expr) (rest : Body) (is : issued.Issued) → parts_raised h rest (tag_raised h t is) ≡ parts_raised h (action t (assigns x e) rest) is
 assign_raises true t x e rest is = refl
 assign_raises false t x e rest is = refl
 
@@ -268,7 +269,7 @@ parts_run {n = n} {m = m} f eq (grammar.assignment {t = t} {x = x} {e = e} {labe
     ∙ run_one _ (reading g (Assign t x) start) (Mark Becomes) tail (becomes_step g t x)
     ∙ ap (runs (next None) (reading g (Assign t x) start)) (append_assoc value (Mark Semicolon ∷ more) rest)
     ∙ value_runs value e v g t x (more ++ rest) ∙ parts_run k eq s rest deep refl
-    ∙ ap (λ y. runs (next None) (state_at y AtPart) rest) (part_then f g.count m g.issued (assign t x e done) body (assign_raises f.has_header t x e body f.issued))
+    ∙ ap (λ y. runs (next None) (state_at y AtPart) rest) (part_then f g.count m g.issued (action t (assigns x e) done) body (assign_raises f.has_header t x e body f.issued))
 parts_run {n = n} {m = m} f eq (grammar.conditional {k = c1} {t = t} {e = e} {label = label} {test = test} {first = inner} {more = more} {yes = chosen} {rest = body} is v s u) rest deep c =
     let g : Found = labelled n t f in
     let room : length f.blocks < max_levels = omega (arith, deep) in

@@ -37,7 +37,8 @@ use Rattle.hpr_terms.specs.declared.keyword.Keyword.TheVariants.{Program, Issued
 use Rattle.hpr_terms.specs.declared.token.Sign.TheVariants.{Colon, Becomes, Dot, Comma, Semicolon, Open, Close}
 use Rattle.hpr_terms.specs.declared.token.Token.{Token}
 use Rattle.hpr_terms.specs.declared.token.Token.TheVariants.{Word, Name, Number, Mark}
-use Rattle.hpr_syntax.specs.Body.{Body, done, assign, branch, loop}
+use Rattle.hpr_syntax.specs.Action.{assigns}
+use Rattle.hpr_syntax.specs.Body.{Body, done, action, branch, loop}
 use Rattle.hpr_syntax.specs.Issued as issued
 use Rattle.hpr_syntax.specs.Tree.{Tree}
 use Rattle.hpr_syntax.specs.declared.shape.ShapeError.{ShapeError}
@@ -77,7 +78,7 @@ tag_given l a n = record { author = a; serial = serial_given l n }
 
 abbrev pub then_parts : Body → Body → Body
 then_parts done more = more
-then_parts (assign t x e rest) more = assign t x e (then_parts rest more)
+then_parts (action t d rest) more = action t d (then_parts rest more)
 then_parts (branch t e a b rest) more = branch t e a b (then_parts rest more)
 then_parts (loop t e b rest) more = loop t e b (then_parts rest more)
 
@@ -118,7 +119,7 @@ abbrev pub with_parts : Option ℕ → Body → Body → Found → Found
 with_parts l before part f = record f { parts = then_kept (keeps l f.count) before part }
 
 abbrev pub with_part : Option ℕ → Tag → List ℕ → Expr → Found → Found
-with_part l t x e f = with_parts l f.parts (assign t x e done) f
+with_part l t x e f = with_parts l f.parts (action t (assigns x e) done) f
 
 abbrev pub around : Tag → Expr → Found → Around
 around t e f = record { before = f.parts; tag = t; test = e }
