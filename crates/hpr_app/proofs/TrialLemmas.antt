@@ -1,5 +1,6 @@
 -- What is decided of a trial.
 use Rattle.std.proofs.Common.{◌≡◌, ℕ, List, ap, subst, Option, Ok, Result, IsOk, is_ok}
+use Rattle.hpr_terms.specs.declared.limits.TheConstants.{DEFAULT_TRIES}
 use Rattle.hpr_io.specs.Files.{Files}
 use Rattle.hpr_syntax.specs.Run.{Outcome, run}
 use Rattle.hpr_syntax.specs.Tree.{Tree}
@@ -12,7 +13,7 @@ use Rattle.hpr_inputs.specs.Reads.{IfTold}
 use Rattle.hpr_inputs.specs.Files.{OnFiles}
 use Rattle.hpr_decisions.specs.Integrate.{report}
 use Rattle.hpr_inputs.specs.States.{states_of}
-use Rattle.hpr_decisions.specs.TrialFiles.{IsTried, IsTrialOf, ShowsTrial, Tried, TrialOutcome, steps_together, trial_tries}
+use Rattle.hpr_decisions.specs.TrialFiles.{IsTried, IsTrialOf, ShowsTrial, Tried, TrialOutcome, steps_together}
 use Rattle.hpr_inputs.specs.declared.answer.Report.{Report}
 use Rattle.hpr_inputs.specs.declared.answer.Stop.{Stop}
 use Rattle.hpr_app.proofs.IntegrateLemmas.{IsUnprinted}
@@ -35,7 +36,7 @@ module _ (files : Option Files) (base a b : Text) (words : List Text) (steps : �
 
 module _ (p q s : Tree) (state : Values) (steps : ℕ) where
   -- what reports an answer without a program is decided of a trial
-  pub unprinted_tried : (x : Answer) (d : Decision) → IsUnprinted x → IsAnswer p q s trial_tries x → d ≡ report trial_tries x → IsTried p q s state steps d
+  pub unprinted_tried : (x : Answer) (d : Decision) → IsUnprinted x → IsAnswer p q s DEFAULT_TRIES x → d ≡ report DEFAULT_TRIES x → IsTried p q s state steps d
   unprinted_tried (interference cs) d none answer is = (interference cs, answer, is)
   unprinted_tried (printed m) d none answer is = absurd none
   unprinted_tried (no_program n) d none answer is = (no_program n, answer, is)

@@ -1,5 +1,6 @@
 //! The command `integrate`.
-ghost use Rattle.std.specs.Prelude.{◌≡◌, ◌≤◌, [], ◌∷◌, IsTrue};
+ghost use Rattle.std.specs.Prelude.{◌≡◌, ◌≤◌, [], ◌∷◌, ◌++◌, IfOk, IsTrue, codes, string_bytes};
+ghost use Rattle.std.specs.Fmt.{decimal};
 ghost use Rattle.hpr_report.specs.ConflictsText.{conflicts_text};
 ghost use Rattle.hpr_inputs.specs.Reads.{IfTold, IsReached};
 ghost use Rattle.hpr_inputs.specs.Decision.{prints};
@@ -14,7 +15,8 @@ use hpr_graph::Conflict;
 use hpr_inputs::{Kind, Report, Stop, Versions, read_versions};
 use hpr_io::Shelf;
 use hpr_report::conflicts_text;
-use std::alloc::Global;
+use hpr_terms::limits::MAX_PARTS;
+use std::alloc::{AllocError, Global};
 
 /// Integrates two variants with their base, trying as many arrangements as `tries` allows: prints the
 /// merged program; or the conflicts, where the variants interfere; or that no program has the merged
@@ -104,13 +106,19 @@ fn interference(alloc: Global, conflicts: &[Conflict]) -> Result<Report, Stop>
 fn no_program(alloc: Global, parts: usize) -> Result<Report, Stop>
     ensures { Merges (λ r. r ≡ prints Kind.NoProgram (no_program_text parts)) result }
 {
-    let line = format!(in alloc;
-        "no program with at most 1000 parts has the merged graph, which has {parts} parts\n"
-    )?;
+    let line = no_program_line(alloc, MAX_PARTS, parts)?;
     Ok(Report {
         kind: Kind::NoProgram,
         text: line.into_bytes(),
     })
+}
+
+fn no_program_line(alloc: Global, most: usize, parts: usize) -> Result<String, AllocError>
+    ensures { IfOk result (λ line. string_bytes line ≡ codes "no program with at most " ++ decimal most ++ codes " parts has the merged graph, which has " ++ decimal parts ++ codes " parts\n") }
+{
+    format!(in alloc;
+        "no program with at most {most} parts has the merged graph, which has {parts} parts\n"
+    )
 }
 
 /// The report where the budget of tries is spent.

@@ -1,5 +1,6 @@
 //! The command `trial`.
 ghost use Rattle.std.specs.Prelude.{◌≡◌, ◌≤◌, [], ◌∷◌, IsTrue, IsOk, IfOk, map};
+ghost use Rattle.hpr_terms.specs.declared.limits.TheConstants.{MAX_STEPS};
 ghost use Rattle.hpr_syntax.specs.Run.{run};
 ghost use Rattle.hpr_run.specs.Outcomes.{outcome_of};
 ghost use Rattle.hpr_report.specs.TableText.{IsSingleValued};
@@ -15,10 +16,8 @@ use hpr_io::Shelf;
 use hpr_report::{outcome_text, table_text};
 use hpr_run::{Outcome, State, run};
 use hpr_syntax::{Name, NoMemory, Program};
+use hpr_terms::limits::DEFAULT_TRIES;
 use std::alloc::Global;
-
-/// The budget of tries of the integration.
-const TRIES: u64 = 10_000;
 
 /// Integrates two variants with their base, and where that gives a program runs the three from the state
 /// that the words tell, each for at most so many steps, and the merged program for as many as the three
@@ -36,7 +35,7 @@ pub fn trial_files<S: Shelf>(
     requires base { IsTrue (S.serves shelf.old base.now) }
     requires a { IsTrue (S.serves shelf.old a.now) }
     requires b { IsTrue (S.serves shelf.old b.now) }
-    requires steps { steps ≤ 1000000000 }
+    requires steps { steps ≤ MAX_STEPS }
     ensures { Decides (λ r. IfTold (S.files shelf.old) (λ fs. TrialOutcome fs base.now a.now b.now (map (λ w. w.now) words.now) steps r)) (λ file. IsReached (S.files shelf.old) (base.now ∷ a.now ∷ b.now ∷ []) file × IsOk (states_of (map (λ w. w.now) words.now))) (S.faults shelf.old) (S.faults shelf.new) result }
 {
     let state = read_state(alloc, words)?;
@@ -54,12 +53,18 @@ fn try_versions(
     state: &State,
     steps: u64,
 ) -> Result<Report, Stop>
-    requires { steps ≤ 1000000000 }
+    requires { steps ≤ MAX_STEPS }
     ensures { Merges (Tried base.now versions.now.base a.now versions.now.a b.now versions.now.b state.now steps) result }
 {
-    match integrate(alloc, &versions.base, &versions.a, &versions.b, TRIES) {
+    match integrate(
+        alloc,
+        &versions.base,
+        &versions.a,
+        &versions.b,
+        DEFAULT_TRIES,
+    ) {
         Ok(merged) => try_merged(alloc, versions, &merged, state, steps),
-        Err(stop) => stopped(alloc, base, a, b, TRIES, &stop),
+        Err(stop) => stopped(alloc, base, a, b, DEFAULT_TRIES, &stop),
     }
 }
 
@@ -71,7 +76,7 @@ fn try_merged(
     state: &State,
     steps: u64,
 ) -> Result<Report, Stop>
-    requires { steps ≤ 1000000000 }
+    requires { steps ≤ MAX_STEPS }
     ensures { Merges (IsTrialOf versions.now.base versions.now.a versions.now.b merged.now state.now steps) result }
 {
     let base = run(alloc, &versions.base, state, steps)?;

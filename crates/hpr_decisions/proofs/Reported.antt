@@ -1,5 +1,6 @@
 -- The calls that print no program: what the status tells.
 use Rattle.std.proofs.Common.{◌≡◌, ℕ, Bool, true, false, List, refl, ap, ◌∙◌, subst, inl, inr, ◌⊎◌, Some, Ok, Err, Result}
+use Rattle.hpr_terms.specs.declared.limits.TheConstants.{DEFAULT_TRIES}
 use Rattle.hpr_io.specs.Counts.{Rose}
 use Rattle.hpr_io.specs.Files.{Files, bytes_of}
 use Rattle.hpr_io.specs.Taken.{taken_then}
@@ -35,7 +36,7 @@ use Rattle.hpr_decisions.specs.Reports.{HasAnswer, HasConflict, IsInterference, 
 use Rattle.hpr_inputs.specs.States.{OnState}
 use Rattle.hpr_decisions.specs.RunFile.{kind_of}
 use Rattle.hpr_inputs.specs.States.{RefusedWord, states_of}
-use Rattle.hpr_decisions.specs.TrialFiles.{IsTrialBy, IsTried, ShowsIf, Tried, have_ended, steps_together, trial_tries}
+use Rattle.hpr_decisions.specs.TrialFiles.{IsTrialBy, IsTried, ShowsIf, Tried, have_ended, steps_together}
 use Rattle.hpr_inputs.specs.declared.answer.Kind.TheVariants as kind
 use Rattle.hpr_decisions.specs.declared.status.Status.{Status}
 use Rattle.hpr_decisions.specs.declared.status.Status.TheVariants as status
@@ -101,7 +102,7 @@ module _ (fs : Files) (d : Decision) (is : IsReport (status_of d)) where
   past_state (Ok state) next h = (state, refl, h)
   past_state (Err refused) next h = absurd (no_refusal _ h)
 
-  past_trial : (p q r : Tree) (state : Values) (steps : ℕ) (x : Answer) → IsTrialBy p q r state steps x d → d ≡ report trial_tries x
+  past_trial : (p q r : Tree) (state : Values) (steps : ℕ) (x : Answer) → IsTrialBy p q r state steps x d → d ≡ report DEFAULT_TRIES x
   past_trial p q r state steps (interference cs) h = h
   past_trial p q r state steps (printed m) h =
       let o = means.run p state steps in
@@ -219,8 +220,8 @@ module _ (p q r : Tree) (is_p : IsProgram p) (is_q : IsProgram q) (is_r : IsProg
 
   tried_conflicting : (state : Values) (steps : ℕ) (d : Decision) → IsTried p q r state steps d → status_of d ≡ status.Interference
   tried_conflicting state steps d (x, answer, by) =
-      let (cs, e) = conflicting trial_tries x answer in
-      let same : d ≡ report trial_tries (interference cs) = subst (λ (y : Answer). IsTrialBy p q r state steps y d) e by in
+      let (cs, e) = conflicting DEFAULT_TRIES x answer in
+      let same : d ≡ report DEFAULT_TRIES (interference cs) = subst (λ (y : Answer). IsTrialBy p q r state steps y d) e by in
       ap status_of same
 
 conflict_outcome : (request : Request) (fs : Files) (d : Decision) → HasConflict request fs → RequestOutcome request fs d → status_of d ≡ status.Interference

@@ -1,5 +1,6 @@
 -- For each request and all files there is a decision.
 use Rattle.std.proofs.Common.{◌≡◌, ℕ, Option, Some, None, IfSome, Result, Ok, Err, refl, arith}
+use Rattle.hpr_terms.specs.declared.limits.TheConstants.{DEFAULT_TRIES}
 use Rattle.hpr_io.specs.Files.{Files}
 use Rattle.hpr_syntax.specs.Print.{text}
 use Rattle.hpr_syntax.specs.Tree.{Tree}
@@ -18,7 +19,7 @@ use Rattle.hpr_inputs.specs.States.{OnState}
 use Rattle.hpr_decisions.specs.RunFile.{Ran}
 use Rattle.hpr_decisions.specs.SliceFile.{Sliced}
 use Rattle.hpr_inputs.specs.States.{RefusedWord, refused_word_text, states_of}
-use Rattle.hpr_decisions.specs.TrialFiles.{IsTried, Tried, trial_tries}
+use Rattle.hpr_decisions.specs.TrialFiles.{IsTried, Tried}
 use Rattle.hpr_inputs.specs.declared.answer.Kind.TheVariants.{Done}
 use Rattle.hpr_decisions.proofs.TotalAnswers.{some_answer}
 use Rattle.hpr_decisions.proofs.TotalFiles.{HasOne, on_file, on_files, on_script, on_untagged}
@@ -48,7 +49,7 @@ module _ (fs : Files) where
   request_decided (trial base a b words steps) range =
       on_state (states_of words) (λ state r. OnFiles fs base a b (λ p q s. Tried base p a q b s state steps r) r) (λ state.
       on_files fs base a b (λ p q s r. Tried base p a q b s state steps r) (λ p q s is_p is_q is_s.
-      on_graphs base p a q b s (IsTried p q s state steps) (tried p q s state steps (some_answer p q s is_p is_q is_s trial_tries))))
+      on_graphs base p a q b s (IsTried p q s state steps) (tried p q s state steps (some_answer p q s is_p is_q is_s DEFAULT_TRIES))))
   request_decided (edit file words author) range =
       on_file fs file (λ p r. OnScript fs words (λ cs. r ≡ edit_decision words (applied p cs author)) r) (λ p _.
       on_script fs words (λ cs r. r ≡ edit_decision words (applied p cs author)) (λ cs n. n (edit_decision words (applied p cs author), refl)))

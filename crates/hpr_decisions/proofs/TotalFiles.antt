@@ -1,6 +1,7 @@
 -- Each file is refused, or spells a program or a script.
 use Rattle.std.proofs.Common.{◌≡◌, ◌⊎◌, ℕ, ◌≤◌, ◌<◌, ◌^◌, None, List, [], length, inl, inr, refl, arith}
 use Rattle.std.proofs.lemmas.Bool.{cases_lt}
+use Rattle.hpr_terms.specs.declared.limits.TheConstants.{MAX_FILE, MAX_PARTS}
 use Rattle.hpr_io.specs.Files.{Files, bytes_of}
 use Rattle.hpr_scan.specs.Place.{IsViable}
 use Rattle.hpr_terms.specs.Tokens.{nothing, blanks, ending}
@@ -14,7 +15,7 @@ use Rattle.hpr_syntax.proofs.NoRefusal.{no_refusal}
 use Rattle.hpr_edit.specs.declared.command.Command.{Command}
 use Rattle.hpr_engine.proofs.WithinBounds.{by_both}
 use Rattle.hpr_refusals.specs.Reasons.{refusal_text}
-use Rattle.hpr_refusals.specs.Refusals.{max_file, IsCauseIn, IsFileIn, IsRefusedIn, IsRefusedScript, IsScriptCause, IsScriptOf}
+use Rattle.hpr_refusals.specs.Refusals.{IsCauseIn, IsFileIn, IsRefusedIn, IsRefusedScript, IsScriptCause, IsScriptOf}
 use Rattle.hpr_refusals.specs.declared.files.Refusal.{Refusal}
 use Rattle.hpr_refusals.specs.declared.files.Refusal.TheVariants as refusal
 use Rattle.hpr_script.specs.ScriptGrammar as script
@@ -49,7 +50,7 @@ module _ (form : Form) (file bytes : List ℕ) (proper : (t : Tree) → Spells f
   by_cause : (why : Refusal) → IsCauseIn form bytes why → ReadsFile
   by_cause why cause = inl (refusal_text file why, (why, cause, refl))
 
-  short_file : length bytes ≤ max_file → ¬ (¬ ReadsFile)
+  short_file : length bytes ≤ MAX_FILE → ¬ (¬ ReadsFile)
   short_file short n =
       some_reading form bytes proper (λ reading. elim reading [
         | inl place ↦ n (by_cause (refusal.Syntax place.0) (short, place.1))
@@ -60,7 +61,7 @@ module _ (form : Form) (file bytes : List ℕ) (proper : (t : Tree) → Spells f
       ])
 
   reads_file : ¬ (¬ ReadsFile)
-  reads_file n = elim (cases_lt max_file (length bytes)) [ inl longer ↦ n (by_cause refusal.Longer longer) | inr short ↦ short_file short n ]
+  reads_file n = elim (cases_lt MAX_FILE (length bytes)) [ inl longer ↦ n (by_cause refusal.Longer longer) | inr short ↦ short_file short n ]
 
 -- one that is to spell a script
 some_script : IsViable HasScript []
@@ -73,21 +74,21 @@ module _ (file bytes : List ℕ) where
   by_script_cause : (why : Refusal) → IsScriptCause bytes why → ReadsScript
   by_script_cause why cause = inl (refusal_text file why, (why, cause, refl))
 
-  short_script : length bytes ≤ max_file → ¬ (¬ ReadsScript)
+  short_script : length bytes ≤ MAX_FILE → ¬ (¬ ReadsScript)
   short_script short =
       by_both (HasScript bytes) ReadsScript
       (λ found n. n (inr (found.0, record { short = short; spelled = found.1 })))
       (λ none n. some_place HasScript bytes none some_script (λ place. n (by_script_cause (refusal.Syntax place.0) (short, place.1))))
 
   reads_script : ¬ (¬ ReadsScript)
-  reads_script n = elim (cases_lt max_file (length bytes)) [ inl longer ↦ n (by_script_cause refusal.Longer longer) | inr short ↦ short_script short n ]
+  reads_script n = elim (cases_lt MAX_FILE (length bytes)) [ inl longer ↦ n (by_script_cause refusal.Longer longer) | inr short ↦ short_script short n ]
 
-few : (n : ℕ) → too_many n ≡ None → n ≤ 1000
+few : (n : ℕ) → too_many n ≡ None → n ≤ MAX_PARTS
 few n h = grind (arith, h)
 
 untagged_well : (author : ℕ) (bytes : List ℕ) → author < 2 ^ 32 → (t : Tree) → Spells (untagged author) bytes t → shape t ≡ None → IsProper t
 untagged_well author bytes low t is e =
-    let parts : part_count t.body ≤ 1000 = few (part_count t.body) (no_refusal t e).parts in
+    let parts : part_count t.body ≤ MAX_PARTS = few (part_count t.body) (no_refusal t e).parts in
     untagged_proper author bytes t low (omega (arith, parts)) is
 
 module _ (fs : Files) where

@@ -3,6 +3,7 @@ use Rattle.std.proofs.Common.{◌≡◌, ◌↔◌, ℕ, ℤ, Bool, true, false,
 use Rattle.std.specs.Cmp.Lexicographic.{nat_list_cmp_total}
 use Rattle.std.specs.List.{AllByRecursion}
 use Rattle.std.proofs.lemmas.List.Elements.{All-from_recursion}
+use Rattle.hpr_terms.specs.declared.limits.TheConstants.{DEFAULT_TRIES}
 use Rattle.hpr_syntax.specs.Run.{FinalValues, Outcome, run}
 use Rattle.hpr_syntax.specs.Tree.{Tree}
 use Rattle.hpr_syntax.specs.Values.{Values}
@@ -16,7 +17,7 @@ use Rattle.hpr_report.specs.GraphTexts.{on_lines}
 use Rattle.hpr_report.specs.TableText.{names_in, IsSingleValued, Row, IsValueIn, IsRow, names_of, table_line, IsTableText}
 use Rattle.hpr_inputs.specs.Decision.{prints}
 use Rattle.hpr_decisions.specs.Integrate.{report}
-use Rattle.hpr_decisions.specs.TrialFiles.{IsTrialBy, IsTrialOf, IsTried, ShowsIf, finals_of, have_ended, steps_together, three_lines, trial_line, trial_tries}
+use Rattle.hpr_decisions.specs.TrialFiles.{IsTrialBy, IsTrialOf, IsTried, ShowsIf, finals_of, have_ended, steps_together, three_lines, trial_line}
 use Rattle.hpr_inputs.specs.declared.answer.Kind.TheVariants.{Done, NotEnded}
 use Rattle.hpr_decisions.proofs.TotalFiles.{HasOne}
 use Rattle.hpr_decisions.proofs.TotalLists.{ascending}
@@ -98,10 +99,10 @@ module _ (p q s : Tree) (state : Values) (steps : ℕ) where
       (single_finals m state all om refl)
 
   trial_by : (x : Answer) → HasOne (IsTrialBy p q s state steps x)
-  trial_by (interference cs) n = n (report trial_tries (interference cs), refl)
+  trial_by (interference cs) n = n (report DEFAULT_TRIES (interference cs), refl)
   trial_by (printed m) n = trial_of m n
-  trial_by (no_program k) n = n (report trial_tries (no_program k), refl)
-  trial_by spent n = n (report trial_tries spent, refl)
+  trial_by (no_program k) n = n (report DEFAULT_TRIES (no_program k), refl)
+  trial_by spent n = n (report DEFAULT_TRIES spent, refl)
 
-  pub tried : ¬ (¬ ((x : Answer) × IsAnswer p q s trial_tries x)) → HasOne (IsTried p q s state steps)
+  pub tried : ¬ (¬ ((x : Answer) × IsAnswer p q s DEFAULT_TRIES x)) → HasOne (IsTried p q s state steps)
   tried some n = some (λ x. trial_by x.0 (λ found. n (found.0, (x.0, x.1, found.1))))

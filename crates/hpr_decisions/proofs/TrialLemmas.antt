@@ -1,5 +1,6 @@
 -- Trials: the final values of runs, and that one answer makes one decision.
 use Rattle.std.proofs.Common.{◌≡◌, ℕ, ◌≤◌, arith, Bool, true, false, List, ◌++◌, ap, sym, ◌∙◌, subst, inl, inr, codes}
+use Rattle.hpr_terms.specs.declared.limits.TheConstants.{DEFAULT_TRIES}
 use Rattle.hpr_syntax.specs.Run as means
 use Rattle.hpr_syntax.specs.Run.{After, Outcome, ends, faults, goes, more, outcome, run, run_body, stops}
 use Rattle.hpr_syntax.specs.Shape.{IsProgram}
@@ -14,7 +15,7 @@ use Rattle.hpr_report.proofs.OneTable.{one_table_text, ended_single_valued}
 use Rattle.hpr_inputs.specs.Decision.{Decision, prints}
 use Rattle.hpr_decisions.specs.Integrate.{no_program_text, spent_text}
 use Rattle.hpr_decisions.specs.Outcome.{AgreeButForBudget, HasSearched}
-use Rattle.hpr_decisions.specs.TrialFiles.{IsTrialBy, IsTrialText, IsTried, ShowsIf, finals_of, have_ended, steps_of, steps_together, three_lines, trial_line, trial_tries}
+use Rattle.hpr_decisions.specs.TrialFiles.{IsTrialBy, IsTrialText, IsTried, ShowsIf, finals_of, have_ended, steps_of, steps_together, three_lines, trial_line}
 use Rattle.hpr_inputs.specs.declared.answer.Kind.TheVariants.{Done}
 
 -- no name has two values where a run ends, and else no name has one
@@ -74,9 +75,9 @@ module _ (p q s : Tree) (state : Values) (steps : ℕ) where
   agree_by : (x y : Answer) (c d : Decision) → budget.Agree x y → IsTrialBy p q s state steps x c → IsTrialBy p q s state steps y d → AgreeButForBudget c d
   agree_by x y c d (inl e) is so = inl (one_by x c d is (subst (λ (z : Answer). IsTrialBy p q s state steps z d) (sym e) so))
   agree_by x y c d (inr (inl (e, h))) is so =
-      inr (inl ((spent_text trial_tries, subst (λ (z : Answer). IsTrialBy p q s state steps z c) e is), searched_by y d h so))
+      inr (inl ((spent_text DEFAULT_TRIES, subst (λ (z : Answer). IsTrialBy p q s state steps z c) e is), searched_by y d h so))
   agree_by x y c d (inr (inr (h, e))) is so =
-      inr (inr (searched_by x c h is, (spent_text trial_tries, subst (λ (z : Answer). IsTrialBy p q s state steps z d) e so)))
+      inr (inr (searched_by x c h is, (spent_text DEFAULT_TRIES, subst (λ (z : Answer). IsTrialBy p q s state steps z d) e so)))
 
   pub one_tried : (c d : Decision) → IsProgram q → IsProgram s → IsTried p q s state steps c → IsTried p q s state steps d → AgreeButForBudget c d
-  one_tried c d is_q is_s (x, answer, is) (y, answer_too, so) = agree_by x y c d (one_answer p q s is_q is_s trial_tries x y answer answer_too) is so
+  one_tried c d is_q is_s (x, answer, is) (y, answer_too, so) = agree_by x y c d (one_answer p q s is_q is_s DEFAULT_TRIES x y answer answer_too) is so

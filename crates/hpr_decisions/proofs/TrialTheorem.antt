@@ -1,5 +1,6 @@
 -- What a finished trial shows.
 use Rattle.std.proofs.Common.{◌≡◌, ℕ, ◌+◌, Bool, true, ◌&&◌, List, ◌++◌, Ok, refl, ap, ap₂, ◌∙◌, subst, inl, inr, Some, map, codes}
+use Rattle.hpr_terms.specs.declared.limits.TheConstants.{DEFAULT_TRIES}
 use Rattle.hpr_io.specs.Files.{Files, bytes_of}
 use Rattle.hpr_syntax.specs.Grammar.{tagged}
 use Rattle.hpr_syntax.specs.Meaning.{Ends}
@@ -22,7 +23,7 @@ use Rattle.hpr_inputs.specs.Files.{OnFile, OnFiles}
 use Rattle.hpr_decisions.specs.Outcome.{RequestOutcome, OutcomeIfTold}
 use Rattle.hpr_refusals.specs.Refusals.{IsFileOf}
 use Rattle.hpr_inputs.specs.States.{states_of}
-use Rattle.hpr_decisions.specs.TrialFiles.{IsTried, ShowsIf, ShowsTrial, Tried, TrialOutcome, finals_of, has_ended, have_ended, steps_together, three_lines, trial_line, trial_tries}
+use Rattle.hpr_decisions.specs.TrialFiles.{IsTried, ShowsIf, ShowsTrial, Tried, TrialOutcome, finals_of, has_ended, have_ended, steps_together, three_lines, trial_line}
 use Rattle.hpr_decisions.specs.TrialKeeps.{EndsTrial, IsKeptTrial, KeepsTrial}
 use Rattle.hpr_inputs.specs.declared.answer.Kind.TheVariants as kind
 use Rattle.hpr_decisions.specs.declared.status.Status.{Status}
@@ -47,7 +48,7 @@ module _ (p q r : Tree) (state : Values) (steps : ℕ) where
 
   module _ (is_p : IsProgram p) (is_q : IsProgram q) (is_r : IsProgram r) (bytes : List ℕ) where
     -- where the three end, so does the merged program
-    module _ (m : Tree) (answer : IsAnswer p q r trial_tries (printed m)) (f0 f1 f2 : FinalValues) (n0 n1 n2 : ℕ)
+    module _ (m : Tree) (answer : IsAnswer p q r DEFAULT_TRIES (printed m)) (f0 f1 f2 : FinalValues) (n0 n1 n2 : ℕ)
         (base_ends : means.run p state steps ≡ ends f0 n0) (a_ends : means.run q state steps ≡ ends f1 n1) (b_ends : means.run r state steps ≡ ends f2 n2) where
       abbrev merged_run : Outcome
       merged_run = means.run m state (n0 + n1 + n2)
@@ -56,7 +57,7 @@ module _ (p q r : Tree) (state : Values) (steps : ℕ) where
           → table ≡ on_lines (map table_line rows) → AreRows f0 f1 f2 (finals_of merged_run) rows → Kept bytes
       kept_text text table rows same is table_is are =
           let (f, (n, ended), kept) =
-          printed_keeps p q r trial_tries m is_p is_q is_r answer state n0 n1 n2 f0 f1 f2
+          printed_keeps p q r DEFAULT_TRIES m is_p is_q is_r answer state n0 n1 n2 f0 f1 f2
           (n0, exact_steps p state steps n0 f0 base_ends) (n1, exact_steps q state steps n1 f1 a_ends) (n2, exact_steps r state steps n2 f2 b_ends) in
           let are_rows : AreRows f0 f1 f2 f rows = subst (λ (o : Outcome). AreRows f0 f1 f2 (finals_of o) rows) ended are in
           record {
@@ -80,7 +81,7 @@ module _ (p q r : Tree) (state : Values) (steps : ℕ) where
             text = same ∙ is ∙ ap₂ (λ (o : Outcome) (t : List ℕ). three_lines (ends f0 n0) (ends f1 n1) (ends f2 n2) ++ trial_line (codes "merged ") o ++ t) ended table_is;
           }
 
-    by_runs : (m : Tree) → IsAnswer p q r trial_tries (printed m) → (o o1 o2 : Outcome) → means.run p state steps ≡ o → means.run q state steps ≡ o1 → means.run r state steps ≡ o2
+    by_runs : (m : Tree) → IsAnswer p q r DEFAULT_TRIES (printed m) → (o o1 o2 : Outcome) → means.run p state steps ≡ o → means.run q state steps ≡ o1 → means.run r state steps ≡ o2
         → ShowsTrial o o1 o2 (means.run m state (steps_together o o1 o2)) (prints kind.Done bytes) → Kept bytes
     by_runs m answer (ends f0 n0) (ends f1 n1) (ends f2 n2) e e1 e2 (text, (table, (rows, are, table_is), is), shown) =
         kept_text m answer f0 f1 f2 n0 n1 n2 e e1 e2 text table rows (same_text bytes text shown) is table_is are

@@ -2,14 +2,16 @@
 --
 -- too_many_edges file        == the message on a file whose program has such a graph
 -- OnGraph file p next r      == the graph of the program p of a file has too many edges, and r refuses the file; or it hasn't, and r is what next says
-use Rattle.std.specs.Prelude.{◌≡◌, ◌⊎◌, ℕ, List, codes}
+use Rattle.std.specs.Prelude.{◌≡◌, ◌⊎◌, ℕ, List, ◌++◌, codes}
+use Rattle.std.specs.Fmt.{decimal}
+use Rattle.hpr_terms.specs.declared.limits.TheConstants.{MAX_EDGES}
 use Rattle.hpr_syntax.specs.Tree.{Tree}
 use Rattle.hpr_engine.specs.Limit.{HasTooManyEdges}
 use Rattle.hpr_inputs.specs.Decision.{Decision, refuses}
 use Rattle.hpr_refusals.specs.Reasons.{about}
 
 abbrev pub too_many_edges : List ℕ → List ℕ
-too_many_edges file = about file (codes "graph has more than 1000000 edges")
+too_many_edges file = about file (codes "graph has more than " ++ decimal MAX_EDGES ++ codes " edges")
 
 abbrev pub OnGraph : List ℕ → Tree → Type 0 → Decision → Type 0
 OnGraph file p next r = (HasTooManyEdges p × (r ≡ refuses (too_many_edges file))) ⊎ ((HasTooManyEdges p → ⊥) × next)

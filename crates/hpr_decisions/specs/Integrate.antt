@@ -10,6 +10,7 @@
 -- IntegrateOutcome files base a b tries r == what is so decided of the programs that three files spell
 use Rattle.std.specs.Prelude.{◌≡◌, ℕ, List, ◌++◌, codes}
 use Rattle.std.specs.Fmt.{decimal}
+use Rattle.hpr_terms.specs.declared.limits.TheConstants.{MAX_PARTS}
 use Rattle.hpr_io.specs.Files.{Files}
 use Rattle.hpr_syntax.specs.Tree.{Tree}
 use Rattle.hpr_syntax.specs.Print.{text}
@@ -21,7 +22,7 @@ use Rattle.hpr_decisions.specs.Graphs.{OnGraph}
 use Rattle.hpr_inputs.specs.declared.answer.Kind.TheVariants as kind
 
 abbrev pub no_program_text : ℕ → List ℕ
-no_program_text n = codes "no program with at most 1000 parts has the merged graph, which has " ++ decimal n ++ codes " parts\n"
+no_program_text n = codes "no program with at most " ++ decimal MAX_PARTS ++ codes " parts has the merged graph, which has " ++ decimal n ++ codes " parts\n"
 
 abbrev pub spent_text : ℕ → List ℕ
 spent_text tries = codes "spent: none of the first " ++ decimal tries ++ codes " arrangements has the merged graph\n"

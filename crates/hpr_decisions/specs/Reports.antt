@@ -7,6 +7,7 @@
 -- HasConflict request files     == for `integrate`, and for `trial` where no state word is refused: there is such a point
 -- IsInterference cs old new s   == the status is Interference, and `out` took the text of all these conflicts
 use Rattle.std.specs.Prelude.{◌≡◌, ℕ, List, Option, Ok}
+use Rattle.hpr_terms.specs.declared.limits.TheConstants.{DEFAULT_TRIES}
 use Rattle.hpr_io.specs.Files.{Files, bytes_of}
 use Rattle.hpr_io.specs.Taken.{taken_then}
 use Rattle.hpr_syntax.specs.Tree.{Tree}
@@ -22,13 +23,12 @@ use Rattle.hpr_report.specs.ConflictsText.{conflicts_text}
 use Rattle.hpr_words.specs.Request.{Request, integrate, trial}
 use Rattle.hpr_refusals.specs.Refusals.{IsFileOf}
 use Rattle.hpr_inputs.specs.States.{states_of}
-use Rattle.hpr_decisions.specs.TrialFiles.{trial_tries}
 use Rattle.hpr_decisions.specs.declared.status.Status.{Status}
 use Rattle.hpr_decisions.specs.declared.status.Status.TheVariants.{Interference}
 
 abbrev pub tries_of : Request → ℕ
 tries_of (integrate base a b tries) = tries
-tries_of _ = trial_tries
+tries_of _ = DEFAULT_TRIES
 
 pub record AnswersFiles (base a b : List ℕ) (tries : ℕ) (x : Answer) : Type 0 where
   pub p : Tree
@@ -43,7 +43,7 @@ pub record AnswersFiles (base a b : List ℕ) (tries : ℕ) (x : Answer) : Type 
 abbrev pub HasAnswer : Request → Files → Answer → Type 0
 HasAnswer (integrate base a b tries) files x = AnswersFiles (bytes_of files base) (bytes_of files a) (bytes_of files b) tries x
 HasAnswer (trial base a b states steps) files x =
-    (state : Values) × (states_of states ≡ Ok state) × AnswersFiles (bytes_of files base) (bytes_of files a) (bytes_of files b) trial_tries x
+    (state : Values) × (states_of states ≡ Ok state) × AnswersFiles (bytes_of files base) (bytes_of files a) (bytes_of files b) DEFAULT_TRIES x
 HasAnswer _ files x = ⊥
 
 pub record ConflictsIn (base a b : List ℕ) : Type 0 where

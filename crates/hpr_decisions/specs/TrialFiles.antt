@@ -1,6 +1,5 @@
 -- What `trial` decides.
 --
--- trial_tries                      == the budget of tries of its integration
 -- steps_of o, finals_of o          == the steps that a run took; its final values, and none where it doesn't end
 -- has_ended o, have_ended o o1 o2  == the run ends; all three do
 -- outcome_line o                   == how a run went, without its values: a line
@@ -16,6 +15,7 @@
 --                                     haven't too many edges
 use Rattle.std.specs.Prelude.{◌≡◌, ℕ, ◌+◌, Bool, true, false, ◌&&◌, List, [], ◌++◌, codes}
 use Rattle.std.specs.Fmt.{decimal}
+use Rattle.hpr_terms.specs.declared.limits.TheConstants.{DEFAULT_TRIES}
 use Rattle.hpr_io.specs.Files.{Files}
 use Rattle.hpr_syntax.specs.Run.{FinalValues, Outcome, ends, faults, more, run}
 use Rattle.hpr_syntax.specs.Tree.{Tree}
@@ -30,9 +30,6 @@ use Rattle.hpr_decisions.specs.Integrate.{OnGraphs, report}
 use Rattle.hpr_inputs.specs.States.{OnState}
 use Rattle.hpr_inputs.specs.States.{states_of}
 use Rattle.hpr_inputs.specs.declared.answer.Kind.TheVariants.{NotEnded}
-
-abbrev pub trial_tries : ℕ
-trial_tries = 10000
 
 abbrev pub steps_of : Outcome → ℕ
 steps_of (ends finals steps) = steps
@@ -84,13 +81,13 @@ IsTrialOf p q s m state steps r =
     (run m state (steps_together (run p state steps) (run q state steps) (run s state steps))) r
 
 abbrev pub IsTrialBy : Tree → Tree → Tree → Values → ℕ → Answer → Decision → Type 0
-IsTrialBy p q s state steps (interference cs) r = r ≡ report trial_tries (interference cs)
+IsTrialBy p q s state steps (interference cs) r = r ≡ report DEFAULT_TRIES (interference cs)
 IsTrialBy p q s state steps (printed m) r = IsTrialOf p q s m state steps r
-IsTrialBy p q s state steps (no_program n) r = r ≡ report trial_tries (no_program n)
-IsTrialBy p q s state steps spent r = r ≡ report trial_tries spent
+IsTrialBy p q s state steps (no_program n) r = r ≡ report DEFAULT_TRIES (no_program n)
+IsTrialBy p q s state steps spent r = r ≡ report DEFAULT_TRIES spent
 
 abbrev pub IsTried : Tree → Tree → Tree → Values → ℕ → Decision → Type 0
-IsTried p q s state steps r = (x : Answer) × IsAnswer p q s trial_tries x × IsTrialBy p q s state steps x r
+IsTried p q s state steps r = (x : Answer) × IsAnswer p q s DEFAULT_TRIES x × IsTrialBy p q s state steps x r
 
 abbrev pub Tried : Text → Tree → Text → Tree → Text → Tree → Values → ℕ → Decision → Type 0
 Tried base p a q b s state steps r = OnGraphs base p a q b s (IsTried p q s state steps r) r

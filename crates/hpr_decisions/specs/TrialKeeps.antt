@@ -6,6 +6,7 @@
 -- KeepsTrial request files bytes      == for `trial`: the bytes are such a text, of the state that the words tell and the programs that the files spell
 -- EndsTrial request files s           == for `trial`: where these three programs end, the status isn't NotEnded
 use Rattle.std.specs.Prelude.{◌≡◌, ◌≢◌, ℕ, ◌+◌, List, ◌++◌, All, Ok, map, codes}
+use Rattle.hpr_terms.specs.declared.limits.TheConstants.{DEFAULT_TRIES}
 use Rattle.hpr_io.specs.Files.{Files, bytes_of}
 use Rattle.hpr_syntax.specs.Grammar.{tagged}
 use Rattle.hpr_syntax.specs.Meaning.{Ends}
@@ -19,13 +20,13 @@ use Rattle.hpr_report.specs.GraphTexts.{on_lines}
 use Rattle.hpr_report.specs.TableText.{Row, AreRows, IsKeptIn, table_line}
 use Rattle.hpr_words.specs.Request.{Request, trial}
 use Rattle.hpr_inputs.specs.States.{states_of}
-use Rattle.hpr_decisions.specs.TrialFiles.{trial_tries, three_lines, trial_line}
+use Rattle.hpr_decisions.specs.TrialFiles.{three_lines, trial_line}
 use Rattle.hpr_decisions.specs.declared.status.Status.{Status}
 use Rattle.hpr_decisions.specs.declared.status.Status.TheVariants.{NotEnded}
 
 pub record IsKeptTrial (p q s : Tree) (state : Values) (steps : ℕ) (bytes : List ℕ) : Type 0 where
   pub m : Tree
-  pub answer : IsAnswer p q s trial_tries (printed m)
+  pub answer : IsAnswer p q s DEFAULT_TRIES (printed m)
   pub base : FinalValues
   pub a : FinalValues
   pub b : FinalValues

@@ -2,6 +2,7 @@
 use Rattle.std.proofs.Common.{◌≡◌, ℕ, ◌+◌, ◌≤◌, Bool, true, false, not, ◌⊎◌, inl, inr, List, [], ◌∷◌, refl, ap, sym, ◌∙◌, subst, arith, All}
 use Rattle.std.specs.List.{AllByRecursion}
 use Rattle.std.specs.Str.{bytes_eq}
+use Rattle.hpr_terms.specs.declared.limits.TheConstants.{MAX_LEVELS}
 use Rattle.hpr_terms.specs.declared.tag.Tag.{Tag}
 use Rattle.hpr_terms.specs.Names.{IsName}
 use Rattle.hpr_syntax.specs.declared.tree.Stmt.{Stmt}
@@ -15,7 +16,7 @@ use Rattle.hpr_syntax.specs.Rows.{content_of, made}
 use Rattle.hpr_syntax.specs.Issued.{issued_to}
 use Rattle.hpr_syntax.specs.Tree.{Tree}
 use Rattle.hpr_syntax.specs.Proper.{IsProperBody}
-use Rattle.hpr_syntax.specs.Shape.{IsProgram, is_unissued, first_unissued, first_repeated_tag, first_deep, first_large, too_many, first_repeated, max_levels}
+use Rattle.hpr_syntax.specs.Shape.{IsProgram, is_unissued, first_unissued, first_repeated_tag, first_deep, first_large, too_many, first_repeated}
 use Rattle.hpr_syntax.proofs.NoRefusal.{HasNoRefusal, no_refusal, shaped}
 use Rattle.hpr_edit.specs.declared.command.Command.{Command}
 use Rattle.hpr_edit.specs.declared.command.Command.TheVariants.{Insert, Delete, Move, Set, Wrap, Unwrap, Finals}
@@ -172,7 +173,7 @@ back_program i q is old u issued =
         tags = ap first_repeated_tag b ∙ h.tags;
         issued = ap (λ y. first_unissued q.issued (tags_of y [])) b
             ∙ all_issued q.issued (tags_of old.body []) (λ t k. old_issued i q is old u issued t (omega (arith, k, counted t old.body [])));
-        levels = ap (first_deep max_levels) b ∙ h.levels;
+        levels = ap (first_deep MAX_LEVELS) b ∙ h.levels;
         expressions = ap first_large b ∙ h.expressions;
         parts = ap (λ y. too_many (part_count y)) b ∙ h.parts;
         names = ap (first_repeated bytes_eq []) f ∙ h.names;

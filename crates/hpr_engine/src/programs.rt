@@ -15,16 +15,14 @@ use hpr_build::{BuildError, graph_of};
 use hpr_graph::Graph;
 use hpr_merge::merge;
 use hpr_syntax::Program;
+use hpr_terms::limits::MAX_EDGES;
 use std::alloc::Global;
-
-/// The most edges that the graph of a program may have.
-pub const MOST_EDGES: usize = 1_000_000;
 
 /// The merged graph of two variants of a program and their base, where the variants don't interfere
 /// (Horwitz, Prins and Reps 1989). Each affected point has there the slice that it has in the graph of
 /// its variant. Theirs has no limit on edges.
 ///
-/// Refuses with `TooManyEdges` where a graph of the three has more than 1,000,000 edges, and names the
+/// Refuses with `TooManyEdges` where a graph of the three has more than [`MAX_EDGES`] edges, and names the
 /// first of base, A and B; else with `Interference` where there is a conflict, and lists all of them;
 /// and with `Memory` where memory runs out.
 pub fn merge_programs(
@@ -65,7 +63,7 @@ fn limited_graph(alloc: Global, program: &Program, which: Which) -> Result<Graph
     ensures unsearched { IfErr result IsUnsearched }
 {
     let _body = program.body();
-    match graph_of(alloc, program, MOST_EDGES) {
+    match graph_of(alloc, program, MAX_EDGES) {
         Ok(graph) => {
             let _vertices = graph.vertices();
             Ok(graph)

@@ -2,6 +2,7 @@
 use Rattle.std.proofs.Common.{◌≡◌, ℕ, zero, suc, ◌+◌, ◌≤◌, ◌<◌, ◌^◌, List, [], ◌∷◌, ◌++◌, length, nat_lt, Option, Some, None, refl, sym, ap, subst, ◌∙◌, append_assoc, arith}
 use Rattle.std.proofs.lemmas.Bool.{ltb-true}
 use Rattle.std.proofs.lemmas.List.{append-nil}
+use Rattle.hpr_terms.specs.declared.limits.TheConstants.{MAX_BRACKETS, MAX_OPERATORS}
 use Rattle.hpr_terms.specs.declared.expr.Expr.{Expr}
 use Rattle.hpr_terms.specs.declared.expr.Expr.TheVariants.{Num, Var, Prefix}
 use Rattle.hpr_terms.specs.declared.expr.Unary.{Unary}
@@ -14,9 +15,8 @@ use Rattle.hpr_terms.specs.declared.token.Token.{Token}
 use Rattle.hpr_terms.specs.declared.token.Token.TheVariants.{Word, Name, Number, Mark}
 use Rattle.hpr_terms.specs.Term.{operators}
 use Rattle.hpr_terms.specs.TermOf.{term_of}
-use Rattle.hpr_syntax.specs.Shape.{max_operators}
 use Rattle.hpr_syntax.specs.Grammar as grammar
-use Rattle.hpr_syntax.specs.Grammar.{max_brackets, Rule, expr, conj, comp, sum, term, atom, On, expr_conj, conj_comp, comp_sum, sum_term, term_prefixed, prefixed_atom, Joins, Compares, Prefixes, SpellsTerm, SpellsExpr}
+use Rattle.hpr_syntax.specs.Grammar.{Rule, expr, conj, comp, sum, term, atom, On, expr_conj, conj_comp, comp_sum, sum_term, term_prefixed, prefixed_atom, Joins, Compares, Prefixes, SpellsTerm, SpellsExpr}
 use Rattle.hpr_scan.proofs.SoundText.{guard_is}
 use Rattle.hpr_scan.proofs.Words.{some_is}
 use Rattle.hpr_expressions.specs.declared.pending.Left.{Left}
@@ -129,7 +129,7 @@ whole_count p v = omega (arith, joined_count p.ors (last_and p v), conj_count p 
 -- ---- readings
 
 abbrev pub OuterIs : ℕ → List Pending → List Token → Type 0
-OuterIs d [] ts = (d ≡ max_brackets) × (ts ≡ [])
+OuterIs d [] ts = (d ≡ MAX_BRACKETS) × (ts ≡ [])
 OuterIs d (p ∷ ps) ts = (a : List Token) × (b : List Token) × OuterIs (suc d) ps a × PendingIs (suc d) p b × (ts ≡ a ++ (b ++ (Mark Open ∷ [])))
 
 pub record ContextIs (d : ℕ) (c : Context) (ts : List Token) : Type 0 where
@@ -143,7 +143,7 @@ pub record BeforeIs (c : Context) (ts : List Token) : Type 0 where
   pub left : ℕ
   pub context : ContextIs left c ts
   pub count : c.count ≡ outer_count c.outer + pending_count c.here
-  pub fits : c.count ≤ max_operators
+  pub fits : c.count ≤ MAX_OPERATORS
 
 pub record AfterIs (c : Context) (v : Expr) (ts : List Token) : Type 0 where
   pub left : ℕ
@@ -153,7 +153,7 @@ pub record AfterIs (c : Context) (v : Expr) (ts : List Token) : Type 0 where
   pub operand : Spelled atom left last v
   pub parts : ts ≡ past ++ last
   pub count : c.count ≡ outer_count c.outer + pending_count c.here + operators (term_of v)
-  pub fits : c.count ≤ max_operators
+  pub fits : c.count ≤ MAX_OPERATORS
 
 abbrev pub ReadingIs : Reading → List Token → Type 0
 ReadingIs (Before c) ts = BeforeIs c ts
@@ -163,8 +163,8 @@ ReadingIs (After c v) ts = AfterIs c v ts
 counted_is : (c : Context) (d : ℕ) (p : Pending) (around inside ts : List Token) (n : Reading) → OuterIs d c.outer around → PendingIs d p inside → ts ≡ around ++ inside → c.count + 1 ≡ outer_count c.outer + pending_count p
     → counted c p ≡ Some n → ReadingIs n ts
 counted_is c d p around inside ts n o h e k r =
-    let g = guard_is (nat_lt c.count max_operators) (Before (record { outer = c.outer; here = p; count = c.count + 1 })) n r in
-    let lt = ltb-true c.count max_operators g.0 in
+    let g = guard_is (nat_lt c.count MAX_OPERATORS) (Before (record { outer = c.outer; here = p; count = c.count + 1 })) n r in
+    let lt = ltb-true c.count MAX_OPERATORS g.0 in
     let made : BeforeIs (record { outer = c.outer; here = p; count = c.count + 1 }) ts = record { left = d; context = record { around = around; inside = inside; outer = o; here = h; parts = e }; count = k; fits = omega (arith, lt) } in
     subst (λ (x : Reading). ReadingIs x ts) g.1 made
 
@@ -316,11 +316,11 @@ or_read c v t op n ts is h r =
     })
     (rw (h.parts, h.context.parts) (simp append_assoc)) (omega (arith, h.count, whole_count c.here v)) r
 
-outer_length : (d : ℕ) (ps : List Pending) (ts : List Token) → OuterIs d ps ts → d + length ps ≡ max_brackets
+outer_length : (d : ℕ) (ps : List Pending) (ts : List Token) → OuterIs d ps ts → d + length ps ≡ MAX_BRACKETS
 outer_length d [] ts h = omega (arith, h.0)
 outer_length d (p ∷ ps) ts h = omega (arith, outer_length (suc d) ps h.0 h.2)
 
-opened_is : (d : ℕ) (c : Context) (ts : List Token) → length c.outer < max_brackets → ContextIs d c ts → (left : ℕ) × ContextIs left (opened c) (ts ++ (Mark Open ∷ []))
+opened_is : (d : ℕ) (c : Context) (ts : List Token) → length c.outer < MAX_BRACKETS → ContextIs d c ts → (left : ℕ) × ContextIs left (opened c) (ts ++ (Mark Open ∷ []))
 opened_is zero c ts lt h = absurd (omega (arith, outer_length zero c.outer h.around h.outer))
 opened_is (suc d) c ts lt h = (
   d,
@@ -342,7 +342,7 @@ operand_is c (Name w) n ts h e =
     let made : AfterIs c (Var w) (ts ++ (Name w ∷ [])) = record { left = h.left; past = ts; last = Name w ∷ []; context = h.context; operand = grammar.name; parts = refl; count = omega (arith, h.count); fits = h.fits } in
     subst (λ (r : Reading). ReadingIs r (ts ++ Name w ∷ [])) (some_is _ _ e) made
 operand_is c (Mark Open) n ts h e =
-    let g = guard_is (nat_lt (length c.outer) max_brackets) (Before (opened c)) n e in
+    let g = guard_is (nat_lt (length c.outer) MAX_BRACKETS) (Before (opened c)) n e in
     let o = opened_is h.left c ts (ltb-true _ _ g.0) h.context in
     let made : BeforeIs (opened c) (ts ++ (Mark Open ∷ [])) = record { left = o.0; context = o.1; count = omega (arith, h.count); fits = h.fits } in
     subst (λ (r : Reading). ReadingIs r (ts ++ Mark Open ∷ [])) g.1 made
@@ -391,8 +391,8 @@ read_is (After c v) t n ts h e = operator_is c v t n ts h e
 
 pub start_is : ReadingIs start []
 start_is = record {
-  left = max_brackets;
-  context = record { around = []; inside = []; outer = (refl, refl); here = none_pending max_brackets; parts = refl };
+  left = MAX_BRACKETS;
+  context = record { around = []; inside = []; outer = (refl, refl); here = none_pending MAX_BRACKETS; parts = refl };
   count = refl;
   fits = omega arith;
 }
@@ -401,11 +401,11 @@ ended_in_is : (ps : List Pending) (here : Pending) (count : ℕ) (v e : Expr) (t
 ended_in_is [] here count v e ts h q =
     let o = h.context.outer in
     let w : Spelled expr h.left (h.context.inside ++ h.last) (whole here v) = whole_is h.left here h.context.inside h.context.here v h.last h.operand in
-    let all : SpellsTerm expr max_brackets (h.context.inside ++ h.last) (term_of (whole here v)) =
+    let all : SpellsTerm expr MAX_BRACKETS (h.context.inside ++ h.last) (term_of (whole here v)) =
     subst (λ (d : ℕ). Spelled expr d (h.context.inside ++ h.last) (whole here v)) o.0 w in
     let same : ts ≡ h.context.inside ++ h.last = rw (h.parts, h.context.parts, o.1) refl in
-    let few : operators (term_of (whole here v)) ≤ max_operators = omega (arith, h.count, h.fits, whole_count here v) in
-    subst (λ (x : Expr). SpellsExpr ts x) (some_is _ _ q) (subst (λ (x : List Token). SpellsTerm expr max_brackets x (term_of (whole here v))) (sym same) all, few)
+    let few : operators (term_of (whole here v)) ≤ MAX_OPERATORS = omega (arith, h.count, h.fits, whole_count here v) in
+    subst (λ (x : Expr). SpellsExpr ts x) (some_is _ _ q) (subst (λ (x : List Token). SpellsTerm expr MAX_BRACKETS x (term_of (whole here v))) (sym same) all, few)
 ended_in_is (p ∷ ps) here count v e ts h q = absurd cc
 
 pub ended_is : (r : Reading) (e : Expr) (ts : List Token) → ReadingIs r ts → ended r ≡ Some e → SpellsExpr ts e

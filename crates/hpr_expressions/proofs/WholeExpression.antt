@@ -2,6 +2,7 @@
 use Rattle.std.proofs.Common.{◌≡◌, ℕ, ◌+◌, ◌≤◌, ◌<◌, ◌^◌, List, [], ◌∷◌, ◌++◌, length, Option, Some, None, refl, sym, ap, add-zero, ◌∙◌, append_assoc, arith}
 use Rattle.std.proofs.lemmas.Bool.{lt-ltb}
 use Rattle.std.proofs.lemmas.List.{append-nil}
+use Rattle.hpr_terms.specs.declared.limits.TheConstants.{MAX_BRACKETS, MAX_OPERATORS}
 use Rattle.hpr_terms.specs.declared.expr.Expr.{Expr}
 use Rattle.hpr_terms.specs.declared.expr.Expr.TheVariants.{Num, Var, Prefix, Infix}
 use Rattle.hpr_terms.specs.declared.expr.Unary.{Unary}
@@ -12,9 +13,8 @@ use Rattle.hpr_terms.specs.declared.token.Token.TheVariants.{Name, Number, Mark}
 use Rattle.hpr_terms.specs.Term.{Term, num, var, prefix, infix', operators}
 use Rattle.hpr_terms.specs.TermOf.{term_of}
 use Rattle.hpr_terms.specs.Private.ExprCode.{expr_of, expr_of-term_of}
-use Rattle.hpr_syntax.specs.Shape.{max_operators}
 use Rattle.hpr_syntax.specs.Grammar as grammar
-use Rattle.hpr_syntax.specs.Grammar.{max_brackets, expr, conj, comp, sum, term, atom, expr_conj, conj_comp, comp_sum, sum_term, term_prefixed, prefixed_atom, Joins, Compares, Prefixes, SpellsTerm, SpellsExpr}
+use Rattle.hpr_syntax.specs.Grammar.{expr, conj, comp, sum, term, atom, expr_conj, conj_comp, comp_sum, sum_term, term_prefixed, prefixed_atom, Joins, Compares, Prefixes, SpellsTerm, SpellsExpr}
 use Rattle.hpr_scan.specs.Steps.{runs}
 use Rattle.hpr_expressions.specs.declared.pending.Left.{Left}
 use Rattle.hpr_expressions.specs.declared.pending.Pending.{Pending}
@@ -46,26 +46,26 @@ with_prefixes p ps = record { ors = p.ors; ands = p.ands; compared = p.compared;
 read_one : (r n : Reading) (t : Token) (ts : List Token) → read r t ≡ Some n → runs read r (t ∷ ts) ≡ runs read n ts
 read_one r n t ts e = rw e refl
 
-counted_one : (c : Context) (p : Pending) → c.count < max_operators → counted c p ≡ Some (Before (context c.outer p (c.count + 1)))
+counted_one : (c : Context) (p : Pending) → c.count < MAX_OPERATORS → counted c p ≡ Some (Before (context c.outer p (c.count + 1)))
 counted_one c p lt = rw (lt-ltb _ _ lt) refl
 
-prefix_step : (c : Context) (t : Token) (u : Unary) → Prefixes t u → c.count < max_operators → read (Before c) t ≡ Some (Before (context c.outer (with_prefix c.here u) (c.count + 1)))
+prefix_step : (c : Context) (t : Token) (u : Unary) → Prefixes t u → c.count < MAX_OPERATORS → read (Before c) t ≡ Some (Before (context c.outer (with_prefix c.here u) (c.count + 1)))
 unfolding read
 prefix_step c t u grammar.minus lt = counted_one c _ lt
 prefix_step c t u grammar.not lt = counted_one c _ lt
 
-term_step : (c : Context) (v : Expr) (t : Token) (op : Binary) → Joins term t op → c.count < max_operators → read (After c v) t ≡ Some (Before (context c.outer (with_term c.here op v) (c.count + 1)))
+term_step : (c : Context) (v : Expr) (t : Token) (op : Binary) → Joins term t op → c.count < MAX_OPERATORS → read (After c v) t ≡ Some (Before (context c.outer (with_term c.here op v) (c.count + 1)))
 unfolding read
 term_step c v t op grammar.star lt = counted_one c _ lt
 term_step c v t op grammar.slash lt = counted_one c _ lt
 term_step c v t op grammar.percent lt = counted_one c _ lt
 
-sum_step : (c : Context) (v : Expr) (t : Token) (op : Binary) → Joins sum t op → c.count < max_operators → read (After c v) t ≡ Some (Before (context c.outer (with_sum c.here op v) (c.count + 1)))
+sum_step : (c : Context) (v : Expr) (t : Token) (op : Binary) → Joins sum t op → c.count < MAX_OPERATORS → read (After c v) t ≡ Some (Before (context c.outer (with_sum c.here op v) (c.count + 1)))
 unfolding read
 sum_step c v t op grammar.plus lt = counted_one c _ lt
 sum_step c v t op grammar.minus lt = counted_one c _ lt
 
-comp_step : (os : List Pending) (o a s m : Option Left) (ps : List Unary) (n : ℕ) (v : Expr) (t : Token) (op : Binary) → Compares t op → n < max_operators
+comp_step : (os : List Pending) (o a s m : Option Left) (ps : List Unary) (n : ℕ) (v : Expr) (t : Token) (op : Binary) → Compares t op → n < MAX_OPERATORS
     → read (After (context os (pend o a None s m ps) n) v) t ≡ Some (Before (context os (with_comparison (pend o a None s m ps) op v) (n + 1)))
 unfolding read
 comp_step os o a s m ps n v t op grammar.equal lt = counted_one (context os (pend o a None s m ps) n) (with_comparison (pend o a None s m ps) op v) lt
@@ -75,15 +75,15 @@ comp_step os o a s m ps n v t op grammar.less_equal lt = counted_one (context os
 comp_step os o a s m ps n v t op grammar.greater lt = counted_one (context os (pend o a None s m ps) n) (with_comparison (pend o a None s m ps) op v) lt
 comp_step os o a s m ps n v t op grammar.greater_equal lt = counted_one (context os (pend o a None s m ps) n) (with_comparison (pend o a None s m ps) op v) lt
 
-and_step : (c : Context) (v : Expr) (t : Token) (op : Binary) → Joins conj t op → c.count < max_operators → read (After c v) t ≡ Some (Before (context c.outer (with_and c.here op v) (c.count + 1)))
+and_step : (c : Context) (v : Expr) (t : Token) (op : Binary) → Joins conj t op → c.count < MAX_OPERATORS → read (After c v) t ≡ Some (Before (context c.outer (with_and c.here op v) (c.count + 1)))
 unfolding read
 and_step c v t op grammar.and lt = counted_one c _ lt
 
-or_step : (c : Context) (v : Expr) (t : Token) (op : Binary) → Joins expr t op → c.count < max_operators → read (After c v) t ≡ Some (Before (context c.outer (with_or c.here op v) (c.count + 1)))
+or_step : (c : Context) (v : Expr) (t : Token) (op : Binary) → Joins expr t op → c.count < MAX_OPERATORS → read (After c v) t ≡ Some (Before (context c.outer (with_or c.here op v) (c.count + 1)))
 unfolding read
 or_step c v t op grammar.or lt = counted_one c _ lt
 
-open_step : (c : Context) → length c.outer < max_brackets → read (Before c) (Mark Open) ≡ Some (Before (opened c))
+open_step : (c : Context) → length c.outer < MAX_BRACKETS → read (Before c) (Mark Open) ≡ Some (Before (opened c))
 unfolding read
 open_step c lt = rw (lt-ltb _ _ lt) refl
 
@@ -151,7 +151,7 @@ record ExprRead (os : List Pending) (n : ℕ) (ts : List Token) (x : Term) : Typ
   reading : (rest : List Token) → runs read (Before (context os (pend None None None None None []) n)) (ts ++ rest) ≡ runs read (After (context os (pend o a c s m ps) (n + operators x)) last) rest
 
 mutual
-  atom_read : {d : ℕ} {ts : List Token} {x : Term} → SpellsTerm atom d ts x → (os : List Pending) (p : Pending) (n : ℕ) → n + operators x ≤ max_operators → length os + d ≡ max_brackets → (rest : List Token)
+  atom_read : {d : ℕ} {ts : List Token} {x : Term} → SpellsTerm atom d ts x → (os : List Pending) (p : Pending) (n : ℕ) → n + operators x ≤ MAX_OPERATORS → length os + d ≡ MAX_BRACKETS → (rest : List Token)
       → runs read (Before (context os p n)) (ts ++ rest) ≡ runs read (After (context os p (n + operators x)) (expr_of x)) rest
   atom_read (grammar.literal {n = k} le) os p n fits deep rest = rw add-zero (read_one (Before (context os p n)) (After (context os p n) (Num k)) (Number k) rest (literal_step (context os p n) k le))
   atom_read (grammar.name {x = w}) os p n fits deep rest = rw add-zero (read_one (Before (context os p n)) (After (context os p n) (Var w)) (Name w) rest (name_step (context os p n) w))
@@ -167,7 +167,7 @@ mutual
   atom_read (grammar.one on _) os p n fits deep rest = elim on [ ]
   atom_read (grammar.joined on _ _ _) os p n fits deep rest = elim on [ ]
 
-  prefix_read : {d : ℕ} {ts : List Token} {x : Term} → SpellsTerm grammar.prefixed d ts x → (os : List Pending) (p : Pending) (n : ℕ) → n + operators x ≤ max_operators → length os + d ≡ max_brackets → PrefixRead os p n ts x
+  prefix_read : {d : ℕ} {ts : List Token} {x : Term} → SpellsTerm grammar.prefixed d ts x → (os : List Pending) (p : Pending) (n : ℕ) → n + operators x ≤ MAX_OPERATORS → length os + d ≡ MAX_BRACKETS → PrefixRead os p n ts x
   prefix_read (grammar.one {x = x} prefixed_atom s) os p n fits deep = record { prefixes = p.prefixes; last = expr_of x; is = refl; reading = λ rest. atom_read s os p n fits deep rest }
   prefix_read (grammar.signed {a = a} {t = t} {op = u} {x = x} b s) os p n fits deep =
       let k = prefix_read s os (with_prefix p u) (n + 1) (omega (arith, fits)) deep in
@@ -183,7 +183,7 @@ mutual
       }
   prefix_read (grammar.joined on j _ _) os p n fits deep = elim j [ ]
 
-  term_read : {d : ℕ} {ts : List Token} {x : Term} → SpellsTerm term d ts x → (os : List Pending) (o a c s : Option Left) (n : ℕ) → n + operators x ≤ max_operators → length os + d ≡ max_brackets → TermRead os o a c s n ts x
+  term_read : {d : ℕ} {ts : List Token} {x : Term} → SpellsTerm term d ts x → (os : List Pending) (o a c s : Option Left) (n : ℕ) → n + operators x ≤ MAX_OPERATORS → length os + d ≡ MAX_BRACKETS → TermRead os o a c s n ts x
   term_read (grammar.one term_prefixed s) os o a c s' n fits deep =
       let k = prefix_read s os (pend o a c s' None []) n fits deep in
       record { m = None; ps = k.prefixes; last = k.last; is = k.is; reading = k.reading }
@@ -206,7 +206,7 @@ mutual
             ∙ ap (λ (j : ℕ). runs read (After (context os (pend o a c s' (left_of op (expr_of x)) q.prefixes) j) q.last) rest) total;
       }
 
-  sum_read : {d : ℕ} {ts : List Token} {x : Term} → SpellsTerm sum d ts x → (os : List Pending) (o a c : Option Left) (n : ℕ) → n + operators x ≤ max_operators → length os + d ≡ max_brackets → SumRead os o a c n ts x
+  sum_read : {d : ℕ} {ts : List Token} {x : Term} → SpellsTerm sum d ts x → (os : List Pending) (o a c : Option Left) (n : ℕ) → n + operators x ≤ MAX_OPERATORS → length os + d ≡ MAX_BRACKETS → SumRead os o a c n ts x
   sum_read (grammar.one sum_term sp) os o a c n fits deep =
       let k = term_read sp os o a c None n fits deep in
       record { s = None; m = k.m; ps = k.ps; last = k.last; is = k.is; reading = k.reading }
@@ -230,7 +230,7 @@ mutual
             ∙ ap (λ (j : ℕ). runs read (After (context os (pend o a c (left_of op (expr_of x)) q.m q.ps) j) q.last) rest) total;
       }
 
-  comp_read : {d : ℕ} {ts : List Token} {x : Term} → SpellsTerm comp d ts x → (os : List Pending) (o a : Option Left) (n : ℕ) → n + operators x ≤ max_operators → length os + d ≡ max_brackets → CompRead os o a n ts x
+  comp_read : {d : ℕ} {ts : List Token} {x : Term} → SpellsTerm comp d ts x → (os : List Pending) (o a : Option Left) (n : ℕ) → n + operators x ≤ MAX_OPERATORS → length os + d ≡ MAX_BRACKETS → CompRead os o a n ts x
   comp_read (grammar.one comp_sum sp) os o a n fits deep =
       let k = sum_read sp os o a None n fits deep in
       record { c = None; s = k.s; m = k.m; ps = k.ps; last = k.last; is = k.is; reading = k.reading }
@@ -256,7 +256,7 @@ mutual
       }
   comp_read (grammar.joined on j _ _) os o a n fits deep = elim j [ ]
 
-  conj_read : {d : ℕ} {ts : List Token} {x : Term} → SpellsTerm conj d ts x → (os : List Pending) (o : Option Left) (n : ℕ) → n + operators x ≤ max_operators → length os + d ≡ max_brackets → ConjRead os o n ts x
+  conj_read : {d : ℕ} {ts : List Token} {x : Term} → SpellsTerm conj d ts x → (os : List Pending) (o : Option Left) (n : ℕ) → n + operators x ≤ MAX_OPERATORS → length os + d ≡ MAX_BRACKETS → ConjRead os o n ts x
   conj_read (grammar.one conj_comp sp) os o n fits deep =
       let k = comp_read sp os o None n fits deep in
       record { a = None; c = k.c; s = k.s; m = k.m; ps = k.ps; last = k.last; is = k.is; reading = k.reading }
@@ -282,7 +282,7 @@ mutual
             ∙ ap (λ (j : ℕ). runs read (After (context os (pend o (left_of op (expr_of x)) q.c q.s q.m q.ps) j) q.last) rest) total;
       }
 
-  expr_read : {d : ℕ} {ts : List Token} {x : Term} → SpellsTerm expr d ts x → (os : List Pending) (n : ℕ) → n + operators x ≤ max_operators → length os + d ≡ max_brackets → ExprRead os n ts x
+  expr_read : {d : ℕ} {ts : List Token} {x : Term} → SpellsTerm expr d ts x → (os : List Pending) (n : ℕ) → n + operators x ≤ MAX_OPERATORS → length os + d ≡ MAX_BRACKETS → ExprRead os n ts x
   expr_read (grammar.one expr_conj sp) os n fits deep =
       let k = conj_read sp os None n fits deep in
       record { o = None; a = k.a; c = k.c; s = k.s; m = k.m; ps = k.ps; last = k.last; is = k.is; reading = k.reading }

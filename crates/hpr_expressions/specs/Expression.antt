@@ -17,6 +17,7 @@
 -- ended reading          == the expression, if it can end here
 -- can_end reading        == the expression can end here
 use Rattle.std.specs.Prelude.{ℕ, ◌+◌, ◌^◌, Bool, nat_lt, if◌then◌else◌, List, [], ◌∷◌, length, Option, Some, None, is_some}
+use Rattle.hpr_terms.specs.declared.limits.TheConstants.{MAX_BRACKETS, MAX_OPERATORS}
 use Rattle.hpr_terms.specs.declared.expr.Expr.{Expr}
 use Rattle.hpr_terms.specs.declared.expr.Expr.TheVariants.{Num, Var}
 use Rattle.hpr_terms.specs.declared.expr.Unary.TheVariants as unary
@@ -26,8 +27,6 @@ use Rattle.hpr_terms.specs.declared.keyword.Keyword.TheVariants.{And, Or, Not}
 use Rattle.hpr_terms.specs.declared.token.Sign.TheVariants.{Open, Close, Plus, Minus, Star, Slash, Percent, Equal, Differ, Less, LessEqual, Greater, GreaterEqual}
 use Rattle.hpr_terms.specs.declared.token.Token.{Token}
 use Rattle.hpr_terms.specs.declared.token.Token.TheVariants.{Word, Name, Number, Mark}
-use Rattle.hpr_syntax.specs.Shape.{max_operators}
-use Rattle.hpr_syntax.specs.Grammar.{max_brackets}
 use Rattle.hpr_expressions.specs.declared.pending.Left.{Left}
 use Rattle.hpr_expressions.specs.declared.pending.Pending.{Pending}
 use Rattle.hpr_expressions.specs.declared.expression.Context.{Context}
@@ -39,7 +38,7 @@ abbrev pub start : Reading
 start = Before (record { outer = []; here = nothing_pending; count = 0 })
 
 abbrev pub counted : Context → Pending → Option Reading
-counted c p = if nat_lt c.count max_operators then Some (Before (record { outer = c.outer; here = p; count = c.count + 1 })) else None
+counted c p = if nat_lt c.count MAX_OPERATORS then Some (Before (record { outer = c.outer; here = p; count = c.count + 1 })) else None
 
 abbrev pub compare_next : Option Left → Context → Binary → Expr → Option Reading
 compare_next None c op e = counted c (with_comparison c.here op e)
@@ -53,7 +52,7 @@ abbrev pub opened : Context → Context
 opened c = record { outer = c.here ∷ c.outer; here = nothing_pending; count = c.count }
 
 abbrev pub open_next : Context → Option Reading
-open_next c = if nat_lt (length c.outer) max_brackets then Some (Before (opened c)) else None
+open_next c = if nat_lt (length c.outer) MAX_BRACKETS then Some (Before (opened c)) else None
 
 abbrev pub operand_next : Context → Token → Option Reading
 operand_next c (Number n) = if nat_lt n (2 ^ 63) then Some (After c (Num n)) else None

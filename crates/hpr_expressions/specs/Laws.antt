@@ -6,6 +6,7 @@
 -- no_semicolon, no_then, no_do == these tokens, behind which an expression ends, never stand in it
 use Rattle.std.proofs.Common.{◌≡◌, ℕ, ◌≤◌, ◌^◌, List, [], ◌∷◌, Bool, true, false, cond, nat_lt, Option, Some, None, is_some, refl, subst, arith, lit<}
 use Rattle.std.proofs.lemmas.Bool.{ltb-true, lt-ltb, le-ltb}
+use Rattle.hpr_terms.specs.declared.limits.TheConstants.{MAX_OPERATORS}
 use Rattle.hpr_terms.specs.declared.expr.Expr.{Expr}
 use Rattle.hpr_terms.specs.declared.expr.Expr.TheVariants.{Num}
 use Rattle.hpr_terms.specs.declared.expr.Binary.{Binary}
@@ -13,7 +14,6 @@ use Rattle.hpr_terms.specs.declared.expr.Binary.TheVariants as binary
 use Rattle.hpr_terms.specs.declared.keyword.Keyword.TheVariants as keyword
 use Rattle.hpr_terms.specs.declared.token.Sign.TheVariants as sign
 use Rattle.hpr_terms.specs.declared.token.Token.TheVariants.{Word, Name, Number, Mark}
-use Rattle.hpr_syntax.specs.Shape.{max_operators}
 use Rattle.hpr_scan.specs.Machine.{IsTokenMachine, Live, ends, goes}
 use Rattle.hpr_expressions.specs.declared.pending.Left.{Left}
 use Rattle.hpr_expressions.specs.declared.pending.Pending.{Pending}
@@ -74,7 +74,7 @@ counted_on true c n e = subst NoOperator (some_is _ _ e) (before_operand c)
 counted_on false c n e = absurd cc
 
 compared_on : (o : Option Left) (c : Context) (op : Binary) (v : Expr) (n : Reading) → compare_next o c op v ≡ Some n → NoOperator n
-compared_on None c op v n e = counted_on (nat_lt c.count max_operators) _ n e
+compared_on None c op v n e = counted_on (nat_lt c.count MAX_OPERATORS) _ n e
 compared_on (Some l) c op v n e = absurd cc
 
 after_less : (r n : Reading) → read r (Mark sign.Less) ≡ Some n → NoOperator n

@@ -1,25 +1,19 @@
 //! Reads the tokens of an expression.
 ghost use Rattle.std.specs.Prelude.{◌≡◌, ◌∷◌, [], length, is_some, nat_lt, ◌^◌, MatchOption, Some, None, IfOk, OnOk, IsTrue, ◌↔◌};
 ghost use Rattle.std.specs.Option.{is_none};
+ghost use Rattle.hpr_terms.specs.declared.limits.TheConstants.{MAX_BRACKETS, MAX_OPERATORS};
 ghost use Rattle.hpr_scan.specs.Steps.{Steps};
 ghost use Rattle.hpr_terms.specs.declared.token.Token.TheVariants as tokens;
-ghost use Rattle.hpr_syntax.specs.Shape.{max_operators};
-ghost use Rattle.hpr_syntax.specs.Grammar.{max_brackets};
 ghost use Rattle.hpr_expressions.specs.Expression as expression;
 ghost use Rattle.hpr_expressions.specs.Pending as pending;
 ghost use Rattle.hpr_expressions.specs.Private.Leads.{Leads, reading_of};
 
 use crate::pending::Pending;
 use hpr_scan::{Fault, TokenMachine};
+use hpr_terms::limits::{MAX_BRACKETS, MAX_OPERATORS};
 use hpr_terms::{Binary, Expr, Keyword, Literal, NoMemory, Sign, Token, Unary};
 use std::alloc::Global;
 use std::marker::Model;
-
-/// Brackets may stand this deep in one another.
-const MAX_BRACKETS: usize = 256;
-
-/// An expression may have so many operators.
-const MAX_OPERATORS: usize = 256;
 
 /// What waits outside of each open bracket. A contract sees the list, the innermost one first.
 #[derive(Drop)]
@@ -283,13 +277,13 @@ impl Context {
 
 impl Context {
     fn counts(&self) -> bool
-        ensures { result ≡ nat_lt self.now.count max_operators }
+        ensures { result ≡ nat_lt self.now.count MAX_OPERATORS }
     {
         self.count < MAX_OPERATORS
     }
 
     fn opens(&self) -> bool
-        ensures { result ≡ nat_lt (length self.now.outer) max_brackets }
+        ensures { result ≡ nat_lt (length self.now.outer) MAX_BRACKETS }
     {
         self.outer.len() < MAX_BRACKETS
     }

@@ -2,6 +2,7 @@
 use Rattle.std.proofs.Common.{◌≡◌, ℕ, ◌+◌, ◌<◌, ◌≤◌, List, length, take, arith, ap, length-take, Option, Err, IfSome, Vec, subst, ◌∙◌, Ok, Result, string_bytes}
 use Rattle.std.proofs.lemmas.List.{take_all}
 use Rattle.std.specs.Global.{Global}
+use Rattle.hpr_terms.specs.declared.limits.TheConstants.{MAX_FILE}
 use Rattle.hpr_io.specs.Files.{Files, bytes_of}
 use Rattle.hpr_scan.specs.Place.{IsPlace}
 use Rattle.hpr_syntax.specs.declared.shape.ShapeError.{ShapeError}
@@ -19,7 +20,7 @@ use Rattle.hpr_inputs.specs.ReadsFile.{FailsBy, IsTooLong, Judges, ReadsBy, Refu
 use Rattle.hpr_inputs.specs.Reads.{IfTold}
 use Rattle.hpr_inputs.specs.declared.answer.Stop.{Stop}
 use Rattle.hpr_inputs.specs.declared.answer.Stop.TheVariants as stop
-use Rattle.hpr_refusals.specs.Refusals.{max_file, IsCauseFor, IsRefusedFor, IsRefusedIn, IsRefusedScript}
+use Rattle.hpr_refusals.specs.Refusals.{IsCauseFor, IsRefusedFor, IsRefusedIn, IsRefusedScript}
 use Rattle.hpr_refusals.specs.declared.files.Refusal.{Refusal}
 use Rattle.hpr_refusals.specs.declared.files.Refusal.TheVariants.{Longer, Syntax, Shape}
 
@@ -40,18 +41,18 @@ module _ (files : Option Files) (name front : List ℕ) where
   abbrev pub IsFront : ℕ → Type 0
   IsFront most = IfSome files (λ fs. front ≡ take most (bytes_of fs name))
 
-  told_front : (most : ℕ) → most ≡ max_file + 1 → IsFront most → IfTold files (λ fs. front ≡ take (max_file + 1) (bytes_of fs name))
+  told_front : (most : ℕ) → most ≡ MAX_FILE + 1 → IsFront most → IfTold files (λ fs. front ≡ take (MAX_FILE + 1) (bytes_of fs name))
   told_front most is h fs t =
       subst (λ m. front ≡ take m (bytes_of fs name)) is (at_told files (λ gs. front ≡ take most (bytes_of gs name)) h fs t)
 
-  pub longer_file : (most : ℕ) → most ≡ max_file + 1 → IsFront most → max_file < length front → IfTold files (λ fs. max_file < length (bytes_of fs name))
-  longer_file most is h l fs t = longer (bytes_of fs name) front max_file (told_front most is h fs t) l
+  pub longer_file : (most : ℕ) → most ≡ MAX_FILE + 1 → IsFront most → MAX_FILE < length front → IfTold files (λ fs. MAX_FILE < length (bytes_of fs name))
+  longer_file most is h l fs t = longer (bytes_of fs name) front MAX_FILE (told_front most is h fs t) l
 
   abbrev pub IsWhole : Type 0
-  IsWhole = IfTold files (λ fs. (front ≡ bytes_of fs name) × (length front ≤ max_file))
+  IsWhole = IfTold files (λ fs. (front ≡ bytes_of fs name) × (length front ≤ MAX_FILE))
 
-  pub whole_file : (most : ℕ) → most ≡ max_file + 1 → IsFront most → length front ≤ max_file → IsWhole
-  whole_file most is h l fs t = (whole (bytes_of fs name) front max_file (told_front most is h fs t) l, l)
+  pub whole_file : (most : ℕ) → most ≡ MAX_FILE + 1 → IsFront most → length front ≤ MAX_FILE → IsWhole
+  whole_file most is h l fs t = (whole (bytes_of fs name) front MAX_FILE (told_front most is h fs t) l, l)
 
   -- what is so of the bytes that were read is so of the file
   pub judged : {A : Type 0} (refused : List ℕ → List ℕ → Type 0) (is : List ℕ → A → Type 0) (read : List ℕ) (before now : ℕ) (result : Result A Stop) → IsWhole → read ≡ front
@@ -62,14 +63,14 @@ module _ (files : Option Files) (name front : List ℕ) where
   judged refused is read before now (Err stop.Memory) w e same h = omega (arith, same)
 
 module _ (files : Option Files) (file : List ℕ) where
-  pub too_long : (before now : ℕ) (s : Stop) → IfTold files (λ fs. max_file < length (bytes_of fs file)) → now ≡ before → Refuses file Longer s
+  pub too_long : (before now : ℕ) (s : Stop) → IfTold files (λ fs. MAX_FILE < length (bytes_of fs file)) → now ≡ before → Refuses file Longer s
       → FailsBy (IsTooLong file) files file before now s
   too_long before now (stop.Refused message) far same h = (λ fs t. (far fs t, h), same)
   too_long before now (stop.ReadFault message) far same h = absurd h
   too_long before now stop.Memory far same h = omega (arith, same)
 
 -- why bytes of an accepted length are refused
-module _ (file bytes : List ℕ) (short : length bytes ≤ max_file) (s : Stop) where
+module _ (file bytes : List ℕ) (short : length bytes ≤ MAX_FILE) (s : Stop) where
   stops : (L : List ℕ → Type 0) (misshapen : List ℕ → ShapeError → Type 0) (why : Refusal) (t : Stop) → IsCauseFor L misshapen bytes why → Refuses file why t
       → StopsBy (λ read message. IsRefusedFor (IsCauseFor L misshapen read) file message) bytes t
   stops L misshapen why (stop.Refused message) cause h = (why, cause, h)

@@ -13,13 +13,14 @@
 -- Judges refused is bytes result              == what is so of these bytes; or as above
 use Rattle.std.specs.Prelude.{◌≡◌, ℕ, ◌≤◌, ◌<◌, List, length, Option, Result, Ok, Err, Vec, string_bytes}
 use Rattle.std.specs.Global.{Global}
+use Rattle.hpr_terms.specs.declared.limits.TheConstants.{MAX_FILE}
 use Rattle.hpr_io.specs.Counts.{Rose}
 use Rattle.hpr_io.specs.Files as io
 use Rattle.hpr_syntax.specs.Grammar.{Form, tagged}
 use Rattle.hpr_syntax.specs.Tree.{Tree}
 use Rattle.hpr_edit.specs.declared.command.Command.{Command}
 use Rattle.hpr_refusals.specs.Reasons.{refusal_text}
-use Rattle.hpr_refusals.specs.Refusals.{IsFileIn, IsRefusedIn, IsRefusedScript, IsScriptOf, max_file}
+use Rattle.hpr_refusals.specs.Refusals.{IsFileIn, IsRefusedIn, IsRefusedScript, IsScriptOf}
 use Rattle.hpr_refusals.specs.declared.files.Refusal.{Refusal}
 use Rattle.hpr_refusals.specs.declared.files.Refusal.TheVariants.{Longer}
 use Rattle.hpr_inputs.specs.Files.{cannot_read}
@@ -37,10 +38,10 @@ ReadsBy refused is files file before now (Ok a) = IfTold files (λ fs. is (io.by
 ReadsBy refused is files file before now (Err s) = FailsBy refused files file before now s
 
 abbrev pub IsTooLong : List ℕ → List ℕ → List ℕ → Type 0
-IsTooLong file bytes message = (max_file < length bytes) × (message ≡ refusal_text file Longer)
+IsTooLong file bytes message = (MAX_FILE < length bytes) × (message ≡ refusal_text file Longer)
 
 abbrev pub Fetches : Option io.Files → List ℕ → ℕ → ℕ → Result (Vec ℕ Global) Stop → Type 0
-Fetches files file = ReadsBy (IsTooLong file) (λ bytes v. (v.items ≡ bytes) × (length v.items ≤ max_file)) files file
+Fetches files file = ReadsBy (IsTooLong file) (λ bytes v. (v.items ≡ bytes) × (length v.items ≤ MAX_FILE)) files file
 
 abbrev pub ReadsIn : Form → Option io.Files → List ℕ → ℕ → ℕ → Result Tree Stop → Type 0
 ReadsIn form files file = ReadsBy (IsRefusedIn form file) (IsFileIn form) files file

@@ -6,9 +6,10 @@ ghost use Rattle.hpr_inputs.specs.ReadsFile.{Fetches, Judges, ReadsIn, ReadsProg
 
 use crate::answer::Stop;
 use hpr_io::{FetchError, Shelf};
-use hpr_refusals::{Command, MAX_FILE, Refusal};
+use hpr_refusals::{Command, Refusal};
 use hpr_script::{ScriptError, read_script};
 use hpr_syntax::Program;
+use hpr_terms::limits::MAX_FILE;
 use hpr_text::{Mode, TextError, parse};
 use std::alloc::Global;
 

@@ -5,6 +5,7 @@ use Rattle.std.specs.Cmp.{tied_itself}
 use Rattle.std.specs.Cmp.Lexicographic.{nat_list_cmp_total}
 use Rattle.std.proofs.lemmas.Bool.Decides.{nat_tests}
 use Rattle.std.proofs.lemmas.List.{append-nil}
+use Rattle.hpr_terms.specs.declared.limits.TheConstants.{MAX_LEVELS}
 use Rattle.hpr_terms.specs.declared.tag.Tag.{Tag}
 use Rattle.hpr_syntax.specs.declared.rows.Content.{Content}
 use Rattle.hpr_syntax.specs.declared.rows.Content.TheVariants.{Assign, If, While}
@@ -205,7 +206,7 @@ module _ (g : Graph) (items : List Item) (issued : Issued) (finals : List (List 
         limits = record {
           parts = omega (arith, few_parts p has.arranged.program, count_in items t p.body has.block, count);
           operators = λ k u c i. in_small items t p.body k u c shape.expressions has.block (all_there p t has k (below_of items k u c i)) i;
-          levels = λ k lt. in_shallow (slot_at items) items 64 0 t p.body None k (omega arith) refl stands has.block shape.levels (all_there p t has k lt);
+          levels = λ k lt. in_shallow (slot_at items) items MAX_LEVELS 0 t p.body None k (omega arith) refl stands has.block shape.levels (all_there p t has k lt);
         };
         arranged = record {
           stands = stands;

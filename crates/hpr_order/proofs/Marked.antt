@@ -1,9 +1,10 @@
 -- Numbers and their places, levels, and the order that the edges of a graph ask of items.
-use Rattle.std.proofs.Common.{◌≡◌, ℕ, ◌+◌, ◌<◌, ◌≤◌, ◌⊎◌, ◌↔◌, inl, inr, Option, Some, None, List, [], ◌∷◌, ◌++◌, length, set, take, get_or, Contains, slice_get, refl, sym, ap, ◌∙◌, subst, arith}
+use Rattle.std.proofs.Common.{◌≡◌, ℕ, ◌+◌, ◌-◌, ◌<◌, ◌≤◌, ◌⊎◌, ◌↔◌, inl, inr, Option, Some, None, List, [], ◌∷◌, ◌++◌, length, set, take, get_or, Contains, slice_get, refl, sym, ap, ◌∙◌, subst, arith}
 use Rattle.std.proofs.lemmas.Bool.{cases_eq}
 use Rattle.std.proofs.lemmas.List.{get_or-set_same, get_or-set_other, take_more}
 use Rattle.std.proofs.lemmas.List.Elements.{Contains-append_left, Contains-append_right, Contains-append_cases}
 use Rattle.std.proofs.lemmas.Option.{slice_get_within, slice_get-get_or, get_or_from_slice_get}
+use Rattle.hpr_terms.specs.declared.limits.TheConstants.{MAX_LEVELS}
 use Rattle.hpr_terms.specs.declared.tag.Tag.{Tag}
 use Rattle.hpr_syntax.specs.declared.rows.Content.{Content}
 use Rattle.hpr_graph.specs.declared.vertex.Vertex.{Vertex}
@@ -57,32 +58,32 @@ places_all numbers places place end are n k = (
 
 -- the levels that are found are those of the items
 pub levels_are : (items : List Item) (levels : List ℕ) → length levels ≡ length items
-    → ((k : ℕ) → k < length items → level_in (slot_at items) 63 (slot_at items k) ≡ Some (level_of levels k)) → ((k p : ℕ) → k < length items → parent_in items k ≡ Some p → p < length items)
+    → ((k : ℕ) → k < length items → level_in (slot_at items) (MAX_LEVELS - 1) (slot_at items k) ≡ Some (level_of levels k)) → ((k p : ℕ) → k < length items → parent_in items k ≡ Some p → p < length items)
     → AreLevels items levels
 levels_are items levels len all within = record {
   count = len;
   under = λ k lt. at k (slot_at items k) refl (all k lt) (within k) lt;
 }
   where
-    at : (k : ℕ) (v : Slot) → slot_at items k ≡ v → level_in (slot_at items) 63 (slot_at items k) ≡ Some (level_of levels k) → ((p : ℕ) → k < length items → parent_in items k ≡ Some p → p < length items)
+    at : (k : ℕ) (v : Slot) → slot_at items k ≡ v → level_in (slot_at items) (MAX_LEVELS - 1) (slot_at items k) ≡ Some (level_of levels k) → ((p : ℕ) → k < length items → parent_in items k ≡ Some p → p < length items)
         → k < length items → LevelUnder levels (level_of levels k) (parent_in items k)
     at k None is e inside lt =
         let none : parent_in items k ≡ None = ap above is in
-        let far = (level_far (slot_at items) 63 (level_of levels k) (slot_at items k) e).0 in
-        subst (LevelUnder levels (level_of levels k)) (sym none) (let e' : level_in (slot_at items) 63 None ≡ Some (level_of levels k) = subst (λ z. level_in (slot_at items) 63 z ≡ Some (level_of levels k)) is e in
+        let far = (level_far (slot_at items) (MAX_LEVELS - 1) (level_of levels k) (slot_at items k) e).0 in
+        subst (LevelUnder levels (level_of levels k)) (sym none) (let e' : level_in (slot_at items) (MAX_LEVELS - 1) None ≡ Some (level_of levels k) = subst (λ z. level_in (slot_at items) (MAX_LEVELS - 1) z ≡ Some (level_of levels k)) is e in
         sym (some_same 0 (level_of levels k) e'))
     at k (Some (p, b)) is e inside lt =
         let some : parent_in items k ≡ Some p = ap above is in
-        let e' : level_in (slot_at items) 63 (Some (p, b)) ≡ Some (level_of levels k) = subst (λ z. level_in (slot_at items) 63 z ≡ Some (level_of levels k)) is e in
-        subst (LevelUnder levels (level_of levels k)) (sym some) (one_level p (level_in (slot_at items) 62 (slot_at items p)) refl (all p (inside p lt some)) e')
+        let e' : level_in (slot_at items) (MAX_LEVELS - 1) (Some (p, b)) ≡ Some (level_of levels k) = subst (λ z. level_in (slot_at items) (MAX_LEVELS - 1) z ≡ Some (level_of levels k)) is e in
+        subst (LevelUnder levels (level_of levels k)) (sym some) (one_level p (level_in (slot_at items) (MAX_LEVELS - 2) (slot_at items p)) refl (all p (inside p lt some)) e')
       where
-        one_level : (p : ℕ) (o : Option ℕ) → level_in (slot_at items) 62 (slot_at items p) ≡ o → level_in (slot_at items) 63 (slot_at items p) ≡ Some (level_of levels p)
-            → one_more (level_in (slot_at items) 62 (slot_at items p)) ≡ Some (level_of levels k) → level_of levels k ≡ level_of levels p + 1
+        one_level : (p : ℕ) (o : Option ℕ) → level_in (slot_at items) (MAX_LEVELS - 2) (slot_at items p) ≡ o → level_in (slot_at items) (MAX_LEVELS - 1) (slot_at items p) ≡ Some (level_of levels p)
+            → one_more (level_in (slot_at items) (MAX_LEVELS - 2) (slot_at items p)) ≡ Some (level_of levels k) → level_of levels k ≡ level_of levels p + 1
         one_level p None was its e = absurd (let f : one_more None ≡ Some (level_of levels k) = subst (λ z. one_more z ≡ Some (level_of levels k)) was e in let g : None ≡ Some (level_of levels k) = f in absurd cc)
         one_level p (Some m) was its e =
             let f : Some (m + 1) ≡ Some (level_of levels k) = subst (λ z. one_more z ≡ Some (level_of levels k)) was e in
-            let (far, le) = level_far (slot_at items) 62 m (slot_at items p) was in
-            let same : m ≡ level_of levels p = some_same m (level_of levels p) (sym (far_level (slot_at items) 63 m (slot_at items p) far (omega arith)) ∙ its) in
+            let (far, le) = level_far (slot_at items) (MAX_LEVELS - 2) m (slot_at items p) was in
+            let same : m ≡ level_of levels p = some_same m (level_of levels p) (sym (far_level (slot_at items) (MAX_LEVELS - 1) m (slot_at items p) far (omega arith)) ∙ its) in
             let g : m + 1 ≡ level_of levels k = some_same (m + 1) (level_of levels k) f in
             omega arith
 

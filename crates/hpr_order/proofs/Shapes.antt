@@ -1,9 +1,10 @@
 -- What the block of a tree of items is: its parts, tags and levels, and that it has no refusal.
-use Rattle.std.proofs.Common.{◌≡◌, ℕ, zero, suc, ◌+◌, ◌≤◌, inl, inr, Bool, true, false, ◌==◌, ◌&&◌, ◌||◌, if◌then◌else◌, IsSome, Option, Some, None, List, [], ◌∷◌, ◌++◌, All, length, map, Contains, slice_get, refl, sym, ap, ap₂, ◌∙◌, subst, arith, append_assoc, length-append}
+use Rattle.std.proofs.Common.{◌≡◌, ℕ, zero, suc, ◌+◌, ◌-◌, ◌≤◌, inl, inr, Bool, true, false, ◌==◌, ◌&&◌, ◌||◌, if◌then◌else◌, IsSome, Option, Some, None, List, [], ◌∷◌, ◌++◌, All, length, map, Contains, slice_get, refl, sym, ap, ap₂, ◌∙◌, subst, arith, append_assoc, length-append}
 use Rattle.std.specs.List.{list_any}
 use Rattle.std.specs.Option.{option_or}
 use Rattle.std.proofs.lemmas.Bool.Decides.{nat_tests}
 use Rattle.std.proofs.lemmas.List.Elements.{All-contains}
+use Rattle.hpr_terms.specs.declared.limits.TheConstants.{MAX_LEVELS}
 use Rattle.hpr_terms.specs.declared.tag.Tag.{Tag}
 use Rattle.hpr_syntax.specs.declared.rows.Row.{Row}
 use Rattle.hpr_syntax.specs.declared.rows.Content.{Content}
@@ -289,20 +290,20 @@ module _ (slot : ℕ → Slot) where
   none_or' None b x y = y
   none_or' (Some z) b x y = absurd cc
 
-  -- a block in a slot that is d parts deep has no part below 64 levels exactly where no item stands in more than 63 others
-  pub shallow_in : (items : List Item) (n d : ℕ) (t : Tree) (b : Body) (v : Slot) → n + d ≡ 64 → IsFar d v → StandsIn slot v t → IsBlockOf items t b
-      → ((k : ℕ) → Contains (preorder t) k → IsSome (level_in slot 63 (slot k))) → first_deep n b ≡ None
+  -- a block in a slot that is d parts deep has no part below MAX_LEVELS levels exactly where no item stands in MAX_LEVELS others or more
+  pub shallow_in : (items : List Item) (n d : ℕ) (t : Tree) (b : Body) (v : Slot) → n + d ≡ MAX_LEVELS → IsFar d v → StandsIn slot v t → IsBlockOf items t b
+      → ((k : ℕ) → Contains (preorder t) k → IsSome (level_in slot (MAX_LEVELS - 1) (slot k))) → first_deep n b ≡ None
   shallow_in items n d empty done v sum far st h all = refl
   shallow_in items n d empty (action t action_ rest) v sum far st h all = absurd h
   shallow_in items n d empty (branch t e p q rest) v sum far st h all = absurd h
   shallow_in items n d empty (loop t e p rest) v sum far st h all = absurd h
   shallow_in items n d (node c y m r) done v sum far st h all = absurd h
   shallow_in items zero d (node c y m r) (action t action_ rest) v sum far st h all =
-      absurd (let le : d ≤ 63 = in_reach 63 d v far (subst (λ z. IsSome (level_in slot 63 z)) st.0 (all c (in_first c (preorder y ++ (preorder m ++ preorder r))))) in omega arith)
+      absurd (let le : d ≤ MAX_LEVELS - 1 = in_reach (MAX_LEVELS - 1) d v far (subst (λ z. IsSome (level_in slot (MAX_LEVELS - 1) z)) st.0 (all c (in_first c (preorder y ++ (preorder m ++ preorder r))))) in omega arith)
   shallow_in items zero d (node c y m r) (branch t e p q rest) v sum far st h all =
-      absurd (let le : d ≤ 63 = in_reach 63 d v far (subst (λ z. IsSome (level_in slot 63 z)) st.0 (all c (in_first c (preorder y ++ (preorder m ++ preorder r))))) in omega arith)
+      absurd (let le : d ≤ MAX_LEVELS - 1 = in_reach (MAX_LEVELS - 1) d v far (subst (λ z. IsSome (level_in slot (MAX_LEVELS - 1) z)) st.0 (all c (in_first c (preorder y ++ (preorder m ++ preorder r))))) in omega arith)
   shallow_in items zero d (node c y m r) (loop t e p rest) v sum far st h all =
-      absurd (let le : d ≤ 63 = in_reach 63 d v far (subst (λ z. IsSome (level_in slot 63 z)) st.0 (all c (in_first c (preorder y ++ (preorder m ++ preorder r))))) in omega arith)
+      absurd (let le : d ≤ MAX_LEVELS - 1 = in_reach (MAX_LEVELS - 1) d v far (subst (λ z. IsSome (level_in slot (MAX_LEVELS - 1) z)) st.0 (all c (in_first c (preorder y ++ (preorder m ++ preorder r))))) in omega arith)
   shallow_in items (suc n) d (node c y m r) (action t action_ rest) v sum far st h all =
       shallow_in items (suc n) d r rest v sum far st.3 h.3 (λ k a. all k (in_three c y m r k a))
   shallow_in items (suc n) d (node c y m r) (branch t e p q rest) v sum far st h all =
@@ -316,11 +317,11 @@ module _ (slot : ℕ → Slot) where
       (shallow_in items n (suc d) y p (Some (c, true)) (omega arith) (far_more c d true v st.0 far) st.1 h.1 (λ k a. all k (in_one c y m r k a)))
       (shallow_in items (suc n) d r rest v sum far st.3 h.3 (λ k a. all k (in_three c y m r k a)))
 
-  head_reached : (n d c k : ℕ) (v : Slot) → suc n + d ≡ 64 → IsFar d v → slot c ≡ v → c ≡ k → IsSome (level_in slot 63 (slot k))
-  head_reached n d c k v sum far st is = subst (λ z. IsSome (level_in slot 63 (slot z))) is (subst (λ z. IsSome (level_in slot 63 z)) (sym st) (reached 63 d v far (omega arith)))
+  head_reached : (n d c k : ℕ) (v : Slot) → suc n + d ≡ MAX_LEVELS → IsFar d v → slot c ≡ v → c ≡ k → IsSome (level_in slot (MAX_LEVELS - 1) (slot k))
+  head_reached n d c k v sum far st is = subst (λ z. IsSome (level_in slot (MAX_LEVELS - 1) (slot z))) is (subst (λ z. IsSome (level_in slot (MAX_LEVELS - 1) z)) (sym st) (reached (MAX_LEVELS - 1) d v far (omega arith)))
 
-  pub in_shallow : (items : List Item) (n d : ℕ) (t : Tree) (b : Body) (v : Slot) (k : ℕ) → n + d ≡ 64 → IsFar d v → StandsIn slot v t → IsBlockOf items t b
-      → first_deep n b ≡ None → Contains (preorder t) k → IsSome (level_in slot 63 (slot k))
+  pub in_shallow : (items : List Item) (n d : ℕ) (t : Tree) (b : Body) (v : Slot) (k : ℕ) → n + d ≡ MAX_LEVELS → IsFar d v → StandsIn slot v t → IsBlockOf items t b
+      → first_deep n b ≡ None → Contains (preorder t) k → IsSome (level_in slot (MAX_LEVELS - 1) (slot k))
   in_shallow items n d empty b v k sum far st h none a = absurd (in_none k a)
   in_shallow items n d (node c y m r) done v k sum far st h none a = absurd h
   in_shallow items zero d (node c y m r) (action t action_ rest) v k sum far st h none a = absurd cc

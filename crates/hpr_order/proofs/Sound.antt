@@ -9,6 +9,7 @@ use Rattle.std.proofs.lemmas.Bool.Decides.{nat_tests}
 use Rattle.std.proofs.lemmas.Cmp.{nat_list_eq_equiv}
 use Rattle.std.proofs.lemmas.List.{append-nil}
 use Rattle.std.proofs.lemmas.Option.{slice_get_within}
+use Rattle.hpr_terms.specs.declared.limits.TheConstants.{MAX_LEVELS, MAX_PARTS}
 use Rattle.hpr_terms.specs.Names.{IsName}
 use Rattle.hpr_terms.specs.declared.tag.Tag.{Tag}
 use Rattle.hpr_syntax.specs.declared.rows.Content.{Content}
@@ -45,7 +46,7 @@ use Rattle.hpr_order.proofs.ListFacts.{get_below, get_there, map_in}
 use Rattle.hpr_order.proofs.ReadBack.{read_whole, block_there}
 use Rattle.hpr_order.proofs.Shapes.{no_tag, tag_in, tag_of, tags_in, count_in, proper_in, small_in, shallow_in, IsApart, none_repeated, all_issued, same_tag_true}
 
-few_parts : (n : ℕ) → n ≤ 1000 → too_many n ≡ None
+few_parts : (n : ℕ) → n ≤ MAX_PARTS → too_many n ≡ None
 few_parts n le = grind (arith, nat_tests)
 
 differ_name : (x y : List ℕ) → name_cmp x y ≡ Less → bytes_eq y x ≡ false
@@ -149,7 +150,7 @@ module _ (g : Graph) (items : List Item) (issued : Issued) (finals : List (List 
         let (c, i) = item_at items k (a.arranged.within k q) in
         let i' : IsItem items k u c = subst (λ z. IsItem items k z c) e i in
         is.issued u c ((is.items.parts u c).1 (k, i')));
-    levels = shallow_in (slot_at items) items 64 0 t b None (omega arith) refl a.arranged.stands h (λ k q. a.limits.levels k (a.arranged.within k q));
+    levels = shallow_in (slot_at items) items MAX_LEVELS 0 t b None (omega arith) refl a.arranged.stands h (λ k q. a.limits.levels k (a.arranged.within k q));
     expressions = small_in items t b a.limits.operators h;
     parts = few_parts (part_count b) (let le = a.limits.parts in omega (arith, count_in items t b h, a.arranged.len));
     names = none_repeated bytes_eq [] finals (names_apart finals is.order) (λ x y p q. absurd (in_none y q));

@@ -6,6 +6,7 @@ use Rattle.std.specs.declared.cmp.Ordering.TheVariants.{Less}
 use Rattle.std.specs.Cmp.Lexicographic.{slice_cmp}
 use Rattle.std.specs.Ordering.{nat_cmp}
 use Rattle.std.specs.List.Sorted.{IsStrictlySortedBy}
+use Rattle.hpr_terms.specs.declared.limits.TheConstants.{MAX_LEVELS, MAX_PARTS}
 use Rattle.hpr_graph.specs.InOrder.{Ascends}
 use Rattle.hpr_graph.specs.Order.{name_cmp}
 use Rattle.std.proofs.lemmas.List.Elements.{All-contains, All-from_recursion, Contains-append_left, Contains-append_right, Contains-append_cases}
@@ -51,16 +52,16 @@ no_some (Some y) e h = absurd cc
 
 -- what the loop over the items has found
 pub record IsLevelled (items : List Item) (index : ℕ) (found : List ℕ) : Type 0 where
-  pub levels : (k : ℕ) → k < index → level_in (slot_at items) 63 (slot_at items k) ≡ Some (level_of found k)
+  pub levels : (k : ℕ) → k < index → level_in (slot_at items) (MAX_LEVELS - 1) (slot_at items k) ≡ Some (level_of found k)
   pub small : (k : ℕ) (t : Tag) (c : Content) → k < index → IsItem items k t c → is_large (expr_in c) ≡ false
 
 pub level_pushed : (items : List Item) (index : ℕ) (levels more : List ℕ) (i : Item) (level : ℕ) → length levels ≡ index → slice_get items index ≡ Some i
-    → level_in (slot_at items) 63 i.slot ≡ Some level → is_large (expr_in i.content) ≡ false → more ≡ levels ++ level ∷ [] → IsLevelled items index levels → IsLevelled items (index + 1) more
+    → level_in (slot_at items) (MAX_LEVELS - 1) i.slot ≡ Some level → is_large (expr_in i.content) ≡ false → more ≡ levels ++ level ∷ [] → IsLevelled items index levels → IsLevelled items (index + 1) more
 level_pushed items index levels more i level len here found small is r = record {
   levels = λ k lt. elim (cases_eq k index) [
     | inl same ↦ (
         let at : slice_get more k ≡ Some level = subst (λ z. slice_get z k ≡ Some level) (sym is) (subst (λ z. slice_get (levels ++ level ∷ []) z ≡ Some level) (len ∙ sym same) (push_new levels level)) in
-        ap (level_in (slot_at items) 63) (ap (slot_at items) same ∙ ap slot_in here) ∙ found ∙ ap Some (sym (get_or_from_slice_get more k level 0 at)))
+        ap (level_in (slot_at items) (MAX_LEVELS - 1)) (ap (slot_at items) same ∙ ap slot_in here) ∙ found ∙ ap Some (sym (get_or_from_slice_get more k level 0 at)))
     | inr other ↦ (
         let less : k < index = omega (arith, lt) in
         let (x, e) = get_below levels k (let l : k < length levels = omega arith in l) in
@@ -76,19 +77,19 @@ level_pushed items index levels more i level len here found small is r = record 
   ];
 }
 
-pub within_all : (items : List Item) (index : ℕ) (levels : List ℕ) → length items ≤ 1000 → length items ≤ index → IsLevelled items index levels → IsWithinLimits items
+pub within_all : (items : List Item) (index : ℕ) (levels : List ℕ) → length items ≤ MAX_PARTS → length items ≤ index → IsLevelled items index levels → IsWithinLimits items
 within_all items index levels few end r = record {
   parts = few;
   operators = λ k t c i. (let (x, e, _, _) = i in let lt = slice_get_within items k x e in r.small k t c (omega (arith, lt)) i);
-  levels = λ k lt. is_some_of (level_in (slot_at items) 63 (slot_at items k)) (level_of levels k) (r.levels k (omega (arith, lt)));
+  levels = λ k lt. is_some_of (level_in (slot_at items) (MAX_LEVELS - 1) (slot_at items k)) (level_of levels k) (r.levels k (omega (arith, lt)));
 }
 
 pub not_small : (items : List Item) (index : ℕ) (i : Item) → slice_get items index ≡ Some i → is_large (expr_in i.content) ≡ true → IsWithinLimits items → ⊥
 not_small items index i e large within = let no_large = within.operators index i.tag i.content (i, e, refl, refl) in let both : true ≡ false = sym large ∙ no_large in absurd cc
 
-pub not_shallow : (items : List Item) (index : ℕ) (i : Item) → slice_get items index ≡ Some i → level_in (slot_at items) 63 i.slot ≡ None → IsWithinLimits items → ⊥
+pub not_shallow : (items : List Item) (index : ℕ) (i : Item) → slice_get items index ≡ Some i → level_in (slot_at items) (MAX_LEVELS - 1) i.slot ≡ None → IsWithinLimits items → ⊥
 not_shallow items index i e none within =
-    no_some (level_in (slot_at items) 63 (slot_at items index)) (ap (level_in (slot_at items) 63) (ap slot_in e) ∙ none) (within.levels index (slice_get_within items index i e))
+    no_some (level_in (slot_at items) (MAX_LEVELS - 1) (slot_at items index)) (ap (level_in (slot_at items) (MAX_LEVELS - 1)) (ap slot_in e) ∙ none) (within.levels index (slice_get_within items index i e))
 
 -- a row of the numbers below one that have a property, and one number more
 pub row_kept : (P : ℕ → Type 0) (index : ℕ) (row : List ℕ) → ((x : ℕ) → Contains row x ↔ ((x < index) × P x)) → (P index → ⊥) → (x : ℕ) → Contains row x ↔ ((x < index + 1) × P x)

@@ -2,10 +2,11 @@
 --
 -- one_more n               == the number above, if there is one
 -- level_in slot n v        == how many parts stand around the slot, if there are at most n
--- IsWithinLimits items     == at most 1,000 parts, none with more than 256 operators, none below more than 64 levels
+-- IsWithinLimits items     == at most MAX_PARTS parts, none with more than MAX_OPERATORS operators, none below more than MAX_LEVELS levels
 -- IsAllowedTree g items t  == t has each item once, in its slot, in an order that is asked; and the items are within the limits
 -- AreOrdersOf g items orders == the orders are the preorders of exactly these trees, in lexicographic order
-use Rattle.std.specs.Prelude.{◌≡◌, ℕ, zero, suc, ◌+◌, ◌<◌, ◌≤◌, false, Option, Some, None, List, map, length, IsSome}
+use Rattle.std.specs.Prelude.{◌≡◌, ℕ, zero, suc, ◌+◌, ◌-◌, ◌<◌, ◌≤◌, false, Option, Some, None, List, map, length, IsSome}
+use Rattle.hpr_terms.specs.declared.limits.TheConstants.{MAX_LEVELS, MAX_PARTS}
 use Rattle.hpr_terms.specs.declared.tag.Tag.{Tag}
 use Rattle.hpr_syntax.specs.declared.rows.Content.{Content}
 use Rattle.hpr_syntax.specs.Rows.{expr_in}
@@ -27,9 +28,9 @@ level_in slot zero (Some at) = None
 level_in slot (suc n) (Some at) = one_more (level_in slot n (slot at.0))
 
 pub record IsWithinLimits (items : List Item) : Type 0 where
-  pub parts : length items ≤ 1000
+  pub parts : length items ≤ MAX_PARTS
   pub operators : (k : ℕ) (t : Tag) (c : Content) → IsItem items k t c → is_large (expr_in c) ≡ false
-  pub levels : (k : ℕ) → k < length items → IsSome (level_in (slot_at items) 63 (slot_at items k))
+  pub levels : (k : ℕ) → k < length items → IsSome (level_in (slot_at items) (MAX_LEVELS - 1) (slot_at items k))
 
 pub record IsAllowedTree (g : Graph) (items : List Item) (t : Tree) : Type 0 where
   pub limits : IsWithinLimits items

@@ -9,6 +9,7 @@ ghost use Rattle.hpr_order.specs.Building.{IsSlot};
 use crate::item::Item;
 use hpr_graph::{Content, NoMemory};
 use hpr_syntax::{Expr, is_large};
+use hpr_terms::limits::{MAX_LEVELS, MAX_PARTS};
 use std::alloc::Global;
 
 /// For each item how many items stand around it, where the items are within the limits of programs; else
@@ -19,7 +20,7 @@ pub(crate) fn levels_of(alloc: Global, items: &[Item]) -> Result<Option<Vec<usiz
     ensures levels { IfOk result (λ o. IfSome o (λ levels. AreLevels items.now levels.items)) }
     ensures none { IfOk result (λ o. IfNone o (¬ IsWithinLimits items.now)) }
 {
-    if items.len() > 1000 {
+    if items.len() > MAX_PARTS {
         return Ok(None);
     }
     let mut levels = Vec::new(alloc);
@@ -27,7 +28,7 @@ pub(crate) fn levels_of(alloc: Global, items: &[Item]) -> Result<Option<Vec<usiz
         if is_large(expr_in(&item.content)) {
             return Ok(None);
         }
-        let Some(level) = level_in(items, 63, item.slot) else {
+        let Some(level) = level_in(items, MAX_LEVELS - 1, item.slot) else {
             return Ok(None);
         };
         levels.push(level)?;

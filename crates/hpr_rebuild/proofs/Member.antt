@@ -1,6 +1,7 @@
 -- Every program with the graph is an arrangement, its finals put in order and its issued numbers replaced.
 use Rattle.std.proofs.Common.{◌≡◌, ◌≤◌, ◌<◌, ◌↔◌, ℕ, Bool, true, inl, inr, All, None, List, [], refl, sym, subst, arith}
 use Rattle.std.proofs.lemmas.List.Sorted.{All-permutation}
+use Rattle.hpr_terms.specs.declared.limits.TheConstants.{MAX_LEVELS}
 use Rattle.hpr_terms.specs.declared.tag.Tag.{Tag}
 use Rattle.hpr_terms.specs.Names.{IsName}
 use Rattle.hpr_syntax.specs.declared.rows.Content.{Content}
@@ -10,7 +11,7 @@ use Rattle.hpr_syntax.specs.Nests.{Says}
 use Rattle.hpr_syntax.specs.Parts.{tags_of}
 use Rattle.hpr_syntax.specs.Places.{StandsLeft}
 use Rattle.hpr_syntax.specs.Proper.{IsProperPair, IsProperBody}
-use Rattle.hpr_syntax.specs.Shape.{IsProgram, first_repeated_tag, first_unissued, first_deep, first_large, too_many, max_levels}
+use Rattle.hpr_syntax.specs.Shape.{IsProgram, first_repeated_tag, first_unissued, first_deep, first_large, too_many}
 use Rattle.hpr_syntax.specs.Skeleton.{skeleton, at}
 use Rattle.hpr_syntax.specs.Tree.{Tree}
 use Rattle.hpr_syntax.proofs.NoRefusal.{no_refusal, shaped}
@@ -58,7 +59,7 @@ settled_program issued p q prog (ascending, ranges) allowed s =
         tags = subst (λ (b : Body). first_repeated_tag b ≡ None) s.body n.tags;
         issued = subst (λ (i : Issued). first_unissued i (tags_of q.body []) ≡ None) (sym s.numbers)
             (subst (λ (b : Body). first_unissued issued (tags_of b []) ≡ None) s.body issued_in);
-        levels = subst (λ (b : Body). first_deep max_levels b ≡ None) s.body n.levels;
+        levels = subst (λ (b : Body). first_deep MAX_LEVELS b ≡ None) s.body n.levels;
         expressions = subst (λ (b : Body). first_large b ≡ None) s.body n.expressions;
         parts = subst (λ (b : Body). too_many (part_count b) ≡ None) s.body n.parts;
         names = unrepeated q.finals (ascending_once q.finals s.ascending);

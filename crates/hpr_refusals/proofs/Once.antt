@@ -1,5 +1,6 @@
 -- What is read is one thing, or refused with one message.
 use Rattle.std.proofs.Common.{◌≡◌, ℕ, ◌≤◌, arith, List, length, refl, sym, ap, ◌∙◌, Some, None}
+use Rattle.hpr_terms.specs.declared.limits.TheConstants.{MAX_FILE}
 use Rattle.hpr_scan.specs.Place.{IsPlace}
 use Rattle.hpr_syntax.specs.declared.shape.ShapeError.{ShapeError}
 use Rattle.hpr_syntax.specs.Grammar.{Form}
@@ -10,7 +11,7 @@ use Rattle.hpr_text.proofs.Texts.{one_tree}
 use Rattle.hpr_script.specs.ScriptGrammar.{HasScript}
 use Rattle.hpr_script.proofs.Scripts.{one_script}
 use Rattle.hpr_refusals.specs.Reasons.{refusal_text}
-use Rattle.hpr_refusals.specs.Refusals.{IsCauseFor, IsFileIn, IsOne, IsRefusedFor, IsRefusedIn, IsRefusedScript, IsScriptOf, OneReading, max_file}
+use Rattle.hpr_refusals.specs.Refusals.{IsCauseFor, IsFileIn, IsOne, IsRefusedFor, IsRefusedIn, IsRefusedScript, IsScriptOf, OneReading}
 use Rattle.hpr_refusals.specs.declared.files.Refusal.{Refusal}
 use Rattle.hpr_refusals.specs.declared.files.Refusal.TheVariants as refusal
 
@@ -34,7 +35,7 @@ module _ (L : List ℕ → Type 0) (misshapen : List ℕ → ShapeError → Type
   one_message : (file m n : List ℕ) → IsRefusedFor (IsCauseFor L misshapen bytes) file m → IsRefusedFor (IsCauseFor L misshapen bytes) file n → m ≡ n
   one_message file m n (r, h, is) (s, k, so) = is ∙ ap (refusal_text file) (one_cause r s h k) ∙ sym so
 
-  not_refused : length bytes ≤ max_file → L bytes → ((e : ShapeError) → misshapen bytes e → ⊥) → (why : Refusal) → IsCauseFor L misshapen bytes why → ⊥
+  not_refused : length bytes ≤ MAX_FILE → L bytes → ((e : ShapeError) → misshapen bytes e → ⊥) → (why : Refusal) → IsCauseFor L misshapen bytes why → ⊥
   not_refused short text well refusal.Longer h = omega (arith, h, short)
   not_refused short text well (refusal.Syntax place) h = h.1.unspelled text
   not_refused short text well (refusal.Shape error) h = well error h.1

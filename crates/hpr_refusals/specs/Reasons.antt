@@ -8,6 +8,7 @@
 -- command_text script k why   == the message on the command with this number, where the script has this name
 use Rattle.std.specs.Prelude.{ℕ, List, [], ◌++◌, codes}
 use Rattle.std.specs.Fmt.{decimal}
+use Rattle.hpr_terms.specs.declared.limits.TheConstants.{MAX_FILE, MAX_LEVELS, MAX_OPERATORS, MAX_PARTS}
 use Rattle.hpr_syntax.specs.declared.shape.ShapeError.{ShapeError}
 use Rattle.hpr_syntax.specs.declared.shape.ShapeError.TheVariants as shape
 use Rattle.hpr_syntax.specs.Print.{tag_text}
@@ -20,14 +21,14 @@ use Rattle.hpr_refusals.specs.declared.files.Refusal.TheVariants as refusal
 abbrev pub shape_text : ShapeError → List ℕ
 shape_text (shape.DuplicateTag t) = codes "tag " ++ tag_text t ++ codes " stands twice"
 shape_text (shape.Unissued t) = codes "tag " ++ tag_text t ++ codes " was not issued"
-shape_text (shape.TooDeep t) = codes "part " ++ tag_text t ++ codes " is nested deeper than 64"
-shape_text (shape.ExprTooLarge t) = codes "expression of " ++ tag_text t ++ codes " has more than 256 operators"
-shape_text (shape.TooManyParts n) = decimal n ++ codes " parts, more than 1000"
+shape_text (shape.TooDeep t) = codes "part " ++ tag_text t ++ (codes " is nested deeper than " ++ decimal MAX_LEVELS)
+shape_text (shape.ExprTooLarge t) = codes "expression of " ++ tag_text t ++ (codes " has more than " ++ decimal MAX_OPERATORS ++ codes " operators")
+shape_text (shape.TooManyParts n) = decimal n ++ codes " parts, more than " ++ decimal MAX_PARTS
 shape_text (shape.DuplicateFinal x) = codes "end names " ++ x ++ codes " twice"
 shape_text shape.Memory = []
 
 abbrev pub reason : Refusal → List ℕ
-reason refusal.Longer = codes "longer than 4194304 bytes"
+reason refusal.Longer = codes "longer than " ++ decimal MAX_FILE ++ codes " bytes"
 reason (refusal.Syntax place) = codes "syntax at byte " ++ decimal place
 reason (refusal.Shape error) = shape_text error
 

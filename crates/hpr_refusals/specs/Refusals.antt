@@ -1,6 +1,5 @@
 -- Which files are refused.
 --
--- max_file                            == the longest file that is accepted, in bytes
 -- IsFileIn form bytes p               == the bytes are of an accepted length and spell the program p in this form
 -- IsFileOf bytes p                    == the same, with the tag of each part
 -- IsScriptOf bytes cs                 == the bytes are of an accepted length and spell the script of these commands
@@ -15,6 +14,7 @@
 -- IsOne refused is                    == what is read is one thing or refused with one message, and not both
 -- OneReading                          == that is so of each file that is to spell a program or a script
 use Rattle.std.specs.Prelude.{◌≡◌, ℕ, ◌≤◌, ◌<◌, List, length}
+use Rattle.hpr_terms.specs.declared.limits.TheConstants.{MAX_FILE}
 use Rattle.hpr_scan.specs.Place.{IsPlace}
 use Rattle.hpr_syntax.specs.declared.shape.ShapeError.{ShapeError}
 use Rattle.hpr_syntax.specs.Grammar.{Form, tagged}
@@ -28,11 +28,8 @@ use Rattle.hpr_refusals.specs.Reasons.{refusal_text}
 use Rattle.hpr_refusals.specs.declared.files.Refusal.{Refusal}
 use Rattle.hpr_refusals.specs.declared.files.Refusal.TheVariants as refusal
 
-abbrev pub max_file : ℕ
-max_file = 4194304
-
 pub record IsFileIn (form : Form) (bytes : List ℕ) (p : Tree) : Type 0 where
-  pub short : length bytes ≤ max_file
+  pub short : length bytes ≤ MAX_FILE
   pub spelled : Spells form bytes p
   pub program : IsProgram p
 
@@ -40,13 +37,13 @@ abbrev pub IsFileOf : List ℕ → Tree → Type 0
 IsFileOf bytes p = IsFileIn tagged bytes p
 
 pub record IsScriptOf (bytes : List ℕ) (cs : List Command) : Type 0 where
-  pub short : length bytes ≤ max_file
+  pub short : length bytes ≤ MAX_FILE
   pub spelled : IsScript bytes cs
 
 abbrev pub IsCauseFor : (List ℕ → Type 0) → (List ℕ → ShapeError → Type 0) → List ℕ → Refusal → Type 0
-IsCauseFor L misshapen bytes refusal.Longer = max_file < length bytes
-IsCauseFor L misshapen bytes (refusal.Syntax place) = (length bytes ≤ max_file) × IsPlace L bytes place
-IsCauseFor L misshapen bytes (refusal.Shape error) = (length bytes ≤ max_file) × misshapen bytes error
+IsCauseFor L misshapen bytes refusal.Longer = MAX_FILE < length bytes
+IsCauseFor L misshapen bytes (refusal.Syntax place) = (length bytes ≤ MAX_FILE) × IsPlace L bytes place
+IsCauseFor L misshapen bytes (refusal.Shape error) = (length bytes ≤ MAX_FILE) × misshapen bytes error
 
 abbrev pub IsCauseIn : Form → List ℕ → Refusal → Type 0
 IsCauseIn form = IsCauseFor (IsText form) (IsMisshapen form)

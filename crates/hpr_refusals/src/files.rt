@@ -1,18 +1,17 @@
 //! Why a file is refused, and what is said of it.
-ghost use Rattle.std.specs.Prelude.{◌≡◌, ◌≢◌, IfOk, string_bytes};
+ghost use Rattle.std.specs.Prelude.{◌≡◌, ◌≢◌, ◌++◌, IfOk, codes, string_bytes};
+ghost use Rattle.std.specs.Fmt.{decimal};
 ghost use Rattle.hpr_refusals.specs.Reasons.{reason, refusal_text};
 
 use crate::reasons::{about, shape_reason};
 use hpr_syntax::ShapeError;
+use hpr_terms::limits::MAX_FILE;
 use std::alloc::{AllocError, Global};
-
-/// The longest file that is accepted, in bytes.
-pub const MAX_FILE: usize = 4_194_304;
 
 /// Why a file is refused. A script is refused for its length or its syntax alone.
 #[derive(Drop)]
 pub enum Refusal {
-    /// It has more than 4,194,304 bytes.
+    /// It has more than [`MAX_FILE`] bytes.
     Longer,
     /// It spells no tree, or no script: so many of its first bytes can still be completed, and no
     /// more.
@@ -39,9 +38,15 @@ impl Refusal {
         ensures memory { IfOk result (λ text. self.now ≢ Refusal.Shape ShapeError.Memory) }
     {
         match self {
-            Refusal::Longer => String::from_str(alloc, "longer than 4194304 bytes"),
+            Refusal::Longer => longer_than(alloc, MAX_FILE),
             Refusal::Syntax { place } => format!(in alloc; "syntax at byte {place}"),
             Refusal::Shape(error) => shape_reason(alloc, error),
         }
     }
+}
+
+fn longer_than(alloc: Global, most: usize) -> Result<String, AllocError>
+    ensures { IfOk result (λ text. string_bytes text ≡ codes "longer than " ++ decimal most ++ codes " bytes") }
+{
+    format!(in alloc; "longer than {most} bytes")
 }

@@ -7,7 +7,7 @@ pub mod laws;
 mod reasons;
 
 pub use commands::{CommandRefusal, apply_script};
-pub use files::{MAX_FILE, Refusal};
+pub use files::Refusal;
 pub use hpr_edit::{Command, EditError};
 pub use hpr_syntax::{Program, ShapeError, Tag};
 pub use reasons::{about, tag_name};

@@ -11,6 +11,7 @@ use Rattle.std.proofs.lemmas.List.Folds.{list_any_at}
 use Rattle.std.proofs.lemmas.Slice.Eq.{bytes_eq-Decides}
 use Rattle.std.proofs.lemmas.Str.Parse.{IsNumeralModel, numerals_by_fold}
 use Rattle.std.proofs.lemmas.Fmt.{digits_decimal, digits_value-decimal, decimal-digits_value, decimal_nonempty, first_decimal, decimal_digit}
+use Rattle.hpr_terms.specs.declared.limits.TheConstants.{MAX_NAME}
 use Rattle.hpr_terms.specs.declared.keyword.Keyword.{Keyword}
 use Rattle.hpr_terms.specs.declared.keyword.Keyword.TheVariants.{Program, Issued, If, Then, Else, Fi, While, Do, Od, End, And, Or, Not, Write, Out}
 use Rattle.hpr_terms.specs.declared.token.Token.{Token}
@@ -113,23 +114,23 @@ keyword_long Out = refl
 -- the parts of being like a name
 record NameLike (w : List ℕ) : Type 0 where
   long : leb 1 (length w) ≡ true
-  short : leb (length w) 64 ≡ true
+  short : leb (length w) MAX_NAME ≡ true
   bytes : list_all is_name_byte w ≡ true
   first : not (begins_with_digit w) ≡ true
 
 name_parts : (w : List ℕ) → is_name_like w ≡ true → NameLike w
 unfolding is_name_like
 name_parts w e =
-    let p = and_parts (leb 1 (length w) && leb (length w) 64 && list_all is_name_byte w) (not (begins_with_digit w)) e in
-    let q = and_parts (leb 1 (length w) && leb (length w) 64) (list_all is_name_byte w) p.0 in
-    let r = and_parts (leb 1 (length w)) (leb (length w) 64) q.0 in
+    let p = and_parts (leb 1 (length w) && leb (length w) MAX_NAME && list_all is_name_byte w) (not (begins_with_digit w)) e in
+    let q = and_parts (leb 1 (length w) && leb (length w) MAX_NAME) (list_all is_name_byte w) p.0 in
+    let r = and_parts (leb 1 (length w)) (leb (length w) MAX_NAME) q.0 in
     record { long = r.0; short = r.1; bytes = q.1; first = p.1 }
 
 name_whole : (w : List ℕ) → NameLike w → is_name_like w ≡ true
 unfolding is_name_like
 name_whole w h =
-    and_from (leb 1 (length w) && leb (length w) 64 && list_all is_name_byte w) (not (begins_with_digit w))
-    (and_from (leb 1 (length w) && leb (length w) 64) (list_all is_name_byte w) (and_from (leb 1 (length w)) (leb (length w) 64) h.long h.short) h.bytes) h.first
+    and_from (leb 1 (length w) && leb (length w) MAX_NAME && list_all is_name_byte w) (not (begins_with_digit w))
+    (and_from (leb 1 (length w) && leb (length w) MAX_NAME) (list_all is_name_byte w) (and_from (leb 1 (length w)) (leb (length w) MAX_NAME) h.long h.short) h.bytes) h.first
 
 no_keyword : (o : Option Keyword) → is_none o ≡ true → o ≡ None
 no_keyword None e = refl
@@ -138,7 +139,7 @@ no_keyword (Some k) e = absurd cc
 pub name_like : (w : List ℕ) → is_name w ≡ true → (is_name_like w ≡ true) × (keyword_of w ≡ None)
 unfolding is_name is_name_like
 name_like w e =
-    let p = and_parts (leb 1 (length w) && leb (length w) 64 && list_all is_name_byte w && not (begins_with_digit w)) (is_none (keyword_of w)) e in
+    let p = and_parts (leb 1 (length w) && leb (length w) MAX_NAME && list_all is_name_byte w && not (begins_with_digit w)) (is_none (keyword_of w)) e in
     (p.0, no_keyword (keyword_of w) p.1)
 
 -- a word has a first byte, and bytes of words alone
@@ -338,10 +339,10 @@ name_front : (u v : List ℕ) (b : ℕ) → is_name_like (u ++ (b ∷ v)) ≡ tr
 name_front u v b e =
     let p = name_parts (u ++ (b ∷ v)) e in
     let long : 1 ≤ length (u ++ (b ∷ [])) = omega (arith, length-append u (b ∷ [])) in
-    let short : length (u ++ (b ∷ [])) ≤ 64 = omega (arith, leb-true (length (u ++ (b ∷ v))) 64 p.short, length-append u (b ∷ v), length-append u (b ∷ [])) in
+    let short : length (u ++ (b ∷ [])) ≤ MAX_NAME = omega (arith, leb-true (length (u ++ (b ∷ v))) MAX_NAME p.short, length-append u (b ∷ v), length-append u (b ∷ [])) in
     name_whole (u ++ (b ∷ [])) (record {
       long = le-leb 1 (length (u ++ (b ∷ []))) long;
-      short = le-leb (length (u ++ (b ∷ []))) 64 short;
+      short = le-leb (length (u ++ (b ∷ []))) MAX_NAME short;
       bytes = all_front is_name_byte u v b p.bytes;
       first = ap not (digit_front u v b) ∙ p.first;
     })

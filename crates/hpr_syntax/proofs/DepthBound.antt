@@ -1,9 +1,10 @@
 -- A program's blocks stand less than 2 ^ 32 deep in one another.
 use Rattle.std.proofs.Common.{◌≡◌, ℕ, zero, suc, ◌+◌, ◌<◌, ◌≤◌, arith, None}
 use Rattle.std.specs.Option.{option_or}
+use Rattle.hpr_terms.specs.declared.limits.TheConstants.{MAX_LEVELS}
 use Rattle.hpr_syntax.specs.Body.{Body, done, action, branch, loop, depth}
 use Rattle.hpr_syntax.specs.Tree.{Tree}
-use Rattle.hpr_syntax.specs.Shape.{IsProgram, first_deep, max_levels}
+use Rattle.hpr_syntax.specs.Shape.{IsProgram, first_deep}
 use Rattle.hpr_syntax.proofs.NoRefusal.{or_none, no_refusal}
 
 -- a block without a part below so many levels
@@ -28,5 +29,5 @@ not_deep (suc n) (loop t e b rest) h =
 
 pub shallow : (t : Tree) → IsProgram t → depth t.body < 4294967296
 shallow t h =
-    let d : depth t.body ≤ max_levels + 1 = not_deep max_levels t.body (no_refusal t h.shape).levels in
+    let d : depth t.body ≤ MAX_LEVELS + 1 = not_deep MAX_LEVELS t.body (no_refusal t h.shape).levels in
     omega (arith, d)

@@ -9,13 +9,14 @@ use Rattle.std.proofs.lemmas.Cmp.{nat_list_eq_equiv}
 use Rattle.std.proofs.lemmas.List.Elements.{recursion_from_All, All-from_recursion}
 use Rattle.std.proofs.lemmas.List.Sorted.{All-permutation}
 use Rattle.std.proofs.lemmas.Map.Keys.{IsDistinct-IsPermutation}
+use Rattle.hpr_terms.specs.declared.limits.TheConstants.{MAX_LEVELS}
 use Rattle.hpr_terms.specs.declared.tag.Tag.{Tag}
 use Rattle.hpr_terms.specs.Names.{IsName}
 use Rattle.hpr_syntax.specs.Body.{part_count}
 use Rattle.hpr_syntax.specs.Parts.{tags_of}
 use Rattle.hpr_syntax.specs.Issued.{Issued, AscendsFrom, IsIssued, issued_to, raised, raised_by}
 use Rattle.hpr_syntax.specs.Proper.{IsProperPair, IsProperBody}
-use Rattle.hpr_syntax.specs.Shape.{first_repeated_tag, is_unissued, first_unissued, first_deep, first_large, too_many, first_repeated, max_levels, IsProgram}
+use Rattle.hpr_syntax.specs.Shape.{first_repeated_tag, is_unissued, first_unissued, first_deep, first_large, too_many, first_repeated, IsProgram}
 use Rattle.hpr_syntax.specs.Tree.{Tree}
 use Rattle.hpr_syntax.specs.Grammar.{tagged}
 use Rattle.hpr_syntax.specs.Spelling.{Spells}
@@ -184,7 +185,7 @@ program_raised other m h ascending numbers le same permuted =
       shape = shaped m (record {
         tags = subst (λ b. first_repeated_tag b ≡ None) same s.tags;
         issued = subst (λ b. first_unissued m.issued (tags_of b []) ≡ None) same issued;
-        levels = subst (λ b. first_deep max_levels b ≡ None) same s.levels;
+        levels = subst (λ b. first_deep MAX_LEVELS b ≡ None) same s.levels;
         expressions = subst (λ b. first_large b ≡ None) same s.expressions;
         parts = subst (λ b. too_many (part_count b) ≡ None) same s.parts;
         names = names_permuted other.finals m.finals permuted s.names;

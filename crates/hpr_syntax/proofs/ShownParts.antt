@@ -2,6 +2,7 @@
 use Rattle.std.proofs.Common.{◌≡◌, ℕ, zero, suc, ◌+◌, ◌≤◌, List, [], ◌∷◌, ◌++◌, Bool, true, false, nat_lt, ◌==◌, ◌||◌, if◌then◌else◌, Option, Some, None, refl, arith}
 use Rattle.std.specs.Option.{option_or}
 use Rattle.std.proofs.lemmas.Bool.Decides.{nat_tests}
+use Rattle.hpr_terms.specs.declared.limits.TheConstants.{MAX_BRACKETS, MAX_OPERATORS}
 use Rattle.hpr_terms.specs.declared.tag.Tag.{Tag}
 use Rattle.hpr_terms.specs.declared.expr.Expr.{Expr}
 use Rattle.hpr_terms.specs.declared.keyword.Keyword.TheVariants as keyword
@@ -14,9 +15,9 @@ use Rattle.hpr_syntax.specs.Action.{assigns}
 use Rattle.hpr_syntax.specs.Body.{Body, done, action, branch, loop}
 use Rattle.hpr_syntax.specs.Parts.{tags_of}
 use Rattle.hpr_syntax.specs.Issued.{Issued, issued_to}
-use Rattle.hpr_syntax.specs.Shape.{max_operators, is_unissued, first_unissued, first_deep, is_large, first_large}
+use Rattle.hpr_syntax.specs.Shape.{is_unissued, first_unissued, first_deep, is_large, first_large}
 use Rattle.hpr_syntax.specs.Grammar as grammar
-use Rattle.hpr_syntax.specs.Grammar.{tagged, IsTag, SpellsExpr, max_brackets, SpellsParts, nothing, assignment, conditional, conditional_else, while_loop}
+use Rattle.hpr_syntax.specs.Grammar.{tagged, IsTag, SpellsExpr, SpellsParts, nothing, assignment, conditional, conditional_else, while_loop}
 use Rattle.hpr_syntax.specs.Print.{is_done}
 use Rattle.hpr_syntax.specs.Proper.{IsProperTerm, IsProperTag, IsProperBody}
 use Rattle.hpr_syntax.proofs.NoRefusal.{or_none}
@@ -83,8 +84,8 @@ few_operators n most h = grind (arith, nat_tests)
 
 expr_spelled : (e : Expr) → is_large e ≡ false → IsProperTerm (term_of e) → SpellsExpr (shown_expr e) e
 expr_spelled e small proper =
-    let few : operators (term_of e) ≤ max_operators = few_operators (operators (term_of e)) max_operators small in
-    (expr_shown (term_of e) max_brackets proper few, few)
+    let few : operators (term_of e) ≤ MAX_OPERATORS = few_operators (operators (term_of e)) MAX_OPERATORS small in
+    (expr_shown (term_of e) MAX_BRACKETS proper few, few)
 
 tag_is : (t : Tag) → IsProperTag t → 1 ≤ t.serial → IsTag t
 tag_is t h one = (h.0, (one, h.1))

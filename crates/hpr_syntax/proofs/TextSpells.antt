@@ -6,6 +6,7 @@ use Rattle.std.proofs.lemmas.Bool.Decides.{nat_tests}
 use Rattle.std.proofs.lemmas.List.{append-nil}
 use Rattle.std.proofs.lemmas.List.Elements.{recursion_from_All}
 use Rattle.std.specs.List.{AllByRecursion}
+use Rattle.hpr_terms.specs.declared.limits.TheConstants.{MAX_LEVELS}
 use Rattle.hpr_terms.specs.declared.tag.Tag.{Tag}
 use Rattle.hpr_terms.specs.declared.keyword.Keyword.TheVariants as keyword
 use Rattle.hpr_terms.specs.declared.token.Sign.TheVariants as sign
@@ -21,7 +22,7 @@ use Rattle.hpr_syntax.specs.Grammar.{tagged, pair_then, IsIssuedPair, SpellsPair
 use Rattle.hpr_syntax.specs.Spelling.{Spells}
 use Rattle.hpr_syntax.specs.Print.{pair_text, after_commas, joined, issued_text, text}
 use Rattle.hpr_syntax.specs.Proper.{IsProperPair, IsProper}
-use Rattle.hpr_syntax.specs.Shape.{is_unissued, first_unissued, max_levels, IsProgram}
+use Rattle.hpr_syntax.specs.Shape.{is_unissued, first_unissued, IsProgram}
 use Rattle.hpr_syntax.specs.Tree.{Tree}
 use Rattle.hpr_syntax.proofs.NoRefusal.{HasNoRefusal, no_refusal}
 use Rattle.hpr_syntax.proofs.Printed.{Printed, weaker, space, newline, mark, word, number, name}
@@ -151,7 +152,7 @@ text_is t h =
 program_spelled : (t : Tree) → IsProper t → HasNoRefusal t → SpellsProgram tagged (shown_program t) t
 program_spelled t h s =
     let serials = has_serials t.issued t.body [] s.issued in
-    let body = body_spelled max_levels 0 t.body h.body serials.0 s.levels s.expressions in
+    let body = body_spelled MAX_LEVELS 0 t.body h.body serials.0 s.levels s.expressions in
     record {
       header = shown_header t.issued;
       pairs = pairs_of t.issued;

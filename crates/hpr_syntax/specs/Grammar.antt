@@ -39,6 +39,7 @@
 -- issued_of header body         == the greatest number that the header gives each author, or without a header the greatest of its tags
 -- SpellsProgram form ts tree    == the tokens spell the tree
 use Rattle.std.specs.Prelude.{◌≡◌, ℕ, suc, ◌+◌, ◌≤◌, ◌<◌, ◌^◌, List, [], ◌∷◌, ◌++◌, map, Option, Some, None}
+use Rattle.hpr_terms.specs.declared.limits.TheConstants.{MAX_BRACKETS, MAX_LEVELS, MAX_OPERATORS}
 use Rattle.hpr_terms.specs.declared.tag.Tag.{Tag}
 use Rattle.hpr_terms.specs.declared.expr.Expr.{Expr}
 use Rattle.hpr_terms.specs.declared.expr.Unary.{Unary}
@@ -55,7 +56,6 @@ use Rattle.hpr_syntax.specs.Action.{assigns}
 use Rattle.hpr_syntax.specs.Body.{Body, done, action, branch, loop}
 use Rattle.hpr_syntax.specs.Parts.{tags_of}
 use Rattle.hpr_syntax.specs.Issued as issued
-use Rattle.hpr_syntax.specs.Shape.{max_levels, max_operators}
 use Rattle.hpr_syntax.specs.Tree.{Tree}
 
 pub data Form : Type 0 where
@@ -70,9 +70,6 @@ IsSerial n = (1 ≤ n) × (n < 2 ^ 32)
 
 abbrev pub IsLiteral : ℕ → Type 0
 IsLiteral n = n < 2 ^ 63
-
-abbrev pub max_brackets : ℕ
-max_brackets = 256
 
 pub data Rule : Type 0 where
   expr : Rule
@@ -124,7 +121,7 @@ pub data SpellsTerm : Rule → ℕ → List Token → Term → Type 0 where
   bracket : {d : ℕ} {ts : List Token} {x : Term} → SpellsTerm expr d ts x → SpellsTerm atom (suc d) (Mark sign.Open ∷ (ts ++ (Mark sign.Close ∷ []))) x
 
 abbrev pub SpellsExpr : List Token → Expr → Type 0
-SpellsExpr ts e = SpellsTerm expr max_brackets ts (term_of e) × (operators (term_of e) ≤ max_operators)
+SpellsExpr ts e = SpellsTerm expr MAX_BRACKETS ts (term_of e) × (operators (term_of e) ≤ MAX_OPERATORS)
 
 abbrev pub IsTag : Tag → Type 0
 IsTag t = IsAuthor t.author × IsSerial t.serial
@@ -183,7 +180,7 @@ pub record SpellsProgram (f : Form) (ts : List Token) (tree : Tree) : Type 0 whe
   pub count : ℕ
   pub names : List Token
   pub header_is : SpellsHeader f header pairs
-  pub parts_are : SpellsParts f max_levels 0 count parts tree.body
+  pub parts_are : SpellsParts f MAX_LEVELS 0 count parts tree.body
   pub names_are : SpellsNames names tree.finals
   pub issued_is : tree.issued ≡ issued_of pairs tree.body
   pub tokens_are : ts ≡ Word keyword.Program ∷ (header ++ (parts ++ (Word keyword.End ∷ Mark sign.Open ∷ (names ++ (Mark sign.Close ∷ [])))))

@@ -4,7 +4,7 @@
 -- first_repeated_tag body     == the first part's tag, in preorder, that stands earlier
 -- first_unissued issued body  == the first part's tag whose serial is 0 or above its author's issued number
 -- first_deep n body           == the first part's tag that stands more than n levels deep
--- first_large body            == the first part's tag whose expression has more than 256 operators
+-- first_large body            == the first part's tag whose expression has more than MAX_OPERATORS operators
 -- left_after most k           == what is left of most after k are taken, if there are as many
 -- shape tree                  == the first refusal, in the order of the tests, or none
 -- IsProgram tree              == its names are names, its numbers in range, and the tree has no refusal
@@ -12,6 +12,7 @@ use Rattle.std.specs.Prelude.{◌≡◌, ℕ, Bool, zero, suc, ◌-◌, ◌==◌
 use Rattle.std.specs.Option.{option_or}
 use Rattle.std.specs.List.{list_any}
 use Rattle.std.specs.Str.{bytes_eq}
+use Rattle.hpr_terms.specs.declared.limits.TheConstants.{MAX_LEVELS, MAX_OPERATORS, MAX_PARTS}
 use Rattle.hpr_terms.specs.declared.tag.Tag.{Tag}
 use Rattle.hpr_terms.specs.declared.expr.Expr.{Expr}
 use Rattle.hpr_terms.specs.Term.{operators}
@@ -24,15 +25,6 @@ use Rattle.hpr_syntax.specs.Parts.{same_tag, tags_of}
 use Rattle.hpr_syntax.specs.Issued.{Issued, issued_to}
 use Rattle.hpr_syntax.specs.Tree.{Tree}
 use Rattle.hpr_syntax.specs.Proper.{IsProper}
-
-abbrev pub max_levels : ℕ
-max_levels = 64
-
-abbrev pub max_operators : ℕ
-max_operators = 256
-
-abbrev pub max_parts : ℕ
-max_parts = 1000
 
 abbrev pub first_repeated : {X : Type 0} → (X → X → Bool) → List X → List X → Option X
 first_repeated same earlier [] = None
@@ -58,7 +50,7 @@ first_deep (suc n) (branch t e a b rest) = option_or (first_deep n a) (option_or
 first_deep (suc n) (loop t e b rest) = option_or (first_deep n b) (first_deep (suc n) rest)
 
 abbrev pub is_large : Expr → Bool
-is_large e = nat_lt max_operators (operators (term_of e))
+is_large e = nat_lt MAX_OPERATORS (operators (term_of e))
 
 abbrev pub left_after : ℕ → ℕ → Option ℕ
 left_after most k = if nat_le k most then Some (most - k) else None
@@ -70,13 +62,13 @@ first_large (branch t e a b rest) = if is_large e then Some t else option_or (fi
 first_large (loop t e b rest) = if is_large e then Some t else option_or (first_large b) (first_large rest)
 
 abbrev pub too_many : ℕ → Option ShapeError
-too_many n = if nat_lt max_parts n then Some (TooManyParts n) else None
+too_many n = if nat_lt MAX_PARTS n then Some (TooManyParts n) else None
 
 unfoldable pub shape : Tree → Option ShapeError
 shape t =
     option_or (option_map DuplicateTag (first_repeated_tag t.body))
     (option_or (option_map Unissued (first_unissued t.issued (tags_of t.body [])))
-    (option_or (option_map TooDeep (first_deep max_levels t.body))
+    (option_or (option_map TooDeep (first_deep MAX_LEVELS t.body))
     (option_or (option_map ExprTooLarge (first_large t.body))
     (option_or (too_many (part_count t.body))
     (option_map DuplicateFinal (first_repeated bytes_eq [] t.finals))))))

@@ -4,6 +4,7 @@ ghost use Rattle.std.specs.Option.{option_copied};
 ghost use Rattle.std.proofs.Common.{rules};
 ghost use Rattle.std.specs.Cmp.Rules.{comparing};
 ghost use Rattle.std.specs.Ordering.{as_partial_cmp};
+ghost use Rattle.hpr_terms.specs.declared.limits.TheConstants.{MAX_PARTS};
 ghost use Rattle.hpr_syntax.specs.Body.{part_count};
 ghost use Rattle.hpr_syntax.specs.Parts.{find_stmt};
 ghost use Rattle.hpr_syntax.specs.Rows.{rows_of};
@@ -134,7 +135,7 @@ impl Program {
     #[tactic(auto, using(crate::proofs::PartBound::few_parts))]
     pub fn part_count(&self) -> usize
         ensures count { result ≡ part_count self.now.body }
-        ensures few { result ≤ 1000 }
+        ensures few { result ≤ MAX_PARTS }
     {
         self.body.part_count()
     }

@@ -12,6 +12,7 @@ ghost use Rattle.hpr_syntax.specs.Private.Refusals.{end_refusal, body_refusal, t
 
 use crate::issued::Issued;
 use crate::tree::{Block, Stmt, expr_of};
+use hpr_terms::limits::{MAX_LEVELS, MAX_OPERATORS, MAX_PARTS};
 use hpr_terms::{Expr, Name, NoMemory, Tag};
 use std::alloc::Global;
 use std::collections::BTreeSet;
@@ -23,11 +24,11 @@ pub enum ShapeError {
     DuplicateTag(Tag),
     /// The first part whose serial is 0 or above its author's issued number.
     Unissued(Tag),
-    /// The first part whose level is above 64; a top part has level 1.
+    /// The first part whose level is above [`MAX_LEVELS`]; a top part has level 1.
     TooDeep(Tag),
-    /// The first part whose expression has more than 256 operators.
+    /// The first part whose expression has more than [`MAX_OPERATORS`] operators.
     ExprTooLarge(Tag),
-    /// There are more than 1,000 parts: so many.
+    /// There are more than [`MAX_PARTS`] parts: so many.
     TooManyParts(usize),
     /// The first final name that stands earlier.
     DuplicateFinal(Name),
@@ -109,7 +110,7 @@ fn first_unissued(issued: &Issued, tags: &[Tag]) -> Option<Tag>
 
 /// The first part that stands more than this many levels deep.
 #[cycle(deep)]
-fn first_deep(block: &Block, levels: u32) -> Option<Tag>
+fn first_deep(block: &Block, levels: usize) -> Option<Tag>
     ensures { result ≡ first_deep levels block.now }
 {
     for stmt in &block.stmts {
@@ -121,7 +122,7 @@ fn first_deep(block: &Block, levels: u32) -> Option<Tag>
 }
 
 #[cycle(deep)]
-fn deep_in(stmt: &Stmt, levels: u32) -> Option<Tag>
+fn deep_in(stmt: &Stmt, levels: usize) -> Option<Tag>
     ensures { result ≡ first_deep levels (before stmt.now done) }
 {
     if levels == 0 {
@@ -167,15 +168,15 @@ fn large_in(stmt: &Stmt) -> Option<Tag>
     }
 }
 
-/// Whether an expression has more than 256 operators.
+/// Whether an expression has more than [`MAX_OPERATORS`] operators.
 pub fn is_large(expr: &Expr) -> bool
     ensures { result ≡ is_large expr.now }
 {
-    left_after(expr, 256).is_none()
+    left_after(expr, MAX_OPERATORS).is_none()
 }
 
 /// How many more operators may follow where so many may stand, if there are no more of them.
-fn left_after(expr: &Expr, most: u32) -> Option<u32>
+fn left_after(expr: &Expr, most: usize) -> Option<usize>
     ensures { result ≡ left_after most (operators (term_of expr.now)) }
 {
     match expr {
@@ -219,7 +220,7 @@ fn refusal_of_ends(
 ) -> Result<Option<ShapeError>, NoMemory>
     ensures { IfOk result (λ e. e ≡ end_refusal count finals.now) }
 {
-    if count > 1000 {
+    if count > MAX_PARTS {
         return Ok(Some(ShapeError::TooManyParts(count)));
     }
     match first_repeated_name(alloc, finals)? {
@@ -237,7 +238,7 @@ fn refusal_of_body(
 ) -> Result<Option<ShapeError>, NoMemory>
     ensures { IfOk result (λ e. e ≡ body_refusal count body.now finals.now) }
 {
-    if let Some(tag) = first_deep(body, 64) {
+    if let Some(tag) = first_deep(body, MAX_LEVELS) {
         return Ok(Some(ShapeError::TooDeep(tag)));
     }
     if let Some(tag) = first_large(body) {

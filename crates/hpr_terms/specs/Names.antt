@@ -1,12 +1,13 @@
 -- Names.
 --
 -- is_name_byte b == b is an ASCII letter, a digit or `_`
--- is_name_like w == w has 1 to 64 such bytes and doesn't begin with a digit: a name, or a keyword
+-- is_name_like w == w has 1 to MAX_NAME such bytes and doesn't begin with a digit: a name, or a keyword
 -- is_name w      == w is like a name, and no keyword
 -- IsName w       == w is a name
 use Rattle.std.specs.Prelude.{ℕ, Bool, false, not, ◌==◌, ◌||◌, ◌&&◌, nat_le, List, [], ◌∷◌, length, is_none, IsTrue}
 use Rattle.std.specs.Char.{is_ascii_digit, is_ascii_alphanumeric}
 use Rattle.std.specs.List.{list_all}
+use Rattle.hpr_terms.specs.declared.limits.TheConstants.{MAX_NAME}
 use Rattle.hpr_terms.specs.Keywords.{keyword_of}
 
 unfoldable pub is_name_byte : ℕ → Bool
@@ -17,7 +18,7 @@ begins_with_digit [] = false
 begins_with_digit (b ∷ bs) = is_ascii_digit b
 
 unfoldable pub is_name_like : List ℕ → Bool
-is_name_like w = nat_le 1 (length w) && nat_le (length w) 64 && list_all is_name_byte w && not (begins_with_digit w)
+is_name_like w = nat_le 1 (length w) && nat_le (length w) MAX_NAME && list_all is_name_byte w && not (begins_with_digit w)
 
 unfoldable pub is_name : List ℕ → Bool
 is_name w = is_name_like w && is_none (keyword_of w)

@@ -4,6 +4,7 @@
 
 mod expr;
 mod keyword;
+pub mod limits;
 mod memory;
 mod name;
 pub mod names;

@@ -9,6 +9,7 @@ ghost use Rattle.std.specs.Ordering.{nat_cmp, as_partial_cmp};
 ghost use Rattle.hpr_terms.specs.Names.{IsName, is_name, is_name_like, is_name_byte, begins_with_digit};
 
 use crate::keyword::Keyword;
+use crate::limits::MAX_NAME;
 use crate::memory::NoMemory;
 use std::alloc::{AllocError, Global};
 use std::cmp::Ordering;
@@ -88,7 +89,7 @@ fn has_name_bytes(text: &[u8]) -> bool
 pub fn is_name_like(text: &[u8]) -> bool
     ensures { result ≡ is_name_like text.now }
 {
-    if text.is_empty() || text.len() > 64 {
+    if text.is_empty() || text.len() > MAX_NAME {
         return false;
     }
     has_name_bytes(text) && !begins_with_digit(text)

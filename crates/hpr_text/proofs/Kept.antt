@@ -1,6 +1,7 @@
 -- A machine that keeps some of the parts goes where one goes that keeps each of them, and finds the same where it keeps them all.
 use Rattle.std.proofs.Common.{◌≡◌, ℕ, ◌+◌, ◌-◌, ◌≤◌, ◌^◌, min, List, [], ◌∷◌, length, Bool, true, false, cond, nat_lt, nat_le, ◌&&◌, Option, Some, None, refl, ap, sym, subst, ◌∙◌, arith}
 use Rattle.std.proofs.lemmas.Bool.{le-leb}
+use Rattle.hpr_terms.specs.declared.limits.TheConstants.{MAX_LEVELS, MAX_PARTS}
 use Rattle.hpr_terms.specs.declared.tag.Tag.{Tag}
 use Rattle.hpr_terms.specs.declared.expr.Expr.{Expr}
 use Rattle.hpr_terms.specs.declared.expr.Expr.TheVariants.{Num}
@@ -10,7 +11,6 @@ use Rattle.hpr_terms.specs.declared.token.Token.{Token}
 use Rattle.hpr_terms.specs.declared.token.Token.TheVariants.{Word, Name, Number, Mark}
 use Rattle.hpr_syntax.specs.Action.{assigns}
 use Rattle.hpr_syntax.specs.Body.{Body, done, action, branch, loop}
-use Rattle.hpr_syntax.specs.Shape.{max_levels, max_parts}
 use Rattle.hpr_scan.specs.Steps.{runs}
 use Rattle.hpr_scan.proofs.Words.{some_is}
 use Rattle.hpr_scan.proofs.SoundText.{then_of}
@@ -94,8 +94,8 @@ guards_bare false u v e = refl
 
 tag_bare : (o : Mode) (f g : Found) (a : ℕ) → bare_found f ≡ bare_found g → bared (tag_next o f a) ≡ bared (tag_next o g a)
 tag_bare Tagged f g a e =
-    guards_bare (nat_lt (length f.blocks) max_levels && nat_lt a (2 ^ 32)) (state_at f (AfterAuthor a)) (state_at g (AfterAuthor a)) (ap (λ (x : Found). state_at x (AfterAuthor a)) e)
-    ∙ ap (λ (k : ℕ). bared (cond (nat_lt k max_levels && nat_lt a (2 ^ 32)) (Some (state_at g (AfterAuthor a))) None)) (same_length f g e)
+    guards_bare (nat_lt (length f.blocks) MAX_LEVELS && nat_lt a (2 ^ 32)) (state_at f (AfterAuthor a)) (state_at g (AfterAuthor a)) (ap (λ (x : Found). state_at x (AfterAuthor a)) e)
+    ∙ ap (λ (k : ℕ). bared (cond (nat_lt k MAX_LEVELS && nat_lt a (2 ^ 32)) (Some (state_at g (AfterAuthor a))) None)) (same_length f g e)
 tag_bare (Untagged b) f g a e = refl
 
 -- one more part is counted alike
@@ -124,8 +124,8 @@ first_bare l m Tagged f g k e = refl
 first_bare l m (Untagged a) f g k e =
     let u : Found × Tag = given (counted l f.count) (tag_given l a (counted l f.count)) f in
     let v : Found × Tag = given (counted m g.count) (tag_given m a (counted m g.count)) g in
-    firsts_bare (nat_lt (length f.blocks) max_levels) u v k (given_bare l m f g u.1 v.1 e)
-    ∙ ap (λ (n : ℕ). bared (first_next (cond (nat_lt n max_levels) (Some v) None) k)) (same_length f g e)
+    firsts_bare (nat_lt (length f.blocks) MAX_LEVELS) u v k (given_bare l m f g u.1 v.1 e)
+    ∙ ap (λ (n : ℕ). bared (first_next (cond (nat_lt n MAX_LEVELS) (Some v) None) k)) (same_length f g e)
 
 -- how blocks end, where their parts do not show
 abbrev bare_else : List Begun → Found → Option State
@@ -277,10 +277,10 @@ firsts_count c false u k n h e = absurd cc
 first_counts : (o : Mode) (f : Found) (k : Token) (n : State) → first_next (begun_in None o f) k ≡ Some n → OneMore f.count n.found.count
 first_counts Tagged f k n e = absurd cc
 first_counts (Untagged a) f k n e =
-    firsts_count f.count (nat_lt (length f.blocks) max_levels) (given (f.count + 1) (tag_given None a (f.count + 1)) f) k n (omega arith, omega arith) e
+    firsts_count f.count (nat_lt (length f.blocks) MAX_LEVELS) (given (f.count + 1) (tag_given None a (f.count + 1)) f) k n (omega arith, omega arith) e
 
 tag_counts : (o : Mode) (f : Found) (a : ℕ) (n : State) → tag_next o f a ≡ Some n → OneMore f.count n.found.count
-tag_counts Tagged f a n e = counts_guard (nat_lt (length f.blocks) max_levels && nat_lt a (2 ^ 32)) (state_at f (AfterAuthor a)) n f.count (as_many f.count) e
+tag_counts Tagged f a n e = counts_guard (nat_lt (length f.blocks) MAX_LEVELS && nat_lt a (2 ^ 32)) (state_at f (AfterAuthor a)) n f.count (as_many f.count) e
 tag_counts (Untagged b) f a n e = absurd cc
 
 else_counts : (bs : List Begun) (f : Found) (n : State) → at_part (else_in bs f) ≡ Some n → OneMore f.count n.found.count
@@ -364,57 +364,57 @@ step_counts f p t n e = absurd cc
 
 -- ---- where each part is kept
 
-few : (s n : State) → Some s ≡ Some n → n.found.count ≤ max_parts → s.found.count ≤ max_parts
-few s n e le = subst (λ (x : State). x.found.count ≤ max_parts) (sym (some_is _ _ e)) le
+few : (s n : State) → Some s ≡ Some n → n.found.count ≤ MAX_PARTS → s.found.count ≤ MAX_PARTS
+few s n e le = subst (λ (x : State). x.found.count ≤ MAX_PARTS) (sym (some_is _ _ e)) le
 
-few_counted : (c : ℕ) → c + 1 ≤ max_parts → counted limit c ≡ c + 1
+few_counted : (c : ℕ) → c + 1 ≤ MAX_PARTS → counted limit c ≡ c + 1
 few_counted c le = omega (arith, le)
 
-few_given : (a c : ℕ) → c + 1 ≤ max_parts → tag_given limit a (c + 1) ≡ tag_given None a (c + 1)
-few_given a c le = let e : min (c + 1) max_parts ≡ c + 1 = omega (arith, le) in ap (λ (k : ℕ). record { author = a; serial = k }) e
+few_given : (a c : ℕ) → c + 1 ≤ MAX_PARTS → tag_given limit a (c + 1) ≡ tag_given None a (c + 1)
+few_given a c le = let e : min (c + 1) MAX_PARTS ≡ c + 1 = omega (arith, le) in ap (λ (k : ℕ). record { author = a; serial = k }) e
 
-given_same : (a : ℕ) (f : Found) → f.count + 1 ≤ max_parts
+given_same : (a : ℕ) (f : Found) → f.count + 1 ≤ MAX_PARTS
     → given (counted limit f.count) (tag_given limit a (counted limit f.count)) f ≡ given (f.count + 1) (tag_given None a (f.count + 1)) f
 given_same a f le =
     ap (λ (k : ℕ). given k (tag_given limit a k) f) (few_counted f.count le) ∙ ap (λ (t : Tag). given (f.count + 1) t f) (few_given a f.count le)
 
-colon_few : (f : Found) (t : Tag) (k : Token) (n : State) → colon_next f t k ≡ Some n → n.found.count ≤ max_parts → f.count ≤ max_parts
+colon_few : (f : Found) (t : Tag) (k : Token) (n : State) → colon_next f t k ≡ Some n → n.found.count ≤ MAX_PARTS → f.count ≤ MAX_PARTS
 colon_few f t (Name x) n e le = few (state_at f (AfterTarget t x)) n e le
 colon_few f t (Word If) n e le = few (state_at f (InExpression (Test t) start)) n e le
 colon_few f t (Word While) n e le = few (state_at f (InExpression (Guard t) start)) n e le
 colon_few f t k n e le = absurd cc
 
-firsts_same : (b : Bool) (u v : Found × Tag) (k : Token) (n : State) → (u.0.count ≤ max_parts → v ≡ u) → n.found.count ≤ max_parts
+firsts_same : (b : Bool) (u v : Found × Tag) (k : Token) (n : State) → (u.0.count ≤ MAX_PARTS → v ≡ u) → n.found.count ≤ MAX_PARTS
     → first_next (cond b (Some u) None) k ≡ Some n → first_next (cond b (Some v) None) k ≡ Some n
 firsts_same true u v k n h le e = ap (λ (w : Found × Tag). colon_next w.0 w.1 k) (h (colon_few u.0 u.1 k n e le)) ∙ e
 firsts_same false u v k n h le e = absurd cc
 
-first_same : (o : Mode) (f : Found) (k : Token) (n : State) → n.found.count ≤ max_parts → first_next (begun_in None o f) k ≡ Some n → first_next (begun_in limit o f) k ≡ Some n
+first_same : (o : Mode) (f : Found) (k : Token) (n : State) → n.found.count ≤ MAX_PARTS → first_next (begun_in None o f) k ≡ Some n → first_next (begun_in limit o f) k ≡ Some n
 first_same Tagged f k n le e = e
 first_same (Untagged a) f k n le e =
-    firsts_same (nat_lt (length f.blocks) max_levels) (given (f.count + 1) (tag_given None a (f.count + 1)) f)
+    firsts_same (nat_lt (length f.blocks) MAX_LEVELS) (given (f.count + 1) (tag_given None a (f.count + 1)) f)
     (given (counted limit f.count) (tag_given limit a (counted limit f.count)) f) k n (λ h. given_same a f h) le e
 
 -- where what was found has few enough parts, one more is kept
-kept_same : (f : Found) (bs : List Begun) (before part : Body) (n : State) → n.found.count ≤ max_parts → Some (state_at (block_ended None bs before part f) AtPart) ≡ Some n
+kept_same : (f : Found) (bs : List Begun) (before part : Body) (n : State) → n.found.count ≤ MAX_PARTS → Some (state_at (block_ended None bs before part f) AtPart) ≡ Some n
     → Some (state_at (block_ended limit bs before part f) AtPart) ≡ Some n
 kept_same f bs before part n le e =
-    let c : f.count ≤ max_parts = few (state_at (block_ended None bs before part f) AtPart) n e le in
-    ap (λ (b : Bool). Some (state_at (record f { blocks = bs; parts = then_kept b before part }) AtPart)) (le-leb f.count max_parts c) ∙ e
+    let c : f.count ≤ MAX_PARTS = few (state_at (block_ended None bs before part f) AtPart) n e le in
+    ap (λ (b : Bool). Some (state_at (record f { blocks = bs; parts = then_kept b before part }) AtPart)) (le-leb f.count MAX_PARTS c) ∙ e
 
-fi_same : (bs : List Begun) (f : Found) (n : State) → n.found.count ≤ max_parts → at_part (fi_in None bs f) ≡ Some n → at_part (fi_in limit bs f) ≡ Some n
+fi_same : (bs : List Begun) (f : Found) (n : State) → n.found.count ≤ MAX_PARTS → at_part (fi_in None bs f) ≡ Some n → at_part (fi_in limit bs f) ≡ Some n
 fi_same (begun.Then r ∷ os) f n le e = kept_same f os r.before (branch r.tag r.test f.parts done done) n le e
 fi_same (begun.Else r first ∷ os) f n le e = kept_same f os r.before (branch r.tag r.test first f.parts done) n le e
 fi_same [] f n le e = e
 fi_same (begun.Loop r ∷ os) f n le e = e
 
-od_same : (bs : List Begun) (f : Found) (n : State) → n.found.count ≤ max_parts → at_part (od_in None bs f) ≡ Some n → at_part (od_in limit bs f) ≡ Some n
+od_same : (bs : List Begun) (f : Found) (n : State) → n.found.count ≤ MAX_PARTS → at_part (od_in None bs f) ≡ Some n → at_part (od_in limit bs f) ≡ Some n
 od_same (begun.Loop r ∷ os) f n le e = kept_same f os r.before (loop r.tag r.test f.parts done) n le e
 od_same [] f n le e = e
 od_same (begun.Then r ∷ os) f n le e = e
 od_same (begun.Else r first ∷ os) f n le e = e
 
-part_same : (f : Found) (t : Token) (n : State) → n.found.count ≤ max_parts → part_next None f t ≡ Some n → part_next limit f t ≡ Some n
+part_same : (f : Found) (t : Token) (n : State) → n.found.count ≤ MAX_PARTS → part_next None f t ≡ Some n → part_next limit f t ≡ Some n
 part_same f (Name x) n le e = first_same f.mode f (Name x) n le e
 part_same f (Word If) n le e = first_same f.mode f (Word If) n le e
 part_same f (Word While) n le e = first_same f.mode f (Word While) n le e
@@ -422,19 +422,19 @@ part_same f (Word Fi) n le e = fi_same f.blocks f n le e
 part_same f (Word Od) n le e = od_same f.blocks f n le e
 part_same f t n le e = e
 
-ends_same : (f : Found) (p : Purpose) (o : Option Expr) (n : State) → n.found.count ≤ max_parts → ends_here None f p o ≡ Some n → ends_here limit f p o ≡ Some n
+ends_same : (f : Found) (p : Purpose) (o : Option Expr) (n : State) → n.found.count ≤ MAX_PARTS → ends_here None f p o ≡ Some n → ends_here limit f p o ≡ Some n
 ends_same f p None n le e = absurd cc
 ends_same f (Assign t x) (Some v) n le e = kept_same f f.blocks f.parts (action t (assigns x v) done) n le e
 ends_same f (Test t) (Some v) n le e = e
 ends_same f (Guard t) (Some v) n le e = e
 
-expression_same : (f : Found) (p : Purpose) (r : Reading) (t : Token) (n : State) → n.found.count ≤ max_parts → expression_next None f p r t ≡ Some n → expression_next limit f p r t ≡ Some n
+expression_same : (f : Found) (p : Purpose) (r : Reading) (t : Token) (n : State) → n.found.count ≤ MAX_PARTS → expression_next None f p r t ≡ Some n → expression_next limit f p r t ≡ Some n
 expression_same f (Assign a x) r (Mark Semicolon) n le e = ends_same f (Assign a x) (ended r) n le e
 expression_same f (Test a) r (Word Then) n le e = ends_same f (Test a) (ended r) n le e
 expression_same f (Guard a) r (Word Do) n le e = ends_same f (Guard a) (ended r) n le e
 expression_same f p r t n le e = e
 
-step_same : (f : Found) (p : Place) (t : Token) (n : State) → n.found.count ≤ max_parts → next_at None f p t ≡ Some n → next_at limit f p t ≡ Some n
+step_same : (f : Found) (p : Place) (t : Token) (n : State) → n.found.count ≤ MAX_PARTS → next_at None f p t ≡ Some n → next_at limit f p t ≡ Some n
 step_same f AfterProgram (Word Issued) n le e = e
 step_same f AfterProgram t n le e = part_same f t n le e
 step_same f AfterPair (Mark Comma) n le e = e
@@ -448,13 +448,13 @@ step_same f p t n le e = e
 -- k, where parts may not be kept, for n, where each is
 pub record Kept (n k : State) : Type 0 where
   pub shows : bare n ≡ bare k
-  pub same : n.found.count ≤ max_parts → n ≡ k
+  pub same : n.found.count ≤ MAX_PARTS → n ≡ k
 
 pub counts_step : (s : State) (t : Token) (n : State) → next None s t ≡ Some n → OneMore s.found.count n.found.count
 unfolding next
 counts_step s t n e = step_counts s.found s.place t n e
 
-same_step : (s : State) (t : Token) (n : State) → n.found.count ≤ max_parts → next None s t ≡ Some n → next limit s t ≡ Some n
+same_step : (s : State) (t : Token) (n : State) → n.found.count ≤ MAX_PARTS → next None s t ≡ Some n → next limit s t ≡ Some n
 unfolding next
 same_step s t n le e = step_same s.found s.place t n le e
 
@@ -465,8 +465,8 @@ shows_some n (Some m) e = (m, refl, some_is _ _ e)
 kept_step : (s k : State) (t : Token) (n : State) → Kept s k → next None s t ≡ Some n → (m : State) × (next limit k t ≡ Some m) × Kept n m
 kept_step s k t n h e =
     let m = shows_some n (next limit k t) (sym (ap bared e) ∙ steps_bare None limit s k t h.shows) in
-    let same : n.found.count ≤ max_parts → n ≡ m.0 =
-    λ (le : n.found.count ≤ max_parts). some_is n m.0
+    let same : n.found.count ≤ MAX_PARTS → n ≡ m.0 =
+    λ (le : n.found.count ≤ MAX_PARTS). some_is n m.0
     (sym (same_step s t n le e) ∙ ap (λ (x : State). next limit x t) (h.same (omega (arith, le, (counts_step s t n e).0))) ∙ m.1) in
     (m.0, m.1, record { shows = m.2; same = same })
 

@@ -2,6 +2,7 @@
 use Rattle.std.proofs.Common.{◌≡◌, ℕ, zero, suc, ◌+◌, ◌<◌, ◌≤◌, max, Bool, true, false, cond, eqb, nat_lt, ◌&&◌, ◌||◌, List, [], ◌∷◌, map, Option, Some, None, refl, ap, sym, subst, ◌∙◌, arith}
 use Rattle.std.specs.List.{list_any}
 use Rattle.std.proofs.lemmas.Bool.{ne_eqb, eq-eqb, le-ltb, lt-ltb}
+use Rattle.hpr_terms.specs.declared.limits.TheConstants.{MAX_PARTS}
 use Rattle.hpr_terms.specs.declared.tag.Tag.{Tag}
 use Rattle.hpr_terms.specs.declared.token.Token.{Token}
 use Rattle.hpr_syntax.specs.declared.shape.ShapeError.TheVariants.{TooManyParts}
@@ -9,7 +10,7 @@ use Rattle.hpr_syntax.specs.Body.{Body, part_count}
 use Rattle.hpr_syntax.specs.Parts.{same_tag, tags_of}
 use Rattle.hpr_syntax.specs.Issued.{Issued, issued_to, raised, raised_by}
 use Rattle.hpr_syntax.specs.Tree.{Tree}
-use Rattle.hpr_syntax.specs.Shape.{shape, max_parts, first_repeated, first_unissued, is_unissued, too_many}
+use Rattle.hpr_syntax.specs.Shape.{shape, first_repeated, first_unissued, is_unissued, too_many}
 use Rattle.hpr_syntax.specs.Grammar as grammar
 use Rattle.hpr_syntax.specs.Grammar.{Form, SpellsExpr, SpellsParts, SpellsHeader, SpellsProgram, untagged, tag_pair, issued_of}
 use Rattle.hpr_syntax.specs.Spelling.{Spells}
@@ -118,11 +119,11 @@ all_issued a m (t ∷ ts) h =
 no_pairs : {a : ℕ} {ts : List Token} {pairs : Option (List (ℕ × ℕ))} → SpellsHeader (untagged a) ts pairs → pairs ≡ None
 no_pairs grammar.none = refl
 
-too_many_is : (n : ℕ) → max_parts < n → too_many n ≡ Some (TooManyParts n)
-too_many_is n lt = ap (λ (b : Bool). cond b (Some (TooManyParts n)) None) (lt-ltb max_parts n lt)
+too_many_is : (n : ℕ) → MAX_PARTS < n → too_many n ≡ Some (TooManyParts n)
+too_many_is n lt = ap (λ (b : Bool). cond b (Some (TooManyParts n)) None) (lt-ltb MAX_PARTS n lt)
 
 -- more parts than a program may have are the first refusal
-pub many_parts : (a : ℕ) (ts : List Token) (t : Tree) (h : SpellsProgram (untagged a) ts t) → max_parts < h.count → shape t ≡ Some (TooManyParts h.count)
+pub many_parts : (a : ℕ) (ts : List Token) (t : Tree) (h : SpellsProgram (untagged a) ts t) → MAX_PARTS < h.count → shape t ≡ Some (TooManyParts h.count)
 unfolding shape
 many_parts a ts t h lt =
     let run : Run a 0 h.count (tags_of t.body []) = tags_run h.parts_are h.count [] refl in

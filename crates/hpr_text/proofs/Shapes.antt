@@ -3,6 +3,7 @@ use Rattle.std.proofs.Common.{◌≡◌, ℕ, Bool, true, false, cond, nat_lt, L
 use Rattle.std.proofs.lemmas.Bool.{le-ltb}
 use Rattle.std.specs.Option.{option_or, option_map}
 use Rattle.std.specs.Str.{bytes_eq}
+use Rattle.hpr_terms.specs.declared.limits.TheConstants.{MAX_LEVELS, MAX_OPERATORS, MAX_PARTS}
 use Rattle.hpr_terms.specs.declared.tag.Tag.{Tag}
 use Rattle.hpr_terms.specs.declared.expr.Expr.{Expr}
 use Rattle.hpr_terms.specs.declared.token.Token.{Token}
@@ -15,7 +16,7 @@ use Rattle.hpr_syntax.specs.Parts.{tags_of}
 use Rattle.hpr_syntax.specs.Tree.{Tree}
 use Rattle.hpr_syntax.specs.Grammar as grammar
 use Rattle.hpr_syntax.specs.Grammar.{Form, SpellsExpr, SpellsParts}
-use Rattle.hpr_syntax.specs.Shape.{max_levels, max_operators, max_parts, first_repeated_tag, first_unissued, first_deep, is_large, first_large, first_repeated, too_many, shape}
+use Rattle.hpr_syntax.specs.Shape.{first_repeated_tag, first_unissued, first_deep, is_large, first_large, first_repeated, too_many, shape}
 use Rattle.hpr_syntax.specs.Spelling.{Spells}
 use Rattle.hpr_scan.proofs.Words.{some_is}
 use Rattle.hpr_text.specs.Answers.{ComesFromText}
@@ -30,7 +31,7 @@ none_deep (grammar.conditional_else label test first second rest) = rw (none_dee
 none_deep (grammar.while_loop label test inner rest) = rw (none_deep inner) (none_deep rest)
 
 not_large : (ts : List Token) (e : Expr) → SpellsExpr ts e → is_large e ≡ false
-not_large ts e s = le-ltb max_operators (operators (term_of e)) s.1
+not_large ts e s = le-ltb MAX_OPERATORS (operators (term_of e)) s.1
 
 pub none_large : {form : Form} {l n m : ℕ} {ts : List Token} {body : Body} → SpellsParts form l n m ts body → first_large body ≡ None
 none_large grammar.nothing = refl
@@ -55,10 +56,10 @@ first_comes (Some t) unissued deep large n names e p q h = subst ComesFromText (
 first_comes None (Some t) deep large n names e p q h = subst ComesFromText (some_is _ _ h) tt
 first_comes None None (Some t) large n names e p q h = absurd cc
 first_comes None None None (Some t) n names e p q h = absurd cc
-first_comes None None None None n names e p q h = count_comes (nat_lt max_parts n) n names e h
+first_comes None None None None n names e p q h = count_comes (nat_lt MAX_PARTS n) n names e h
 
 pub comes_from_text : (form : Form) (bytes : List ℕ) (t : Tree) (e : ShapeError) → Spells form bytes t → shape t ≡ Some e → ComesFromText e
 unfolding shape
 comes_from_text form bytes t e s h =
-    first_comes (first_repeated_tag t.body) (first_unissued t.issued (tags_of t.body [])) (first_deep max_levels t.body) (first_large t.body) (part_count t.body) (first_repeated bytes_eq [] t.finals) e
+    first_comes (first_repeated_tag t.body) (first_unissued t.issued (tags_of t.body [])) (first_deep MAX_LEVELS t.body) (first_large t.body) (part_count t.body) (first_repeated bytes_eq [] t.finals) e
     (none_deep s.program.parts_are) (none_large s.program.parts_are) h

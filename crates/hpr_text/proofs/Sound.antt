@@ -2,6 +2,7 @@
 use Rattle.std.proofs.Common.{◌≡◌, ℕ, zero, suc, ◌+◌, ◌<◌, ◌^◌, List, [], ◌∷◌, ◌++◌, length, Bool, true, false, cond, nat_lt, nat_le, ◌&&◌, Option, Some, None, refl, ap, sym, subst, ◌∙◌, map, append_assoc, arith}
 use Rattle.std.proofs.lemmas.Bool.{ltb-true, leb-true}
 use Rattle.std.proofs.lemmas.List.{append-nil}
+use Rattle.hpr_terms.specs.declared.limits.TheConstants.{MAX_LEVELS}
 use Rattle.hpr_terms.specs.declared.tag.Tag.{Tag}
 use Rattle.hpr_terms.specs.declared.expr.Expr.{Expr}
 use Rattle.hpr_terms.specs.declared.keyword.Keyword.TheVariants.{Program, Issued, End, If, Then, Else, Fi, While, Do, Od}
@@ -11,7 +12,6 @@ use Rattle.hpr_terms.specs.declared.token.Token.TheVariants.{Word, Name, Number,
 use Rattle.hpr_syntax.specs.Action.{assigns}
 use Rattle.hpr_syntax.specs.Body.{Body, done, action, branch, loop}
 use Rattle.hpr_syntax.specs.Issued as issued
-use Rattle.hpr_syntax.specs.Shape.{max_levels}
 use Rattle.hpr_syntax.specs.Tree.{Tree}
 use Rattle.hpr_syntax.specs.Grammar as grammar
 use Rattle.hpr_syntax.specs.Grammar.{Form, IsAuthor, IsSerial, IsTag, IsIssuedPair, Labels, SpellsExpr, SpellsParts, SpellsPairs, SpellsHeader, SpellsNames, SpellsProgram, tag_pair, pair_then, issued_of}
@@ -109,7 +109,7 @@ pub record AroundIs (m : Form) (outer : ℕ → List Token → Type 0) (l k : �
 
 -- the open blocks: l levels are left in the innermost one, and n parts had their tags before its parts
 abbrev pub BlocksAre : Form → ℕ → ℕ → List Begun → List Token → Type 0
-BlocksAre m l n [] ts = (l ≡ max_levels) × (n ≡ 0) × (ts ≡ [])
+BlocksAre m l n [] ts = (l ≡ MAX_LEVELS) × (n ≡ 0) × (ts ≡ [])
 BlocksAre m l n (begun.Then r ∷ os) ts = (k : ℕ) × (n ≡ k + 1) × AroundIs m (λ j a. BlocksAre m (suc l) j os a) l k r (Word If) (Word Then) ts
 BlocksAre m l n (begun.Else r first ∷ os) ts =
     (k : ℕ) × (past : List Token) × (yes : List Token) × SpellsParts m l (k + 1) n yes first
@@ -144,7 +144,7 @@ pub record SincePart (m : Mode) (f : Found) (more : List Tag) (last : List Token
   pub level : ℕ
   pub past : List Token
   pub parts : PartsAre m level f more past
-  pub room : length f.blocks < max_levels
+  pub room : length f.blocks < MAX_LEVELS
   pub tokens : ts ≡ past ++ last
 
 -- the tokens since the last part: a label, and what follows it
@@ -154,7 +154,7 @@ pub record BegunIs (m : Mode) (f : Found) (t : Tag) (last : List Token) (ts : Li
   pub label : List Token
   pub parts : PartsAre m level f (t ∷ []) past
   pub label_is : Labels (form_of m) parts.to label t
-  pub room : length f.blocks < max_levels
+  pub room : length f.blocks < MAX_LEVELS
   pub tokens : ts ≡ past ++ (label ++ last)
 
 -- ---- the end
@@ -171,7 +171,7 @@ pub record BodyIs (m : Mode) (f : Found) (names : List (List ℕ)) (last : List 
   pub header_is : SpellsHeader (form_of m) header pairs
   pub count : ℕ
   pub counts : f.count ≡ tally m count
-  pub parts_are : SpellsParts (form_of m) max_levels 0 count parts f.parts
+  pub parts_are : SpellsParts (form_of m) MAX_LEVELS 0 count parts f.parts
   pub numbers : f.issued ≡ issued_of pairs f.parts
   pub names_are : f.names ≡ names
   pub tokens : ts ≡ Word Program ∷ (header ++ (parts ++ (Word End ∷ last)))
@@ -250,8 +250,8 @@ pair_again m f ts h =
     }
 
 -- at the top, with no parts
-top_blocks : (m : Form) (bs : List Begun) → bs ≡ [] → BlocksAre m max_levels 0 bs []
-top_blocks m bs e = subst (λ (x : List Begun). BlocksAre m max_levels 0 x []) (sym e) (refl, refl, refl)
+top_blocks : (m : Form) (bs : List Begun) → bs ≡ [] → BlocksAre m MAX_LEVELS 0 bs []
+top_blocks m bs e = subst (λ (x : List Begun). BlocksAre m MAX_LEVELS 0 x []) (sym e) (refl, refl, refl)
 
 no_parts : (m : Form) (l n : ℕ) (b : Body) → b ≡ done → SpellsParts m l n n [] b
 no_parts m l n b e = subst (λ (x : Body). SpellsParts m l n n [] x) (sym e) grammar.nothing
@@ -263,7 +263,7 @@ no_tally (Untagged a) = refl
 tagged_header : (m : Mode) {ts : List Token} {ps : List (ℕ × ℕ)} → m ≡ Tagged → SpellsPairs ts ps → SpellsHeader (form_of m) (Word Issued ∷ ts) (Some ps)
 tagged_header m {ts} {ps} e s = subst (λ (o : Mode). SpellsHeader (form_of o) (Word Issued ∷ ts) (Some ps)) (sym e) (grammar.pairs s)
 
-header_ends : (m : Mode) (f : Found) (ts : List Token) → LastPairIs m f ts → PartsAre m max_levels f [] ts
+header_ends : (m : Mode) (f : Found) (ts : List Token) → LastPairIs m f ts → PartsAre m MAX_LEVELS f [] ts
 header_ends m f ts h =
     record {
       header = Word Issued ∷ (h.front ++ pair_then h.last []);
@@ -276,16 +276,16 @@ header_ends m f ts h =
       counts = h.no_count ∙ sym (no_tally m);
       header_is = tagged_header m h.tagged (h.go _ _ (grammar.one h.last_is));
       blocks = top_blocks (form_of m) f.blocks h.no_blocks;
-      spelled = no_parts (form_of m) max_levels 0 f.parts h.no_parts;
+      spelled = no_parts (form_of m) MAX_LEVELS 0 f.parts h.no_parts;
       numbers = (h.flag, h.numbers);
       no_names = h.no_names;
       tokens = rw (h.tokens, append-nil) refl;
     }
 
-no_header : (m : Mode) (f : Found) (ts : List Token) → PlaceIs m AfterProgram f ts → PartsAre m max_levels f [] ts
-no_header m f ts h = subst (λ (g : Found). PartsAre m max_levels g [] ts) (sym h.0) made
+no_header : (m : Mode) (f : Found) (ts : List Token) → PlaceIs m AfterProgram f ts → PartsAre m MAX_LEVELS f [] ts
+no_header m f ts h = subst (λ (g : Found). PartsAre m MAX_LEVELS g [] ts) (sym h.0) made
   where
-    made : PartsAre m max_levels (nothing_found m) [] ts
+    made : PartsAre m MAX_LEVELS (nothing_found m) [] ts
     made = record {
       header = [];
       pairs = None;
@@ -347,13 +347,13 @@ body_numbers (Some ps) f e h = h.1
 
 -- ---- steps in parts
 
-level_is : (m : Form) (l n : ℕ) (os : List Begun) (ts : List Token) → BlocksAre m l n os ts → l + length os ≡ max_levels
+level_is : (m : Form) (l n : ℕ) (os : List Begun) (ts : List Token) → BlocksAre m l n os ts → l + length os ≡ MAX_LEVELS
 level_is m l n [] ts h = omega (arith, h.0)
 level_is m l n (begun.Then r ∷ os) ts h = omega (arith, level_is m (suc l) h.2.from os h.2.past h.2.blocks)
 level_is m l n (begun.Else r first ∷ os) ts h = omega (arith, level_is m (suc l) h.4.from os h.4.past h.4.blocks)
 level_is m l n (begun.Loop r ∷ os) ts h = omega (arith, level_is m (suc l) h.2.from os h.2.past h.2.blocks)
 
-no_room : {A : Type 0} (m : Mode) (f : Found) (more : List Tag) (ts : List Token) → PartsAre m zero f more ts → length f.blocks < max_levels → A
+no_room : {A : Type 0} (m : Mode) (f : Found) (more : List Tag) (ts : List Token) → PartsAre m zero f more ts → length f.blocks < MAX_LEVELS → A
 no_room m f more ts h room = absurd (omega (arith, level_is (form_of m) zero h.from f.blocks h.around h.blocks, room))
 
 since : (m : Mode) (f : Found) (more : List Tag) (last : List Token) (t : Token) (ts : List Token) → SincePart m f more last ts → SincePart m f more (last ++ (t ∷ [])) (ts ++ (t ∷ []))
@@ -416,7 +416,7 @@ colon_is m f g (Word While) ts n h e = to_state m f (InExpression (Guard g) star
 colon_is m f g t ts n h e = absurd cc
 
 -- a part that gets its tag from the machine
-untagged_begins : (m : Mode) (l a : ℕ) (f : Found) (ts : List Token) → m ≡ Untagged a → PartsAre m l f [] ts → length f.blocks < max_levels
+untagged_begins : (m : Mode) (l a : ℕ) (f : Found) (ts : List Token) → m ≡ Untagged a → PartsAre m l f [] ts → length f.blocks < MAX_LEVELS
     → BegunIs m (given (f.count + 1) (tag_given None a (f.count + 1)) f).0 (tag_given None a (f.count + 1)) [] ts
 unfolding tag_begins
 untagged_begins m l a f ts e h room =
@@ -442,18 +442,18 @@ first_is : (m : Mode) (l : ℕ) (f : Found) (o : Mode) (t : Token) (ts : List To
 first_is m l f Tagged t ts n h q e = absurd cc
 first_is m l f (Untagged a) t ts n h q e =
     let u : Found × Tag = given (f.count + 1) (tag_given None a (f.count + 1)) f in
-    let g = first_guard (nat_lt (length f.blocks) max_levels) u t n e in
-    colon_is m u.0 u.1 t ts n (untagged_begins m l a f ts (sym h.mode ∙ q) h (ltb-true (length f.blocks) max_levels g.0)) g.1
+    let g = first_guard (nat_lt (length f.blocks) MAX_LEVELS) u t n e in
+    colon_is m u.0 u.1 t ts n (untagged_begins m l a f ts (sym h.mode ∙ q) h (ltb-true (length f.blocks) MAX_LEVELS g.0)) g.1
 
 tag_is : (m : Mode) (l : ℕ) (f : Found) (o : Mode) (a : ℕ) (ts : List Token) (n : State) → PartsAre m l f [] ts → f.mode ≡ o → tag_next o f a ≡ Some n → StateIs m n (ts ++ (Number a ∷ []))
 tag_is m l f Tagged a ts n h q e =
-    let g = guard_is (nat_lt (length f.blocks) max_levels && nat_lt a (2 ^ 32)) (state_at f (AfterAuthor a)) n e in
-    let two = both (nat_lt (length f.blocks) max_levels) (nat_lt a (2 ^ 32)) g.0 in
+    let g = guard_is (nat_lt (length f.blocks) MAX_LEVELS && nat_lt a (2 ^ 32)) (state_at f (AfterAuthor a)) n e in
+    let two = both (nat_lt (length f.blocks) MAX_LEVELS) (nat_lt a (2 ^ 32)) g.0 in
     to_state m f (AfterAuthor a) (ts ++ (Number a ∷ [])) n (ap (λ s. Some s) g.1)
-    (ltb-true a (2 ^ 32) two.1, record { tagged = sym h.mode ∙ q; level = l; past = ts; parts = h; room = ltb-true (length f.blocks) max_levels two.0; tokens = refl })
+    (ltb-true a (2 ^ 32) two.1, record { tagged = sym h.mode ∙ q; level = l; past = ts; parts = h; room = ltb-true (length f.blocks) MAX_LEVELS two.0; tokens = refl })
 tag_is m l f (Untagged b) a ts n h q e = absurd cc
 
-assigned : (m : Mode) (l : ℕ) (f : Found) (t : Tag) (x : List ℕ) (e : Expr) (past label value ts : List Token) (p : PartsAre m l f (t ∷ []) past) → length f.blocks < max_levels → Labels (form_of m) p.to label t
+assigned : (m : Mode) (l : ℕ) (f : Found) (t : Tag) (x : List ℕ) (e : Expr) (past label value ts : List Token) (p : PartsAre m l f (t ∷ []) past) → length f.blocks < MAX_LEVELS → Labels (form_of m) p.to label t
     → SpellsExpr value e → ts ≡ past ++ (label ++ (Name x ∷ Mark Becomes ∷ value)) → (k : ℕ) × PartsAre m k (with_part None t x e f) [] (ts ++ (Mark Semicolon ∷ []))
 assigned m zero f t x e past label value ts p room is v q = no_room m f (t ∷ []) past p room
 assigned m (suc l) f t x e past label value ts p room is v q = (
@@ -476,7 +476,7 @@ assigned m (suc l) f t x e past label value ts p room is v q = (
   },
 )
 
-then_begins : (m : Mode) (l : ℕ) (f : Found) (t : Tag) (e : Expr) (past label test ts : List Token) (p : PartsAre m l f (t ∷ []) past) → length f.blocks < max_levels → Labels (form_of m) p.to label t
+then_begins : (m : Mode) (l : ℕ) (f : Found) (t : Tag) (e : Expr) (past label test ts : List Token) (p : PartsAre m l f (t ∷ []) past) → length f.blocks < MAX_LEVELS → Labels (form_of m) p.to label t
     → SpellsExpr test e → ts ≡ past ++ (label ++ (Word If ∷ test)) → (k : ℕ) × PartsAre m k (in_then t e f) [] (ts ++ (Word Then ∷ []))
 then_begins m zero f t e past label test ts p room is v q = no_room m f (t ∷ []) past p room
 then_begins m (suc l) f t e past label test ts p room is v q = (
@@ -499,7 +499,7 @@ then_begins m (suc l) f t e past label test ts p room is v q = (
   },
 )
 
-loop_begins : (m : Mode) (l : ℕ) (f : Found) (t : Tag) (e : Expr) (past label test ts : List Token) (p : PartsAre m l f (t ∷ []) past) → length f.blocks < max_levels → Labels (form_of m) p.to label t
+loop_begins : (m : Mode) (l : ℕ) (f : Found) (t : Tag) (e : Expr) (past label test ts : List Token) (p : PartsAre m l f (t ∷ []) past) → length f.blocks < MAX_LEVELS → Labels (form_of m) p.to label t
     → SpellsExpr test e → ts ≡ past ++ (label ++ (Word While ∷ test)) → (k : ℕ) × PartsAre m k (in_loop t e f) [] (ts ++ (Word Do ∷ []))
 loop_begins m zero f t e past label test ts p room is v q = no_room m f (t ∷ []) past p room
 loop_begins m (suc l) f t e past label test ts p room is v q = (
@@ -654,8 +654,8 @@ od_is m [] l f g ts h e q = absurd cc
 od_is m (begun.Then r ∷ os) l f g ts h e q = absurd cc
 od_is m (begun.Else r first ∷ os) l f g ts h e q = absurd cc
 
-top_parts : (m : Form) (l n k : ℕ) (inside : List Token) (b : Body) → l ≡ max_levels → n ≡ 0 → SpellsParts m l n k inside b → SpellsParts m max_levels 0 k inside b
-top_parts m l n k inside b p q s = subst (λ (j : ℕ). SpellsParts m max_levels j k inside b) q (subst (λ (j : ℕ). SpellsParts m j n k inside b) p s)
+top_parts : (m : Form) (l n k : ℕ) (inside : List Token) (b : Body) → l ≡ MAX_LEVELS → n ≡ 0 → SpellsParts m l n k inside b → SpellsParts m MAX_LEVELS 0 k inside b
+top_parts m l n k inside b p q s = subst (λ (j : ℕ). SpellsParts m MAX_LEVELS j k inside b) q (subst (λ (j : ℕ). SpellsParts m j n k inside b) p s)
 
 body_ends : (m : Mode) (l : ℕ) (f : Found) (ts : List Token) → PartsAre m l f [] ts → f.blocks ≡ [] → BodyIs m f [] [] (ts ++ (Word End ∷ []))
 body_ends m l f ts h e =
@@ -767,7 +767,7 @@ named m f names last x ts h =
 next_is : (m : Mode) (f : Found) (p : Place) (t : Token) (ts : List Token) (n : State) → PlaceIs m p f ts → next_at None f p t ≡ Some n → StateIs m n (ts ++ (t ∷ []))
 next_is m f Start (Word Program) ts n h e = to_state m f AfterProgram (ts ++ (Word Program ∷ [])) n e (h.0, rw h.1 refl)
 next_is m f AfterProgram (Word Issued) ts n h e = header_is m f f.mode ts n h refl e
-next_is m f AfterProgram t ts n h e = part_is m max_levels f t ts n (no_header m f ts h) e
+next_is m f AfterProgram t ts n h e = part_is m MAX_LEVELS f t ts n (no_header m f ts h) e
 next_is m f BeforePair (Number a) ts n h e =
     let g = guard_is (nat_lt a (2 ^ 32)) (state_at f (AfterPairAuthor a)) n e in
     to_state m f (AfterPairAuthor a) (ts ++ (Number a ∷ [])) n (ap (λ s. Some s) g.1) (ltb-true a (2 ^ 32) g.0, (ts, h, refl))
@@ -777,7 +777,7 @@ next_is m f (AfterPairColon a) (Number k) ts n h e =
     let g = guard_is (nat_le 1 k && nat_lt k (2 ^ 32)) (state_at (with_number a k f) AfterPair) n e in
     to_state m (with_number a k f) AfterPair (ts ++ (Number k ∷ [])) n (ap (λ s. Some s) g.1) (pair_ends m f a k ts h (serial_is k g.0))
 next_is m f AfterPair (Mark Comma) ts n h e = to_state m f BeforePair (ts ++ (Mark Comma ∷ [])) n e (pair_again m f ts h)
-next_is m f AfterPair t ts n h e = part_is m max_levels f t ts n (header_ends m f ts h) e
+next_is m f AfterPair t ts n h e = part_is m MAX_LEVELS f t ts n (header_ends m f ts h) e
 next_is m f AtPart t ts n h e = part_is m h.0 f t ts n h.1 e
 next_is m f (AfterAuthor a) (Mark Dot) ts n h e = to_state m f (AfterDot a) (ts ++ (Mark Dot ∷ [])) n e (h.0, since m f [] (Number a ∷ []) (Mark Dot) ts h.1)
 next_is m f (AfterDot a) (Number k) ts n h e =

@@ -1,12 +1,13 @@
 -- What bytes spell, by where they lead the machine.
 use Rattle.std.proofs.Common.{◌≡◌, ℕ, ◌+◌, ◌≤◌, ◌<◌, ◌^◌, min, List, length, Bool, true, false, cond, nat_lt, Some, None, refl, ap, sym, subst, ◌∙◌, arith}
 use Rattle.std.proofs.lemmas.Bool.{ltb-true, ltb-false}
+use Rattle.hpr_terms.specs.declared.limits.TheConstants.{MAX_PARTS}
 use Rattle.hpr_terms.specs.declared.token.Token.{Token}
 use Rattle.hpr_syntax.specs.declared.shape.ShapeError.{ShapeError}
 use Rattle.hpr_syntax.specs.declared.shape.ShapeError.TheVariants.{TooManyParts}
 use Rattle.hpr_syntax.specs.Tree.{Tree}
 use Rattle.hpr_syntax.specs.Grammar.{Form, SpellsProgram, tagged, untagged}
-use Rattle.hpr_syntax.specs.Shape.{shape, max_parts}
+use Rattle.hpr_syntax.specs.Shape.{shape}
 use Rattle.hpr_syntax.specs.Spelling.{Spells}
 use Rattle.hpr_scan.specs.Place.{IsPlace, Accepts}
 use Rattle.hpr_scan.specs.Steps.{IsReading}
@@ -82,12 +83,12 @@ place_of_text m bytes n h = same_place (Accepts (next limit) may_end (initially 
 pub record TreeIs (m : Mode) (bytes : List ℕ) (k : State) : Type 0 where
   pub tree : Tree
   pub spelled : Spells (form_of m) bytes tree
-  pub few : k.found.count ≤ max_parts → tree ≡ tree_of k.found
-  pub many : max_parts < k.found.count → shape tree ≡ Some (TooManyParts k.found.count)
+  pub few : k.found.count ≤ MAX_PARTS → tree ≡ tree_of k.found
+  pub many : MAX_PARTS < k.found.count → shape tree ≡ Some (TooManyParts k.found.count)
 
-many_is : (m : Mode) (ts : List Token) (t : Tree) (n : ℕ) (h : SpellsProgram (form_of m) ts t) → n ≡ tally m h.count → max_parts < n → shape t ≡ Some (TooManyParts n)
+many_is : (m : Mode) (ts : List Token) (t : Tree) (n : ℕ) (h : SpellsProgram (form_of m) ts t) → n ≡ tally m h.count → MAX_PARTS < n → shape t ≡ Some (TooManyParts n)
 many_is Tagged ts t n h e lt = absurd (omega (arith, e, lt))
-many_is (Untagged a) ts t n h e lt = many_parts a ts t h (subst (λ (k : ℕ). max_parts < k) e lt) ∙ ap (λ (k : ℕ). Some (TooManyParts k)) (sym e)
+many_is (Untagged a) ts t n h e lt = many_parts a ts t h (subst (λ (k : ℕ). MAX_PARTS < k) e lt) ∙ ap (λ (k : ℕ). Some (TooManyParts k)) (sym e)
 
 -- fewer parts than 2 ^ 63 are counted exactly
 exact : (n k : State) → Kept n k → n.found.count < 2 ^ 63 → k.found.count ≡ n.found.count
@@ -111,8 +112,8 @@ reading_is m bytes k short r e =
 
 -- the refusal of what was read is that of the tree
 pub shape_is : (m : Mode) (bytes : List ℕ) (k : State) (e : ShapeError) (h : TreeIs m bytes k) → shape_of k.found ≡ Some e → shape h.tree ≡ Some e
-shape_is m bytes k e h q = at_test (nat_lt max_parts k.found.count) refl q
+shape_is m bytes k e h q = at_test (nat_lt MAX_PARTS k.found.count) refl q
   where
-    at_test : (b : Bool) → nat_lt max_parts k.found.count ≡ b → cond b (Some (TooManyParts k.found.count)) (shape (tree_of k.found)) ≡ Some e → shape h.tree ≡ Some e
-    at_test true p q = h.many (ltb-true max_parts k.found.count p) ∙ q
-    at_test false p q = ap shape (h.few (ltb-false max_parts k.found.count p)) ∙ q
+    at_test : (b : Bool) → nat_lt MAX_PARTS k.found.count ≡ b → cond b (Some (TooManyParts k.found.count)) (shape (tree_of k.found)) ≡ Some e → shape h.tree ≡ Some e
+    at_test true p q = h.many (ltb-true MAX_PARTS k.found.count p) ∙ q
+    at_test false p q = ap shape (h.few (ltb-false MAX_PARTS k.found.count p)) ∙ q

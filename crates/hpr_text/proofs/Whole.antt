@@ -2,6 +2,7 @@
 use Rattle.std.proofs.Common.{◌≡◌, ℕ, ◌+◌, ◌<◌, List, [], ◌∷◌, ◌++◌, length, Bool, true, false, Option, Some, None, is_some, refl, ap, sym, subst, ◌∙◌, map, append_assoc, arith}
 use Rattle.std.proofs.lemmas.Bool.{lt-ltb, le-leb}
 use Rattle.std.proofs.lemmas.List.{append-nil}
+use Rattle.hpr_terms.specs.declared.limits.TheConstants.{MAX_LEVELS}
 use Rattle.hpr_terms.specs.declared.tag.Tag.{Tag}
 use Rattle.hpr_terms.specs.declared.expr.Expr.{Expr}
 use Rattle.hpr_terms.specs.declared.keyword.Keyword.TheVariants.{Program, Issued, End, If, Then, Else, Fi, While, Do, Od}
@@ -12,7 +13,6 @@ use Rattle.hpr_syntax.specs.Action.{assigns}
 use Rattle.hpr_syntax.specs.Body.{Body, done, action, branch, loop}
 use Rattle.hpr_syntax.specs.Parts.{tags_of}
 use Rattle.hpr_syntax.specs.Issued as issued
-use Rattle.hpr_syntax.specs.Shape.{max_levels}
 use Rattle.hpr_syntax.specs.Tree.{Tree}
 use Rattle.hpr_syntax.specs.Grammar as grammar
 use Rattle.hpr_syntax.specs.Grammar.{Form, IsAuthor, IsSerial, IsTag, IsIssuedPair, Labels, SpellsExpr, SpellsParts, SpellsPairs, SpellsHeader, SpellsNames, SpellsProgram, tag_pair, pair_then, issued_of}
@@ -120,7 +120,7 @@ pairs_run (grammar.more {p = p} {ts = ts} {ps = ps} is s) f rest =
 
 -- ---- parts
 
-tag_author_step : (f : Found) (a : ℕ) → f.mode ≡ Tagged → IsAuthor a → length f.blocks < max_levels → next None (state_at f AtPart) (Number a) ≡ Some (state_at f (AfterAuthor a))
+tag_author_step : (f : Found) (a : ℕ) → f.mode ≡ Tagged → IsAuthor a → length f.blocks < MAX_LEVELS → next None (state_at f AtPart) (Number a) ≡ Some (state_at f (AfterAuthor a))
 unfolding next
 tag_author_step f a e lt room = ap (λ (o : Mode). tag_next o f a) e ∙ rw (lt-ltb _ _ room, lt-ltb _ _ lt) refl
 
@@ -171,7 +171,7 @@ od_step m c h is r os b ns = refl
 abbrev label_then : Tag → List Token → List Token
 label_then t ts = Number t.author ∷ Mark Dot ∷ Number t.serial ∷ Mark Colon ∷ ts
 
-tag_runs : (f : Found) (t : Tag) (rest : List Token) → f.mode ≡ Tagged → IsTag t → length f.blocks < max_levels
+tag_runs : (f : Found) (t : Tag) (rest : List Token) → f.mode ≡ Tagged → IsTag t → length f.blocks < MAX_LEVELS
     → runs (next None) (state_at f AtPart) (label_then t rest) ≡ runs (next None) (state_at (with_tag t f) (AfterColon t)) rest
 tag_runs f t rest e is room =
     run_one _ (state_at f (AfterAuthor t.author)) _ (Mark Dot ∷ Number t.serial ∷ Mark Colon ∷ rest) (tag_author_step f t.author e is.0 room)
@@ -188,7 +188,7 @@ data Begins : Token → Type 0 where
 abbrev labelled : ℕ → Tag → Found → Found
 labelled n t f = record (with_tag t f) { count = tally f.mode (n + 1) }
 
-first_step : (f : Found) (a : ℕ) (t : Token) → Begins t → f.mode ≡ Untagged a → length f.blocks < max_levels
+first_step : (f : Found) (a : ℕ) (t : Token) → Begins t → f.mode ≡ Untagged a → length f.blocks < MAX_LEVELS
     → next None (state_at f AtPart) t ≡ colon_next (given (f.count + 1) (tag_given None a (f.count + 1)) f).0 (tag_given None a (f.count + 1)) t
 unfolding next
 first_step f a t (a_name x) e room = ap (λ (o : Mode). first_next (begun_in None o f) (Name x)) e ∙ rw (lt-ltb _ _ room) refl
@@ -197,7 +197,7 @@ first_step f a t a_guard e room = ap (λ (o : Mode). first_next (begun_in None o
 
 -- a label and the first token of a part
 label_runs : (f : Found) (o : Mode) (n : ℕ) (label : List Token) (g : Tag) (t : Token) (s : State) (rest : List Token) → f.mode ≡ o → f.count ≡ tally f.mode n → Labels (form_of o) n label g → Begins t
-    → length f.blocks < max_levels → colon_next (labelled n g f) g t ≡ Some s → runs (next None) (state_at f AtPart) (label ++ (t ∷ rest)) ≡ runs (next None) s rest
+    → length f.blocks < MAX_LEVELS → colon_next (labelled n g f) g t ≡ Some s → runs (next None) (state_at f AtPart) (label ++ (t ∷ rest)) ≡ runs (next None) s rest
 label_runs f Tagged n label g t s rest e c (grammar.tag is) b room step =
     let same : with_tag g f ≡ labelled n g f = ap (λ (k : ℕ). record (with_tag g f) { count = k }) (c ∙ ap (λ (o : Mode). tally o n) e ∙ sym (ap (λ (o : Mode). tally o (n + 1)) e)) in
     tag_runs f g (t ∷ rest) e is room ∙ ap (λ (k : Found). runs (next None) (state_at k (AfterColon g)) (t ∷ rest)) same
@@ -256,12 +256,12 @@ loop_raises false t e body rest is = sym (tags_raise body (tags_of rest []) (iss
 own : {form : Form} (f : Found) (label : List Token) (g : Tag) (n : ℕ) → form ≡ form_of f.mode → Labels form n label g → Labels (form_of f.mode) n label g
 own f label g n e is = subst (λ (x : Form). Labels x n label g) e is
 
-parts_run : {form : Form} {l n m : ℕ} {ts : List Token} {body : Body} (f : Found) → form ≡ form_of f.mode → SpellsParts form l n m ts body → (rest : List Token) → length f.blocks + l ≡ max_levels → f.count ≡ tally f.mode n
+parts_run : {form : Form} {l n m : ℕ} {ts : List Token} {body : Body} (f : Found) → form ≡ form_of f.mode → SpellsParts form l n m ts body → (rest : List Token) → length f.blocks + l ≡ MAX_LEVELS → f.count ≡ tally f.mode n
     → runs (next None) (state_at f AtPart) (ts ++ rest) ≡ runs (next None) (state_at (with_parts m body f) AtPart) rest
 parts_run {n = n} f eq grammar.nothing rest deep c = ap (λ g. runs (next None) (state_at g AtPart) rest) (no_parts f n c)
 parts_run {n = n} {m = m} f eq (grammar.assignment {t = t} {x = x} {e = e} {label = label} {value = value} {more = more} {rest = body} is v s) rest deep c =
     let g : Found = labelled n t f in
-    let room : length f.blocks < max_levels = omega (arith, deep) in
+    let room : length f.blocks < MAX_LEVELS = omega (arith, deep) in
     let tail : List Token = (value ++ (Mark Semicolon ∷ more)) ++ rest in
     let k : Found = with_part None t x e g in
     ap (runs (next None) (state_at f AtPart)) (append_assoc label (Name x ∷ Mark Becomes ∷ (value ++ (Mark Semicolon ∷ more))) rest)
@@ -272,7 +272,7 @@ parts_run {n = n} {m = m} f eq (grammar.assignment {t = t} {x = x} {e = e} {labe
     ∙ ap (λ y. runs (next None) (state_at y AtPart) rest) (part_then f g.count m g.issued (action t (assigns x e) done) body (assign_raises f.has_header t x e body f.issued))
 parts_run {n = n} {m = m} f eq (grammar.conditional {k = c1} {t = t} {e = e} {label = label} {test = test} {first = inner} {more = more} {yes = chosen} {rest = body} is v s u) rest deep c =
     let g : Found = labelled n t f in
-    let room : length f.blocks < max_levels = omega (arith, deep) in
+    let room : length f.blocks < MAX_LEVELS = omega (arith, deep) in
     let inside : List Token = inner ++ (Word Fi ∷ more) in
     let h : Found = in_then t e g in
     let k : Found = with_parts c1 chosen h in
@@ -287,7 +287,7 @@ parts_run {n = n} {m = m} f eq (grammar.conditional {k = c1} {t = t} {e = e} {la
     ∙ ap (λ y. runs (next None) (state_at y AtPart) rest) (part_then f k.count m k.issued (branch t e chosen done done) body (branch_raises f.has_header t e chosen body f.issued))
 parts_run {n = n} {m = m} f eq (grammar.conditional_else {k = c1} {j = c2} {t = t} {e = e} {label = label} {test = test} {first = inner} {second = other} {more = more} {yes = chosen} {no = second} {rest = body} is v s w u) rest deep c =
     let g : Found = labelled n t f in
-    let room : length f.blocks < max_levels = omega (arith, deep) in
+    let room : length f.blocks < MAX_LEVELS = omega (arith, deep) in
     let behind : List Token = other ++ (Word Fi ∷ more) in
     let inside : List Token = inner ++ (Word Else ∷ behind) in
     let h : Found = in_then t e g in
@@ -308,7 +308,7 @@ parts_run {n = n} {m = m} f eq (grammar.conditional_else {k = c1} {j = c2} {t = 
     ∙ ap (λ y. runs (next None) (state_at y AtPart) rest) (part_then f q.count m q.issued (branch t e chosen second done) body (else_raises f.has_header t e chosen second body f.issued))
 parts_run {n = n} {m = m} f eq (grammar.while_loop {k = c1} {t = t} {e = e} {label = label} {test = test} {inner = inner} {more = more} {body = chosen} {rest = body} is v s u) rest deep c =
     let g : Found = labelled n t f in
-    let room : length f.blocks < max_levels = omega (arith, deep) in
+    let room : length f.blocks < MAX_LEVELS = omega (arith, deep) in
     let inside : List Token = inner ++ (Word Od ∷ more) in
     let h : Found = in_loop t e g in
     let k : Found = with_parts c1 chosen h in
@@ -429,11 +429,11 @@ unfolding next
 issued_step = refl
 
 -- from the first part on
-body_runs : {form : Form} {count : ℕ} {parts names : List Token} {body : Body} {finals : List (List ℕ)} (f : Found) → form ≡ form_of f.mode → SpellsParts form max_levels 0 count parts body → SpellsNames names finals → f.blocks ≡ [] → f.count ≡ tally f.mode 0
+body_runs : {form : Form} {count : ℕ} {parts names : List Token} {body : Body} {finals : List (List ℕ)} (f : Found) → form ≡ form_of f.mode → SpellsParts form MAX_LEVELS 0 count parts body → SpellsNames names finals → f.blocks ≡ [] → f.count ≡ tally f.mode 0
     → runs (next None) (state_at f AtPart) (parts ++ (Word End ∷ Mark Open ∷ (names ++ (Mark Close ∷ [])))) ≡ Some (state_at (with_names finals (with_parts count body f)) AtEnd)
 body_runs {count = count} {names = names} {body = body} f eq s n top c =
     let g : Found = with_parts count body f in
-    parts_run f eq s (Word End ∷ Mark Open ∷ (names ++ (Mark Close ∷ []))) (ap (λ (bs : List Begun). length bs + max_levels) top) c
+    parts_run f eq s (Word End ∷ Mark Open ∷ (names ++ (Mark Close ∷ []))) (ap (λ (bs : List Begun). length bs + MAX_LEVELS) top) c
     ∙ run_one _ (state_at g AfterEnd) (Word End) (Mark Open ∷ (names ++ (Mark Close ∷ []))) (end_step g top)
     ∙ run_one _ (state_at g AfterOpen) (Mark Open) (names ++ (Mark Close ∷ [])) (open_step g) ∙ names_run n g
 
@@ -445,7 +445,7 @@ no_count Tagged = refl
 no_count (Untagged a) = refl
 
 program_runs : {form : Form} (m : Mode) → form ≡ form_of m → {count : ℕ} {header parts names : List Token} {pairs : Option (List (ℕ × ℕ))} {body : Body} {finals : List (List ℕ)}
-    → SpellsHeader form header pairs → SpellsParts form max_levels 0 count parts body → SpellsNames names finals
+    → SpellsHeader form header pairs → SpellsParts form MAX_LEVELS 0 count parts body → SpellsNames names finals
     → runs (next None) (initially m) (Word Program ∷ (header ++ (parts ++ (Word End ∷ Mark Open ∷ (names ++ (Mark Close ∷ []))))))
     ≡ Some (at_end m count (is_some pairs) (record { issued = issued_of pairs body; body = body; finals = finals }))
 program_runs m eq {parts = parts} {names = names} grammar.none s n =

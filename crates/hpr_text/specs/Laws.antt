@@ -4,13 +4,13 @@
 -- is_token_machine l == the laws of a machine of tokens hold for `next l`
 use Rattle.std.proofs.Common.{◌≡◌, ℕ, ◌≤◌, ◌^◌, List, length, Bool, true, false, nat_lt, nat_le, ◌&&◌, Option, Some, None, is_some, refl, sym, ap, subst, ◌∙◌, arith}
 use Rattle.std.proofs.lemmas.Bool.{le-leb, le-ltb}
+use Rattle.hpr_terms.specs.declared.limits.TheConstants.{MAX_LEVELS}
 use Rattle.hpr_terms.specs.declared.tag.Tag.{Tag}
 use Rattle.hpr_terms.specs.declared.keyword.Keyword.TheVariants.{Then, Do}
 use Rattle.hpr_terms.specs.declared.token.Sign.{Sign}
 use Rattle.hpr_terms.specs.declared.token.Sign.TheVariants.{Colon, Semicolon, Less, Equal, Greater, GreaterEqual}
 use Rattle.hpr_terms.specs.declared.token.Token.{Token}
 use Rattle.hpr_terms.specs.declared.token.Token.TheVariants.{Word, Name, Number, Mark}
-use Rattle.hpr_syntax.specs.Shape.{max_levels}
 use Rattle.hpr_scan.specs.Machine.{IsTokenMachine}
 use Rattle.hpr_expressions.specs.declared.expression.Reading.{Reading}
 use Rattle.hpr_text.specs.declared.form.Mode.{Mode}
@@ -127,8 +127,8 @@ smaller_in l f p r m n one le e =
 
 smaller_tag : (o : Mode) (f : Found) (m n : ℕ) → m ≤ n → is_some (tag_next o f n) ≡ true → is_some (tag_next o f m) ≡ true
 smaller_tag Tagged f m n le e =
-    guards (nat_lt (length f.blocks) max_levels && nat_lt m (2 ^ 32)) _
-    (beside (nat_lt (length f.blocks) max_levels) m n (2 ^ 32) le (guarded (nat_lt (length f.blocks) max_levels && nat_lt n (2 ^ 32)) _ e))
+    guards (nat_lt (length f.blocks) MAX_LEVELS && nat_lt m (2 ^ 32)) _
+    (beside (nat_lt (length f.blocks) MAX_LEVELS) m n (2 ^ 32) le (guarded (nat_lt (length f.blocks) MAX_LEVELS && nat_lt n (2 ^ 32)) _ e))
 smaller_tag (Untagged a) f m n le e = absurd cc
 
 smaller_at : (l : Option ℕ) (f : Found) (p : Place) (m n : ℕ) → 1 ≤ m → m ≤ n → is_some (next_at l f p (Number n)) ≡ true → is_some (next_at l f p (Number m)) ≡ true
@@ -153,7 +153,7 @@ smaller_at l f AtEnd m n one le e = absurd cc
 
 bounded_tag : (o : Mode) (f : Found) (n : ℕ) → 2 ^ 64 ≤ n → tag_next o f n ≡ None
 bounded_tag Tagged f n le =
-    unguarded (nat_lt (length f.blocks) max_levels && nat_lt n (2 ^ 32)) _ (outside (nat_lt (length f.blocks) max_levels) n (2 ^ 32) (le-ltb n (2 ^ 32) (omega (arith, le))))
+    unguarded (nat_lt (length f.blocks) MAX_LEVELS && nat_lt n (2 ^ 32)) _ (outside (nat_lt (length f.blocks) MAX_LEVELS) n (2 ^ 32) (le-ltb n (2 ^ 32) (omega (arith, le))))
 bounded_tag (Untagged a) f n le = refl
 
 bounded_at : (l : Option ℕ) (f : Found) (p : Place) (n : ℕ) → 2 ^ 64 ≤ n → next_at l f p (Number n) ≡ None

@@ -31,6 +31,7 @@
 -- accepted s          == the tree, if the program can end here
 -- may_end s           == the program can end here
 use Rattle.std.specs.Prelude.{ℕ, ◌+◌, ◌-◌, ◌^◌, min, Bool, true, false, nat_lt, nat_le, ◌&&◌, if◌then◌else◌, List, [], ◌∷◌, ◌++◌, length, Option, Some, None}
+use Rattle.hpr_terms.specs.declared.limits.TheConstants.{MAX_LEVELS, MAX_PARTS}
 use Rattle.hpr_terms.specs.declared.tag.Tag.{Tag}
 use Rattle.hpr_terms.specs.declared.expr.Expr.{Expr}
 use Rattle.hpr_terms.specs.declared.keyword.Keyword.TheVariants.{Program, Issued, End, If, Then, Else, Fi, While, Do, Od}
@@ -43,7 +44,7 @@ use Rattle.hpr_syntax.specs.Issued as issued
 use Rattle.hpr_syntax.specs.Tree.{Tree}
 use Rattle.hpr_syntax.specs.declared.shape.ShapeError.{ShapeError}
 use Rattle.hpr_syntax.specs.declared.shape.ShapeError.TheVariants.{TooManyParts}
-use Rattle.hpr_syntax.specs.Shape.{max_levels, max_parts, shape}
+use Rattle.hpr_syntax.specs.Shape.{shape}
 use Rattle.hpr_text.specs.declared.blocks.Around.{Around}
 use Rattle.hpr_text.specs.declared.blocks.Begun.{Begun}
 use Rattle.hpr_text.specs.declared.blocks.Begun.TheVariants as begun
@@ -59,7 +60,7 @@ use Rattle.hpr_text.specs.declared.state.State.{State}
 use Rattle.hpr_expressions.specs.Expression.{start, read, ended}
 
 abbrev pub limit : Option ℕ
-limit = Some max_parts
+limit = Some MAX_PARTS
 
 abbrev pub keeps : Option ℕ → ℕ → Bool
 keeps None n = true
@@ -109,7 +110,7 @@ given n t f = (with_tag t (with_count n f), t)
 abbrev pub begun_in : Option ℕ → Mode → Found → Option (Found × Tag)
 begun_in l Tagged f = None
 begun_in l (Untagged a) f =
-    if nat_lt (length f.blocks) max_levels then Some (given (counted l f.count) (tag_given l a (counted l f.count)) f) else None
+    if nat_lt (length f.blocks) MAX_LEVELS then Some (given (counted l f.count) (tag_given l a (counted l f.count)) f) else None
 
 abbrev pub part_begun : Option ℕ → Found → Option (Found × Tag)
 part_begun l f = begun_in l f.mode f
@@ -193,7 +194,7 @@ first_next None t = None
 first_next (Some b) t = colon_next b.0 b.1 t
 
 abbrev pub tag_next : Mode → Found → ℕ → Option State
-tag_next Tagged f a = if nat_lt (length f.blocks) max_levels && nat_lt a (2 ^ 32) then Some (state_at f (AfterAuthor a)) else None
+tag_next Tagged f a = if nat_lt (length f.blocks) MAX_LEVELS && nat_lt a (2 ^ 32) then Some (state_at f (AfterAuthor a)) else None
 tag_next (Untagged b) f a = None
 
 abbrev pub part_next : Option ℕ → Found → Token → Option State
@@ -317,7 +318,7 @@ abbrev pub tree_of : Found → Tree
 tree_of f = record { issued = f.issued; body = f.parts; finals = f.names }
 
 abbrev pub shape_of : Found → Option ShapeError
-shape_of f = if nat_lt max_parts f.count then Some (TooManyParts f.count) else shape (tree_of f)
+shape_of f = if nat_lt MAX_PARTS f.count then Some (TooManyParts f.count) else shape (tree_of f)
 
 abbrev pub accepted_at : Found → Place → Option Tree
 accepted_at f AtEnd = Some (tree_of f)

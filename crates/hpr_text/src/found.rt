@@ -1,8 +1,9 @@
 //! What was read so far.
 ghost use Rattle.std.specs.Prelude.{◌≡◌, ◌≢◌, ◌≤◌, [], ◌∷◌, ◌++◌, length, nat_lt, is_some, Some, IfOk, IfErr, OnOk};
+ghost use Rattle.hpr_terms.specs.declared.limits.TheConstants.{MAX_LEVELS, MAX_PARTS};
 ghost use Rattle.hpr_syntax.specs.Body.{done, branch, loop};
 ghost use Rattle.hpr_syntax.specs.BodyOf.{before};
-ghost use Rattle.hpr_syntax.specs.Shape.{IsProgram, max_levels, max_parts};
+ghost use Rattle.hpr_syntax.specs.Shape.{IsProgram};
 ghost use Rattle.hpr_text.specs.Machine as machine;
 ghost use Rattle.hpr_text.specs.Private.InPlace.{InPlace};
 
@@ -10,16 +11,11 @@ use crate::blocks::{Around, Begun, Blocks};
 use crate::form::Mode;
 use hpr_scan::Fault;
 use hpr_syntax::{Block, Issued, Program, ShapeError, Stmt};
+use hpr_terms::limits::{MAX_LEVELS, MAX_PARTS};
 use hpr_terms::{Expr, Name, NoMemory, Tag};
 use std::alloc::Global;
 use std::marker::Model;
 use std::mem;
-
-/// Blocks with parts may stand this deep in one another.
-const MAX_LEVELS: usize = 64;
-
-/// A program may have this many parts.
-const MAX_PARTS: usize = 1000;
 
 /// Names in their order. A contract sees their list.
 #[derive(Drop)]
@@ -141,7 +137,7 @@ impl Found {
 
     /// Whether one more block may stand in the open ones.
     pub fn has_room(&self) -> bool
-        ensures { result ≡ nat_lt (length self.now.blocks) max_levels }
+        ensures { result ≡ nat_lt (length self.now.blocks) MAX_LEVELS }
     {
         self.blocks.len() < MAX_LEVELS
     }
@@ -296,7 +292,7 @@ impl Found {
     /// more parts have begun than one may have.
     pub fn into_program(self, alloc: Global) -> Result<Program, ShapeError>
         ensures tree { IfOk result (λ p. p ≡ machine.tree_of self) }
-        ensures few { IfOk result (λ p. self.count ≤ max_parts) }
+        ensures few { IfOk result (λ p. self.count ≤ MAX_PARTS) }
         ensures program { IfOk result (λ p. IsProgram p) }
         ensures shape { IfErr result (λ e. e ≢ ShapeError.Memory → machine.shape_of self ≡ Some e) }
     {

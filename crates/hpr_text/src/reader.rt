@@ -1,6 +1,7 @@
 //! Reads the text of a program.
 ghost use Rattle.std.specs.Prelude.{◌≡◌, ◌≤◌, Some, IfOk};
-ghost use Rattle.hpr_syntax.specs.Shape.{IsProgram, max_parts};
+ghost use Rattle.hpr_terms.specs.declared.limits.TheConstants.{MAX_PARTS};
+ghost use Rattle.hpr_syntax.specs.Shape.{IsProgram};
 ghost use Rattle.hpr_syntax.specs.Spelling.{Spells};
 ghost use Rattle.hpr_scan.specs.Place.{IsPlace};
 ghost use Rattle.hpr_text.specs.Answers.{IsText, IsMisshapen, IfSyntax, IfShape, ComesFromText};
@@ -11,6 +12,7 @@ use crate::form::Mode;
 use crate::state::State;
 use hpr_scan::{Refusal, read};
 use hpr_syntax::{Program, ShapeError};
+use hpr_terms::limits::MAX_PARTS;
 use std::alloc::Global;
 
 /// Why a text is not read.
@@ -33,7 +35,7 @@ pub enum TextError {
 /// The program of what was read, if its tree is one.
 fn built(alloc: Global, state: State) -> Result<Program, TextError>
     ensures tree { IfOk result (λ p. p ≡ tree_of state.found) }
-    ensures few { IfOk result (λ p. state.found.count ≤ max_parts) }
+    ensures few { IfOk result (λ p. state.found.count ≤ MAX_PARTS) }
     ensures program { IfOk result (λ p. IsProgram p) }
     ensures shape { IfShape result (λ e. shape_of state.found ≡ Some e) }
     ensures no_place { IfSyntax result (λ n. ⊥) }

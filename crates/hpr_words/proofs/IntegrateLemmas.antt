@@ -1,6 +1,7 @@
 -- Plain words of `integrate` are taken.
 use Rattle.std.proofs.Common.{◌≡◌, ◌∙◌, ℕ, true, List, [], ◌∷◌, Option, Some, is_some, inl, length, slice_get, refl, ap, codes, arith}
 use Rattle.std.specs.Prelude.{◌&&◌, nat_le, option_and_then}
+use Rattle.hpr_terms.specs.declared.limits.TheConstants.{DEFAULT_TRIES, MAX_TRIES}
 use Rattle.clap.proofs.OnLiterals.{clap_on_literals}
 use Rattle.clap.specs.Simple.{Shape, built}
 use Rattle.clap.specs.Walk.{Text}
@@ -47,7 +48,7 @@ takes_b : (w : Text) → TakesWord top 3 w
 takes_b = takes_word top 3 refl refl refl refl refl refl (inl refl) (λ w. refl)
 
 module _ (command base a b : Text) (words : List Text) (ps : List Piece) (tries : ℕ) (cut : IsCut options [] words ps) (named : names ps ≡ base ∷ a ∷ b ∷ [])
-    (fair : IsFair 10000 1000000000 (values (codes "--tries") ps) tries) where
+    (fair : IsFair DEFAULT_TRIES MAX_TRIES (values (codes "--tries") ps) tries) where
   given_base : given_at top ps (codes "base") ≡ base ∷ []
   given_base = given_name is_command cut named (codes "base") (refl, tt) tt
 
@@ -77,20 +78,20 @@ module _ (command base a b : Text) (words : List Text) (ps : List Piece) (tries 
   request_is : integrate_in (matches_of integrate_app (command ∷ words)) ≡ integrate_from (base ∷ a ∷ b ∷ []) (Some tries)
   request_is = (λ i. integrate_with (first_is is_command command read (codes "base") (base ∷ []) refl given_base i)
       (first_is is_command command read (codes "a") (a ∷ []) refl given_a i) (first_is is_command command read (codes "b") (b ∷ []) refl given_b i)
-      (taken.number_or 1000000000 10000 (first_is is_command command read (codes "tries") (values (codes "--tries") ps) refl given_tries i)))
+      (taken.number_or MAX_TRIES DEFAULT_TRIES (first_is is_command command read (codes "tries") (values (codes "--tries") ps) refl given_tries i)))
       ∙ ap (integrate_with (Some base) (Some a) (Some b)) fair.is
 
   names_taken : taken_by integrate_app integrate_in (command ∷ words) ≡ integrate_from (base ∷ a ∷ b ∷ []) (Some tries)
   names_taken = taken_is is_command command read integrate_in ∙ request_is
 
 by_names : (command : Text) (words : List Text) (ps : List Piece) → IsCut options [] words ps → (ns : List Text) → names ps ≡ ns
-    → (n : Option ℕ) → number_or 10000 1000000000 (values (codes "--tries") ps) ≡ n → (r : Request) → integrate_from ns n ≡ Some r → taken_by integrate_app integrate_in (command ∷ words) ≡ Some r
+    → (n : Option ℕ) → number_or DEFAULT_TRIES MAX_TRIES (values (codes "--tries") ps) ≡ n → (r : Request) → integrate_from ns n ≡ Some r → taken_by integrate_app integrate_in (command ∷ words) ≡ Some r
 by_names command words ps cut (base ∷ a ∷ b ∷ []) named (Some tries) number r e =
-    names_taken command base a b words ps tries cut named (numbers_fair 10000 1000000000 (values (codes "--tries") ps) tries (omega arith) number) ∙ e
+    names_taken command base a b words ps tries cut named (numbers_fair DEFAULT_TRIES MAX_TRIES (values (codes "--tries") ps) tries (omega arith) number) ∙ e
 by_names command words ps cut ns named n number r e = absurd (none_some r e)
 
 pub integrate_taken : (command : Text) (words : List Text) (r : Request) → option_and_then plain_integrate (pieces options [] words) ≡ Some r
     → taken_by integrate_app integrate_in (command ∷ words) ≡ Some r
 integrate_taken command words r =
     by_pieces options [] words plain_integrate (taken_by integrate_app integrate_in (command ∷ words)) r
-    (λ ps cut. by_names command words ps cut (names ps) refl (number_or 10000 1000000000 (values (codes "--tries") ps)) refl r)
+    (λ ps cut. by_names command words ps cut (names ps) refl (number_or DEFAULT_TRIES MAX_TRIES (values (codes "--tries") ps)) refl r)

@@ -2,6 +2,7 @@
 use Rattle.std.proofs.Common.{◌≡◌, ◌∙◌, ℕ, Bool, true, false, List, [], ◌∷◌, ◌++◌, map, Some, option_and_then, append-nil, refl, sym, ap, ap₂, codes}
 use Rattle.std.specs.Prelude.{◌&&◌, not}
 use Rattle.std.specs.List.{list_all}
+use Rattle.hpr_terms.specs.declared.limits.TheConstants.{DEFAULT_TRIES, MAX_TRIES}
 use Rattle.clap.proofs.SimpleLemmas.{is_false}
 use Rattle.clap.proofs.WalkLemmas.{both}
 use Rattle.hpr_words.specs.Plain.{Piece, begun, flag, given, goes_on, is_among, is_name, is_unbroken, name, names, number, pieces, plain, plain_slice, slice_from, uses, values}
@@ -9,10 +10,10 @@ use Rattle.hpr_words.specs.Request.{Text, integrate, slice}
 use Rattle.hpr_words.proofs.PieceLemmas.{spelling}
 
 module _ (base a b : Text) (p : is_name base ≡ true) (q : is_name a ≡ true) (r : is_name b ≡ true) where
-  pub integrate-alone : plain (codes "integrate" ∷ base ∷ a ∷ b ∷ []) ≡ Some (integrate base a b 10000)
+  pub integrate-alone : plain (codes "integrate" ∷ base ∷ a ∷ b ∷ []) ≡ Some (integrate base a b DEFAULT_TRIES)
   integrate-alone = rw (p, q, r) refl
 
-  module _ (n : Text) (tries : ℕ) (spelled : number 1000000000 n ≡ Some tries) where
+  module _ (n : Text) (tries : ℕ) (spelled : number MAX_TRIES n ≡ Some tries) where
     pub integrate-first : plain (codes "integrate" ∷ codes "--tries" ∷ n ∷ base ∷ a ∷ b ∷ []) ≡ Some (integrate base a b tries)
     integrate-first = rw (p, q, r, spelled) refl
 

@@ -1,6 +1,7 @@
 -- The numbers of what is taken are in their range.
 use Rattle.std.proofs.Common.{◌≡◌, ◌≤◌, ℕ, Bool, true, false, cond, List, ◌∷◌, Option, Some, None, Result, Ok, Err, IfOk, refl, ap, subst, codes, arith, option_and_then, unwrap_or}
 use Rattle.std.specs.Str.Parse.{digits_value, without_leading_plus}
+use Rattle.hpr_terms.specs.declared.limits.TheConstants.{DEFAULT_STEPS, DEFAULT_TRIES, MAX_STEPS, MAX_TRIES}
 use Rattle.clap.proofs.ValueTestLemmas.{accepts-Accepts}
 use Rattle.clap.specs.ValueTests.{accepts}
 use Rattle.clap.specs.Walk.{is_empty}
@@ -27,11 +28,11 @@ number_or-range most default None n low high e =
     (omega (arith, is, low), omega (arith, is, high))
 number_or-range most default (Some text) n low high e = number_of-range most text n e
 
-integrate_with-range : (base a b : Option Text) (o : Option ℕ) (r : Request) → ((n : ℕ) → o ≡ Some n → (1 ≤ n) × (n ≤ 1000000000)) → integrate_with base a b o ≡ Some r → IsInRange r
+integrate_with-range : (base a b : Option Text) (o : Option ℕ) (r : Request) → ((n : ℕ) → o ≡ Some n → (1 ≤ n) × (n ≤ MAX_TRIES)) → integrate_with base a b o ≡ Some r → IsInRange r
 integrate_with-range (Some base) (Some a) (Some b) (Some tries) r range e = subst IsInRange (ap (λ o. unwrap_or o r) e) (range tries refl)
 integrate_with-range base a b o r range e = absurd (none_some r e)
 
-run_with-range : (file : Option Text) (states : List Text) (o : Option ℕ) (trace : Bool) (r : Request) → ((n : ℕ) → o ≡ Some n → (1 ≤ n) × (n ≤ 1000000000))
+run_with-range : (file : Option Text) (states : List Text) (o : Option ℕ) (trace : Bool) (r : Request) → ((n : ℕ) → o ≡ Some n → (1 ≤ n) × (n ≤ MAX_STEPS))
     → run_with file states o trace ≡ Some r → IsInRange r
 run_with-range (Some file) states (Some steps) trace r range e = subst IsInRange (ap (λ o. unwrap_or o r) e) (range steps refl)
 run_with-range file states o trace r range e = absurd (none_some r e)
@@ -48,7 +49,7 @@ slice_with-range : (file : Option Text) (points : List Text) (r : Request) → s
 slice_with-range (Some file) (point ∷ points) r e = subst IsInRange (ap (λ o. unwrap_or o r) e) (omega arith)
 slice_with-range file points r e = absurd (none_some r e)
 
-trial_with-range : (base a b : Option Text) (states : List Text) (o : Option ℕ) (r : Request) → ((n : ℕ) → o ≡ Some n → (1 ≤ n) × (n ≤ 1000000000))
+trial_with-range : (base a b : Option Text) (states : List Text) (o : Option ℕ) (r : Request) → ((n : ℕ) → o ≡ Some n → (1 ≤ n) × (n ≤ MAX_STEPS))
     → trial_with base a b states o ≡ Some r → IsInRange r
 trial_with-range (Some base) (Some a) (Some b) states (Some steps) r range e = subst IsInRange (ap (λ o. unwrap_or o r) e) (range steps refl)
 trial_with-range base a b states o r range e = absurd (none_some r e)
@@ -69,8 +70,8 @@ taken_by-range app request_in range words r e = go (is_empty (fault_of app words
     go true f = range (matches_of app words) r f
     go false f = absurd (none_some r f)
 
-steps_in-range : (rows : List Row) (n : ℕ) → steps_in rows ≡ Some n → (1 ≤ n) × (n ≤ 1000000000)
-steps_in-range rows n = number_or-range 1000000000 1000000 (first_of (codes "steps") rows) n (omega arith) (omega arith)
+steps_in-range : (rows : List Row) (n : ℕ) → steps_in rows ≡ Some n → (1 ≤ n) × (n ≤ MAX_STEPS)
+steps_in-range rows n = number_or-range MAX_STEPS DEFAULT_STEPS (first_of (codes "steps") rows) n (omega arith) (omega arith)
 
 author_in-range : (rows : List Row) (n : ℕ) → author_in rows ≡ Some n → (1 ≤ n) × (n ≤ 4294967295)
 author_in-range rows n = go (first_of (codes "author") rows)
@@ -81,8 +82,8 @@ author_in-range rows n = go (first_of (codes "author") rows)
 
 pub integrate_taken-range : (words : List Text) (r : Request) → taken_by integrate_app integrate_in words ≡ Some r → IsInRange r
 integrate_taken-range = taken_by-range integrate_app integrate_in (λ rows r.
-    integrate_with-range (first_of (codes "base") rows) (first_of (codes "a") rows) (first_of (codes "b") rows) (number_in (codes "tries") 1000000000 10000 rows) r
-    (λ n. number_or-range 1000000000 10000 (first_of (codes "tries") rows) n (omega arith) (omega arith)))
+    integrate_with-range (first_of (codes "base") rows) (first_of (codes "a") rows) (first_of (codes "b") rows) (number_in (codes "tries") MAX_TRIES DEFAULT_TRIES rows) r
+    (λ n. number_or-range MAX_TRIES DEFAULT_TRIES (first_of (codes "tries") rows) n (omega arith) (omega arith)))
 
 pub run_taken-range : (words : List Text) (r : Request) → taken_by run_app run_in words ≡ Some r → IsInRange r
 run_taken-range = taken_by-range run_app run_in (λ rows r.

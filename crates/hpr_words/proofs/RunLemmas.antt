@@ -1,6 +1,7 @@
 -- Plain words of `run` are taken.
 use Rattle.std.proofs.Common.{◌≡◌, ◌∙◌, ℕ, Bool, true, List, [], ◌∷◌, Option, Some, is_some, inl, inr, length, slice_get, refl, ap, ap₂, codes, arith}
 use Rattle.std.specs.Prelude.{◌&&◌, nat_le, option_and_then}
+use Rattle.hpr_terms.specs.declared.limits.TheConstants.{DEFAULT_STEPS, MAX_STEPS}
 use Rattle.clap.proofs.OnLiterals.{clap_on_literals}
 use Rattle.clap.specs.Simple.{Shape, built}
 use Rattle.clap.specs.Walk.{Text}
@@ -54,7 +55,7 @@ takes_state : (w : Text) → TakesWord top 2 w
 takes_state = takes_word top 2 refl refl refl refl refl refl (inr refl) (λ w. refl)
 
 module _ (command file : Text) (states words : List Text) (ps : List Piece) (steps : ℕ) (trace : Bool) (cut : IsCut options flags words ps) (named : names ps ≡ file ∷ states)
-    (fair : IsFair 1000000 1000000000 (values (codes "--steps") ps) steps) (used : is_used (uses (codes "--trace") ps) ≡ Some trace) where
+    (fair : IsFair DEFAULT_STEPS MAX_STEPS (values (codes "--steps") ps) steps) (used : is_used (uses (codes "--trace") ps) ≡ Some trace) where
   given_file : given_at top ps (codes "file") ≡ file ∷ []
   given_file = given_name is_command cut named (codes "file") (refl, tt) (refl, tt) ∙ ap (λ vs. file ∷ vs) (given-no_list top 2 refl (codes "file") refl states)
 
@@ -82,7 +83,7 @@ module _ (command file : Text) (states words : List Text) (ps : List Piece) (ste
 
   request_is : run_in (matches_of run_app (command ∷ words)) ≡ run_from (file ∷ states) (Some steps) (Some trace)
   request_is = (λ i. run_with (first_is is_command command read (codes "file") (file ∷ []) refl given_file i) (list_is is_command command read (codes "state") states refl given_state i)
-      (taken.number_or 1000000000 1000000 (first_is is_command command read (codes "steps") (values (codes "--steps") ps) refl given_steps i))
+      (taken.number_or MAX_STEPS DEFAULT_STEPS (first_is is_command command read (codes "steps") (values (codes "--steps") ps) refl given_steps i))
       (flag_is is_command command read (codes "trace") (trues (uses (codes "--trace") ps)) refl given_trace i))
       ∙ ap₂ (run_with (Some file) states) fair.is (is_flagged-trues (uses (codes "--trace") ps) trace used)
 
@@ -93,7 +94,7 @@ by_names : (command : Text) (words : List Text) (ps : List Piece) → IsCut opti
     → (n : Option ℕ) → plain_steps ps ≡ n → (trace : Option Bool) → is_used (uses (codes "--trace") ps) ≡ trace
     → (r : Request) → run_from ns n trace ≡ Some r → taken_by run_app run_in (command ∷ words) ≡ Some r
 by_names command words ps cut (file ∷ states) named (Some steps) number (Some trace) used r e =
-    names_taken command file states words ps steps trace cut named (numbers_fair 1000000 1000000000 (values (codes "--steps") ps) steps (omega arith) number) used ∙ e
+    names_taken command file states words ps steps trace cut named (numbers_fair DEFAULT_STEPS MAX_STEPS (values (codes "--steps") ps) steps (omega arith) number) used ∙ e
 by_names command words ps cut ns named n number trace used r e = absurd (none_some r e)
 
 pub run_taken : (command : Text) (words : List Text) (r : Request) → option_and_then plain_run (pieces options flags words) ≡ Some r → taken_by run_app run_in (command ∷ words) ≡ Some r

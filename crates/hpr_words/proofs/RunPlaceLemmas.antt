@@ -1,6 +1,7 @@
 -- The options of `run` may stand in each of their places.
 use Rattle.std.proofs.Common.{◌≡◌, ◌∙◌, ℕ, suc, Bool, true, false, cond, List, [], ◌∷◌, ◌++◌, map, Some, None, option_and_then, refl, sym, ap, ap₂, codes}
 use Rattle.std.specs.List.{list_all}
+use Rattle.hpr_terms.specs.declared.limits.TheConstants.{DEFAULT_STEPS, MAX_STEPS}
 use Rattle.hpr_words.specs.Plain.{Piece, flag, given, is_name, is_unbroken, is_used, name, names, number, number_or, pieces, plain, plain_run, run_from, uses, values}
 use Rattle.hpr_words.specs.Request.{Text, run}
 use Rattle.hpr_words.proofs.PieceLemmas.{spelling}
@@ -19,14 +20,14 @@ module _ (file : Text) (states : List Text) (p : is_name file ≡ true) (q : lis
     rest = map name states ++ after
 
     run-pieces : (ps : List Piece) (words : List Text) (n : ℕ) (traced : Bool) → spelling ps ≡ words → list_all (is_cut steps trace) ps ≡ true
-        → plain_run ps ≡ cond (is_unbroken rest) (run_from (file ∷ names rest) (number_or 1000000 1000000000 (numbers (values (codes "--steps") rest))) (is_used (flagged (uses (codes "--trace") rest)))) None
-        → number_or 1000000 1000000000 (numbers (values (codes "--steps") after)) ≡ Some n → is_used (flagged (uses (codes "--trace") after)) ≡ Some traced
+        → plain_run ps ≡ cond (is_unbroken rest) (run_from (file ∷ names rest) (number_or DEFAULT_STEPS MAX_STEPS (numbers (values (codes "--steps") rest))) (is_used (flagged (uses (codes "--trace") rest)))) None
+        → number_or DEFAULT_STEPS MAX_STEPS (numbers (values (codes "--steps") after)) ≡ Some n → is_used (flagged (uses (codes "--trace") after)) ≡ Some traced
         → plain (codes "run" ∷ words) ≡ Some (run file states n traced)
     run-pieces ps words n traced spelled cut parts number used =
         ap (λ ws. option_and_then plain_run (pieces steps trace ws)) (sym spelled)
         ∙ (ap (option_and_then plain_run) (pieces-spelling steps trace ps cut) ∙ (parts
         ∙ ((λ i. cond (is_unbroken-names states after behind.unbroken behind.stops i) (run_from (file ∷ names-list states after behind i)
-        (number_or 1000000 1000000000 (numbers (values-names (codes "--steps") states after i))) (is_used (flagged (uses-names (codes "--trace") states after i)))) None)
+        (number_or DEFAULT_STEPS MAX_STEPS (numbers (values-names (codes "--steps") states after i))) (is_used (flagged (uses-names (codes "--trace") states after i)))) None)
         ∙ ap₂ (run_from (file ∷ states)) number used)))
 
   alone_cut : list_all (is_cut steps trace) (map name states ++ []) ≡ true
@@ -35,28 +36,28 @@ module _ (file : Text) (states : List Text) (p : is_name file ≡ true) (q : lis
   abbrev listed : List Piece
   listed = map name states ++ []
 
-  pub run-alone : plain (codes "run" ∷ file ∷ states) ≡ Some (run file states 1000000 false)
-  run-alone = run-pieces [] alone (λ vs. vs) (λ u. u) (name file ∷ listed) (file ∷ states) 1000000 false (ap (λ ws. file ∷ ws) (spelling-names_alone states)) (rw (p) alone_cut) refl refl refl
+  pub run-alone : plain (codes "run" ∷ file ∷ states) ≡ Some (run file states DEFAULT_STEPS false)
+  run-alone = run-pieces [] alone (λ vs. vs) (λ u. u) (name file ∷ listed) (file ∷ states) DEFAULT_STEPS false (ap (λ ws. file ∷ ws) (spelling-names_alone states)) (rw (p) alone_cut) refl refl refl
 
-  pub run-traced_first : plain (codes "run" ∷ codes "--trace" ∷ file ∷ states) ≡ Some (run file states 1000000 true)
-  run-traced_first = run-pieces [] alone (λ vs. vs) suc (flag (codes "--trace") ∷ name file ∷ listed) (codes "--trace" ∷ file ∷ states) 1000000 true
+  pub run-traced_first : plain (codes "run" ∷ codes "--trace" ∷ file ∷ states) ≡ Some (run file states DEFAULT_STEPS true)
+  run-traced_first = run-pieces [] alone (λ vs. vs) suc (flag (codes "--trace") ∷ name file ∷ listed) (codes "--trace" ∷ file ∷ states) DEFAULT_STEPS true
       (ap (λ ws. codes "--trace" ∷ file ∷ ws) (spelling-names_alone states)) (rw (p) alone_cut) refl refl refl
 
-  pub run-traced_second : plain (codes "run" ∷ file ∷ codes "--trace" ∷ states) ≡ Some (run file states 1000000 true)
-  run-traced_second = run-pieces [] alone (λ vs. vs) suc (name file ∷ flag (codes "--trace") ∷ listed) (file ∷ codes "--trace" ∷ states) 1000000 true
+  pub run-traced_second : plain (codes "run" ∷ file ∷ codes "--trace" ∷ states) ≡ Some (run file states DEFAULT_STEPS true)
+  run-traced_second = run-pieces [] alone (λ vs. vs) suc (name file ∷ flag (codes "--trace") ∷ listed) (file ∷ codes "--trace" ∷ states) DEFAULT_STEPS true
       (ap (λ ws. file ∷ codes "--trace" ∷ ws) (spelling-names_alone states)) (rw (p) alone_cut) refl refl refl
 
   -- options and flags behind the states
   module _ (after : List Piece) (behind : IsBehind after) (cut : list_all (is_cut steps trace) after ≡ true) (n : ℕ) (traced : Bool)
-      (number : number_or 1000000 1000000000 (values (codes "--steps") after) ≡ Some n) (used : is_used (uses (codes "--trace") after) ≡ Some traced) where
+      (number : number_or DEFAULT_STEPS MAX_STEPS (values (codes "--steps") after) ≡ Some n) (used : is_used (uses (codes "--trace") after) ≡ Some traced) where
     run-behind : plain (codes "run" ∷ file ∷ (states ++ spelling after)) ≡ Some (run file states n traced)
     run-behind = run-pieces after behind (λ vs. vs) (λ u. u) (name file ∷ (map name states ++ after)) (file ∷ (states ++ spelling after)) n traced
         (ap (λ ws. file ∷ ws) (spelling-names states after)) (rw (p) (is_cut-names steps trace states after q cut)) refl number used
 
-  pub run-traced_last : plain (codes "run" ∷ file ∷ (states ++ codes "--trace" ∷ [])) ≡ Some (run file states 1000000 true)
-  run-traced_last = run-behind (flag (codes "--trace") ∷ []) (record { unbroken = refl; stops = refl; no_names = refl }) refl 1000000 true refl refl
+  pub run-traced_last : plain (codes "run" ∷ file ∷ (states ++ codes "--trace" ∷ [])) ≡ Some (run file states DEFAULT_STEPS true)
+  run-traced_last = run-behind (flag (codes "--trace") ∷ []) (record { unbroken = refl; stops = refl; no_names = refl }) refl DEFAULT_STEPS true refl refl
 
-  module _ (n : Text) (most : ℕ) (spelled : number 1000000000 n ≡ Some most) where
+  module _ (n : Text) (most : ℕ) (spelled : number MAX_STEPS n ≡ Some most) where
     abbrev option : Piece
     option = given (codes "--steps") n
 

@@ -1,6 +1,7 @@
 -- Plain words of `trial` are taken.
 use Rattle.std.proofs.Common.{◌≡◌, ◌∙◌, ℕ, true, List, [], ◌∷◌, Option, Some, is_some, inl, inr, length, slice_get, refl, ap, codes, arith}
 use Rattle.std.specs.Prelude.{◌&&◌, nat_le, option_and_then}
+use Rattle.hpr_terms.specs.declared.limits.TheConstants.{DEFAULT_STEPS, MAX_STEPS}
 use Rattle.clap.proofs.OnLiterals.{clap_on_literals}
 use Rattle.clap.specs.Simple.{Shape, built}
 use Rattle.clap.specs.Walk.{Text}
@@ -50,7 +51,7 @@ takes_state : (w : Text) → TakesWord top 4 w
 takes_state = takes_word top 4 refl refl refl refl refl refl (inr refl) (λ w. refl)
 
 module _ (command base a b : Text) (states words : List Text) (ps : List Piece) (steps : ℕ) (cut : IsCut options [] words ps) (named : names ps ≡ base ∷ a ∷ b ∷ states)
-    (fair : IsFair 1000000 1000000000 (values (codes "--steps") ps) steps) where
+    (fair : IsFair DEFAULT_STEPS MAX_STEPS (values (codes "--steps") ps) steps) where
   given_base : given_at top ps (codes "base") ≡ base ∷ []
   given_base = given_name is_command cut named (codes "base") (refl, tt) tt ∙ ap (λ vs. base ∷ vs) (given-no_list top 4 refl (codes "base") refl states)
 
@@ -84,7 +85,7 @@ module _ (command base a b : Text) (states words : List Text) (ps : List Piece) 
   request_is = (λ i. trial_with (first_is is_command command read (codes "base") (base ∷ []) refl given_base i)
       (first_is is_command command read (codes "a") (a ∷ []) refl given_a i) (first_is is_command command read (codes "b") (b ∷ []) refl given_b i)
       (list_is is_command command read (codes "state") states refl given_state i)
-      (taken.number_or 1000000000 1000000 (first_is is_command command read (codes "steps") (values (codes "--steps") ps) refl given_steps i)))
+      (taken.number_or MAX_STEPS DEFAULT_STEPS (first_is is_command command read (codes "steps") (values (codes "--steps") ps) refl given_steps i)))
       ∙ ap (trial_with (Some base) (Some a) (Some b) states) fair.is
 
   names_taken : taken_by trial_app trial_in (command ∷ words) ≡ trial_from (base ∷ a ∷ b ∷ states) (Some steps)
@@ -93,7 +94,7 @@ module _ (command base a b : Text) (states words : List Text) (ps : List Piece) 
 by_names : (command : Text) (words : List Text) (ps : List Piece) → IsCut options [] words ps → (ns : List Text) → names ps ≡ ns
     → (n : Option ℕ) → plain_steps ps ≡ n → (r : Request) → trial_from ns n ≡ Some r → taken_by trial_app trial_in (command ∷ words) ≡ Some r
 by_names command words ps cut (base ∷ a ∷ b ∷ states) named (Some steps) number r e =
-    names_taken command base a b states words ps steps cut named (numbers_fair 1000000 1000000000 (values (codes "--steps") ps) steps (omega arith) number) ∙ e
+    names_taken command base a b states words ps steps cut named (numbers_fair DEFAULT_STEPS MAX_STEPS (values (codes "--steps") ps) steps (omega arith) number) ∙ e
 by_names command words ps cut ns named n number r e = absurd (none_some r e)
 
 pub trial_taken : (command : Text) (words : List Text) (r : Request) → option_and_then plain_trial (pieces options [] words) ≡ Some r → taken_by trial_app trial_in (command ∷ words) ≡ Some r

@@ -1,6 +1,7 @@
 -- The option of `trial` may stand in each of its places.
 use Rattle.std.proofs.Common.{◌≡◌, ◌∙◌, ℕ, true, cond, List, [], ◌∷◌, ◌++◌, map, Some, None, option_and_then, refl, sym, ap, codes}
 use Rattle.std.specs.List.{list_all}
+use Rattle.hpr_terms.specs.declared.limits.TheConstants.{DEFAULT_STEPS, MAX_STEPS}
 use Rattle.hpr_words.specs.Plain.{Piece, given, is_name, is_unbroken, name, names, number, number_or, pieces, plain, plain_trial, trial_from, values}
 use Rattle.hpr_words.specs.Request.{Text, trial}
 use Rattle.hpr_words.proofs.PieceLemmas.{spelling}
@@ -15,13 +16,13 @@ module _ (base a b : Text) (states : List Text) (p : is_name base ≡ true) (q :
     rest = map name states ++ after
 
     trial-pieces : (ps : List Piece) (words : List Text) (n : ℕ) → spelling ps ≡ words → list_all (is_cut steps []) ps ≡ true
-        → plain_trial ps ≡ cond (is_unbroken rest) (trial_from (base ∷ a ∷ b ∷ names rest) (number_or 1000000 1000000000 (numbers (values (codes "--steps") rest)))) None
-        → number_or 1000000 1000000000 (numbers (values (codes "--steps") after)) ≡ Some n → plain (codes "trial" ∷ words) ≡ Some (trial base a b states n)
+        → plain_trial ps ≡ cond (is_unbroken rest) (trial_from (base ∷ a ∷ b ∷ names rest) (number_or DEFAULT_STEPS MAX_STEPS (numbers (values (codes "--steps") rest)))) None
+        → number_or DEFAULT_STEPS MAX_STEPS (numbers (values (codes "--steps") after)) ≡ Some n → plain (codes "trial" ∷ words) ≡ Some (trial base a b states n)
     trial-pieces ps words n spelled cut parts number =
         ap (λ ws. option_and_then plain_trial (pieces steps [] ws)) (sym spelled)
         ∙ (ap (option_and_then plain_trial) (pieces-spelling steps [] ps cut) ∙ (parts
         ∙ ((λ i. cond (is_unbroken-names states after behind.unbroken behind.stops i) (trial_from (base ∷ a ∷ b ∷ names-list states after behind i)
-        (number_or 1000000 1000000000 (numbers (values-names (codes "--steps") states after i)))) None)
+        (number_or DEFAULT_STEPS MAX_STEPS (numbers (values-names (codes "--steps") states after i)))) None)
         ∙ ap (trial_from (base ∷ a ∷ b ∷ states)) number)))
 
   alone_cut : list_all (is_cut steps []) (map name states ++ []) ≡ true
@@ -30,11 +31,11 @@ module _ (base a b : Text) (states : List Text) (p : is_name base ≡ true) (q :
   abbrev listed : List Piece
   listed = map name states ++ []
 
-  pub trial-alone : plain (codes "trial" ∷ base ∷ a ∷ b ∷ states) ≡ Some (trial base a b states 1000000)
-  trial-alone = trial-pieces [] alone (λ vs. vs) (name base ∷ name a ∷ name b ∷ listed) (base ∷ a ∷ b ∷ states) 1000000
+  pub trial-alone : plain (codes "trial" ∷ base ∷ a ∷ b ∷ states) ≡ Some (trial base a b states DEFAULT_STEPS)
+  trial-alone = trial-pieces [] alone (λ vs. vs) (name base ∷ name a ∷ name b ∷ listed) (base ∷ a ∷ b ∷ states) DEFAULT_STEPS
       (ap (λ ws. base ∷ a ∷ b ∷ ws) (spelling-names_alone states)) (rw (p, q, r) alone_cut) refl refl
 
-  module _ (n : Text) (most : ℕ) (spelled : number 1000000000 n ≡ Some most) where
+  module _ (n : Text) (most : ℕ) (spelled : number MAX_STEPS n ≡ Some most) where
     abbrev option : Piece
     option = given (codes "--steps") n
 

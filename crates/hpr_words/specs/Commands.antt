@@ -17,6 +17,7 @@
 -- edit_app             == `edit FILE SCRIPT --author N`
 -- tag_app              == `tag FILE --author N`
 use Rattle.std.specs.Prelude.{ℕ, Some, true, codes}
+use Rattle.hpr_terms.specs.declared.limits.TheConstants.{MAX_STEPS, MAX_TRIES}
 use Rattle.clap.specs.Words.{App, Rule, Text, new_app, new_rule, with_rule}
 use Rattle.clap.specs.declared.builder.action.ArgAction.TheVariants.{Append, SetTrue}
 use Rattle.clap.specs.declared.builder.value_parser.ValueParser.TheVariants.{Unsigned}
@@ -37,7 +38,7 @@ abbrev pub flag_rule : Text → Rule
 flag_rule id = record (new_rule id) { long = Some id; action = Some SetTrue }
 
 abbrev pub steps_rule : Rule
-steps_rule = number_rule (codes "steps") 1000000000
+steps_rule = number_rule (codes "steps") MAX_STEPS
 
 abbrev pub author_rule : Rule
 author_rule = record (number_rule (codes "author") 4294967295) { required = true }
@@ -46,7 +47,7 @@ abbrev pub variants_app : Text → App
 variants_app name = with_rule (with_rule (with_rule (new_app name) (name_rule (codes "base"))) (name_rule (codes "a"))) (name_rule (codes "b"))
 
 abbrev pub integrate_app : App
-integrate_app = with_rule (variants_app (codes "integrate")) (number_rule (codes "tries") 1000000000)
+integrate_app = with_rule (variants_app (codes "integrate")) (number_rule (codes "tries") MAX_TRIES)
 
 abbrev pub run_app : App
 run_app = with_rule (with_rule (with_rule (with_rule (new_app (codes "run")) (name_rule (codes "file"))) (list_rule (codes "state"))) steps_rule) (flag_rule (codes "trace"))

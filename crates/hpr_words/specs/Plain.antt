@@ -41,6 +41,7 @@ use Rattle.std.specs.List.{list_all, list_any}
 use Rattle.std.specs.Char.{is_digit}
 use Rattle.std.specs.Str.{bytes_eq}
 use Rattle.std.specs.Str.Parse.{digits_value}
+use Rattle.hpr_terms.specs.declared.limits.TheConstants.{DEFAULT_STEPS, DEFAULT_TRIES, MAX_STEPS, MAX_TRIES}
 use Rattle.hpr_words.specs.Request.{Request, Text, affected, edit, graph, integrate, run, slice, tag, trial}
 
 -- 45 is `-`
@@ -141,7 +142,7 @@ is_used (suc zero) = Some true
 is_used (suc (suc n)) = None
 
 abbrev pub plain_steps : List Piece → Option ℕ
-plain_steps ps = number_or 1000000 1000000000 (values (codes "--steps") ps)
+plain_steps ps = number_or DEFAULT_STEPS MAX_STEPS (values (codes "--steps") ps)
 
 abbrev pub plain_author : List Piece → Option ℕ
 plain_author ps = only_number 4294967295 (values (codes "--author") ps)
@@ -151,7 +152,7 @@ integrate_from (base ∷ a ∷ b ∷ []) (Some tries) = Some (integrate base a b
 integrate_from _ _ = None
 
 abbrev pub plain_integrate : List Piece → Option Request
-plain_integrate ps = integrate_from (names ps) (number_or 10000 1000000000 (values (codes "--tries") ps))
+plain_integrate ps = integrate_from (names ps) (number_or DEFAULT_TRIES MAX_TRIES (values (codes "--tries") ps))
 
 abbrev pub run_from : List Text → Option ℕ → Option Bool → Option Request
 run_from (file ∷ states) (Some steps) (Some trace) = Some (run file states steps trace)

@@ -11,6 +11,7 @@
 -- tag file n              == tag the untagged program of a file, as the author of the number n
 -- IsInRange request       == its tries or steps, if it has some, are from 1 to 1,000,000,000, its author, if it has one, is from 1 to 4,294,967,295, and its points, if it asks for some, are at least one
 use Rattle.std.specs.Prelude.{◌≤◌, ℕ, Bool, List, length}
+use Rattle.hpr_terms.specs.declared.limits.TheConstants.{MAX_STEPS, MAX_TRIES}
 
 abbrev pub Text : Type 0
 Text = List ℕ
@@ -26,11 +27,11 @@ pub data Request : Type 0 where
   tag : (file : Text) (author : ℕ) → Request
 
 abbrev pub IsInRange : Request → Type 0
-IsInRange (integrate base a b tries) = (1 ≤ tries) × (tries ≤ 1000000000)
-IsInRange (run file states steps trace) = (1 ≤ steps) × (steps ≤ 1000000000)
+IsInRange (integrate base a b tries) = (1 ≤ tries) × (tries ≤ MAX_TRIES)
+IsInRange (run file states steps trace) = (1 ≤ steps) × (steps ≤ MAX_STEPS)
 IsInRange (graph file json) = Unit {0}
 IsInRange (slice file points) = 1 ≤ length points
 IsInRange (affected base a) = Unit {0}
-IsInRange (trial base a b states steps) = (1 ≤ steps) × (steps ≤ 1000000000)
+IsInRange (trial base a b states steps) = (1 ≤ steps) × (steps ≤ MAX_STEPS)
 IsInRange (edit file script author) = (1 ≤ author) × (author ≤ 4294967295)
 IsInRange (tag file author) = (1 ≤ author) × (author ≤ 4294967295)

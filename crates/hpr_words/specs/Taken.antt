@@ -29,6 +29,7 @@ use Rattle.std.specs.Prelude.{ℕ, Bool, false, List, [], ◌∷◌, Option, Som
 use Rattle.std.specs.Option.{option_map_or}
 use Rattle.std.specs.Str.{bytes_eq}
 use Rattle.std.specs.Str.Parse.{digits_value, without_leading_plus}
+use Rattle.hpr_terms.specs.declared.limits.TheConstants.{DEFAULT_STEPS, DEFAULT_TRIES, MAX_STEPS, MAX_TRIES}
 use Rattle.clap.specs.Words.{App, Row, all_of, fault_of, first_of, matches_of}
 use Rattle.clap.specs.Walk.{is_empty}
 use Rattle.clap.specs.ValueTests.{accepts}
@@ -54,7 +55,7 @@ abbrev pub flag_in : Text → List Row → Bool
 flag_in id rows = option_map_or (λ text. bytes_eq text (codes "true")) (first_of id rows) false
 
 abbrev pub steps_in : List Row → Option ℕ
-steps_in rows = number_in (codes "steps") 1000000000 1000000 rows
+steps_in rows = number_in (codes "steps") MAX_STEPS DEFAULT_STEPS rows
 
 abbrev pub author_in : List Row → Option ℕ
 author_in rows = option_and_then (number_of 4294967295) (first_of (codes "author") rows)
@@ -65,7 +66,7 @@ integrate_with _ _ _ _ = None
 
 abbrev pub integrate_in : List Row → Option Request
 integrate_in rows = integrate_with (first_of (codes "base") rows) (first_of (codes "a") rows) (first_of (codes "b") rows)
-    (number_in (codes "tries") 1000000000 10000 rows)
+    (number_in (codes "tries") MAX_TRIES DEFAULT_TRIES rows)
 
 abbrev pub run_with : Option Text → List Text → Option ℕ → Bool → Option Request
 run_with (Some file) states (Some steps) trace = Some (run file states steps trace)

@@ -7,14 +7,11 @@ ghost use Rattle.clap.specs.Words.{found_of, rows_of};
 use crate::arguments::{Argument, Takes};
 use crate::asked::{Asked, WordsError};
 use crate::found::{
-    MOST_AUTHORS, MOST_STEPS, author_from, flag_from, list_from, name_from, number_from, steps_from,
+    MOST_AUTHORS, author_from, flag_from, list_from, name_from, number_from, steps_from,
 };
 use clap::ArgMatches;
+use hpr_terms::limits::{DEFAULT_TRIES, MAX_STEPS, MAX_TRIES};
 use std::alloc::Global;
-
-const MOST_TRIES: u32 = 1_000_000_000;
-
-const DEFAULT_TRIES: u64 = 10_000;
 
 const BASE: Argument = Argument {
     name: "base",
@@ -60,13 +57,13 @@ const POINTS: Argument = Argument {
 
 const TRIES: Argument = Argument {
     name: "tries",
-    takes: Takes::Number(MOST_TRIES),
+    takes: Takes::Number(MAX_TRIES),
     is_needed: false,
 };
 
 const STEPS: Argument = Argument {
     name: "steps",
-    takes: Takes::Number(MOST_STEPS),
+    takes: Takes::Number(MAX_STEPS),
     is_needed: false,
 };
 
@@ -159,7 +156,7 @@ fn integrate_from<'a>(matches: &ArgMatches<'a>) -> Result<Asked<'a>, WordsError>
         base: name_from(matches, "base")?,
         a: name_from(matches, "a")?,
         b: name_from(matches, "b")?,
-        tries: number_from(matches, "tries", MOST_TRIES, DEFAULT_TRIES)?,
+        tries: number_from(matches, "tries", MAX_TRIES, DEFAULT_TRIES)?,
     })
 }
 

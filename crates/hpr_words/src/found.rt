@@ -7,12 +7,8 @@ ghost use Rattle.clap.specs.Words.{first_of, found_of, rows_of};
 
 use crate::asked::WordsError;
 use clap::ArgMatches;
+use hpr_terms::limits::{DEFAULT_STEPS, MAX_STEPS};
 use std::alloc::{AllocError, Global};
-
-/// The largest number of steps.
-pub const MOST_STEPS: u32 = 1_000_000_000;
-
-const DEFAULT_STEPS: u64 = 1_000_000;
 
 /// The largest number of an author.
 pub const MOST_AUTHORS: u32 = 4_294_967_295;
@@ -61,7 +57,7 @@ pub fn number_from(
 pub fn steps_from(matches: &ArgMatches<'_>) -> Result<u64, WordsError>
     ensures { result_ok result ≡ steps_in (rows_of (found_of matches.now)) }
 {
-    number_from(matches, "steps", MOST_STEPS, DEFAULT_STEPS)
+    number_from(matches, "steps", MAX_STEPS, DEFAULT_STEPS)
 }
 
 /// The number of the author.

@@ -1,6 +1,7 @@
 //! Laws of the words: each function's contract is the law, for all words.
 ghost use Rattle.std.specs.Prelude.{◌≡◌, ℕ, true, false, List, [], ◌∷◌, ◌++◌, Some, codes};
 ghost use Rattle.std.specs.List.{list_all};
+ghost use Rattle.hpr_terms.specs.declared.limits.TheConstants.{DEFAULT_STEPS, DEFAULT_TRIES, MAX_STEPS, MAX_TRIES};
 ghost use Rattle.hpr_words.specs.Request.{Request, Text, affected, edit, graph, integrate, run, slice, tag, trial};
 ghost use Rattle.hpr_words.specs.Taken.{taken};
 ghost use Rattle.hpr_words.specs.Plain.{is_name, number, plain};
@@ -14,36 +15,36 @@ pub fn plain_words_are_taken()
 /// The words of `integrate` are plain, with the option in each of its places or with none.
 pub fn integrate_words_are_plain()
     ensures alone { (base a b : Text) → is_name base ≡ true → is_name a ≡ true → is_name b ≡ true
-        → plain (codes "integrate" ∷ base ∷ a ∷ b ∷ []) ≡ Some (integrate base a b 10000) }
-    ensures first { (base a b n : Text) (tries : ℕ) → is_name base ≡ true → is_name a ≡ true → is_name b ≡ true → number 1000000000 n ≡ Some tries
+        → plain (codes "integrate" ∷ base ∷ a ∷ b ∷ []) ≡ Some (integrate base a b DEFAULT_TRIES) }
+    ensures first { (base a b n : Text) (tries : ℕ) → is_name base ≡ true → is_name a ≡ true → is_name b ≡ true → number MAX_TRIES n ≡ Some tries
         → plain (codes "integrate" ∷ codes "--tries" ∷ n ∷ base ∷ a ∷ b ∷ []) ≡ Some (integrate base a b tries) }
-    ensures second { (base a b n : Text) (tries : ℕ) → is_name base ≡ true → is_name a ≡ true → is_name b ≡ true → number 1000000000 n ≡ Some tries
+    ensures second { (base a b n : Text) (tries : ℕ) → is_name base ≡ true → is_name a ≡ true → is_name b ≡ true → number MAX_TRIES n ≡ Some tries
         → plain (codes "integrate" ∷ base ∷ codes "--tries" ∷ n ∷ a ∷ b ∷ []) ≡ Some (integrate base a b tries) }
-    ensures third { (base a b n : Text) (tries : ℕ) → is_name base ≡ true → is_name a ≡ true → is_name b ≡ true → number 1000000000 n ≡ Some tries
+    ensures third { (base a b n : Text) (tries : ℕ) → is_name base ≡ true → is_name a ≡ true → is_name b ≡ true → number MAX_TRIES n ≡ Some tries
         → plain (codes "integrate" ∷ base ∷ a ∷ codes "--tries" ∷ n ∷ b ∷ []) ≡ Some (integrate base a b tries) }
-    ensures last { (base a b n : Text) (tries : ℕ) → is_name base ≡ true → is_name a ≡ true → is_name b ≡ true → number 1000000000 n ≡ Some tries
+    ensures last { (base a b n : Text) (tries : ℕ) → is_name base ≡ true → is_name a ≡ true → is_name b ≡ true → number MAX_TRIES n ≡ Some tries
         → plain (codes "integrate" ∷ base ∷ a ∷ b ∷ codes "--tries" ∷ n ∷ []) ≡ Some (integrate base a b tries) }
 {}
 
 /// The words of `run` are plain, with each option in each of its places or with none, and with both.
 pub fn run_words_are_plain()
     ensures alone { (file : Text) (states : List Text) → is_name file ≡ true → list_all is_name states ≡ true
-        → plain (codes "run" ∷ file ∷ states) ≡ Some (run file states 1000000 false) }
-    ensures first { (file n : Text) (states : List Text) (steps : ℕ) → is_name file ≡ true → list_all is_name states ≡ true → number 1000000000 n ≡ Some steps
+        → plain (codes "run" ∷ file ∷ states) ≡ Some (run file states DEFAULT_STEPS false) }
+    ensures first { (file n : Text) (states : List Text) (steps : ℕ) → is_name file ≡ true → list_all is_name states ≡ true → number MAX_STEPS n ≡ Some steps
         → plain (codes "run" ∷ codes "--steps" ∷ n ∷ file ∷ states) ≡ Some (run file states steps false) }
-    ensures second { (file n : Text) (states : List Text) (steps : ℕ) → is_name file ≡ true → list_all is_name states ≡ true → number 1000000000 n ≡ Some steps
+    ensures second { (file n : Text) (states : List Text) (steps : ℕ) → is_name file ≡ true → list_all is_name states ≡ true → number MAX_STEPS n ≡ Some steps
         → plain (codes "run" ∷ file ∷ codes "--steps" ∷ n ∷ states) ≡ Some (run file states steps false) }
-    ensures last { (file n : Text) (states : List Text) (steps : ℕ) → is_name file ≡ true → list_all is_name states ≡ true → number 1000000000 n ≡ Some steps
+    ensures last { (file n : Text) (states : List Text) (steps : ℕ) → is_name file ≡ true → list_all is_name states ≡ true → number MAX_STEPS n ≡ Some steps
         → plain (codes "run" ∷ file ∷ (states ++ codes "--steps" ∷ n ∷ [])) ≡ Some (run file states steps false) }
     ensures traced_first { (file : Text) (states : List Text) → is_name file ≡ true → list_all is_name states ≡ true
-        → plain (codes "run" ∷ codes "--trace" ∷ file ∷ states) ≡ Some (run file states 1000000 true) }
+        → plain (codes "run" ∷ codes "--trace" ∷ file ∷ states) ≡ Some (run file states DEFAULT_STEPS true) }
     ensures traced_second { (file : Text) (states : List Text) → is_name file ≡ true → list_all is_name states ≡ true
-        → plain (codes "run" ∷ file ∷ codes "--trace" ∷ states) ≡ Some (run file states 1000000 true) }
+        → plain (codes "run" ∷ file ∷ codes "--trace" ∷ states) ≡ Some (run file states DEFAULT_STEPS true) }
     ensures traced_last { (file : Text) (states : List Text) → is_name file ≡ true → list_all is_name states ≡ true
-        → plain (codes "run" ∷ file ∷ (states ++ codes "--trace" ∷ [])) ≡ Some (run file states 1000000 true) }
-    ensures both { (file n : Text) (states : List Text) (steps : ℕ) → is_name file ≡ true → list_all is_name states ≡ true → number 1000000000 n ≡ Some steps
+        → plain (codes "run" ∷ file ∷ (states ++ codes "--trace" ∷ [])) ≡ Some (run file states DEFAULT_STEPS true) }
+    ensures both { (file n : Text) (states : List Text) (steps : ℕ) → is_name file ≡ true → list_all is_name states ≡ true → number MAX_STEPS n ≡ Some steps
         → plain (codes "run" ∷ file ∷ (states ++ codes "--steps" ∷ n ∷ codes "--trace" ∷ [])) ≡ Some (run file states steps true) }
-    ensures both_apart { (file n : Text) (states : List Text) (steps : ℕ) → is_name file ≡ true → list_all is_name states ≡ true → number 1000000000 n ≡ Some steps
+    ensures both_apart { (file n : Text) (states : List Text) (steps : ℕ) → is_name file ≡ true → list_all is_name states ≡ true → number MAX_STEPS n ≡ Some steps
         → plain (codes "run" ∷ codes "--trace" ∷ file ∷ codes "--steps" ∷ n ∷ states) ≡ Some (run file states steps true) }
 {}
 
@@ -68,17 +69,17 @@ pub fn affected_words_are_plain()
 /// The words of `trial` are plain, with the option in each of its places or with none.
 pub fn trial_words_are_plain()
     ensures alone { (base a b : Text) (states : List Text) → is_name base ≡ true → is_name a ≡ true → is_name b ≡ true → list_all is_name states ≡ true
-        → plain (codes "trial" ∷ base ∷ a ∷ b ∷ states) ≡ Some (trial base a b states 1000000) }
+        → plain (codes "trial" ∷ base ∷ a ∷ b ∷ states) ≡ Some (trial base a b states DEFAULT_STEPS) }
     ensures first { (base a b n : Text) (states : List Text) (steps : ℕ) → is_name base ≡ true → is_name a ≡ true → is_name b ≡ true → list_all is_name states ≡ true
-        → number 1000000000 n ≡ Some steps → plain (codes "trial" ∷ codes "--steps" ∷ n ∷ base ∷ a ∷ b ∷ states) ≡ Some (trial base a b states steps) }
+        → number MAX_STEPS n ≡ Some steps → plain (codes "trial" ∷ codes "--steps" ∷ n ∷ base ∷ a ∷ b ∷ states) ≡ Some (trial base a b states steps) }
     ensures second { (base a b n : Text) (states : List Text) (steps : ℕ) → is_name base ≡ true → is_name a ≡ true → is_name b ≡ true → list_all is_name states ≡ true
-        → number 1000000000 n ≡ Some steps → plain (codes "trial" ∷ base ∷ codes "--steps" ∷ n ∷ a ∷ b ∷ states) ≡ Some (trial base a b states steps) }
+        → number MAX_STEPS n ≡ Some steps → plain (codes "trial" ∷ base ∷ codes "--steps" ∷ n ∷ a ∷ b ∷ states) ≡ Some (trial base a b states steps) }
     ensures third { (base a b n : Text) (states : List Text) (steps : ℕ) → is_name base ≡ true → is_name a ≡ true → is_name b ≡ true → list_all is_name states ≡ true
-        → number 1000000000 n ≡ Some steps → plain (codes "trial" ∷ base ∷ a ∷ codes "--steps" ∷ n ∷ b ∷ states) ≡ Some (trial base a b states steps) }
+        → number MAX_STEPS n ≡ Some steps → plain (codes "trial" ∷ base ∷ a ∷ codes "--steps" ∷ n ∷ b ∷ states) ≡ Some (trial base a b states steps) }
     ensures fourth { (base a b n : Text) (states : List Text) (steps : ℕ) → is_name base ≡ true → is_name a ≡ true → is_name b ≡ true → list_all is_name states ≡ true
-        → number 1000000000 n ≡ Some steps → plain (codes "trial" ∷ base ∷ a ∷ b ∷ codes "--steps" ∷ n ∷ states) ≡ Some (trial base a b states steps) }
+        → number MAX_STEPS n ≡ Some steps → plain (codes "trial" ∷ base ∷ a ∷ b ∷ codes "--steps" ∷ n ∷ states) ≡ Some (trial base a b states steps) }
     ensures last { (base a b n : Text) (states : List Text) (steps : ℕ) → is_name base ≡ true → is_name a ≡ true → is_name b ≡ true → list_all is_name states ≡ true
-        → number 1000000000 n ≡ Some steps → plain (codes "trial" ∷ base ∷ a ∷ b ∷ (states ++ codes "--steps" ∷ n ∷ [])) ≡ Some (trial base a b states steps) }
+        → number MAX_STEPS n ≡ Some steps → plain (codes "trial" ∷ base ∷ a ∷ b ∷ (states ++ codes "--steps" ∷ n ∷ [])) ≡ Some (trial base a b states steps) }
 {}
 
 /// The words of `edit` are plain, with the option in each of its places.

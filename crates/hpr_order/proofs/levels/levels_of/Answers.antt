@@ -39,7 +39,7 @@ loop-item-preserved c =
     }
 
 pub returns-clause-limits : goal.returns-clause-limits
-returns-clause-limits c = within_all c.args.items.now c.loop-item.item-index c.loop-item.levels.items c.if-items-gt1000.false c.loop-item-test.false c.loop-item.invariant.levelled
+returns-clause-limits c = within_all c.args.items.now c.loop-item.item-index c.loop-item.levels.items c.if-items-gt-MAX_PARTS.false c.loop-item-test.false c.loop-item.invariant.levelled
 
 pub returns-clause-levels : goal.returns-clause-levels
 returns-clause-levels c =

@@ -1,6 +1,6 @@
 use Rattle.std.proofs.Common.{◌≡◌, ◌≤◌, ◌<◌, ◌^◌, length, Some, sym, subst, ◌∙◌, arith}
+use Rattle.hpr_terms.specs.declared.limits.TheConstants.{MAX_PARTS}
 use Rattle.hpr_syntax.specs.declared.shape.ShapeError.{ShapeError}
-use Rattle.hpr_syntax.specs.Shape.{max_parts}
 use Rattle.hpr_syntax.specs.Spelling.{Spells}
 use Rattle.hpr_syntax.specs.Tree.{Tree}
 use Rattle.hpr_scan.specs.Place.{IsPlace, Accepts}
@@ -19,7 +19,7 @@ returns-in-Ok-clause-spelled c =
     let r = subst (λ (s : State). IsReading (next limit) s c.args.bytes.now c.in-Ok.state) c.new.ensures c.in-Ok.ensures.reads in
     let short : length c.args.bytes.now < 2 ^ 63 = omega arith in
     let h : TreeIs c.args.mode c.args.bytes.now c.in-Ok.state = reading_is c.args.mode c.args.bytes.now c.in-Ok.state short r c.in-Ok.ensures.ends in
-    ok_both (λ (p : Tree). p ≡ tree_of c.in-Ok.state.found) (λ (p : Tree). c.in-Ok.state.found.count ≤ max_parts) (λ (p : Tree). Spells (form_of c.args.mode) c.args.bytes.now p) c.built.result
+    ok_both (λ (p : Tree). p ≡ tree_of c.in-Ok.state.found) (λ (p : Tree). c.in-Ok.state.found.count ≤ MAX_PARTS) (λ (p : Tree). Spells (form_of c.args.mode) c.args.bytes.now p) c.built.result
     (λ p e le. subst (λ (t : Tree). Spells (form_of c.args.mode) c.args.bytes.now t) (h.few le ∙ sym e) h.spelled) c.built.ensures.tree c.built.ensures.few
 
 pub returns-in-Ok-clause-shape : goal.returns-in-Ok-clause-shape

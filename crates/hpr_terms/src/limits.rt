@@ -1,0 +1,35 @@
+//! The limits of the language and of the tool. Each stands here alone: code, contracts, definitions and
+//! messages cite it. Reps and Yang (1988) and Horwitz, Prins and Reps (1989) have no such limits.
+
+/// How many bytes a file has at most.
+pub const MAX_FILE: usize = 4_194_304;
+
+/// How many bytes a name has at most.
+pub const MAX_NAME: usize = 64;
+
+/// How many parts a program has at most.
+pub const MAX_PARTS: usize = 1000;
+
+/// The greatest level of a part of a program; a part of its top block has level 1.
+pub const MAX_LEVELS: usize = 64;
+
+/// How many operators an expression of a program has at most.
+pub const MAX_OPERATORS: usize = 256;
+
+/// How many brackets of an expression stand in one another at most, where it is read.
+pub const MAX_BRACKETS: usize = 256;
+
+/// How many edges the graph of a program has at most, where it is integrated or shown.
+pub const MAX_EDGES: usize = 1_000_000;
+
+/// How many arrangements a search tries at most, whatever is asked for.
+pub const MAX_TRIES: u32 = 1_000_000_000;
+
+/// How many arrangements a search tries where nothing is said.
+pub const DEFAULT_TRIES: u64 = 10_000;
+
+/// How many steps a run has at most, whatever is asked for.
+pub const MAX_STEPS: u32 = 1_000_000_000;
+
+/// How many steps a run has where nothing is said.
+pub const DEFAULT_STEPS: u64 = 1_000_000;
