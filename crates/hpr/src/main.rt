@@ -1,6 +1,7 @@
 //! The program: real files and streams, and the top call over them.
 #![tactic(auto)]
 
+use hpr_app::Status;
 use hpr_system::{FileShelf, StdSink};
 use std::io;
 use std::process::ExitCode;
@@ -18,11 +19,15 @@ fn main(rt: HostRuntime) -> ExitCode {
             Vec::new(rt.alloc())
         }
     };
-    let mut shelf = FileShelf::new(&rt);
+    ExitCode::from(run(&rt, words.as_slice()).number())
+}
+
+// The call that the words ask for, over real files and streams.
+fn run(rt: &HostRuntime, words: &[String]) -> Status {
+    let mut shelf = FileShelf::new(rt);
     let mut out = StdSink::new(rt.stdout());
     let mut err = StdSink::new(rt.stderr());
-    let status = hpr_app::hpr(rt.alloc(), words.as_slice(), &mut shelf, &mut out, &mut err);
-    ExitCode::from(status.number())
+    hpr_app::hpr(rt.alloc(), words, &mut shelf, &mut out, &mut err)
 }
 
 // The words after the program's name. The error's kind is `OutOfMemory` where there is no memory for them, and another
