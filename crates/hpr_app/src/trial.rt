@@ -1,5 +1,5 @@
 //! The command `trial`.
-ghost use Rattle.std.specs.Prelude.{◌≡◌, ◌≤◌, [], ◌∷◌, IsTrue, IsOk, IfOk, map};
+ghost use Rattle.std.specs.Prelude.{◌≡◌, ◌≤◌, ◌*◌, [], ◌∷◌, IsTrue, IsOk, IfOk, map};
 ghost use Rattle.hpr_terms.specs.declared.limits.TheConstants.{MAX_STEPS};
 ghost use Rattle.hpr_syntax.specs.Run.{run};
 ghost use Rattle.hpr_run.specs.Outcomes.{outcome_of};
@@ -97,7 +97,7 @@ fn show_runs(
     requires base { IsSingleValued (finals_of (outcome_of base.now)) }
     requires a { IsSingleValued (finals_of (outcome_of a.now)) }
     requires b { IsSingleValued (finals_of (outcome_of b.now)) }
-    requires steps { steps_together (outcome_of base.now) (outcome_of a.now) (outcome_of b.now) ≤ 3000000000 }
+    requires steps { steps_together (outcome_of base.now) (outcome_of a.now) (outcome_of b.now) ≤ 3 * MAX_STEPS }
     ensures { Merges (ShowsTrial (outcome_of base.now) (outcome_of a.now) (outcome_of b.now) (run merged.now state.now (steps_together (outcome_of base.now) (outcome_of a.now) (outcome_of b.now)))) result }
 {
     if has_ended(base) && has_ended(a) && has_ended(b) {
@@ -126,7 +126,7 @@ fn ended_text(
     requires base { IsSingleValued (finals_of (outcome_of base.now)) }
     requires a { IsSingleValued (finals_of (outcome_of a.now)) }
     requires b { IsSingleValued (finals_of (outcome_of b.now)) }
-    requires steps { steps_together (outcome_of base.now) (outcome_of a.now) (outcome_of b.now) ≤ 3000000000 }
+    requires steps { steps_together (outcome_of base.now) (outcome_of a.now) (outcome_of b.now) ≤ 3 * MAX_STEPS }
     ensures { IfOk result (λ text. IsTrialText (outcome_of base.now) (outcome_of a.now) (outcome_of b.now) (run merged.now state.now (steps_together (outcome_of base.now) (outcome_of a.now) (outcome_of b.now))) text.items) }
 {
     let together = steps_of(base) + steps_of(a) + steps_of(b);

@@ -1,5 +1,6 @@
 //! The files of a call, and the programs and scripts that they spell.
 ghost use Rattle.std.specs.Prelude.{◌≡◌, ◌≤◌, ℕ, List, IfOk, IsTrue, length};
+ghost use Rattle.hpr_terms.specs.declared.limits.TheConstants.{MAX_FILE};
 ghost use Rattle.hpr_text.specs.Forms.{form_of, HasAuthor};
 ghost use Rattle.hpr_refusals.specs.Refusals.{IsFileIn, IsRefusedIn, IsRefusedScript, IsScriptOf};
 ghost use Rattle.hpr_inputs.specs.ReadsFile.{Fetches, Judges, ReadsIn, ReadsProgram, ReadsScript, Refuses};
@@ -17,7 +18,7 @@ use std::alloc::Global;
 fn fetch_file<S: Shelf>(alloc: Global, file: &str, shelf: &mut S) -> Result<Vec<u8>, Stop>
     requires { IsTrue (S.serves shelf.old file.now) }
     ensures fetches { Fetches (S.files shelf.old) file.now (S.faults shelf.old) (S.faults shelf.new) result }
-    ensures short { IfOk result (λ bytes. length bytes.items ≤ 4194304) }
+    ensures short { IfOk result (λ bytes. length bytes.items ≤ MAX_FILE) }
     ensures same_files { S.files shelf.new ≡ S.files shelf.old }
     ensures same_names { (n : List ℕ) → S.serves shelf.new n ≡ S.serves shelf.old n }
 {
@@ -75,7 +76,7 @@ pub fn read_text<S: Shelf>(
 
 /// The program that the bytes of a file spell.
 fn spelled_program(alloc: Global, file: &str, bytes: &[u8], mode: Mode) -> Result<Program, Stop>
-    requires short { length bytes.now ≤ 4194304 }
+    requires short { length bytes.now ≤ MAX_FILE }
     requires author { HasAuthor mode }
     ensures { Judges (IsRefusedIn (form_of mode) file.now) (IsFileIn (form_of mode)) bytes.now result }
 {
@@ -104,7 +105,7 @@ pub fn read_commands<S: Shelf>(
 
 /// The commands of the script that the bytes of a file spell.
 fn spelled_commands(alloc: Global, file: &str, bytes: &[u8]) -> Result<Vec<Command>, Stop>
-    requires { length bytes.now ≤ 4194304 }
+    requires { length bytes.now ≤ MAX_FILE }
     ensures { Judges (IsRefusedScript file.now) (λ read v. IsScriptOf read v.items) bytes.now result }
 {
     match read_script(alloc, bytes) {
