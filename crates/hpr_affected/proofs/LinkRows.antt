@@ -1,5 +1,5 @@
 -- The links that have not something, one link after another.
-use Rattle.std.proofs.Common.{◌≡◌, ℕ, ◌+◌, ◌<◌, ◌≤◌, ◌↔◌, inl, inr, Bool, true, false, not, IsTrue, cond, Option, Some, None, List, [], ◌∷◌, ◌++◌, length, take, get_or, Contains, refl, sym, ◌∙◌, subst}
+use Rattle.std.proofs.Common.{◌≡◌, ℕ, ◌+◌, ◌<◌, ◌≤◌, ◌↔◌, inl, inr, Bool, true, false, not, IsTrue, cond, Option, Some, List, [], ◌∷◌, ◌++◌, length, take, get_or, Contains, refl, sym, ◌∙◌, subst}
 use Rattle.std.proofs.lemmas.List.{take_all}
 use Rattle.std.proofs.lemmas.List.Elements.{Contains-push, Contains-push_cases, Contains-append_left}
 use Rattle.hpr_graph.specs.declared.link.Link.{Link}
@@ -50,11 +50,3 @@ module _ (h : Numbered) (ns : List (Option ℕ)) (at : ℕ) where
         (let is_to : to' ≡ to = some_inj to' to (sym number' ∙ number) in
         (m, mv, (same m).1 (subst (λ (n : ℕ). Contains (row_of h n) m) is_to has))),
   )
-
-  -- no link into a vertex that has no number is there
-  pub all_lacking : (links lacks : List Link) → number_at ns at ≡ None → lacks ≡ links → AreWithout (IsThere h ns at) links lacks
-  all_lacking links lacks none e =
-      rw e (record {
-        only = λ l has. (has, λ (to, m, number, mv, there). absurd (let both : None ≡ Some to = sym none ∙ number in cc));
-        all = λ l has. inl has;
-      })

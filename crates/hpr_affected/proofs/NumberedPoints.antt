@@ -1,10 +1,7 @@
 -- Listed points by their numbers are those points, for the crates above.
 use Rattle.std.proofs.Common.{ℕ, ◌↔◌, List}
 use Rattle.hpr_graph.specs.declared.vertex.Vertex.{Vertex}
-use Rattle.hpr_graph.specs.Graphs.{Same}
-use Rattle.hpr_graph.specs.Numbered.{Numbered, HasVertex, graph_in}
-use Rattle.hpr_graph.specs.Slices.{slice_of}
-use Rattle.hpr_graph.proofs.Laws.{slice_same_on, closed_by_numbers}
+use Rattle.hpr_graph.specs.Numbered.{Numbered, HasVertex}
 use Rattle.hpr_slice.specs.Vertices.{IsOneOf}
 use Rattle.hpr_graph.proofs.Lists.{place_of}
 use Rattle.hpr_affected.specs.Numbers.{AreNumbersOf}
@@ -14,7 +11,3 @@ one_of_points g P numbers are v there = (
   λ (at, has, at_v). (are.exact at v at_v).0 has,
   λ p. (let (at, at_v) = place_of g.vertices v there in (at, (are.exact at v at_v).1 p, at_v)),
 )
-
--- so the slice at the listed points is that of the points
-pub slice_of_points : (g : Numbered) (P : Vertex → Type 0) (numbers : List ℕ) → AreNumbersOf g P numbers → Same (slice_of (graph_in g) (IsOneOf g numbers)) (slice_of (graph_in g) P)
-slice_of_points g P numbers are = slice_same_on (graph_in g) (IsOneOf g numbers) P (closed_by_numbers g) (one_of_points g P numbers are)

@@ -54,16 +54,3 @@ target_once t x y u w v (inl (a, l, h)) (inl (b, m, i)) = sym a ∙ b
 target_once t x y u w v (inl (a, l, h)) (inr (b, (k, i, is))) = absurd (omega (arith, a, l, is))
 target_once t x y u w v (inr (a, (k, h, is))) (inl (b, m, i)) = absurd (omega (arith, b, m, is))
 target_once t x y u w v (inr (a, (k, h, is))) (inr (b, (j, i, js))) = a ∙ sym b
-
--- that of a name of `end` tells its name
-pub final_once : (t : Tree) (x y : List ℕ) (u w v : ℕ) → exit_of t ≤ v → IsTargetAt t x u v → IsTargetAt t y w v → x ≡ y
-final_once t x y u w v low (inl (a, l, h)) i = absurd (omega (arith, a, l, low))
-final_once t x y u w v low h (inl (b, m, i)) = absurd (omega (arith, b, m, low))
-final_once t x y u w v low (inr (a, (k, h, is))) (inr (b, (j, i, js))) =
-    let same : k ≡ j = omega (arith, is, js) in
-    some_same (slice_get t.finals j) x y (ap (slice_get t.finals) (sym same) ∙ h) i
-
--- the targets at Exit are those from its number on
-pub target_at_exit : (t : Tree) (x : List ℕ) (u v : ℕ) → IsTargetAt t x u v → exit_of t ≤ v → u ≡ exit_of t
-target_at_exit t x u v (inl (a, l, h)) low = absurd (omega (arith, a, l, low))
-target_at_exit t x u v (inr (a, (k, h, is))) low = a

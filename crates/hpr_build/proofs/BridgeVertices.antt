@@ -83,9 +83,6 @@ module _ (t : Tree) (inits : List (List ℕ)) where
   count_parts : length (map part_vertex (places t)) + 1 ≡ exit_of t
   count_parts = omega (arith, length_mapped part_vertex (places t), count_places t.body 1 None [])
 
-  count_finals : exit_of t + length (map Final t.finals) ≡ first_init t
-  count_finals = omega (arith, length_mapped Final t.finals)
-
   -- which vertex has which number
   pub vertex_at_part : (p : ℕ) (x : Place) → PartAt t p x → slice_get Vs p ≡ Some (part_vertex x)
   vertex_at_part p x h =

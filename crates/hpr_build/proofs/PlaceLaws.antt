@@ -1,5 +1,5 @@
 -- Where a part stands, by number and by tag.
-use Rattle.std.proofs.Common.{◌≡◌, ◌<◌, ◌≤◌, ◌+◌, ℕ, Bool, true, false, inl, inr, Option, Some, None, List, [], ◌∷◌, ◌++◌, length, refl, sym, ap, ◌∙◌, subst, arith}
+use Rattle.std.proofs.Common.{◌≡◌, ◌<◌, ◌≤◌, ◌+◌, ℕ, Bool, true, false, inl, inr, Option, Some, None, List, [], ◌∷◌, ◌++◌, refl, sym, ap, ◌∙◌, subst, arith}
 use Rattle.std.specs.Option.{option_and_then}
 use Rattle.std.proofs.lemmas.Option.{same_Some}
 use Rattle.hpr_terms.specs.declared.tag.Tag.{Tag}
@@ -8,12 +8,11 @@ use Rattle.hpr_syntax.specs.declared.rows.Content.TheVariants.{Assign, If, While
 use Rattle.hpr_syntax.specs.Action.{assigns}
 use Rattle.hpr_syntax.specs.Rows.{content_by}
 use Rattle.hpr_syntax.specs.Body.{Body, done, action, branch, loop, part_count}
-use Rattle.hpr_syntax.specs.Rows.{assigned}
 use Rattle.hpr_syntax.specs.Tree.{Tree}
 use Rattle.hpr_syntax.specs.Skeleton as points
 use Rattle.hpr_syntax.specs.Nests.{Standing, StandsAs, StandsAsIn}
 use Rattle.hpr_paths.specs.declared.spot.Step.{Step}
-use Rattle.hpr_paths.specs.Spots.{Role, enter, part, exit, Spot, point_of, tag_of, defined, role_at, tag_at, defined_at}
+use Rattle.hpr_paths.specs.Spots.{Role, enter, part, exit, Spot, point_of, tag_of, role_at, tag_at}
 use Rattle.hpr_paths.specs.Successors.{first_step, spots}
 use Rattle.hpr_paths.specs.Numbers.{IsNumberOf}
 use Rattle.hpr_paths.proofs.Stands.{SpotIn, WholeIn, end_of, get_of_whole, whole_of_get}
@@ -21,8 +20,8 @@ use Rattle.hpr_paths.proofs.Names.{role_of_get, get_of_role}
 use Rattle.hpr_paths.proofs.Sound.{number_in}
 use Rattle.hpr_build.specs.declared.places.Parent.{Parent}
 use Rattle.hpr_build.specs.declared.places.Span.{Span}
-use Rattle.hpr_build.specs.Places.{Place, place_of, places, IsParentOf}
-use Rattle.hpr_build.proofs.PlaceIn.{under, span, PlaceIn, PartAt, place_range, count_places, some_place}
+use Rattle.hpr_build.specs.Places.{Place, place_of, IsParentOf}
+use Rattle.hpr_build.proofs.PlaceIn.{under, span, PlaceIn, PartAt, some_place}
 
 abbrev Up : Type 0
 Up = Option Parent
@@ -198,19 +197,3 @@ module _ (t : Tree) where
   part_of_standing v s h =
       let k = place_of_stands (spots t) t.body 1 None [] [] None v s (tag_of_part t) refl h in
       (k.number, k.place, k.stands, k.tag, k.content, k.parent)
-
-  defined_by : (p : ℕ) (x : List ℕ) (r : Option Role) → role_at (spots t) p ≡ r → option_and_then defined r ≡ Some x → (y : Place) × PartAt t p y × (assigned y.content ≡ Some x)
-  defined_by p x None is h = absurd cc
-  defined_by p x (Some enter) is h = absurd cc
-  defined_by p x (Some (part v c)) is h = let k = part_of_role t p v c is in (k.0, k.1, ap assigned k.3 ∙ h)
-  defined_by p x (Some (exit finals)) is h = absurd cc
-
-  -- what defines a name is a part
-  pub part_of_definition : (p : ℕ) (x : List ℕ) → defined_at (spots t) p ≡ Some x → (y : Place) × PartAt t p y × (assigned y.content ≡ Some x)
-  part_of_definition p x h = defined_by p x (role_at (spots t) p) refl h
-
-  -- the numbers of the parts
-  pub part_range : (p : ℕ) (x : Place) → PartAt t p x → (0 < p) × (p ≤ length (places t))
-  part_range p x h =
-      let r = place_range t.body 1 None [] p x h in
-      (omega (arith, r.0), omega (arith, r.1, count_places t.body 1 None []))

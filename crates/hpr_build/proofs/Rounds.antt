@@ -10,7 +10,6 @@ use Rattle.hpr_paths.specs.declared.spot.Step.{Step}
 use Rattle.hpr_paths.specs.Spots.{Spot, next_at}
 use Rattle.hpr_reach.specs.Reaches.{back_to}
 use Rattle.hpr_reach.specs.Flows.{Leaves, ComesRound}
-use Rattle.hpr_reach.proofs.Lists.{contains_none}
 use Rattle.hpr_reach.proofs.Grown.{Below, turn_of_number, taken_more}
 use Rattle.hpr_reach.proofs.Flows.{step_within}
 
@@ -38,9 +37,6 @@ step_back s e = ap (λ (b : Bool). record { to = s.to; back = b }) (sym e)
 
 to_of : (s : Step) (w : ℕ) → s ≡ back_to w → (s.back ≡ true) × (s.to ≡ w)
 to_of s w e = (ap (λ (x : Step). x.back) e, ap (λ (x : Step). x.to) e)
-
-pub backs_none : (old : List Bool) (steps : List Step) → Backs old steps 0 old
-backs_none old steps = λ w. ((λ h. inl h), (λ h. elim h [ inl was ↦ was | inr none ↦ absurd (contains_none (back_to w) none) ]))
 
 module _ (old : List Bool) (steps : List Step) (k : ℕ) (s : Step) (marks : List Bool) (before : Backs old steps k marks) (l : k < length steps) (is : s ≡ get_or steps k s) where
   pub backs_more : (n : ℕ) → s.back ≡ true → All (λ t. t.to < n) steps → n ≡ length marks → Backs old steps (k + 1) (set marks s.to true)
@@ -88,9 +84,6 @@ module _ (spots : List Spot) (x : List ℕ) (d n : ℕ) (marks : List Bool) (bef
         (λ h. elim h [ inl was ↦ was | inr t ↦ absurd (off t.1) ]),
       ) in
       turn_of_number (Turns spots x d w) n (IsMarked marks w) (IsMarked marks w) here (before w)
-
-pub turns_none : (spots : List Spot) (x : List ℕ) (d n w : ℕ) → IsMarked (replicate n false) w ↔ Below (Turns spots x d w) 0
-turns_none spots x d n w = ((λ h. absurd (no_marks n w h)), (λ (p, l, t). absurd (omega (arith, l))))
 
 pub turns_all : (spots : List Spot) (x : List ℕ) (d n w : ℕ) (A : Type 0) → length spots ≤ n → A ↔ Below (Turns spots x d w) n → A ↔ ComesRound spots x w d
 turns_all spots x d n w A l all = (

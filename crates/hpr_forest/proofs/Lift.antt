@@ -32,11 +32,6 @@ same_split (y ∷ l1) l2 (z ∷ k1) k2 x once e =
 
 -- the order among siblings apart from the rest
 module _ (f : Forest) where
-  pub to_bare : (p l : List ℕ) → Follows (can f) p l → Follows (can (bare f)) p l
-  to_bare p [] h = tt
-  to_bare p (c ∷ l) h =
-      let m = may-from f p c h.0 in
-      (from-may (bare f) p c record { within = m.within; fresh = m.fresh; under = m.under; ready = λ d k. absurd (in_none d k) }, to_bare (p ++ c ∷ []) l h.1)
 
   pub from_bare : (p l : List ℕ) → Follows (can (bare f)) p l
       → ((l1 l2 : List ℕ) (x d : ℕ) → l ≡ l1 ++ x ∷ l2 → Contains (f.before x) d → Contains (p ++ l1) d) → Follows (can f) p l

@@ -1,5 +1,5 @@
 -- Marks as the list grows and shrinks.
-use Rattle.std.proofs.Common.{◌≡◌, ℕ, zero, suc, ◌<◌, Bool, true, false, cond, eqb, List, [], ◌∷◌, ◌++◌, length, set, get_or, replicate, inl, inr, refl, sym, ap, ◌∙◌, subst, get_or-set_same, get_or-set_other}
+use Rattle.std.proofs.Common.{◌≡◌, ℕ, ◌<◌, Bool, true, false, cond, eqb, List, [], ◌∷◌, ◌++◌, length, set, get_or, inl, inr, refl, sym, ap, ◌∙◌, subst, get_or-set_same, get_or-set_other}
 use Rattle.std.proofs.lemmas.Bool.{cases_eq, eq-eqb, ne_eqb}
 use Rattle.hpr_forest.specs.Marks.{is_in, IsMarksOf}
 
@@ -28,8 +28,3 @@ marks_pop marks marks' q old c h m e out e' x = elim (cases_eq x c) [
       (ap (λ r. get_or r c false) e' ∙ get_or-set_same marks c false false h ∙ sym out)
   | inr ne ↦ ap (λ r. get_or r x false) e' ∙ get_or-set_other marks c x false false ne ∙ m x ∙ ap (λ r. is_in r x) e ∙ push_other q c x ne
 ]
-
-pub marks_none : (n : ℕ) (marks : List Bool) → marks ≡ replicate n false → IsMarksOf marks []
-marks_none zero marks e x = ap (λ r. get_or r x false) e
-marks_none (suc n) marks e zero = ap (λ r. get_or r 0 false) e
-marks_none (suc n) marks e (suc x) = ap (λ r. get_or r (suc x) false) e ∙ marks_none n (replicate n false) refl x

@@ -3,22 +3,6 @@ use Rattle.std.proofs.Common.{◌≡◌, ℕ, zero, suc, ◌<◌, List, [], ◌�
 use Rattle.std.proofs.lemmas.List.Elements.{Contains-append_cases}
 use Rattle.hpr_forest.specs.Lists.{LexLess, IsAscending}
 
-pub less_irreflexive : (s : List ℕ) → LexLess s s → ⊥
-less_irreflexive [] h = h
-less_irreflexive (a ∷ s) (inl l) = omega arith
-less_irreflexive (a ∷ s) (inr h) = less_irreflexive s h.1
-
-pub less_trans : (s t u : List ℕ) → LexLess s t → LexLess t u → LexLess s u
-less_trans [] [] u h k = absurd h
-less_trans [] (b ∷ t) [] h k = absurd k
-less_trans [] (b ∷ t) (c ∷ u) h k = tt
-less_trans (a ∷ s) [] u h k = absurd h
-less_trans (a ∷ s) (b ∷ t) [] h k = absurd k
-less_trans (a ∷ s) (b ∷ t) (c ∷ u) (inl h) (inl k) = inl (omega arith)
-less_trans (a ∷ s) (b ∷ t) (c ∷ u) (inl h) (inr k) = inl (let e : b ≡ c = k.0 in omega arith)
-less_trans (a ∷ s) (b ∷ t) (c ∷ u) (inr h) (inl k) = inl (let e : a ≡ b = h.0 in omega arith)
-less_trans (a ∷ s) (b ∷ t) (c ∷ u) (inr h) (inr k) = inr (h.0 ∙ k.0, less_trans s t u h.1 k.1)
-
 -- behind a common front the first difference decides
 pub less_behind : (q s t : List ℕ) (c d : ℕ) → c < d → LexLess (q ++ c ∷ s) (q ++ d ∷ t)
 less_behind [] s t c d h = inl h

@@ -7,13 +7,13 @@ use Rattle.hpr_graph.specs.declared.edge.Edge.{Edge}
 use Rattle.hpr_graph.specs.declared.link.LinkKind.{LinkKind}
 use Rattle.hpr_graph.specs.declared.link.LinkKind.TheVariants.{Control, Independent, Carried, Order}
 use Rattle.hpr_graph.specs.declared.link.Link.{Link}
-use Rattle.hpr_graph.specs.Graphs.{Graph, IsWithin, Same, OnThird, HasVertices, union_of, restrict_to, IsOnce, HasEdges, HasMoreEdges}
+use Rattle.hpr_graph.specs.Graphs.{Graph, IsWithin, Same, OnThird, HasVertices, union_of, restrict_to, HasEdges, HasMoreEdges}
 use Rattle.hpr_graph.specs.Numbered.{Numbered, HasVertex, HasLink, IsKindAt, IsEdgeAt, HasEdge, IsNumbered, IsGrown, graph_in}
 use Rattle.hpr_graph.specs.Slices.{LeadsTo, ReachesOne, slice_of, slice_at}
 use Rattle.hpr_graph.specs.Points.{IsShared, IsAffected, IsPreserved, merged}
-use Rattle.hpr_graph.proofs.Lists.{contains_at, in_cons, once_cons, no_longer}
+use Rattle.hpr_graph.proofs.Lists.{contains_at, no_longer}
 use Rattle.hpr_graph.proofs.Numbers.{edge_longer}
-use Rattle.hpr_graph.proofs.EdgeList.{edge_one, link_once, edge_link}
+use Rattle.hpr_graph.proofs.EdgeList.{edge_one}
 
 -- each graph is the same as itself
 pub same_itself : (g : Graph) → Same g g
@@ -173,9 +173,6 @@ closed_by_numbers g e (to, l, has, is) =
 pub one_edge : (vs : List Vertex) (to : ℕ) (l : Link) (e f : Edge) → IsEdgeAt vs to l e → IsEdgeAt vs to l f → e ≡ f
 one_edge = edge_one
 
-pub one_link : (vs : List Vertex) → IsOnce vs → (to to' : ℕ) (l l' : Link) (e : Edge) → IsEdgeAt vs to l e → IsEdgeAt vs to' l' e → (to ≡ to') × (l ≡ l')
-one_link = link_once
-
 -- vertices alone add no edge
 pub grown_edges : (old new : Numbered) → IsNumbered old → IsGrown old new → (e : Edge) → HasEdge new e ↔ HasEdge old e
 grown_edges old new k g e = (
@@ -200,29 +197,9 @@ link_edges old new to link same there kept only e = (
   ],
 )
 
--- a link that a graph lacks is an edge that it lacks
-pub edge_is_new : (g : Numbered) → IsNumbered g → (to : ℕ) (l : Link) (e : Edge) → IsEdgeAt g.vertices to l e → ¬ HasLink g to l → ¬ HasEdge g e
-edge_is_new g k to l e is new has = new (edge_link g k.once to l e is has)
-
--- a graph has one number of edges
-pub edges_one : (g : Graph) (m n : ℕ) → HasEdges g m → HasEdges g n → m ≡ n
-edges_one g m n (es, (once, all), len) (fs, (once', all'), len') =
-    let up : length es ≤ length fs = no_longer es fs once (λ e h. (all' e).1 ((all e).0 h)) in
-    let down : length fs ≤ length es = no_longer fs es once' (λ e h. (all e).1 ((all' e).0 h)) in
-    omega (arith, up, down, len, len')
-
 -- a graph has more than n edges where one within it has
 pub more_edges : (g h : Graph) (m n : ℕ) → ((e : Edge) → g.edge e → h.edge e) → HasEdges g m → n < m → HasMoreEdges h n
 more_edges g h m n into (es, (once, all), len) more = (es, once, λ e x. into e ((all e).0 x), omega (arith, more, len))
-
--- and where one within it has n, and lacks an edge
-pub more_with : (g h : Graph) (n : ℕ) → ((e : Edge) → g.edge e → h.edge e) → HasEdges g n → (f : Edge) → h.edge f → ¬ g.edge f → HasMoreEdges h n
-more_with g h n into (es, (once, all), len) f in_h new = (
-  f ∷ es,
-  once_cons f es (λ x. new ((all f).0 x)) once,
-  λ e x. elim (in_cons f e es x) [ inl same ↦ subst h.edge same in_h | inr later ↦ into e ((all e).0 later) ],
-  omega (arith, len),
-)
 
 -- a graph has not more edges than one that has all of its edges
 pub no_more_edges : (g h : Graph) (m n : ℕ) → ((e : Edge) → h.edge e → g.edge e) → HasEdges g m → m ≤ n → ¬ HasMoreEdges h n

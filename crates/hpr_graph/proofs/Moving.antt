@@ -163,8 +163,6 @@ pub record RowsMoved (source : Numbered) (ns : List (Option ℕ)) (old new : Num
   pub edges : (e : Edge) → HasEdge new e ↔ (HasEdge old e ⊎ MovesEdgeBelow source ns n e)
 
 module _ (source : Numbered) (ns : List (Option ℕ)) (old : Numbered) where
-  pub rows_begun : RowsMoved source ns old old 0
-  rows_begun = record { vertices = refl; edges = λ e. (λ h. inl h, λ h. elim h [ inl was ↦ was | inr (at, l, lt, has, is) ↦ absurd (omega (arith, lt)) ]) }
 
   module _ (new : Numbered) (at : ℕ) (so_far : RowsMoved source ns old new at) where
     step_in : (e : Edge) → MovesEdgeBelow source ns (at + 1) e → MovesEdgeBelow source ns at e ⊎ MovesEdgeIn source ns at (row_of source at) e

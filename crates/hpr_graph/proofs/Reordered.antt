@@ -6,7 +6,7 @@ use Rattle.std.specs.Result.{result_ok}
 use Rattle.std.specs.List.Sorted.{IsSorted, IsPermutation, IsBinarySearchResult, IsSearchInRange}
 use Rattle.std.proofs.lemmas.Bool.{cases_eq, cases_lt}
 use Rattle.std.proofs.lemmas.List.{length-set}
-use Rattle.std.proofs.lemmas.List.Sorted.{searchable_from_sorted, Contains-permutation, IsPermutation-refl, IsPermutation-sym, IsPermutation-trans, length_permutation}
+use Rattle.std.proofs.lemmas.List.Sorted.{searchable_from_sorted, Contains-permutation, IsPermutation-sym, IsPermutation-trans, length_permutation}
 use Rattle.std.proofs.lemmas.List.Sums.{sum_by-cons}
 use Rattle.std.proofs.lemmas.Option.{slice_get-get_or, slice_get_within, slice_get_past}
 use Rattle.hpr_graph.specs.declared.vertex.Vertex.{Vertex}
@@ -27,7 +27,7 @@ use Rattle.hpr_graph.proofs.LinkOrder.{link_cmp, link_equal}
 use Rattle.hpr_graph.proofs.Lists.{get_set_same, get_set_other}
 use Rattle.hpr_graph.proofs.Numbers.{numbered, grown_itself}
 use Rattle.hpr_graph.proofs.Orders.{vertex_order}
-use Rattle.hpr_graph.proofs.Placed.{AllPlaced, all_begun, all_more}
+use Rattle.hpr_graph.proofs.Placed.{AllPlaced, all_more}
 use Rattle.hpr_graph.proofs.Searches.{not_less, less_equal, greater_equal}
 use Rattle.hpr_graph.proofs.VertexOrder.{vertex_never, vertex_itself, vertex_tied}
 
@@ -77,9 +77,6 @@ number_there (Err i) o P N e h there = absurd (h there)
 -- after the numbers of the first vertices were looked up
 abbrev pub FoundPlaced : List Vertex → List Vertex → List (Option ℕ) → ℕ → Type 0
 FoundPlaced vs us ns at = AllPlaced (numbered vs []) (numbered us []) (numbered us []) ns at
-
-pub found_begun : (vs us : List Vertex) (ns : List (Option ℕ)) → ns ≡ [] → FoundPlaced vs us ns 0
-found_begun vs us ns e = all_begun (numbered vs []) (numbered us []) ns e
 
 pub found_more : (vs us : List Vertex) (ns ns' : List (Option ℕ)) (at : ℕ) (o : Option ℕ) (v : Vertex) → FoundPlaced vs us ns at → slice_get vs at ≡ Some v → IfSome o (λ n. slice_get us n ≡ Some v) → IsSome o → ns' ≡ ns ++ o ∷ [] → FoundPlaced vs us ns' (at + 1)
 found_more vs us ns ns' at None v s here there some is = absurd cc
@@ -145,11 +142,6 @@ pub record RowsSorted (old rows : List (List Link)) (n : ℕ) : Type 0 where
   pub same : (at : ℕ) → IsPermutation (row_items (slice_get old at)) (row_items (slice_get rows at))
   pub sorted : (at : ℕ) → at < n → IsSorted link_cmp (row_items (slice_get rows at))
 
-pub rows_sorted_begun : (rows : List (List Link)) → RowsSorted rows rows 0
-rows_sorted_begun rows = record {
-  count = refl;
-  same = λ at. IsPermutation-refl (row_items (slice_get rows at));
-  sorted = λ at l. absurd (omega (arith, l));
 }
 
 module _ (old rows : List (List Link)) (n : ℕ) (so_far : RowsSorted old rows n) where

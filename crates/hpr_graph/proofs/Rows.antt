@@ -1,16 +1,16 @@
 -- Rows of links after one was added.
-use Rattle.std.proofs.Common.{◌≡◌, ◌≢◌, ℕ, zero, suc, ◌+◌, ◌<◌, ◌⊎◌, inl, inr, Option, Some, List, [], ◌∷◌, ◌++◌, Vec, Global, length, set, get_or, Contains, slice_get, sum_by, refl, sym, ap, subst, ◌∙◌, arith, length-append}
+use Rattle.std.proofs.Common.{◌≡◌, ◌≢◌, ℕ, zero, suc, ◌+◌, ◌<◌, ◌⊎◌, inl, inr, Some, List, [], ◌∷◌, ◌++◌, Vec, Global, length, set, get_or, Contains, slice_get, sum_by, refl, sym, ap, subst, ◌∙◌, arith, length-append}
 use Rattle.std.specs.Option.{option_map}
-use Rattle.std.proofs.lemmas.Option.{slice_get-get_or, slice_get-map, slice_get_past}
-use Rattle.std.proofs.lemmas.Bool.{cases_eq, cases_lt}
-use Rattle.std.proofs.lemmas.List.{map-set, map-append}
+use Rattle.std.proofs.lemmas.Option.{slice_get-get_or, slice_get-map}
+use Rattle.std.proofs.lemmas.Bool.{cases_eq}
+use Rattle.std.proofs.lemmas.List.{map-set}
 use Rattle.std.proofs.lemmas.List.Elements.{Contains-push, Contains-push_cases, Contains-append_left}
 use Rattle.std.proofs.lemmas.List.Sums.{sum_by-set, sum_by_push}
 use Rattle.hpr_graph.specs.declared.link.Link.{Link}
 use Rattle.hpr_graph.specs.Graphs.{IsOnce}
 use Rattle.hpr_graph.specs.Numbered.{row_items, rows_of}
 use Rattle.hpr_graph.specs.Moves.{with_link, with_row}
-use Rattle.hpr_graph.proofs.Lists.{in_none, set_itself, get_set_same, get_set_other, once_push}
+use Rattle.hpr_graph.proofs.Lists.{set_itself, get_set_same, get_set_other, once_push}
 
 abbrev pub InRow : List (List Link) → ℕ → Link → Type 0
 InRow rows to l = Contains (row_items (slice_get rows to)) l
@@ -32,10 +32,6 @@ rows_new rows to row new link l e h =
     map-set (λ (r : Vec Link Global). r.items) rows to new
     ∙ ap (set (rows_of rows) to) (h ∙ ap (λ (xs : List Link). xs ++ link ∷ []) (sym (ap row_items (row_read rows to row l e))))
 
-pub rows_push : (rows : List (Vec Link Global)) (row : Vec Link Global) (new : List (Vec Link Global)) → new ≡ rows ++ row ∷ [] → row.items ≡ [] → rows_of new ≡ with_row (rows_of rows)
-rows_push rows row new is none =
-    ap rows_of is ∙ map-append (λ (r : Vec Link Global). r.items) rows (row ∷ []) ∙ ap (λ (r : List Link). rows_of rows ++ r ∷ []) none
-
 -- an empty row behind the rows changes none of them
 pub row_grown : (rows : List (List Link)) (at : ℕ) → row_items (slice_get (with_row rows) at) ≡ row_items (slice_get rows at)
 row_grown [] zero = refl
@@ -45,12 +41,6 @@ row_grown (row ∷ rows) (suc at) = row_grown rows at
 
 pub count_grown : (rows : List (List Link)) → sum_by (λ row. length row) (with_row rows) ≡ sum_by (λ row. length row) rows
 count_grown rows = omega (arith, sum_by_push (λ (row : List Link). length row) rows [])
-
-pub in_row_within : (rows : List (List Link)) (at : ℕ) (l : Link) → InRow rows at l → at < length rows
-in_row_within rows at l h = elim (cases_lt at (length rows)) [
-  | inl within ↦ within
-  | inr past ↦ absurd (in_none l (subst (λ (o : Option (List Link)). Contains (row_items o) l) (slice_get_past rows at past) h))
-]
 
 module _ (rows : List (List Link)) (to : ℕ) (link : Link) (h : to < length rows) where
   abbrev row : List Link

@@ -87,8 +87,6 @@ pub record AreNumbersTo (texts words : List Text) (numbers : List ℕ) (i : ℕ)
   pub exact : (at : ℕ) → at < i → (text : Text) → slice_get texts at ≡ Some text → Contains numbers at ↔ Contains words text
 
 module _ (texts words : List Text) where
-  pub no_numbers : AreNumbersTo texts words [] 0
-  no_numbers = record { below = λ n h. absurd (omega (arith, h.1)); exact = λ at low. absurd (omega (arith, low)) }
 
   module _ (old new : List ℕ) (i : ℕ) (text : Text) (at_i : slice_get texts i ≡ Some text) (before : AreNumbersTo texts words old i)
       (takes : TakesText words text i old new) where

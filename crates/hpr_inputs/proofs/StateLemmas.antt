@@ -1,6 +1,6 @@
 -- Words that tell a state, one after another.
-use Rattle.std.proofs.Common.{◌≡◌, ℕ, ℤ, ◌+◌, ◌<◌, ◌≤◌, Bool, false, cond, List, [], ◌∷◌, ◌++◌, length, take, drop, get_or, map, is_some, Bor, Option, Some, None, Ok, refl, sym, ap, subst, ◌∙◌, drop_of_length-le}
-use Rattle.std.proofs.lemmas.List.{take_all, take_more, drop_more, get_or-map, length-map}
+use Rattle.std.proofs.Common.{◌≡◌, ℕ, ℤ, ◌+◌, ◌<◌, Bool, false, cond, List, [], ◌∷◌, ◌++◌, length, take, drop, get_or, map, is_some, Bor, Option, Some, None, Ok, refl, sym, ap, subst, ◌∙◌}
+use Rattle.std.proofs.lemmas.List.{take_more, drop_more, get_or-map, length-map}
 use Rattle.std.proofs.lemmas.List.Elements.{filter_map-append}
 use Rattle.std.specs.Cmp.Lexicographic.{slice_cmp, nat_list_cmp_total}
 use Rattle.std.specs.FinMap.{contains_key, find, from_entries, from_entries_push, get-from_entries, insert, nat_cmp-IsAntisymmetric, slice_cmp-IsAntisymmetric}
@@ -9,7 +9,7 @@ use Rattle.std.specs.Ordering.{nat_cmp}
 use Rattle.hpr_syntax.specs.Values.{Values}
 use Rattle.hpr_words.specs.Request.{Text}
 use Rattle.hpr_inputs.specs.ReadsState.{RefusesState, RefusesWord, TakesWord}
-use Rattle.hpr_inputs.specs.States.{assignment, first_refused, refusal, refusal_of, refused_or, state_unless, states_of, told}
+use Rattle.hpr_inputs.specs.States.{assignment, first_refused, refusal, refusal_of, refused_or, state_unless, told}
 use Rattle.hpr_inputs.specs.declared.answer.Stop.{Stop}
 use Rattle.hpr_inputs.specs.declared.answer.Stop.TheVariants as stop
 use Rattle.hpr_inputs.specs.declared.states.WordRefusal.{WordRefusal}
@@ -37,9 +37,6 @@ module _ (words : List Text) where
   -- the first i words are taken, and tell this state
   abbrev pub Taken : ℕ → Values → Type 0
   Taken i state = (state ≡ told (take i words)) × (first_refused (take i words) (drop i words) ≡ first_refused [] words)
-
-  pub none_taken : (state : Values) → state ≡ told [] → Taken 0 state
-  none_taken state e = (e, refl)
 
   module _ (i : ℕ) (word : Text) (low : i < length words) (here : word ≡ get_or words i word) where
     abbrev later : List Text
@@ -71,12 +68,6 @@ module _ (words : List Text) where
     refused_here old (stop.ReadFault message) t h = absurd h
     refused_here old stop.Memory t h = tt
 
-  pub all_taken : (i : ℕ) (state : Values) → length words ≤ i → Taken i state → states_of words ≡ Ok state
-  all_taken i state past (is, rest) =
-      let all : take i words ≡ words = take_all i words past in
-      let none : None ≡ first_refused [] words = sym (ap (first_refused (take i words)) (drop_of_length-le words past)) ∙ rest in
-      ap (λ r. state_unless r (told words)) (sym none) ∙ ap Ok (sym (is ∙ ap told all))
-
 -- the same of words that are borrowed
 abbrev pub texts : List (Bor Text) → List Text
 texts xs = map (λ w. w.now) xs
@@ -93,6 +84,3 @@ module _ (xs : List (Bor Text)) (i : ℕ) (d : Bor Text) (low : i < length xs) (
 
   pub refused_in : (s : Stop) → RefusesWord old (get_or xs i d).now s → RefusesState (texts xs) s
   refused_in s h = refused_here (texts xs) i (get_or xs i d).now within here old s t h
-
-pub end_in : (xs : List (Bor Text)) (i : ℕ) (state : Values) → length xs ≤ i → Taken (texts xs) i state → states_of (texts xs) ≡ Ok state
-end_in xs i state past t = all_taken (texts xs) i state (subst (λ n. n ≤ i) (sym (length-map xs (λ w. w.now))) past) t

@@ -49,10 +49,6 @@ same_tag_equal v w e = go (v.author == w.author) refl
     go true p = both p
     go false p = let f : false ≡ true = rw p at e in absurd cc
 
-common_of_none : (xs : List Tag) → common_loops xs [] ≡ zero
-common_of_none [] = refl
-common_of_none (x ∷ xs) = refl
-
 pub common_after : (nest xs ys : List Tag) → common_loops (nest ++ xs) (nest ++ ys) ≡ length nest + common_loops xs ys
 common_after [] xs ys = omega arith
 common_after (t ∷ nest) xs ys = let a = same_tag-itself t in let e = common_after nest xs ys in rw a (omega (arith, e))

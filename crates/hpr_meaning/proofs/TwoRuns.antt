@@ -182,15 +182,6 @@ pub chain : {l : Language} (p q : OneRun l) (Both : l.Spot → Type 0) (s : Shar
     → (i : ℕ) → i < p.count → Both (p.spot i) → q.before (p.spot i) (q.spot k) → (m : ℕ) × (m < k) × (q.spot m ≡ p.spot i)
 chain p q Both s k st cl i a sl b = chain_below p q Both s k st cl (suc i) i (omega arith) a sl b
 
--- one item for each spot
-one_item : {l : Language} (r : OneRun l) (a b : ℕ) → IsStep r a → IsStep r b → r.spot a ≡ r.spot b → a ≡ b
-one_item r a b u v e = go (order3 a b)
-  where
-    go : (a < b) ⊎ ((a ≡ b) ⊎ (b < a)) → a ≡ b
-    go (inl x) = absurd (r.irreflexive (r.spot b) (subst (λ y. r.before y (r.spot b)) e (r.ascends a b x v)))
-    go (inr (inl x)) = x
-    go (inr (inr x)) = absurd (r.irreflexive (r.spot b) (subst (λ y. r.before (r.spot b) y) e (r.ascends b a x u)))
-
 -- the origins of a read: none in both, or the same spot
 abbrev pub SameOrigin : {l : Language} (p q : OneRun l) → l.Name → ℕ → ℕ → Type 0
 SameOrigin {l = l} p q x i k =

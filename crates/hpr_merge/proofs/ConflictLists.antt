@@ -125,9 +125,6 @@ module _ (m k : Graph) (P : Vertex → Type 0) (side : Side) (vs : List Vertex) 
 pub edge_of_pair : (x m k : Numbered) (P : Vertex → Type 0) (v : Vertex) (o : Option Edge) → x ≡ m → IsEdgeOfPoint (graph_in x) (graph_in k) P v o → IsEdgeOfPoint (graph_in m) (graph_in k) P v o
 edge_of_pair x m k P v o is h = subst (λ (y : Numbered). IsEdgeOfPoint (graph_in y) (graph_in k) P v o) is h
 
-pub place_in_pair : (x m : Numbered) (at : ℕ) (v : Vertex) → x ≡ m → slice_get m.vertices at ≡ Some v → slice_get x.vertices at ≡ Some v
-place_in_pair x m at v is here = subst (λ (y : Numbered). slice_get y.vertices at ≡ Some v) (sym is) here
-
 -- both graphs with the vertices of both
 module _ (merged variant wide narrow : Numbered) (all : (v : Vertex) → HasVertex wide v ↔ (HasVertex merged v ⊎ HasVertex variant v)) (own : (v : Vertex) → HasVertex narrow v ↔ (HasVertex variant v ⊎ HasVertex merged v)) where
   turned : (v : Vertex) → HasVertex narrow v ↔ HasVertex wide v

@@ -36,10 +36,6 @@ first_into k grown own to ls row own_row o g w same own_same first =
     first_of (IsMore grown own own_row) (IsAddedLink k grown own to) ls row o same
     (λ l. (λ (inside, new). (g, w, (inside, λ (has, r). new (subst (λ (xs : List Link). Contains xs l) (sym own_same) has, r))), λ (a, b, (inside, new)). (inside, λ (has, r). new (subst (λ (xs : List Link). Contains xs l) own_same has, r)))) first
 
--- no link goes into a vertex that one of them doesn't mark
-pub none_into : (k : Numbered) (grown own : List Bool) (to : ℕ) (row : List Link) → ¬ (IsMarked grown to × IsMarked own to) → IsFirst (IsAddedLink k grown own to) row None
-none_into k grown own to row unmarked l has (g, w, more) = unmarked (g, w)
-
 -- no link is added at all
 pub none_added_whole : (m k : Numbered) (grown own : List Bool) (n : ℕ) → IsNumbered m → length m.vertices ≤ n → ((t : ℕ) (l : Link) → t < n → HasLink m t l → ¬ IsAddedLink k grown own t l) → IsFirstAdded m k grown own None
 none_added_whole m k grown own n km all before to l has = before to l (let (e, is) = km.links to l has in let w = slice_get_within m.vertices to e.to is.0 in omega (arith, w, all)) has

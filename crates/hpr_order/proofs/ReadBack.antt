@@ -56,8 +56,6 @@ some_one : (a b : ℕ) → Some a ≡ Some b → a ≡ b
 some_one a b e = cc
 
 module _ (items : List Item) where
-  S : ℕ → Slot
-  S = slot_at items
 
   -- the slot's item is not among these
   abbrev Outside : List ℕ → Slot → Type 0
@@ -121,11 +119,6 @@ module _ (items : List Item) where
 
   block_said : (items' : List Item) (c : ℕ) (i : Item) (t : Tag) (d : Content) (p q o : Body) → i.tag ≡ t → i.content ≡ d → said i.tag i.content p q o ≡ said t d p q o
   block_said items' c i t d p q o it ic = ap₂ (λ (u : Tag) (e : Content). said u e p q o) it ic
-
-  -- an empty block is read where no item stands
-  none_read : (t : Tree) (v : Slot) → StandsIn (slot_at items) v t → IsBlockOf items t done → t ≡ empty
-  none_read empty v st h = refl
-  none_read (node c y n r) v st h = absurd h
 
   pub read_back : (t : Tree) (b : Body) (v : Slot) (s : List ℕ) → StandsIn (slot_at items) v t → IsBlockOf items t b → IsDistinct (preorder t)
       → Outside (preorder t) v → Clear v (preorder t) s → block_at items (preorder t ++ s) v ≡ b

@@ -67,10 +67,6 @@ push_at_row rows at number row row' l is is' =
     subst (λ (xs : List (List ℕ)). IsPushed (numbers_of rows) at number xs) (sym same)
     (pushed_at (numbers_of rows) at number (omega (arith, l, length_rows rows)))
 
--- the row of links, one more link at a time
-pub control_none : (from : ℕ) → ¬ HasControl [] from
-control_none from (label, there) = in_none (control_link from label) there
-
 -- the control edge of a link
 pub control_of : (l : Link) (from : ℕ) (label : Bool) → l.kind ≡ Control label → l.from ≡ from → l ≡ control_link from label
 control_of l from label kind is = λ i. record { from = is i; kind = kind i }

@@ -228,10 +228,6 @@ module _ (slot : ℕ → Slot) where
   IsFar zero (Some at) = ⊥
   IsFar (suc d) (Some at) = IsFar d (slot at.0)
 
-  is_more : (o : Option ℕ) (n : ℕ) → o ≡ Some n → IsSome (one_more o)
-  is_more None n e = absurd cc
-  is_more (Some m) n e = search
-
   pub far_level : (n d : ℕ) (v : Slot) → IsFar d v → d ≤ n → level_in slot n v ≡ Some d
   far_level n d None far le = ap Some (sym far)
   far_level n zero (Some at) far le = absurd far

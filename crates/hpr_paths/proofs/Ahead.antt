@@ -258,10 +258,6 @@ after_branch B n k b Stops fr f a z _ (inl i) (goes {ns = ns} p h d q) = go (res
     go (inr e) = inr e
 after_branch B n k b Stops fr f a z _ (inr e) (goes p h d q) = absurd (fr (subst (StandsIn B) (ap (λ y. y.0) e) (path_from (pair_from B n) q)))
 
-pub in_neither : {A B : Type 0} → ¬ A → ¬ B → A ⊎ B → ⊥
-in_neither f g (inl a) = f a
-in_neither f g (inr b) = g b
-
 -- no pair of a block goes to an act or a conditional at its head
 act_target : (t : Tag) (k : Skeleton) (n : Next) → Distinct (act t k) → IsOutside n (act t k) → (a z : Point) (m : Option Tag) → FollowsIn (act t k) n a z m → ¬ (z ≡ at t)
 act_target t k n d fr a z m h e = go h

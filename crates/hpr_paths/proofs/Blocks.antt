@@ -57,16 +57,6 @@ after_is xs i n f more p q = elim (cases_lt i (length xs)) [
       ∙ ap (λ (ys : List Stmt). first_step (body_of ys) n f) (sym (drop_all i xs past))
 ]
 
--- the points of a part and of two blocks behind it
-pub three_rows : (r0 r1 r2 r3 : Rows) (row : Spot) (a b : Rows) → r1 ≡ r0 ++ row ∷ [] → r2 ≡ r1 ++ a → r3 ≡ r2 ++ b → r3 ≡ r0 ++ row ∷ (a ++ (b ++ []))
-three_rows r0 r1 r2 r3 row a b e f g =
-    g ∙ ap (λ (r : Rows). r ++ b) (f ∙ ap (λ (r : Rows). r ++ a) e ∙ append_assoc r0 (row ∷ []) a) ∙ append_assoc r0 (row ∷ a) b
-    ∙ ap (λ (r : Rows). r0 ++ row ∷ (a ++ r)) (sym (append-nil b))
-
-pub two_rows : (r0 r1 r2 : Rows) (row : Spot) (a : Rows) → r1 ≡ r0 ++ row ∷ [] → r2 ≡ r1 ++ a → r2 ≡ r0 ++ row ∷ (a ++ [])
-two_rows r0 r1 r2 row a e f =
-    f ∙ ap (λ (r : Rows). r ++ a) e ∙ append_assoc r0 (row ∷ []) a ∙ ap (λ (r : Rows). r0 ++ row ∷ r) (sym (append-nil a))
-
 take_apart : (xs : List Stmt) (i : ℕ) (s : Stmt) → i < length xs → s ≡ get_or xs i s → body_of (drop i xs) ≡ before s (body_of (drop (i + 1) xs))
 take_apart xs i s l is = let e : drop i xs ≡ s ∷ drop (i + 1) xs = rw add-one (drop-cons xs i s l ∙ ap (λ (t : Stmt). t ∷ drop (suc i) xs) (sym is)) in ap body_of e
 

@@ -40,26 +40,3 @@ before_by_edges B n Stops di fr qu i j dd id iu f = (forth, back)
     back : (c : ℕ) × HaveCommon B (at i.0) (at j.0) c × ByEdges B n Stops c i j → ComesBefore B 0 i j
     back (c, w, inl l) = before_by_turns B c 0 di i j w (inl l)
     back (c, w, inr a) = before_by_turns B c 0 di i j w (inr (a.0, e.0 a.1))
-
--- one order in two programs, with the same loops around both and the same direct way
-pub same_order : (p q : Skeleton) (n : Next) (Stops Def' : Point → Type 0) → Distinct p → Distinct q → IsOutside n p → IsOutside n q → OnlyActsStop p Stops → OnlyActsStop q Def'
-    → (i j : Place) → Stops (at i.0) → Def' (at i.0) → StandsIn p (at i.0) → StandsIn p (at j.0) → StandsIn q (at i.0) → StandsIn q (at j.0)
-    → HasPath p n Stops (at i.0) (at j.0) → HasPath q n Def' (at i.0) (at j.0)
-    → ((c : ℕ) → HaveCommon p (at i.0) (at j.0) c → HaveCommon q (at i.0) (at j.0) c) → (DirectWay p n Stops (at i.0) (at j.0) → DirectWay q n Def' (at i.0) (at j.0))
-    → ComesBefore p 0 i j → ComesBefore q 0 i j
-same_order p q n Stops Def' dp dq fp fq outwards uq i j a a' ip jp iq jq f f' loops way h =
-    (before_by_edges q n Def' dq fq uq i j a' iq jq f').1 (go ((before_by_edges p n Stops dp fp outwards i j a ip jp f).0 h))
-  where
-    go : (c : ℕ) × HaveCommon p (at i.0) (at j.0) c × ByEdges p n Stops c i j → (c : ℕ) × HaveCommon q (at i.0) (at j.0) c × ByEdges q n Def' c i j
-    go (c, w, inl l) = (c, loops c w, inl l)
-    go (c, w, inr x) = (c, loops c w, inr (x.0, way x.1))
-
--- one order in two programs of two parts, of which the one stands ahead in both
-pub same_order_of_definitions : (p q : Skeleton) → Distinct p → Distinct q → (i j : Place)
-    → ((c : ℕ) → HaveCommon p (at i.0) (at j.0) c → HaveCommon q (at i.0) (at j.0) c) → (StandsAhead p (at i.0) (at j.0) → StandsAhead q (at i.0) (at j.0))
-    → ComesBefore p 0 i j → ComesBefore q 0 i j
-same_order_of_definitions p q dp dq i j loops order h = go (by_turns p 0 i j h)
-  where
-    go : (c : ℕ) × HaveCommon p (at i.0) (at j.0) c × (HaveLessTurns c 0 i.1 j.1 ⊎ (HaveSameTurns c 0 i.1 j.1 × StandsAhead p (at i.0) (at j.0))) → ComesBefore q 0 i j
-    go (c, w, inl l) = before_by_turns q c 0 dq i j (loops c w) (inl l)
-    go (c, w, inr x) = before_by_turns q c 0 dq i j (loops c w) (inr (x.0, order x.1))

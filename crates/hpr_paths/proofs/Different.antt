@@ -12,10 +12,6 @@ use Rattle.hpr_syntax.proofs.ShownParts.{if_none}
 use Rattle.hpr_paths.proofs.SkeletonTags.{same_at}
 use Rattle.hpr_paths.proofs.Among.{no_both}
 
-abbrev Holds : Bool → Type 0
-Holds true = Unit {0}
-Holds false = ⊥
-
 pub same_tag-itself : (t : Tag) → same_tag t t ≡ true
 same_tag-itself t = let a = eq-eqb t.author t.author refl in let b = eq-eqb t.serial t.serial refl in rw (a, b) refl
 

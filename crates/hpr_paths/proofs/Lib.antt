@@ -25,7 +25,6 @@ pub mod Walks
 pub mod Logs
 pub mod PlacesUnder
 pub mod Between
-pub mod Straight
 pub mod Sides
 pub mod Different
 pub mod Says

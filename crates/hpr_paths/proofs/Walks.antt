@@ -1,7 +1,6 @@
 -- A run walks along the pairs of the program, so an undisturbed path leads from the last definition to its reader.
 use Rattle.hpr_terms.specs.declared.tag.Tag.{Tag}
 use Rattle.std.proofs.Common.{◌≡◌, ℕ, suc, Bool, true, false, List, [], ◌∷◌, ◌++◌, ◌⊎◌, Option, Some, refl, sym, subst, inl, inr}
-use Rattle.hpr_syntax.specs.Paths.{Path, one, step}
 use Rattle.hpr_syntax.specs.Skeleton.{Skeleton, act, fork, round, Point, at}
 use Rattle.hpr_syntax.specs.Pairs.{Next, first_of, FollowsIn}
 use Rattle.hpr_paths.specs.Times.{Place}
@@ -124,24 +123,3 @@ module _ (Value : Type 0) (truth : Value → Bool) (gives : Tag → List (Place 
           (walks (round t b k) (suc j) T h rr e i z n),
     ),
   )
-
--- a path leads from a step to a later one, and no step between stops it
-abbrev pub AllPass : (Point → Type 0) → List Place → Type 0
-AllPass Stops [] = Unit {0}
-AllPass Stops (σ ∷ ss) = (¬ Stops (at σ.0)) × AllPass Stops ss
-
-pub path_between : (R : Point → Point → Option Tag → Type 0) (Stops : Point → Type 0) (σ τ : Place) (mid rest : List Place) (p : Point) (e : Bool) (z : Point)
-    → WalksAlong R p (σ ∷ (mid ++ (τ ∷ rest))) e z → AllPass Stops mid → (ms : List (Option Tag)) × Path R Stops (at σ.0) (at τ.0) ms
-path_between R Stops σ τ [] rest p e z h s = go h.1
-  where
-    go : (((τ ∷ rest) ≡ []) × (e ≡ false)) ⊎ ((q : Point) × (m : Option Tag) × R (at σ.0) q m × WalksAlong R q (τ ∷ rest) e z)
-        → (ms : List (Option Tag)) × Path R Stops (at σ.0) (at τ.0) ms
-    go (inl x) = absurd (subst (λ (y : List Place). elim y as (λ q. Type 0) [ [] ↦ ⊥ | u ∷ us ↦ Unit {0} ]) x.0 tt)
-    go (inr x) = (x.1 ∷ [], one (subst (λ y. R (at σ.0) y x.1) x.3.0 x.2))
-path_between R Stops σ τ (ρ ∷ mid) rest p e z h s = go h.1 (λ q w. path_between R Stops ρ τ mid rest q e z w s.1)
-  where
-    go : (((ρ ∷ (mid ++ (τ ∷ rest))) ≡ []) × (e ≡ false)) ⊎ ((q : Point) × (m : Option Tag) × R (at σ.0) q m × WalksAlong R q (ρ ∷ (mid ++ (τ ∷ rest))) e z)
-        → ((q : Point) → WalksAlong R q (ρ ∷ (mid ++ (τ ∷ rest))) e z → (ms : List (Option Tag)) × Path R Stops (at ρ.0) (at τ.0) ms)
-        → (ms : List (Option Tag)) × Path R Stops (at σ.0) (at τ.0) ms
-    go (inl x) f = absurd (subst (λ (y : List Place). elim y as (λ q. Type 0) [ [] ↦ ⊥ | u ∷ us ↦ Unit {0} ]) x.0 tt)
-    go (inr x) f = let g = f x.0 x.3 in (x.1 ∷ g.0, step (subst (λ y. R (at σ.0) y x.1) x.3.0 x.2) s.0 g.1)

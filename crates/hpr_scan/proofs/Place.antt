@@ -1,8 +1,8 @@
 -- Exact places, in general and of the machine of bytes.
-use Rattle.std.proofs.Common.{◌≡◌, ℕ, suc, ◌<◌, ◌≤◌, ltb, List, [], ◌∷◌, ◌++◌, length, take, drop, get_or, Bool, true, false, Option, Some, None, Err, refl, sym, ap, subst, ◌∙◌, append_assoc, arith}
+use Rattle.std.proofs.Common.{◌≡◌, ℕ, suc, ◌<◌, ◌≤◌, ltb, List, ◌∷◌, ◌++◌, length, take, drop, get_or, Bool, true, false, Option, Some, None, Err, refl, sym, ap, subst, ◌∙◌, append_assoc, arith}
 use Rattle.std.proofs.lemmas.Bool.{ltb-true}
 use Rattle.std.proofs.lemmas.Bool.Decides.{nat_tests}
-use Rattle.std.proofs.lemmas.List.{append-nil, take-take, length-take, get_or-take}
+use Rattle.std.proofs.lemmas.List.{take-take, length-take, get_or-take}
 use Rattle.std.proofs.lemmas.Grind.{common_steps}
 use Rattle.hpr_terms.specs.declared.token.Token.{Token}
 use Rattle.hpr_scan.specs.declared.reader.Refusal.{Refusal}
@@ -10,7 +10,7 @@ use Rattle.hpr_scan.specs.declared.reader.Refusal.TheVariants.{Stuck, Memory}
 use Rattle.hpr_scan.specs.declared.scanner.Lex.TheVariants.{Gap}
 use Rattle.hpr_scan.specs.declared.scanner.Scanner.{Scanner}
 use Rattle.hpr_scan.specs.Machine.{IsTokenMachine, Live}
-use Rattle.hpr_scan.specs.Place.{IsViable, IsPlace, BeginsWith, Accepts, IfStuck}
+use Rattle.hpr_scan.specs.Place.{IsViable, IsPlace, Accepts, IfStuck}
 use Rattle.hpr_scan.specs.Scanner.{feed, feeds, scan, finish, IsStuck, Scans}
 use Rattle.hpr_scan.proofs.Words.{some_is, none_some, true_false}
 use Rattle.hpr_scan.proofs.WholeText.{text_scan}
@@ -28,14 +28,6 @@ same_place A B f g bytes n h = record {
   viable = (h.viable.0, f _ h.viable.1);
   longest = λ m le v. h.longest m le (v.0, g _ v.1);
 }
-
--- what begins with a text of A begins with one of B
-pub same_begins : (A B : List ℕ → Type 0) → ((bs : List ℕ) → A bs → B bs) → (bytes : List ℕ) → BeginsWith A bytes → BeginsWith B bytes
-same_begins A B f bytes h = (h.0, f (take h.0 bytes) h.1)
-
--- a text can be completed, by nothing
-pub viable_text : (L : List ℕ → Type 0) (bytes : List ℕ) → L bytes → IsViable L bytes
-viable_text L bytes h = ([], subst L (sym (append-nil bytes)) h)
 
 -- all of the bytes can be completed, and are no text
 pub end_place : (L : List ℕ → Type 0) (bytes : List ℕ) → (L bytes → ⊥) → IsViable L bytes → IsPlace L bytes (length bytes)

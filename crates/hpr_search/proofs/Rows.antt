@@ -1,5 +1,5 @@
 -- Rows of marks and the lists of what they mark.
-use Rattle.std.proofs.Common.{◌≡◌, ◌≢◌, ℕ, zero, suc, ◌<◌, ◌≤◌, Bool, true, false, ◌⊎◌, inl, inr, List, [], ◌∷◌, ◌++◌, length, set, replicate, get_or, Contains, append-nil, append_assoc, refl, sym, ap, subst, ◌∙◌, arith}
+use Rattle.std.proofs.Common.{◌≡◌, ◌≢◌, ℕ, zero, suc, ◌<◌, ◌≤◌, Bool, true, false, ◌⊎◌, inl, inr, List, [], ◌∷◌, ◌++◌, length, set, replicate, get_or, Contains, append_assoc, refl, sym, ap, subst, ◌∙◌, arith}
 use Rattle.std.proofs.lemmas.List.{length_push, get_or-set_same, get_or-set_other, length-set}
 use Rattle.std.proofs.lemmas.List.Elements.{Contains-push, Contains-push_cases, Contains-append_left}
 use Rattle.hpr_search.specs.Marks.{IsMarked, mark_count, IsRowOf, Visited}
@@ -66,11 +66,6 @@ module _ (marks : List Bool) (order : List ℕ) (q : ℕ) (row : IsRowOf marks o
     listed = λ p h. listed_then p h (same_or_other p q);
     marked = λ p h. marked_then p (Contains-push_cases order q p h);
   }
-
--- before any of the points
-pub visited_none : (marks : List Bool) (order : List ℕ) → IsRowOf marks order → Visited order [] (length marks) marks order
-visited_none marks order row =
-    record { size = refl; row = row; more = []; kept = sym (append-nil order); cases = λ p h. inl h; all = λ p h. absurd (omega (arith, h.1)) }
 
 module _ (old points : List ℕ) (n : ℕ) (marks : List Bool) (order : List ℕ) (q : ℕ) (v : Visited old points n marks order) where
   among : (p : ℕ) → Contains old p ⊎ Contains points p → Contains old p ⊎ Contains (points ++ q ∷ []) p

@@ -83,9 +83,6 @@ module _ (steps : ℕ → List ℕ) (starts : List ℕ) (n : ℕ) where
           let same : q ≡ get_or order h.0 0 = sym h.2 ∙ get_or_default order h.0 q 0 h.1 in
           s.closed h.0 (omega (arith, l, h.1)) r (subst (λ x. Contains (steps x) r) same k)
 
-  pub search_sound : (at : ℕ) (marks : List Bool) (order : List ℕ) → Searching steps starts n at marks order → (p : ℕ) → IsMarked marks p → IsReached steps starts p
-  search_sound at marks order s p h = s.sound p (s.row.listed p h)
-
   pub listed_within : (at : ℕ) (marks : List Bool) (order : List ℕ) → Searching steps starts n at marks order → length order ≤ n
   listed_within at marks order s = let l = mark_count-le-length marks in omega (arith, l, s.size, s.row.count)
 

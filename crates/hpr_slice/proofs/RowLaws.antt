@@ -45,9 +45,6 @@ push_at_row rows at number row row' l is is' to n =
 abbrev pub ArePushed : List (List ℕ) → List ℕ → ℕ → List (List ℕ) → Type 0
 ArePushed old each number new = (to n : ℕ) → Contains (numbers_at new to) n ↔ (Contains (numbers_at old to) n ⊎ (Contains each to × (n ≡ number)))
 
-pub each_none : (rows : List (List ℕ)) (each : List ℕ) (number : ℕ) → ArePushed rows (take 0 each) number rows
-each_none rows each number to n = (λ h. inl h, λ h. elim h [ inl was ↦ was | inr now ↦ absurd (omega (arith, now.0.1)) ])
-
 pub each_more : (old now new : List (List ℕ)) (each : List ℕ) (i number : ℕ) → i < length each → ArePushed old (take i each) number now
     → ((to n : ℕ) → Contains (numbers_at new to) n ↔ (Contains (numbers_at now to) n ⊎ ((to ≡ get_or each i 0) × (n ≡ number)))) → ArePushed old (take (i + 1) each) number new
 each_more old now new each i number l before more to n = (

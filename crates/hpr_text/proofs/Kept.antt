@@ -495,9 +495,3 @@ kept_runs_back s k (t ∷ ts) m h e =
 
 pub begin_kept : (s : State) → Kept s s
 begin_kept s = record { shows = refl; same = λ le. refl }
-
-pub runs_count : (s : State) (ts : List Token) (n : State) → runs (next None) s ts ≡ Some n → n.found.count ≤ s.found.count + length ts
-runs_count s [] n e = subst (λ (x : State). x.found.count ≤ s.found.count + 0) (some_is _ _ e) (omega arith)
-runs_count s (t ∷ ts) n e =
-    let a = then_of (next None s t) (λ (x : State). runs (next None) x ts) n e in
-    omega (arith, (counts_step s t a.0 a.1).1, runs_count a.0 ts n a.2)
