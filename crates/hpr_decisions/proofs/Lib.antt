@@ -2,7 +2,6 @@ pub mod EndsLemmas
 pub mod WordLemmas
 pub mod GraphLemmas
 pub mod TrialLemmas
-pub mod ExactSteps
 pub mod Completeness
 pub mod Once
 pub mod Theorem

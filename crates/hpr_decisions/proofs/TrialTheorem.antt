@@ -28,7 +28,7 @@ use Rattle.hpr_decisions.specs.TrialKeeps.{EndsTrial, IsKeptTrial, KeepsTrial}
 use Rattle.hpr_inputs.specs.declared.answer.Kind.TheVariants as kind
 use Rattle.hpr_decisions.specs.declared.status.Status.{Status}
 use Rattle.hpr_decisions.specs.declared.status.Status.TheVariants as status
-use Rattle.hpr_decisions.proofs.ExactSteps.{exact_steps}
+use Rattle.hpr_syntax.proofs.ExactSteps.{exact_steps}
 use Rattle.hpr_decisions.proofs.Theorem.{of_spelled}
 use Rattle.hpr_inputs.proofs.VersionLemmas.{of_state}
 

@@ -4,6 +4,7 @@ pub mod PartBound
 pub mod DepthBound
 pub mod Runs
 pub mod MoreSteps
+pub mod ExactSteps
 pub mod ValueByUses
 pub mod ActByUses
 pub mod IssuedLemmas

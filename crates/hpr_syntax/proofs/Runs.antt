@@ -22,7 +22,7 @@ weaken (goes s l) m n h p = omega arith
 weaken (stops t f l) m n h p = omega arith
 weaken spent m n h p = tt
 
-then_leaves : (x : After) (n : ℕ) (k : Values → ℕ → After) → ((s : Values) (l : ℕ) → LeavesAtMost (k s l) l) → LeavesAtMost x n → LeavesAtMost (then_go x k) n
+pub then_leaves : (x : After) (n : ℕ) (k : Values → ℕ → After) → ((s : Values) (l : ℕ) → LeavesAtMost (k s l) l) → LeavesAtMost x n → LeavesAtMost (then_go x k) n
 then_leaves (goes s l) n k h p = weaken (k s l) l n p (h s l)
 then_leaves (stops t f l) n k h p = p
 then_leaves spent n k h p = tt
@@ -32,11 +32,11 @@ step_leaves t a zero f h = tt
 step_leaves t (Ok v) (suc l) f h = let le : l ≤ suc l = omega arith in weaken (f v l) l (suc l) le (h v l)
 step_leaves t (Err e) (suc l) f h = omega arith
 
-if_leaves : (b : Bool) (x y : After) (n : ℕ) → LeavesAtMost x n → LeavesAtMost y n → LeavesAtMost (if b then x else y) n
+pub if_leaves : (b : Bool) (x y : After) (n : ℕ) → LeavesAtMost x n → LeavesAtMost y n → LeavesAtMost (if b then x else y) n
 if_leaves true x y n p q = p
 if_leaves false x y n p q = q
 
-turns_leaves : (n : ℕ) (t : Tag) (e : Expr) (k : Values → ℕ → After) → ((s : Values) (l : ℕ) → LeavesAtMost (k s l) l) → (s : Values) (left : ℕ) → LeavesAtMost (turns n t e k s left) left
+pub turns_leaves : (n : ℕ) (t : Tag) (e : Expr) (k : Values → ℕ → After) → ((s : Values) (l : ℕ) → LeavesAtMost (k s l) l) → (s : Values) (left : ℕ) → LeavesAtMost (turns n t e k s left) left
 turns_leaves zero t e k h s left = tt
 turns_leaves (suc n) t e k h s left =
     let step_k : (v : ℤ) (l : ℕ) → LeavesAtMost (if is_true v then then_go (k s l) (turns n t e k) else goes s l) l =

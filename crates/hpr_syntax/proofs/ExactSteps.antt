@@ -11,35 +11,10 @@ use Rattle.hpr_syntax.specs.Run.{FinalValues, ends, final_values, run, outcome, 
 use Rattle.hpr_syntax.specs.Tree.{Tree}
 use Rattle.hpr_syntax.specs.Value.{Answer, Fault, value, is_true}
 use Rattle.hpr_syntax.specs.Values.{Values}
-use Rattle.hpr_syntax.proofs.Runs.{LeavesAtMost, run_body_leaves}
-
--- no more steps are left than there were
-weaken : (x : After) (m n : ℕ) → m ≤ n → LeavesAtMost x m → LeavesAtMost x n
-weaken (goes s l) m n h p = omega arith
-weaken (stops t f l) m n h p = omega arith
-weaken spent m n h p = tt
-
-then_leaves : (x : After) (n : ℕ) (f : Values → ℕ → After) → ((s : Values) (l : ℕ) → LeavesAtMost (f s l) l) → LeavesAtMost x n → LeavesAtMost (then_go x f) n
-then_leaves (goes s l) n f h p = weaken (f s l) l n p (h s l)
-then_leaves (stops t e l) n f h p = p
-then_leaves spent n f h p = tt
-
-step_leaves : (t : Tag) (a : Answer) (n : ℕ) (f : ℤ → ℕ → After) → ((v : ℤ) (l : ℕ) → LeavesAtMost (f v l) l) → LeavesAtMost (step t a n f) n
-step_leaves t a zero f h = tt
-step_leaves t (Ok v) (suc l) f h = let le : l ≤ suc l = omega arith in weaken (f v l) l (suc l) le (h v l)
-step_leaves t (Err e) (suc l) f h = omega arith
-
-if_leaves : (b : Bool) (x y : After) (n : ℕ) → LeavesAtMost x n → LeavesAtMost y n → LeavesAtMost (if b then x else y) n
-if_leaves true x y n p q = p
-if_leaves false x y n p q = q
+use Rattle.hpr_syntax.proofs.Runs.{LeavesAtMost, then_leaves, if_leaves, turns_leaves, run_body_leaves}
 
 same_left : (s : Values) (l : ℕ) → LeavesAtMost (goes s l) l
 same_left s l = omega arith
-
-turns_leaves : (n : ℕ) (t : Tag) (e : Expr) (f : Values → ℕ → After) → ((s : Values) (l : ℕ) → LeavesAtMost (f s l) l) → (s : Values) (l : ℕ) → LeavesAtMost (turns n t e f s l) l
-turns_leaves zero t e f h s l = tt
-turns_leaves (suc n) t e f h s l =
-    step_leaves t (answer_of (While e) s) l _ (λ v m. if_leaves (is_true v) _ _ m (then_leaves (f s m) m (turns n t e f) (turns_leaves n t e f h) (h s m)) (same_left s m))
 
 left_within : (x : After) (n : ℕ) (s : Values) (l : ℕ) → LeavesAtMost x n → x ≡ goes s l → l ≤ n
 left_within x n s l h e = subst (λ y. LeavesAtMost y n) e h
