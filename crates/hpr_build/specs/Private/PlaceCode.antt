@@ -6,7 +6,7 @@
 use Rattle.std.specs.Prelude.{ℕ, Bool, Option, List, refl}
 use Rattle.std.specs.Coded.{Coded, code_by, coded×, coded_ℕ, coded_bool, coded_option, coded_list}
 use Rattle.hpr_syntax.specs.declared.rows.Content.{Content}
-use Rattle.hpr_paths.specs.Private.SpotCode.{content_coded}
+use Rattle.hpr_syntax.specs.Private.ContentCode.{content_coded}
 use Rattle.hpr_build.specs.declared.places.Parent.{Parent}
 use Rattle.hpr_build.specs.declared.places.Span.{Span}
 use Rattle.hpr_build.specs.Places.{Place}

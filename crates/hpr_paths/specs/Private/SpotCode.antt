@@ -1,42 +1,16 @@
 -- Numbers that tell points apart.
 --
--- content_parts == what a part says, taken apart; content_back puts it together again
--- role_parts    == a role taken apart; role_back puts it together again
--- step_coded    == steps, with their codes
--- content_coded == what parts say, with their codes
--- role_coded    == roles, with their codes
--- spot_coded    == points, with their codes
+-- role_parts == a role taken apart; role_back puts it together again
+-- step_coded == steps, with their codes
+-- role_coded == roles, with their codes
+-- spot_coded == points, with their codes
 use Rattle.std.specs.Prelude.{◌≡◌, ℕ, Bool, ◌⊎◌, List, refl}
-use Rattle.std.proofs.Common.{inl, inr, ap}
+use Rattle.std.proofs.Common.{inl, inr}
 use Rattle.std.specs.Coded.{Coded, code_by, coded×, coded⊎, coded_ℕ, coded_bool, coded_list}
-use Rattle.hpr_terms.specs.Term.{Term}
-use Rattle.hpr_terms.specs.TermOf.{term_of}
-use Rattle.hpr_terms.specs.Private.TermCode.{term_coded}
-use Rattle.hpr_terms.specs.Private.ExprCode.{expr_of, expr_of-term_of}
 use Rattle.hpr_syntax.specs.declared.rows.Content.{Content}
-use Rattle.hpr_syntax.specs.declared.rows.Content.TheVariants.{Assign, If, While}
+use Rattle.hpr_syntax.specs.Private.ContentCode.{content_coded}
 use Rattle.hpr_paths.specs.declared.spot.Step.{Step}
 use Rattle.hpr_paths.specs.Spots.{Role, enter, part, exit, Spot}
-
-abbrev pub content_parts : Content → (List ℕ × Term) ⊎ (Term ⊎ Term)
-content_parts (Assign x e) = inl (x, term_of e)
-content_parts (If e) = inr (inl (term_of e))
-content_parts (While e) = inr (inr (term_of e))
-
-abbrev pub content_back : (List ℕ × Term) ⊎ (Term ⊎ Term) → Content
-content_back (inl a) = Assign a.0 (expr_of a.1)
-content_back (inr (inl t)) = If (expr_of t)
-content_back (inr (inr t)) = While (expr_of t)
-
-pub content_same : (c : Content) → content_back (content_parts c) ≡ c
-content_same (Assign x e) = ap (Assign x) (expr_of-term_of e)
-content_same (If e) = ap If (expr_of-term_of e)
-content_same (While e) = ap While (expr_of-term_of e)
-
-abbrev pub content_coded : Coded Content
-content_coded =
-    code_by ((List ℕ × Term) ⊎ (Term ⊎ Term)) (coded⊎ (coded× (coded_list coded_ℕ) term_coded) (coded⊎ term_coded term_coded))
-    content_parts content_back content_same
 
 abbrev pub role_parts : Role → List (List ℕ) ⊎ (((ℕ × ℕ) × Content) ⊎ ℕ)
 role_parts enter = inr (inr 0)
