@@ -1,6 +1,7 @@
 -- Parts of two graphs compared by their marks.
 use Rattle.std.proofs.Common.{◌≡◌, ℕ, zero, suc, ◌<◌, ◌↔◌, inl, inr, Bool, IsTrue, Option, Some, List, [], ◌∷◌, length, Contains, slice_get, refl, sym, ap, ◌∙◌, subst, arith}
 use Rattle.std.proofs.lemmas.Option.{slice_get_within}
+use Rattle.hpr_terms.proofs.Facts.{get_below}
 use Rattle.hpr_search.proofs.Rows.{marked_within}
 use Rattle.hpr_graph.specs.declared.vertex.Vertex.{Vertex}
 use Rattle.hpr_graph.specs.declared.edge.Kind.{Kind}
@@ -14,7 +15,7 @@ use Rattle.hpr_graph.specs.Moves.{number_at}
 use Rattle.hpr_graph.specs.Slices.{ReachesOne, slice_at}
 use Rattle.hpr_graph.proofs.Laws.{closed_by_numbers, same_from_within, within_from_same, same_turned}
 use Rattle.hpr_slice.specs.Vertices.{IsOneOf, MarksExactly}
-use Rattle.hpr_graph.proofs.Lists.{some_inj, contains_at, place_of, item_at}
+use Rattle.hpr_graph.proofs.Lists.{some_inj, contains_at, place_of}
 use Rattle.hpr_affected.specs.declared.lacking.OneWay.{OneWay}
 use Rattle.hpr_affected.specs.Comparison.{Sides, IsComparison}
 use Rattle.hpr_affected.specs.Lacking.{IsOneWay, AllKept, IsInside, ThirdMarked}
@@ -65,7 +66,7 @@ module _ (g h : Numbered) (kg : IsNumbered g) (kh : IsNumbered h) (ns : List (Op
   kept_from_within : IsWithin (restrict_to (graph_in g) P) (restrict_to (graph_in h) Q) → AllKept ns rows marks others
   kept_from_within within at marked =
       let l : at < length g.vertices = let w = marked_within marks at marked in omega (arith, w, mg.count) in
-      let (v, at_v) = item_at g.vertices at l in
+      let (v, at_v) = get_below g.vertices at l in
       let p = (mg.exact at v at_v).0 marked in
       let (there, q) = within.0 v (contains_at g.vertices at v at_v, p) in
       let (j, number) = number_of_one g h kh ns way.numbers at v at_v there in (

@@ -1,6 +1,7 @@
 -- The affected points of two files' graphs.
 use Rattle.std.proofs.Common.{◌≡◌, ℕ, ◌↔◌, List, [], ◌∷◌, Option, Err, Result, refl, inl, inr}
 use Rattle.hpr_io.specs.Files.{Files}
+use Rattle.hpr_terms.proofs.Facts.{place_of}
 use Rattle.hpr_syntax.specs.Tree.{Tree}
 use Rattle.hpr_graph.specs.declared.vertex.Vertex.{Vertex}
 use Rattle.hpr_graph.specs.Graphs.{Same}
@@ -9,7 +10,6 @@ use Rattle.hpr_graph.specs.Points.{IsAffected}
 use Rattle.hpr_graph.specs.ProgramGraph.{graph_of}
 use Rattle.hpr_graph.proofs.Laws.{affected_same, same_turned}
 use Rattle.hpr_affected.specs.Numbers.{AreNumbersOf}
-use Rattle.hpr_build.proofs.Once.{place_among}
 use Rattle.hpr_report.specs.AffectedText.{IsAffectedText, IsOneOf}
 use Rattle.hpr_report.proofs.OneText.{affected_text_same}
 use Rattle.hpr_words.specs.Request.{Text}
@@ -56,7 +56,7 @@ module _ (g h : Numbered) (numbers : List ℕ) (exact : AreNumbersOf h (IsAffect
   points_same : (v : Vertex) → IsOneOf h numbers v ↔ IsAffected (graph_in h) (graph_in g) v
   points_same v = (
     λ (at, one, is). (exact.exact at v is).0 one,
-    λ k. (let (at, is) = place_among h.vertices v k.0 in (at, (exact.exact at v is).1 k, is)),
+    λ k. (let (at, is) = place_of h.vertices v k.0 in (at, (exact.exact at v is).1 k, is)),
   )
 
   pub numbers_text : (bytes : List ℕ) → IsAffectedText (IsOneOf h numbers) bytes → IsAffectedText (IsAffected (graph_in h) (graph_in g)) bytes

@@ -1,13 +1,13 @@
 -- The slice of a file's graph, and why there is none.
 use Rattle.std.proofs.Common.{ℕ, List, All, Err, Result, refl, ap, inl, inr}
 use Rattle.std.proofs.lemmas.List.Elements.{All-weaker}
+use Rattle.hpr_terms.proofs.Facts.{place_of}
 use Rattle.hpr_syntax.specs.Tree.{Tree}
 use Rattle.hpr_graph.specs.Graphs.{Same}
 use Rattle.hpr_graph.specs.Numbered.{Numbered, graph_in}
 use Rattle.hpr_graph.specs.ProgramGraph.{graph_of}
 use Rattle.hpr_graph.specs.Slices.{slice_of}
 use Rattle.hpr_graph.proofs.Laws.{closed_by_numbers, slice_same, slice_same_on}
-use Rattle.hpr_build.proofs.Once.{place_among}
 use Rattle.hpr_slice.specs.Vertices.{IsOneOf}
 use Rattle.hpr_report.specs.GraphTexts.{IsGraphText}
 use Rattle.hpr_report.proofs.OneText.{graph_text_same}
@@ -33,7 +33,7 @@ module _ (g : Numbered) (points : List Text) where
       slice_same_on (graph_in g) (IsOneOf g numbers) (IsPoint points) (closed_by_numbers g)
       (λ v has. (
         λ (at, one, is). (h.exact at v is).0 one,
-        λ point. (let (at, is) = place_among g.vertices v has in (at, (h.exact at v is).1 point, is)),
+        λ point. (let (at, is) = place_of g.vertices v has in (at, (h.exact at v is).1 point, is)),
       ))
 
   pub points_sliced : (numbers bytes : List ℕ) → All (IsNamed (graph_in g)) points → AreNumbersFor g points numbers

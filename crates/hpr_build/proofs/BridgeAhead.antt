@@ -13,13 +13,13 @@ use Rattle.hpr_paths.specs.declared.spot.Step.{Step}
 use Rattle.hpr_paths.specs.Spots.{Spot, loops_of, steps_of, next_at, nest_at}
 use Rattle.hpr_paths.specs.Successors.{step_to, first_step, spots_of, spots}
 use Rattle.hpr_paths.specs.Numbers.{Leads}
-use Rattle.hpr_terms.proofs.Few.{contains_none, contains_one, contains_two}
+use Rattle.hpr_terms.proofs.Few.{contains_one, contains_two}
+use Rattle.hpr_terms.proofs.Facts.{in_none, in_here, in_later}
 use Rattle.hpr_paths.proofs.Stands.{SpotIn, WholeIn, has_low, has_of_in, count_spots, count_whole, end_of, whole_of_get}
 use Rattle.hpr_paths.proofs.Sound.{has_high, get_below, are_spots}
 use Rattle.hpr_reach.specs.Reaches.{back_to}
 use Rattle.hpr_reach.proofs.Chains.{contains_taken}
 use Rattle.hpr_reach.proofs.Flows.{step_within}
-use Rattle.hpr_reach.proofs.Lists.{contains_here, contains_later}
 use Rattle.hpr_build.specs.declared.flows.FlowKind.TheVariants.{Independent}
 use Rattle.hpr_build.specs.Flows.{IsFlowAt}
 
@@ -223,7 +223,7 @@ module _ (t : Tree) where
   whole_follow p s (inl h) =
       at_head s _ p 0 h.0 h.1 (λ st c. one_follows 1 [] _ st (first_follows t.body 1 1 [] (end_of t) (omega arith) (step_follows (1 + part_count t.body) (part_count t.body + 1) [] (omega arith))) c)
   whole_follow p s (inr (inl h)) = steps_follow t.body 1 (end_of t) [] p s (step_follows (1 + part_count t.body) (part_count t.body + 1) [] (omega arith)) h
-  whole_follow p s (inr (inr h)) = at_head s _ p (part_count t.body + 1) h.0 h.1 (λ st c. absurd (contains_none st c))
+  whole_follow p s (inr (inr h)) = at_head s _ p (part_count t.body + 1) h.0 h.1 (λ st c. absurd (in_none st c))
 
   follows_at : (p : ℕ) (st : Step) → Contains (next_at (spots t) p) st → Follows (p + 1) (Nest p) st
   follows_at p st c =
@@ -236,13 +236,13 @@ module _ (t : Tree) where
   Inside p l = (s : Spot) × SpotIn t.body 1 (end_of t) [] p s × Contains s.nest l
 
   inside_by : (p l : ℕ) (s : Spot) → WholeIn t p s → Contains s.nest l → Inside p l
-  inside_by p l s (inl h) c = absurd (contains_none l (nest_to s _ l h.1 c))
+  inside_by p l s (inl h) c = absurd (in_none l (nest_to s _ l h.1 c))
   inside_by p l s (inr (inl h)) c = (s, h, c)
-  inside_by p l s (inr (inr h)) c = absurd (contains_none l (nest_to s _ l h.1 c))
+  inside_by p l s (inr (inr h)) c = absurd (in_none l (nest_to s _ l h.1 c))
 
   inside_of : (p l : ℕ) → Contains (Nest p) l → Inside p l
   inside_of p l c = elim (slice_get (spots t) p) as (λ o. slice_get (spots t) p ≡ o → Inside p l) [
-    | None ↦ λ is. absurd (contains_none l (subst (λ (o : Option Spot). Contains (loops_of o) l) is c))
+    | None ↦ λ is. absurd (in_none l (subst (λ (o : Option Spot). Contains (loops_of o) l) is c))
     | Some s ↦ λ is. inside_by p l s (whole_of_get t p s is) (subst (λ (o : Option Spot). Contains (loops_of o) l) is c)
   ] refl
 
@@ -250,7 +250,7 @@ module _ (t : Tree) where
   inside_low p l c =
       let (s, h, d) = inside_of p l c in
       elim (nest_low t.body 1 (end_of t) [] p s l h d) [
-        | inl none ↦ absurd (contains_none l none)
+        | inl none ↦ absurd (in_none l none)
         | inr r ↦ (r.0, r.1, (spot_range t.body 1 (end_of t) [] p s h).1)
       ]
 
@@ -289,23 +289,23 @@ module _ (t : Tree) where
   one_ahead p q s false is lead = inl (omega (arith, lead.1, (follows_at p s lead.0).0 is))
   one_ahead p q s true is lead =
       let there : Contains (Nest p) q = subst (Contains (Nest p)) (sym lead.1) ((follows_at p s lead.0).1 is) in
-      inr (q, there, around_itself p q there, subst (Contains (s ∷ [])) (is_back q s lead.1 is) (contains_here s []))
+      inr (q, there, around_itself p q there, subst (Contains (s ∷ [])) (is_back q s lead.1 is) (in_here s []))
 
   more_ahead : (p b q : ℕ) (s : Step) (steps : List Step) (back : Bool) → s.back ≡ back → Leads (spots t) p b s → AheadOr b q steps → AheadOr p q (s ∷ steps)
   more_ahead p b q s steps false is lead (inl l) = inl (omega (arith, l, lead.1, (follows_at p s lead.0).0 is))
   more_ahead p b q s steps false is lead (inr (w, x, y, there)) = elim (cases_lt p w) [
     | inl l ↦ inl (omega (arith, l, (inside_low q w y).1))
-    | inr le ↦ inr (w, between p b w x le (omega (arith, lead.1, (follows_at p s lead.0).0 is)), y, contains_later s (back_to w) steps there)
+    | inr le ↦ inr (w, between p b w x le (omega (arith, lead.1, (follows_at p s lead.0).0 is)), y, in_later s (back_to w) steps there)
   ]
   more_ahead p b q s steps true is lead (inl l) =
       let there : Contains (Nest p) b = subst (Contains (Nest p)) (sym lead.1) ((follows_at p s lead.0).1 is) in
       elim (cases_lt p q) [
         | inl ahead ↦ inl ahead
-        | inr le ↦ inr (b, there, between q p b there (omega (arith, l)) le, subst (Contains (s ∷ steps)) (is_back b s lead.1 is) (contains_here s steps))
+        | inr le ↦ inr (b, there, between q p b there (omega (arith, l)) le, subst (Contains (s ∷ steps)) (is_back b s lead.1 is) (in_here s steps))
       ]
   more_ahead p b q s steps true is lead (inr (w, x, y, there)) =
       let inside : Contains (Nest p) b = subst (Contains (Nest p)) (sym lead.1) ((follows_at p s lead.0).1 is) in
-      inr (w, around_more p b w inside x, y, contains_later s (back_to w) steps there)
+      inr (w, around_more p b w inside x, y, in_later s (back_to w) steps there)
 
   -- a path leads ahead, or takes the back edge of a loop around both ends
   pub goes_ahead : {Stops : ℕ → Type 0} {p q : ℕ} {steps : List Step} → Path (Leads (spots t)) Stops p q steps → AheadOr p q steps

@@ -4,6 +4,7 @@ use Rattle.std.specs.List.{slice_get}
 use Rattle.std.specs.Option.{option_and_then}
 use Rattle.std.proofs.lemmas.Option.{same_Some, slice_get_within, slice_get-get_or}
 use Rattle.hpr_terms.specs.declared.tag.Tag.{Tag}
+use Rattle.hpr_terms.proofs.Facts.{contains_at, place_of}
 use Rattle.hpr_syntax.specs.declared.rows.Content.{Content}
 use Rattle.hpr_syntax.specs.Nests.{Standing, StandsAsIn, Says}
 use Rattle.hpr_syntax.specs.Initial.{IsInitial}
@@ -24,11 +25,10 @@ use Rattle.hpr_graph.specs.ProgramGraph.{IsTop, StandsUnder, IsControl, IsEdgeOf
 use Rattle.hpr_build.specs.declared.places.Parent.{Parent}
 use Rattle.hpr_build.specs.Places.{Place, places, place_at, IsParentOf}
 use Rattle.hpr_build.specs.Links.{part_vertex, vertices_of, exit_of, first_init, IsUnder, IsControlLink}
-use Rattle.hpr_build.proofs.Once.{contains_at}
 use Rattle.hpr_build.proofs.PlaceIn.{PartAt, part_of_place, place_of_part}
 use Rattle.hpr_build.proofs.PlaceLaws.{standing_of_part, part_of_standing}
 use Rattle.hpr_build.proofs.BridgeNumbers.{part_within}
-use Rattle.hpr_build.proofs.BridgeVertices.{vertex_at_part, vertex_at_role, vertex_at_final, vertex_at_init, vertex_cases, place_in}
+use Rattle.hpr_build.proofs.BridgeVertices.{vertex_at_part, vertex_at_role, vertex_at_final, vertex_at_init, vertex_cases}
 
 -- the part of a tag
 role_of_tag_by : (t : Tree) (p : ℕ) (w : Tag) (o : Option Role) → role_at (spots t) p ≡ o → option_and_then tag_of o ≡ Some w → (c : Content) × (role_at (spots t) p ≡ Some (part w c))
@@ -105,11 +105,11 @@ module _ (t : Tree) (inits : List (List ℕ)) where
 
   top_link : ((x : List ℕ) → Contains inits x ↔ IsInitial t x) → (v : Vertex) → IsTop t v → EdgeLink (record { to = v; from = Entry; kind = kind.Control true })
   top_link names Entry h = absurd h
-  top_link names (Init x) h = let k = place_in inits x ((names x).1 h) in end_link (first_init t + k.0) (Init x) (omega arith) (vertex_at_init t inits k.0 x k.1)
+  top_link names (Init x) h = let k = place_of inits x ((names x).1 h) in end_link (first_init t + k.0) (Init x) (omega arith) (vertex_at_init t inits k.0 x k.1)
   top_link names (Part v c) (s, stands, content, none) =
       let (n, p, low, place, parent, is) = part_link v s stands in
       (n, from_entry, inl (p, low, place, top_link_by v c s p.parent parent none), (is ∙ ap (λ (d : Content). Some (Part v d)) content, refl, refl))
-  top_link names (Final x) h = let k = place_in t.finals x h in end_link (exit_of t + k.0) (Final x) (omega arith) (vertex_at_final t inits k.0 x k.1)
+  top_link names (Final x) h = let k = place_of t.finals x h in end_link (exit_of t + k.0) (Final x) (omega arith) (vertex_at_final t inits k.0 x k.1)
 
   module _ (prog : IsProgram t) where
     under_by : (s : Standing) (up : Option Parent) (w : Tag) (label : Bool) (q : ℕ) (c : Content) → IsParentOf (spots t) up s.parent → s.parent ≡ Some (w, label) → role_at (spots t) q ≡ Some (part w c)

@@ -4,6 +4,7 @@ use Rattle.std.specs.List.{slice_get}
 use Rattle.std.proofs.lemmas.Bool.{cases_eq}
 use Rattle.std.proofs.lemmas.List.Elements.{All-contains}
 use Rattle.hpr_terms.specs.declared.tag.Tag.{Tag}
+use Rattle.hpr_terms.proofs.Facts.{in_none, in_here, in_later, in_cons}
 use Rattle.hpr_syntax.specs.declared.rows.Content.{Content}
 use Rattle.hpr_syntax.specs.declared.rows.Content.TheVariants.{While}
 use Rattle.hpr_syntax.specs.Skeleton.{Point, skeleton}
@@ -21,7 +22,6 @@ use Rattle.hpr_paths.proofs.Sound.{are_spots}
 use Rattle.hpr_paths.proofs.Tags.{number_once}
 use Rattle.hpr_paths.proofs.Nested.{says_of_number, number_of_says}
 use Rattle.hpr_reach.specs.Reaches.{back_to, Reaches}
-use Rattle.hpr_reach.proofs.Lists.{contains_none, contains_here, contains_later, contains_cases}
 use Rattle.hpr_reach.proofs.Avoids.{avoids_nothing}
 use Rattle.hpr_reach.proofs.ByTags.{path_to_numbers}
 use Rattle.hpr_graph.specs.declared.vertex.Vertex.{Vertex}
@@ -44,12 +44,12 @@ use Rattle.hpr_build.proofs.BridgePoints.{defines_once, reads_once, flows_from_i
 
 -- whether a list has an element
 in_or_not : {X : Type 0} → ((a b : X) → (a ≡ b) ⊎ (a ≢ b)) → (xs : List X) (x : X) → Contains xs x ⊎ ¬ Contains xs x
-in_or_not same [] x = inr (λ h. contains_none x h)
+in_or_not same [] x = inr (λ h. in_none x h)
 in_or_not same (y ∷ xs) x = elim (same y x) [
-  | inl e ↦ inl (subst (Contains (y ∷ xs)) e (contains_here y xs))
+  | inl e ↦ inl (subst (Contains (y ∷ xs)) e (in_here y xs))
   | inr ne ↦ elim (in_or_not same xs x) [
-    | inl h ↦ inl (contains_later y x xs h)
-    | inr none ↦ inr (λ h. elim (contains_cases y x xs h) [ inl e ↦ ne e | inr later ↦ none later ])
+    | inl h ↦ inl (in_later y x xs h)
+    | inr none ↦ inr (λ h. elim (in_cons y x xs h) [ inl e ↦ ne e | inr later ↦ none later ])
   ]
 ]
 
@@ -78,18 +78,18 @@ module _ (ss : List Spot) (x : List ℕ) (d u : ℕ) where
     Avoids ws = (w : ℕ) → Contains ws w → Contains (nest_at ss u) w → ¬ Contains steps (back_to w)
 
     avoids_more : (w : ℕ) (ws : List ℕ) → ¬ (Contains (nest_at ss u) w × Contains steps (back_to w)) → Avoids ws → Avoids (w ∷ ws)
-    avoids_more w ws none avoids v h k there = elim (contains_cases w v ws h) [
+    avoids_more w ws none avoids v h k there = elim (in_cons w v ws h) [
       | inl e ↦ none (subst (Contains (nest_at ss u)) (sym e) k, subst (λ (n : ℕ). Contains steps (back_to n)) (sym e) there)
       | inr later ↦ avoids v later k there
     ]
 
     carries_or_avoids : (ws : List ℕ) → Carries ws ⊎ Avoids ws
-    carries_or_avoids [] = inr (λ w h. absurd (contains_none w h))
+    carries_or_avoids [] = inr (λ w h. absurd (in_none w h))
     carries_or_avoids (w ∷ ws) = elim (carries_or_avoids ws) [
-      | inl (v, h, k, there) ↦ inl (v, contains_later w v ws h, k, there)
+      | inl (v, h, k, there) ↦ inl (v, in_later w v ws h, k, there)
       | inr avoids ↦ elim (in_or_not cases_eq (nest_at ss u) w) [
         | inl k ↦ elim (in_or_not step_same steps (back_to w)) [
-          | inl there ↦ inl (w, contains_here w ws, k, there)
+          | inl there ↦ inl (w, in_here w ws, k, there)
           | inr none ↦ inr (avoids_more w ws (λ h. none h.1) avoids)
         ]
         | inr none ↦ inr (avoids_more w ws (λ h. none h.0) avoids)

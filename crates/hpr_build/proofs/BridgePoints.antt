@@ -3,6 +3,7 @@ use Rattle.std.proofs.Common.{◌≡◌, ℕ, ◌+◌, ◌<◌, ◌↔◌, inl, 
 use Rattle.std.specs.List.{slice_get}
 use Rattle.std.specs.Option.{option_and_then}
 use Rattle.hpr_terms.specs.declared.tag.Tag.{Tag}
+use Rattle.hpr_terms.proofs.Facts.{contains_at, place_of}
 use Rattle.hpr_syntax.specs.Skeleton as points
 use Rattle.hpr_syntax.specs.Skeleton.{Point}
 use Rattle.hpr_syntax.specs.Paths.{IsUndisturbed}
@@ -20,10 +21,9 @@ use Rattle.hpr_graph.specs.declared.vertex.Vertex.TheVariants.{Entry, Init, Part
 use Rattle.hpr_graph.specs.Graphs.{name_of}
 use Rattle.hpr_graph.specs.ProgramGraph.{Defines, Reads}
 use Rattle.hpr_build.specs.Links.{part_vertex, vertices_of, exit_of, first_init, IsSourceAt, IsTargetAt}
-use Rattle.hpr_build.proofs.Once.{contains_at}
 use Rattle.hpr_build.proofs.PlaceLaws.{role_of_part, number_of_part}
 use Rattle.hpr_build.proofs.BridgeNumbers.{part_of_defined, role_within}
-use Rattle.hpr_build.proofs.BridgeVertices.{vertex_at_part, vertex_at_role, vertex_at_final, vertex_at_init, place_in}
+use Rattle.hpr_build.proofs.BridgeVertices.{vertex_at_part, vertex_at_role, vertex_at_final, vertex_at_init}
 
 abbrev Marks : Type 0
 Marks = List (Option Tag)
@@ -84,7 +84,7 @@ module _ (t : Tree) (inits : List (List ℕ)) where
       → (d v : ℕ) × IsSourceAt t inits x d v × (slice_get Vs v ≡ Some w) × IsNumberOf (spots t) d a × (name_of w ≡ Some x)
   defines_source names x Entry a h initial = absurd h
   defines_source names x (Init y) a (e, f) initial =
-      let k = place_in inits y ((names y).1 (initial y refl)) in (
+      let k = place_of inits y ((names y).1 (initial y refl)) in (
         0,
         first_init t + k.0,
         inr (refl, (k.0, k.1 ∙ ap (λ (z : List ℕ). Some z) e, refl)),
@@ -120,7 +120,7 @@ module _ (t : Tree) (inits : List (List ℕ)) where
       let k = number_of_says t v c says in
       (k.0, k.0, inl (refl, (role_within t k.0 v c k.1).1, (part v c, k.1, uses)), vertex_at_role t inits k.0 v c k.1, (part v c, k.1, e))
   reads_target x (Final y) z (e, there, f) =
-      let k = place_in t.finals x there in (
+      let k = place_of t.finals x there in (
         exit_of t,
         exit_of t + k.0,
         inr (refl, (k.0, k.1, refl)),

@@ -3,8 +3,9 @@ use Rattle.std.proofs.Common.{◌≡◌, ℕ, zero, suc, ◌+◌, ◌-◌, true,
 use Rattle.std.specs.List.{slice_get}
 use Rattle.std.specs.Option.{option_map}
 use Rattle.std.specs.Str.{bytes_eq}
-use Rattle.std.proofs.lemmas.Option.{slice_get-map, slice_get-get_or}
+use Rattle.std.proofs.lemmas.Option.{slice_get-map}
 use Rattle.hpr_terms.specs.declared.tag.Tag.{Tag}
+use Rattle.hpr_terms.proofs.Facts.{contains_at, place_of, get_longer, at_append, get_in_map}
 use Rattle.hpr_syntax.specs.declared.rows.Content.{Content}
 use Rattle.hpr_syntax.specs.Nests.{Says}
 use Rattle.hpr_syntax.specs.Initial.{IsInitial}
@@ -20,30 +21,15 @@ use Rattle.hpr_graph.specs.declared.vertex.Vertex.{Vertex}
 use Rattle.hpr_graph.specs.declared.vertex.Vertex.TheVariants.{Entry, Init, Part, Final}
 use Rattle.hpr_graph.specs.Graphs.{IsOnce}
 use Rattle.hpr_graph.specs.ProgramGraph.{IsVertexOf}
-use Rattle.hpr_build.proofs.Once.{contains_at}
 use Rattle.hpr_build.specs.Places.{Place, places}
 use Rattle.hpr_build.specs.Links.{part_vertex, vertices_of, exit_of, first_init}
 use Rattle.hpr_build.proofs.PlaceIn.{PartAt, count_places, part_of_place, place_of_part}
 use Rattle.hpr_build.proofs.PlaceLaws.{role_of_part, part_of_role, tag_of_part}
 
--- two lists, the one behind the other
-get_first : {X : Type 0} (xs ys : List X) (k : ℕ) (x : X) → slice_get xs k ≡ Some x → slice_get (xs ++ ys) k ≡ Some x
-get_first [] ys k x h = absurd cc
-get_first (z ∷ xs) ys zero x h = h
-get_first (z ∷ xs) ys (suc k) x h = get_first xs ys k x h
-
 get_second : {X : Type 0} (xs ys : List X) (k n : ℕ) (x : X) → n ≡ length xs + k → slice_get ys k ≡ Some x → slice_get (xs ++ ys) n ≡ Some x
 get_second [] ys k n x e h = let same : n ≡ k = omega arith in ap (slice_get ys) same ∙ h
 get_second (z ∷ xs) ys k zero x e h = absurd (omega (arith, e))
 get_second (z ∷ xs) ys k (suc n) x e h = get_second xs ys k n x (omega (arith, e)) h
-
-get_either : {X : Type 0} (xs ys : List X) (n : ℕ) (x : X) → slice_get (xs ++ ys) n ≡ Some x → (slice_get xs n ≡ Some x) ⊎ ((k : ℕ) × (n ≡ length xs + k) × (slice_get ys k ≡ Some x))
-get_either [] ys n x h = inr (n, omega arith, h)
-get_either (z ∷ xs) ys zero x h = inl h
-get_either (z ∷ xs) ys (suc n) x h = elim (get_either xs ys n x h) [ inl a ↦ inl a | inr (k, e, b) ↦ inr (k, omega (arith, e), b) ]
-
-get_mapped : {X Y : Type 0} (f : X → Y) (xs : List X) (k : ℕ) (x : X) → slice_get xs k ≡ Some x → slice_get (map f xs) k ≡ Some (f x)
-get_mapped f xs k x h = slice_get-map f xs k ∙ ap (option_map f) h
 
 mapped_from : {X Y : Type 0} (f : X → Y) (o : Option X) (y : Y) → option_map f o ≡ Some y → (x : X) × (o ≡ Some x) × (y ≡ f x)
 mapped_from f None y h = absurd cc
@@ -88,7 +74,7 @@ module _ (t : Tree) (inits : List (List ℕ)) where
   vertex_at_part p x h =
       let k = place_of_part t p x h in
       get_second (Entry ∷ []) (map part_vertex (places t) ++ (map Final t.finals ++ map Init inits)) (p - 1) p (part_vertex x) (omega (arith, k.0))
-      (get_first (map part_vertex (places t)) (map Final t.finals ++ map Init inits) (p - 1) (part_vertex x) (get_mapped part_vertex (places t) (p - 1) x k.1))
+      (get_longer (map part_vertex (places t)) (map Final t.finals ++ map Init inits) (p - 1) (part_vertex x) (get_in_map part_vertex (places t) (p - 1) x k.1))
 
   pub vertex_at_role : (p : ℕ) (v : Tag) (c : Content) → role_at (spots t) p ≡ Some (part v c) → slice_get Vs p ≡ Some (Part v c)
   vertex_at_role p v c is = let (x, h, e, f) = part_of_role t p v c is in vertex_at_part p x h ∙ (λ i. Some (Part (e i) (f i)))
@@ -96,12 +82,12 @@ module _ (t : Tree) (inits : List (List ℕ)) where
   pub vertex_at_final : (k : ℕ) (x : List ℕ) → slice_get t.finals k ≡ Some x → slice_get Vs (exit_of t + k) ≡ Some (Final x)
   vertex_at_final k x h =
       get_second (Entry ∷ map part_vertex (places t)) (map Final t.finals ++ map Init inits) k (exit_of t + k) (Final x) (omega (arith, count_parts))
-      (get_first (map Final t.finals) (map Init inits) k (Final x) (get_mapped Final t.finals k x h))
+      (get_longer (map Final t.finals) (map Init inits) k (Final x) (get_in_map Final t.finals k x h))
 
   pub vertex_at_init : (k : ℕ) (x : List ℕ) → slice_get inits k ≡ Some x → slice_get Vs (first_init t + k) ≡ Some (Init x)
   vertex_at_init k x h =
       get_second (Entry ∷ map part_vertex (places t)) (map Final t.finals ++ map Init inits) (length t.finals + k) (first_init t + k) (Init x) (omega (arith, count_parts))
-      (get_second (map Final t.finals) (map Init inits) k (length t.finals + k) (Init x) (omega (arith, length_mapped Final t.finals)) (get_mapped Init inits k x h))
+      (get_second (map Final t.finals) (map Init inits) k (length t.finals + k) (Init x) (omega (arith, length_mapped Final t.finals)) (get_in_map Init inits k x h))
 
   part_behind : (n : ℕ) (x : Place) → slice_get (places t) n ≡ Some x → PartAt t (suc n) x
   part_behind n x h =
@@ -110,10 +96,10 @@ module _ (t : Tree) (inits : List (List ℕ)) where
 
   pub vertex_cases : (n : ℕ) (v : Vertex) → slice_get Vs n ≡ Some v → FirstOf n v ⊎ (PartOf n v ⊎ (FinalOf n v ⊎ InitOf n v))
   vertex_cases zero v h = inl (refl, cc)
-  vertex_cases (suc n) v h = elim (get_either (map part_vertex (places t)) (map Final t.finals ++ map Init inits) n v h) [
+  vertex_cases (suc n) v h = elim (at_append (map part_vertex (places t)) (map Final t.finals ++ map Init inits) n v h) [
     | inl a ↦ (let (x, is, e) = get_of_mapped part_vertex (places t) n v a in
         inr (inl (x, part_behind n x is, e)))
-    | inr (k, e, b) ↦ elim (get_either (map Final t.finals) (map Init inits) k v b) [
+    | inr (k, e, b) ↦ elim (at_append (map Final t.finals) (map Init inits) k v b) [
       | inl a ↦ (let (x, is, f) = get_of_mapped Final t.finals k v a in inr (inr (inl (k, x, is, omega (arith, e, count_parts), f))))
       | inr (j, f, c) ↦ (let (x, is, g) = get_of_mapped Init inits j v c in
           inr (inr (inr (j, x, is, omega (arith, e, f, count_parts, length_mapped Final t.finals), g))))
@@ -165,9 +151,6 @@ module _ (t : Tree) (inits : List (List ℕ)) (prog : IsProgram t) (once : IsOnc
     ]
   ]
 
-pub place_in : {X : Type 0} (xs : List X) (x : X) → Contains xs x → (i : ℕ) × (slice_get xs i ≡ Some x)
-place_in {X} xs x (i, l, e) = (i, slice_get-get_or xs i x l ∙ ap (λ (y : X). Some y) e)
-
 module _ (t : Tree) (inits : List (List ℕ)) (names : (x : List ℕ) → Contains inits x ↔ IsInitial t x) where
   -- a number has a vertex of the program
   pub vertex_stands : (n : ℕ) (v : Vertex) → slice_get (vertices_of t inits) n ≡ Some v → IsVertexOf t v
@@ -188,14 +171,14 @@ module _ (t : Tree) (inits : List (List ℕ)) (names : (x : List ℕ) → Contai
   -- each vertex of the program has a number
   pub number_of_vertex : (v : Vertex) → IsVertexOf t v → (n : ℕ) × (slice_get (vertices_of t inits) n ≡ Some v)
   number_of_vertex Entry h = (0, refl)
-  number_of_vertex (Init x) h = let k = place_in inits x ((names x).1 h) in (first_init t + k.0, vertex_at_init t inits k.0 x k.1)
+  number_of_vertex (Init x) h = let k = place_of inits x ((names x).1 h) in (first_init t + k.0, vertex_at_init t inits k.0 x k.1)
   number_of_vertex (Part v c) h =
       let (p, x, k, e) = number_of_part_says v c h in
       (p, vertex_at_part t inits p x k ∙ ap (λ (y : Vertex). Some y) e)
-  number_of_vertex (Final x) h = let k = place_in t.finals x h in (exit_of t + k.0, vertex_at_final t inits k.0 x k.1)
+  number_of_vertex (Final x) h = let k = place_of t.finals x h in (exit_of t + k.0, vertex_at_final t inits k.0 x k.1)
 
   pub vertex_of : (v : Vertex) → Contains (vertices_of t inits) v ↔ IsVertexOf t v
   vertex_of v = (
-    (λ h. let k = place_in (vertices_of t inits) v h in vertex_stands k.0 v k.1),
+    (λ h. let k = place_of (vertices_of t inits) v h in vertex_stands k.0 v k.1),
     (λ h. let k = number_of_vertex v h in contains_at (vertices_of t inits) k.0 v k.1),
   )

@@ -2,10 +2,10 @@
 use Rattle.std.proofs.Common.{◌≡◌, ◌↔◌, ℕ, ◌+◌, ◌<◌, Bool, IsTrue, Option, None, List, [], ◌∷◌, ◌++◌, length, get_or, inl, inr, sym, ap, ◌∙◌, subst, arith, below_more}
 use Rattle.std.proofs.Math.Seq.{get_or-append_seam}
 use Rattle.std.proofs.lemmas.List.{get_or_append_left, get_or_default}
+use Rattle.hpr_terms.proofs.Facts.{taken_item}
 use Rattle.hpr_paths.specs.Spots.{Spot, nest_at}
 use Rattle.hpr_search.specs.Marks.{IsMarked}
 use Rattle.hpr_reach.specs.Flows.{ComesRound, GoesOn}
-use Rattle.hpr_reach.proofs.Grown.{taken_more}
 use Rattle.hpr_reach.proofs.Flows.{carried_parts}
 use Rattle.hpr_build.specs.Flows.{CutsTo, AreCuts, IsCarriedBy, CarriesTo, AreCarries}
 
@@ -26,7 +26,7 @@ module _ (spots : List Spot) (x : List ℕ) (d : ℕ) where
   -- a loop to which the value doesn't come round cuts nothing
   pub same_cut : (c : ℕ) (row : List Bool) → c < length Nest → ¬ ComesRound spots x (get_or Nest c 0) d → CutsTo spots x d c row → CutsTo spots x d (c + 1) row
   same_cut c row l off cuts = λ u.
-      let more = λ (w : ℕ). taken_more Nest c (get_or Nest c 0) w l (sym (get_or_default Nest c (get_or Nest c 0) 0 l)) in (
+      let more = λ (w : ℕ). taken_item Nest c (get_or Nest c 0) w l (sym (get_or_default Nest c (get_or Nest c 0) 0 l)) in (
         (λ m.
             let (steps, path, avoids) = (cuts u).0 m in (
               steps,

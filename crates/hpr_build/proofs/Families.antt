@@ -1,7 +1,7 @@
 -- What is added for one item of a list after another.
 use Rattle.std.proofs.Common.{◌≡◌, ℕ, ◌+◌, ◌<◌, ◌≤◌, List, length, take, get_or, Contains, ◌↔◌, ◌⊎◌, inl, inr, refl, sym, subst}
 use Rattle.std.proofs.lemmas.List.{take_all}
-use Rattle.hpr_reach.proofs.Grown.{taken_more}
+use Rattle.hpr_terms.proofs.Facts.{taken_item}
 use Rattle.hpr_graph.specs.Graphs.{IsOnce}
 use Rattle.hpr_build.proofs.Once.{not_yet, taken_among}
 
@@ -17,12 +17,12 @@ module _ {X : Type 0} (xs : List X) (P : X → Type 0) (k : ℕ) (A O : Type 0) 
     pub turn_family : (A' : Type 0) → A' ↔ (A ⊎ P x) → A' ↔ (O ⊎ SomeOf (take (k + 1) xs) P)
     turn_family A' new = (
       (λ h. elim (new.0 h) [
-        | inl a ↦ (elim (old.0 a) [ inl o ↦ inl o | inr (y, t, p) ↦ inr (y, (taken_more xs k x y here is).1 (inl t), p) ])
-        | inr p ↦ inr (x, (taken_more xs k x x here is).1 (inr refl), p)
+        | inl a ↦ (elim (old.0 a) [ inl o ↦ inl o | inr (y, t, p) ↦ inr (y, (taken_item xs k x y here is).1 (inl t), p) ])
+        | inr p ↦ inr (x, (taken_item xs k x x here is).1 (inr refl), p)
       ]),
       (λ h. elim h [
         | inl o ↦ new.1 (inl (old.1 (inl o)))
-        | inr (y, t, p) ↦ (elim ((taken_more xs k x y here is).0 t) [
+        | inr (y, t, p) ↦ (elim ((taken_item xs k x y here is).0 t) [
           | inl was ↦ new.1 (inl (old.1 (inr (y, was, p))))
           | inr e ↦ new.1 (inr (subst P (sym e) p))
         ])

@@ -1,5 +1,6 @@
 -- The flow links by number.
 use Rattle.std.proofs.Common.{◌≡◌, ℕ, ◌+◌, ◌<◌, List, [], ◌∷◌, ◌++◌, Some, map, Contains, length, slice_get, ◌↔◌, ◌⊎◌, inl, inr, refl, sym, ap, ◌∙◌, subst, arith}
+use Rattle.hpr_terms.proofs.Facts.{contains_at, in_map, map_in}
 use Rattle.hpr_syntax.specs.Tree.{Tree}
 use Rattle.hpr_paths.specs.Spots.{Spot, defined_at, UsesAt}
 use Rattle.hpr_paths.proofs.Stands.{count_whole}
@@ -22,7 +23,7 @@ use Rattle.hpr_build.specs.Stages.{IsVariable}
 use Rattle.hpr_build.proofs.BridgeNumbers.{defined_within, source_once, target_once}
 use Rattle.hpr_build.proofs.Families.{SomeOf}
 use Rattle.hpr_build.proofs.LinkTurns.{into}
-use Rattle.hpr_build.proofs.Once.{among_map, map_among, once_map, once_after, contains_at}
+use Rattle.hpr_build.proofs.Once.{once_map, once_after}
 use Rattle.hpr_build.proofs.TargetNumbers.{target_uses, number_of_target, target_of_number}
 
 flow_of_kind : (s : List Spot) (x : List ℕ) (d u : ℕ) (k : FlowKind) → IsFlowAt s x d u k → IsFlowOf s x d u (link_kind k)
@@ -51,7 +52,7 @@ module _ (t : Tree) (v : Variable) (var : IsVariable t v) (s : List Spot) (whole
 
   pub flows_of_links : (to : ℕ) (l : Link) → Contains New (into to l) → FlowsFrom t v.name.now d source to l
   flows_of_links to l h =
-      let (f, has, is) = among_map (flow_link (exit_of t) v.final_number source) flows (into to l) h in
+      let (f, has, is) = map_in (flow_link (exit_of t) v.final_number source) flows (into to l) h in
       let at : target_of (exit_of t) v.final_number f.to ≡ to = ap (λ (n : NewLink). n.to) is in
       let from : source ≡ l.from = ap (λ (n : NewLink). n.link.from) is in
       let kind : link_kind f.kind ≡ l.kind = ap (λ (n : NewLink). n.link.kind) is in
@@ -71,7 +72,7 @@ module _ (t : Tree) (v : Variable) (var : IsVariable t v) (s : List Spot) (whole
       let has : Contains flows f = (exact f).1 ((var.users u).1 (target_uses t v.name.now u to target), subst (λ (S : List Spot). IsFlowAt S v.name.now d u k) (sym whole) at) in
       let number : to ≡ target_of (exit_of t) v.final_number u = number_of_target t v var u to target in
       let is : flow_link (exit_of t) v.final_number source f ≡ into to l = λ i. record { to = sym number i; link = record { from = sym from i; kind = kind i } } in
-      subst (Contains New) is (map_among (flow_link (exit_of t) v.final_number source) flows f has)
+      subst (Contains New) is (in_map (flow_link (exit_of t) v.final_number source) flows f has)
 
   pub flow_links_once : IsOnce flows → IsOnce New
   flow_links_once once =
@@ -99,7 +100,7 @@ module _ (t : Tree) (inits : List (List ℕ)) (v : Variable) (var : IsVariable t
 
   part_of_among : (s : Source) → Contains Parts s → IsPart s
   part_of_among s h =
-      let (p, has, is) = among_map source_of_point v.definitions.now s h in
+      let (p, has, is) = map_in source_of_point v.definitions.now s h in
       let number : p ≡ s.number = ap (λ (q : Source). q.number) is in
       let point : p ≡ s.point = ap (λ (q : Source). q.point) is in
       (sym number ∙ point, subst (λ (n : ℕ). defined_at (spots t) n ≡ Some v.name.now) point ((var.definitions p).0 has))
@@ -107,7 +108,7 @@ module _ (t : Tree) (inits : List (List ℕ)) (v : Variable) (var : IsVariable t
   among_of_part : (s : Source) → IsPart s → Contains Parts s
   among_of_part s (number, is) =
       let same : source_of_point s.point ≡ s = λ i. record { number = sym number i; point = s.point } in
-      subst (Contains Parts) same (map_among source_of_point v.definitions.now s.point ((var.definitions s.point).1 is))
+      subst (Contains Parts) same (in_map source_of_point v.definitions.now s.point ((var.definitions s.point).1 is))
 
   pub parts_once : IsOnce Parts
   parts_once = once_map source_of_point v.definitions.now var.definitions_once (λ p q hp hq e. ap (λ (s : Source). s.point) e)

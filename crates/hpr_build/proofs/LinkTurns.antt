@@ -2,8 +2,7 @@
 use Rattle.std.proofs.Common.{◌≡◌, ℕ, ◌+◌, ◌<◌, ◌≤◌, suc, false, Result, Err, List, [], ◌∷◌, length, take, get_or, Contains, ◌↔◌, ◌⊎◌, inl, inr, refl, sym, ap, ◌∙◌, subst, sum_by, slice_get, arith}
 use Rattle.std.proofs.lemmas.List.{take_all}
 use Rattle.std.proofs.lemmas.List.Sums.{sum_by-cons}
-use Rattle.hpr_reach.proofs.Grown.{taken_more}
-use Rattle.hpr_reach.proofs.Lists.{contains_here}
+use Rattle.hpr_terms.proofs.Facts.{taken_item, in_here}
 use Rattle.hpr_graph.specs.declared.link.LinkKind.TheVariants.{Control}
 use Rattle.hpr_graph.specs.declared.link.Link.{Link}
 use Rattle.hpr_graph.specs.Numbered.{Numbered, HasLink, IsNumbered, row_items, link_count}
@@ -28,7 +27,7 @@ same_into n to l a b = λ i. record { to = sym a i; link = sym b i }
 module _ (links : List NewLink) (k : ℕ) (n : NewLink) (here : k < length links) (is : n ≡ get_or links k n) where
   pub turn_link : (to : ℕ) (l : Link) (A A' O : Type 0) → A' ↔ (A ⊎ ((to ≡ n.to) × (l ≡ n.link))) → A ↔ (O ⊎ Contains (take k links) (into to l)) → A' ↔ (O ⊎ Contains (take (k + 1) links) (into to l))
   turn_link to l A A' O new old =
-      let more = taken_more links k n (into to l) here is in (
+      let more = taken_item links k n (into to l) here is in (
         (λ h. elim (new.0 h) [
           | inl a ↦ (elim (old.0 a) [ inl o ↦ inl o | inr t ↦ inr (more.1 (inl t)) ])
           | inr s ↦ inr (more.1 (inr (same_into n to l s.0 s.1)))
@@ -70,7 +69,7 @@ module _ (tree : Tree) (inits : List (List ℕ)) (most : ℕ) (g g' : Numbered) 
 -- a graph without links has none
 empty_row : (row : List Link) → ((l : Link) → ¬ Contains row l) → length row ≡ 0
 empty_row [] none = refl
-empty_row (l ∷ row) none = absurd (none l (contains_here l row))
+empty_row (l ∷ row) none = absurd (none l (in_here l row))
 
 empty_rows : (rows : List (List Link)) → ((to : ℕ) (l : Link) → ¬ Contains (row_items (slice_get rows to)) l) → sum_by (λ row. length row) rows ≡ 0
 empty_rows [] none = refl

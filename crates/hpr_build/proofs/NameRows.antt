@@ -1,11 +1,11 @@
 -- Rows of points, one for each name.
 use Rattle.std.proofs.Common.{◌≡◌, ℕ, zero, suc, ◌+◌, ◌<◌, ◌≤◌, Some, List, [], ◌∷◌, ◌++◌, Vec, Global, length, take, get_or, Contains, slice_get, ◌⊎◌, ◌↔◌, inl, inr, refl, sym, ap, ◌∙◌, subst, arith}
 use Rattle.std.proofs.lemmas.Bool.{cases_eq}
-use Rattle.hpr_reach.proofs.Grown.{pushed, taken_more}
-use Rattle.hpr_reach.proofs.Lists.{contains_none}
+use Rattle.hpr_terms.proofs.Facts.{taken_item, in_none, contains_at}
+use Rattle.hpr_reach.proofs.Grown.{pushed}
 use Rattle.hpr_graph.specs.Graphs.{IsOnce}
 use Rattle.hpr_build.specs.Variables.{points_at}
-use Rattle.hpr_build.proofs.Once.{once_after, contains_at}
+use Rattle.hpr_build.proofs.Once.{once_after}
 
 same_name : (names : List (List ℕ)) (i j : ℕ) (x y : List ℕ) → i ≡ j → slice_get names i ≡ Some x → slice_get names j ≡ Some y → y ≡ x
 same_name names i j x y e a b = let s : Some y ≡ Some x = sym b ∙ sym (ap (slice_get names) e) ∙ a in cc
@@ -43,7 +43,7 @@ unpushed_rows names name point rows none i x get p = ((λ h. inl h), (λ h. elim
 -- the rows after one more of the names that are used
 pub turn_used : (used : List (List ℕ)) (k : ℕ) (name x : List ℕ) (A A' O E : Type 0) → k < length used → name ≡ get_or used k name → A' ↔ (A ⊎ ((name ≡ x) × E)) → A ↔ (O ⊎ (Contains (take k used) x × E)) → A' ↔ (O ⊎ (Contains (take (k + 1) used) x × E))
 turn_used used k name x A A' O E l is new old =
-    let more = taken_more used k name x l is in (
+    let more = taken_item used k name x l is in (
       (λ h. elim (new.0 h) [
         | inl a ↦ (elim (old.0 a) [ inl o ↦ inl o | inr t ↦ inr (more.1 (inl t.0), t.1) ])
         | inr t ↦ inr (more.1 (inr t.0), t.1)
@@ -66,7 +66,7 @@ turn_point P n p A A' new old = (
 
 pub no_points : (P : ℕ → Type 0) (ps : List ℕ) (p : ℕ) → ps ≡ [] → Contains ps p ↔ ((p < 0) × P p)
 no_points P ps p none = (
-  (λ h. absurd (contains_none p (subst (λ (qs : List ℕ). Contains qs p) none h))),
+  (λ h. absurd (in_none p (subst (λ (qs : List ℕ). Contains qs p) none h))),
   (λ (l, h). absurd (omega (arith, l))),
 )
 

@@ -4,6 +4,7 @@ use Rattle.std.proofs.lemmas.Bool.{cases_eq}
 use Rattle.std.proofs.lemmas.List.{get_or_append_left, get_or-take}
 use Rattle.std.proofs.lemmas.List.Elements.{All-weaker, All-contains_itself}
 use Rattle.std.proofs.lemmas.Option.{slice_get_within, slice_get-get_or, get_or_from_slice_get, same_Some}
+use Rattle.hpr_terms.proofs.Facts.{contains_at, place_of, in_map, map_in}
 use Rattle.hpr_search.specs.Marks.{IsMarked}
 use Rattle.hpr_paths.proofs.Stands.{count_whole}
 use Rattle.hpr_reach.proofs.Grown.{Below, turn_of_number}
@@ -26,7 +27,7 @@ use Rattle.hpr_build.specs.Stages.{IsVariable}
 use Rattle.hpr_build.proofs.BridgeNumbers.{defined_within, target_once}
 use Rattle.hpr_build.proofs.Families.{SomeOf}
 use Rattle.hpr_build.proofs.LinkTurns.{into}
-use Rattle.hpr_build.proofs.Once.{among_map, map_among, once_map, contains_at, place_among}
+use Rattle.hpr_build.proofs.Once.{once_map}
 use Rattle.hpr_build.proofs.PlaceIn.{count_places}
 use Rattle.hpr_build.proofs.TargetNumbers.{target_uses, number_of_target, target_of_number}
 
@@ -46,7 +47,7 @@ pub reach_of_on : (s : List Spot) (x : List ℕ) (definitions : List ℕ) (rows 
     → ((i : ℕ) × IsOn definitions rows u p i) ↔ (Contains definitions p × Reaches s x [] p u)
 reach_of_on s x definitions rows u p reached = (
   (λ (i, (at, marked)). (contains_at definitions i p at, (reached i p u at).0 marked)),
-  (λ (h, reaches). let k = place_among definitions p h in (k.0, (k.1, (reached k.0 p u k.1).1 reaches))),
+  (λ (h, reaches). let k = place_of definitions p h in (k.0, (k.1, (reached k.0 p u k.1).1 reaches))),
 )
 
 module _ (t : Tree) (v : Variable) (var : IsVariable t v) where
@@ -75,7 +76,7 @@ module _ (t : Tree) (v : Variable) (var : IsVariable t v) where
 
     pub orders_of_links : (to : ℕ) (l : Link) → Contains New (into to l) → OrdersAt t v.name.now u to l
     orders_of_links to l h =
-        let (o, has, same) = among_map (order_link number) pairs (into to l) h in
+        let (o, has, same) = map_in (order_link number) pairs (into to l) h in
         let right : o.right ≡ to = ap (λ (n : NewLink). n.to) same in
         let left : o.left ≡ l.from = ap (λ (n : NewLink). n.link.from) same in
         let kind : link.Order number ≡ l.kind = ap (λ (n : NewLink). n.link.kind) same in
@@ -103,7 +104,7 @@ module _ (t : Tree) (v : Variable) (var : IsVariable t v) where
         ) in
         let at : number ≡ w = is ∙ sym (number_of_target t v var u w target) in
         let same : order_link number o ≡ into to l = λ i. record { to = to; link = record { from = l.from; kind = (ap (λ (n : ℕ). link.Order n) at ∙ sym kind) i } } in
-        subst (Contains New) same (map_among (order_link number) pairs o has)
+        subst (Contains New) same (in_map (order_link number) pairs o has)
 
   pub order_links_once : (number : ℕ) (pairs : List Ordered) → IsOnce pairs → IsOnce (map (order_link number) pairs)
   order_links_once number pairs once =

@@ -1,6 +1,6 @@
 -- Pairs of definitions, one more at a time.
 use Rattle.std.proofs.Common.{◌≡◌, ℕ, ◌+◌, ◌<◌, Bool, List, length, get_or, take, Contains, IsTrue, ◌⊎◌, ◌↔◌, inl, inr, sym, ap, subst}
-use Rattle.hpr_reach.proofs.Grown.{taken_more}
+use Rattle.hpr_terms.proofs.Facts.{taken_item}
 use Rattle.hpr_build.specs.declared.orders.Ordered.{Ordered}
 
 abbrev pub After : (ℕ → Type 0) → ℕ → List ℕ → Ordered → Type 0
@@ -12,7 +12,7 @@ pub after_more : (R : ℕ → Type 0) (left right : ℕ) (definitions : List ℕ
     → IsTrue test ↔ R right
     → (o : Ordered) → Contains into' o ↔ (Contains first o ⊎ After R left (take (k + 1) definitions) o)
 after_more R left right definitions k first into into' test l is before new tests o =
-    let more = taken_more definitions k right o.right l is in (
+    let more = taken_item definitions k right o.right l is in (
       (λ h. elim ((new o).0 h) [
         | inl was ↦ (elim ((before o).0 was) [ inl f ↦ inl f | inr a ↦ inr (a.0, more.1 (inl a.1), a.2) ])
         | inr t ↦ (let e : right ≡ o.right = ap (λ (x : Ordered). x.right) t.1 in inr (sym (ap (λ (x : Ordered). x.left) t.1), more.1 (inr e), subst R e (tests.0 t.0)))
@@ -31,7 +31,7 @@ pub order_more : (R : ℕ → ℕ → Type 0) (definitions : List ℕ) (k left :
     → ((o : Ordered) → Contains pairs' o ↔ (Contains pairs o ⊎ After (R left) left definitions o))
     → (o : Ordered) → Contains pairs' o ↔ (Contains (take (k + 1) definitions) o.left × Contains definitions o.right × R o.left o.right)
 order_more R definitions k left pairs pairs' l is before new o =
-    let more = taken_more definitions k left o.left l is in (
+    let more = taken_item definitions k left o.left l is in (
       (λ h. elim ((new o).0 h) [
         | inl was ↦ (let b = (before o).0 was in (more.1 (inl b.0), b.1, b.2))
         | inr a ↦ (more.1 (inr (sym a.0)), a.1, subst (λ (n : ℕ). R n o.right) (sym a.0) a.2)

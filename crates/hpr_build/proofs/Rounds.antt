@@ -5,12 +5,13 @@
 use Rattle.std.proofs.Common.{◌≡◌, ℕ, zero, suc, ◌+◌, ◌<◌, ◌≤◌, Bool, true, false, List, length, get_or, set, take, replicate, All, Contains, ◌⊎◌, ◌↔◌, inl, inr, sym, ap, ◌∙◌, subst, arith}
 use Rattle.std.proofs.lemmas.Bool.{cases_eq}
 use Rattle.std.proofs.lemmas.List.{get_or-set_same, get_or-set_other}
+use Rattle.hpr_terms.proofs.Facts.{taken_item}
 use Rattle.hpr_search.specs.Marks.{IsMarked}
 use Rattle.hpr_paths.specs.declared.spot.Step.{Step}
 use Rattle.hpr_paths.specs.Spots.{Spot, next_at}
 use Rattle.hpr_reach.specs.Reaches.{back_to}
 use Rattle.hpr_reach.specs.Flows.{Leaves, ComesRound}
-use Rattle.hpr_reach.proofs.Grown.{Below, turn_of_number, taken_more}
+use Rattle.hpr_reach.proofs.Grown.{Below, turn_of_number}
 use Rattle.hpr_reach.proofs.Flows.{step_within}
 
 pub no_marks : (n p : ℕ) → ¬ IsMarked (replicate n false) p
@@ -43,7 +44,7 @@ module _ (old : List Bool) (steps : List Step) (k : ℕ) (s : Step) (marks : Lis
   backs_more n back all len = λ w.
       let within : s.to < length marks = subst (λ (t : Step). t.to < length marks) (sym is) (omega (arith, all k s l, len)) in
       let new = marked_then marks s.to w within in
-      let more = taken_more steps k s (back_to w) l is in (
+      let more = taken_item steps k s (back_to w) l is in (
         (λ h. elim (new.0 h) [
           | inl was ↦ (elim ((before w).0 was) [ inl o ↦ inl o | inr t ↦ inr (more.1 (inl t)) ])
           | inr e ↦ inr (more.1 (inr (sym (step_back s back) ∙ ap back_to e)))
@@ -56,7 +57,7 @@ module _ (old : List Bool) (steps : List Step) (k : ℕ) (s : Step) (marks : Lis
 
   pub backs_same : s.back ≡ false → Backs old steps (k + 1) marks
   backs_same calm = λ w.
-      let more = taken_more steps k s (back_to w) l is in (
+      let more = taken_item steps k s (back_to w) l is in (
         (λ h. elim ((before w).0 h) [ inl o ↦ inl o | inr t ↦ inr (more.1 (inl t)) ]),
         (λ h. elim h [
           | inl o ↦ (before w).1 (inl o)

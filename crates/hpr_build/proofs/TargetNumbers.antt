@@ -5,6 +5,7 @@ use Rattle.std.proofs.lemmas.Option.{slice_get_within, slice_get-get_or, same_So
 use Rattle.std.proofs.lemmas.List.Elements.{All-weaker, All-contains_itself}
 use Rattle.hpr_syntax.specs.Shape.{IsProgram}
 use Rattle.std.proofs.lemmas.Bool.Decides.{nat_tests}
+use Rattle.hpr_terms.proofs.Facts.{contains_at, place_of}
 use Rattle.hpr_syntax.specs.Tree.{Tree}
 use Rattle.hpr_paths.specs.Spots.{Spot, Role, exit, RoleUses, UsesAt}
 use Rattle.hpr_paths.specs.Successors.{spots}
@@ -16,7 +17,6 @@ use Rattle.hpr_build.specs.Links.{exit_of, IsTargetAt}
 use Rattle.hpr_build.specs.NewLinks.{target_of}
 use Rattle.hpr_build.specs.Stages.{IsVariable}
 use Rattle.hpr_build.proofs.BridgeVertices.{finals_once}
-use Rattle.hpr_build.proofs.Once.{contains_at, place_among}
 
 pub target_low : (end at u : ℕ) → u < end → target_of end at u ≡ u
 target_low end at u l = grind (arith, nat_tests)
@@ -47,7 +47,7 @@ module _ (t : Tree) (v : Variable) (var : IsVariable t v) (u w : ℕ) where
   target_of_number uses is = elim (cases_lt u (exit_of t)) [
     | inl low ↦ inl (is ∙ target_low (exit_of t) v.final_number u low, low, uses)
     | inr high ↦ (let at : u ≡ exit_of t = omega (arith, high, uses_within (spots t) u v.name.now uses, count_whole t) in
-        let k = place_among t.finals v.name.now (uses_exit t v.name.now (subst (λ (n : ℕ). UsesAt (spots t) n v.name.now) at uses)) in
+        let k = place_of t.finals v.name.now (uses_exit t v.name.now (subst (λ (n : ℕ). UsesAt (spots t) n v.name.now) at uses)) in
         inr (at, (k.0, k.1, is ∙ target_high (exit_of t) v.final_number u high ∙ var.final k.0 k.1)))
   ]
 

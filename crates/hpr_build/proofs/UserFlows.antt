@@ -4,13 +4,13 @@ use Rattle.std.proofs.lemmas.Bool.{cases_eq}
 use Rattle.std.proofs.lemmas.List.{get_or-take, get_or_default}
 use Rattle.std.proofs.lemmas.List.Elements.{All-contains}
 use Rattle.std.proofs.lemmas.Option.{slice_get-get_or}
+use Rattle.hpr_terms.proofs.Facts.{taken_item}
 use Rattle.hpr_search.specs.Marks.{IsMarked}
 use Rattle.hpr_paths.specs.Spots.{Spot, nest_at, IsLoopAt}
 use Rattle.hpr_paths.specs.Successors.{AreSpots}
 use Rattle.hpr_reach.specs.Flows.{ComesRound, GoesOn, PartsAt}
 use Rattle.hpr_reach.proofs.Chains.{common_front, common_reach}
 use Rattle.hpr_reach.proofs.Flows.{loop_calm, carried_parts, carried_from_parts}
-use Rattle.hpr_reach.proofs.Grown.{taken_more}
 use Rattle.hpr_build.specs.declared.flows.Flow.{Flow}
 use Rattle.hpr_build.specs.declared.flows.FlowKind.{FlowKind}
 use Rattle.hpr_build.specs.declared.flows.FlowKind.TheVariants.{Independent, Carried}
@@ -59,7 +59,7 @@ module _ (spots : List Spot) (x : List ℕ) (d u c : ℕ) (are : AreSpots spots)
         → ((f : Flow) → Contains flows' f ↔ (Contains flows f ⊎ IsFlowBelow c Nest cut carries u f))
         → (f : Flow) → Contains flows' f ↔ (Contains (take (k + 1) users) f.to × IsFlowAt spots x d f.to f.kind)
     flows_more users k flows flows' l at before new f =
-        let taken = taken_more users k u f.to l at in
+        let taken = taken_item users k u f.to l at in
         let At : ℕ → Type 0 = λ v. IsFlowAt spots x d v f.kind in (
           (λ h. elim ((new f).0 h) [
             | inl was ↦ (let (t, is) = (before f).0 was in (taken.1 (inl t), is))

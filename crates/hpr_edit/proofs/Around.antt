@@ -1,5 +1,5 @@
 -- What stands around a place in a body.
-use Rattle.std.proofs.Common.{◌≡◌, ℕ, ◌+◌, ◌≤◌, ◌==◌, Bool, true, false, ◌&&◌, Option, Some, None, ◌⊎◌, refl, ap, sym, ◌∙◌, arith, cond, inl, inr, subst}
+use Rattle.std.proofs.Common.{◌≡◌, ℕ, ◌+◌, ◌≤◌, ◌==◌, Bool, true, false, Option, Some, None, ◌⊎◌, refl, ap, sym, ◌∙◌, arith, cond, inl, inr, subst}
 use Rattle.std.proofs.lemmas.Bool.{eqb-true, eq-eqb}
 use Rattle.hpr_terms.specs.declared.tag.Tag.{Tag}
 use Rattle.hpr_syntax.specs.declared.tree.Stmt.{Stmt}
@@ -9,6 +9,7 @@ use Rattle.hpr_syntax.specs.Action.{assigns}
 use Rattle.hpr_syntax.specs.Body.{Body, done, action, branch, loop}
 use Rattle.hpr_syntax.specs.BodyOf.{before}
 use Rattle.std.specs.Option.{option_or}
+use Rattle.hpr_terms.proofs.Facts.{and_both}
 use Rattle.hpr_syntax.specs.Parts.{same_tag, tag_of, find_stmt}
 use Rattle.hpr_syntax.specs.Rows.{Parent}
 use Rattle.hpr_edit.specs.declared.command.Place.{Place}
@@ -60,11 +61,6 @@ no_one false h = refl
 
 pub same_self : (t : Tag) → same_tag t t ≡ true
 same_self t = rw (eq-eqb t.author t.author refl, eq-eqb t.serial t.serial refl) refl
-
-and_both : (a b : Bool) → (a && b) ≡ true → (a ≡ true) × (b ≡ true)
-and_both true true h = (refl, refl)
-and_both true false h = absurd cc
-and_both false b h = absurd cc
 
 pub same_is : (u t : Tag) → same_tag u t ≡ true → u ≡ t
 same_is u t h =

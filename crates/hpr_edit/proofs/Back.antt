@@ -5,6 +5,7 @@ use Rattle.std.specs.Str.{bytes_eq}
 use Rattle.hpr_terms.specs.declared.limits.TheConstants.{MAX_LEVELS}
 use Rattle.hpr_terms.specs.declared.tag.Tag.{Tag}
 use Rattle.hpr_terms.specs.Names.{IsName}
+use Rattle.hpr_terms.proofs.Facts.{not_is}
 use Rattle.hpr_syntax.specs.declared.tree.Stmt.{Stmt}
 use Rattle.hpr_syntax.specs.declared.tree.Stmt.TheVariants.{Assign, If, While}
 use Rattle.hpr_syntax.specs.declared.rows.Content.{Content}
@@ -30,7 +31,7 @@ use Rattle.hpr_edit.specs.Reverted.{reverted, body_back, finals_back, put_back, 
 use Rattle.hpr_edit.proofs.Around.{plug, same_is, same_self, times_plug, times_before}
 use Rattle.hpr_edit.proofs.Placed.{PlacedIn, placed_in}
 use Rattle.hpr_edit.proofs.Tags.{count, counted, once, all_issued, issued_in, issued_bounds, bounds_issued}
-use Rattle.hpr_edit.proofs.Undone.{refuse_is, found_is, FoundIs, settled_is, not_is, Known, known, known_at, Said, said, times_joined, undone}
+use Rattle.hpr_edit.proofs.Undone.{refuse_is, found_is, FoundIs, settled_is, Known, known, known_at, Said, said, times_joined, undone}
 use Rattle.hpr_edit.proofs.Fresh.{After, after_command}
 
 -- where the parts of before a command are: in what it left, or in what its inverse puts back

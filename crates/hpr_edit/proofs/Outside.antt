@@ -4,6 +4,7 @@ use Rattle.std.specs.List.{list_any, filter}
 use Rattle.std.proofs.lemmas.List.{append-nil}
 use Rattle.std.proofs.lemmas.List.Elements.{filter-append}
 use Rattle.hpr_terms.specs.declared.tag.Tag.{Tag}
+use Rattle.hpr_terms.proofs.Facts.{or_right, not_is}
 use Rattle.hpr_syntax.specs.declared.tree.Stmt.{Stmt}
 use Rattle.hpr_syntax.specs.declared.tree.Stmt.TheVariants as stmt
 use Rattle.hpr_syntax.specs.declared.rows.Row.{Row}
@@ -28,7 +29,7 @@ use Rattle.hpr_edit.specs.Rows.{told, is_other, others, tags_in, touched}
 use Rattle.hpr_edit.proofs.Around.{Around, here, past, first, second, inside, plug, same_self, same_is, times_plug, times_before}
 use Rattle.hpr_edit.proofs.Placed.{PlacedIn, placed_in}
 use Rattle.hpr_edit.proofs.Tags.{count, counted, once}
-use Rattle.hpr_edit.proofs.Undone.{refuse_is, found_is, FoundIs, settled_is, not_is, Known, known, known_at}
+use Rattle.hpr_edit.proofs.Undone.{refuse_is, found_is, FoundIs, settled_is, Known, known, known_at}
 
 -- tag and content of each part in preorder, and then these
 abbrev listed : Body → List (Tag × Content) → List (Tag × Content)
@@ -139,10 +140,6 @@ none_told ts (loop t e b rest) h after =
     not_told ts t (While e) (listed b (listed rest after)) (h t (rw (same_self t) (omega arith)))
     ∙ none_told ts b (λ u k. h u (omega (arith, k))) (listed rest after)
     ∙ none_told ts rest (λ u k. h u (omega (arith, k))) after
-
-or_right : (a b : Bool) → b ≡ true → (a || b) ≡ true
-or_right true b h = refl
-or_right false b h = h
 
 among_if : (b : Bool) (u t : Tag) (us : List Tag) → b ≡ same_tag u t → (list_any (same_tag t) us ≡ true) ⊎ (b ≡ true) → (same_tag t u || list_any (same_tag t) us) ≡ true
 among_if b u t us e (inr h) =

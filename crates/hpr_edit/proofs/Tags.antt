@@ -3,6 +3,7 @@ use Rattle.std.proofs.Common.{◌≡◌, ℕ, ◌+◌, ◌≤◌, ◌<◌, ◌==
 use Rattle.std.specs.List.{list_any}
 use Rattle.std.proofs.lemmas.Bool.{ltb-false, le-ltb, eqb-false, ne_eqb}
 use Rattle.hpr_terms.specs.declared.tag.Tag.{Tag}
+use Rattle.hpr_terms.proofs.Facts.{or_right, or_false}
 use Rattle.hpr_syntax.specs.Body.{Body, done, action, branch, loop}
 use Rattle.hpr_syntax.specs.Parts.{same_tag, tags_of}
 use Rattle.hpr_syntax.specs.Issued.{Issued, issued_to}
@@ -28,14 +29,6 @@ counted t (loop u e b rest) ts = omega (arith, counted t b (tags_of rest ts), co
 none_of : (b : Bool) (x : Tag) (o : Option Tag) → cond b (Some x) o ≡ None → (b ≡ false) × (o ≡ None)
 none_of true x o h = absurd cc
 none_of false x o h = (refl, h)
-
-or_right : (a b : Bool) → b ≡ true → (a || b) ≡ true
-or_right true b h = refl
-or_right false b h = h
-
-or_false : (a b : Bool) → (a || b) ≡ false → (a ≡ false) × (b ≡ false)
-or_false true b h = absurd cc
-or_false false b h = (refl, h)
 
 -- a tag stands once
 at_most : (b : Bool) (u t : Tag) (seen : List Tag) (n : ℕ) → b ≡ same_tag u t → list_any (same_tag u) seen ≡ false → ((same_tag t u || list_any (same_tag t) seen) ≡ true → n ≡ 0) → n ≤ 1

@@ -1,6 +1,7 @@
 -- Each command is undone by its inverse.
 use Rattle.std.proofs.Common.{◌≡◌, ℕ, ◌+◌, ◌≤◌, Bool, true, false, not, Option, Some, None, refl, ap, sym, ◌∙◌, arith, subst, add-one}
 use Rattle.hpr_terms.specs.declared.tag.Tag.{Tag}
+use Rattle.hpr_terms.proofs.Facts.{not_is}
 use Rattle.hpr_syntax.specs.declared.tree.Stmt.{Stmt}
 use Rattle.hpr_syntax.specs.declared.tree.Stmt.TheVariants.{Assign, If, While}
 use Rattle.hpr_syntax.specs.declared.rows.Content.{Content}
@@ -44,10 +45,6 @@ pub found_is : (t : Tag) (o : Option Stmt) (r : Option Place) (next : Stmt → P
 found_is t None r next q i h = absurd cc
 found_is t (Some s) None next q i h = absurd cc
 found_is t (Some s) (Some p) next q i h = record { part = s; place = p; part_is = refl; place_is = refl; then = h }
-
-pub not_is : (b : Bool) → not b ≡ false → b ≡ true
-not_is true h = refl
-not_is false h = absurd cc
 
 same_end : (p t q : Tree) (inv i : Inverse) → t ≡ q → inv ≡ i → Restores p inv t → Restores p i q
 same_end p t q inv i e f r = subst (λ y. Restores p i y) e (subst (λ y. Restores p y t) f r)

@@ -1,5 +1,6 @@
 -- The program whose parts stand in the order of the rank is the first of the arrangements.
 use Rattle.std.proofs.Common.{◌≡◌, ℕ, zero, suc, ◌<◌, inl, inr, ◌⊎◌, Option, Some, None, List, [], ◌∷◌, ◌++◌, length, Contains, slice_get, refl, sym, ap, ◌∙◌, subst, arith}
+use Rattle.hpr_terms.proofs.Facts.{compared}
 use Rattle.hpr_syntax.specs.Issued.{Issued}
 use Rattle.hpr_syntax.specs.Tree.{Tree}
 use Rattle.hpr_graph.specs.declared.vertex.Vertex.{Vertex}
@@ -22,12 +23,6 @@ module _ {X : Type 0} where
   moved [] back y i x h = inr (omega arith, h)
   moved (z ∷ front) back y zero x h = inl (omega arith, h)
   moved (z ∷ front) back y (suc i) x h = elim (moved front back y i x h) [ inl l ↦ inl (omega (arith, l.0), l.1) | inr r ↦ inr (omega (arith, r.0), r.1) ]
-
-pub compared : (i n : ℕ) → (i < n) ⊎ ((i ≡ n) ⊎ (n < i))
-compared zero zero = inr (inl refl)
-compared zero (suc n) = inl (omega arith)
-compared (suc i) zero = inr (inr (omega arith))
-compared (suc i) (suc n) = elim (compared i n) [ inl l ↦ inl (omega (arith, l)) | inr r ↦ elim r [ inl e ↦ inr (inl (ap suc e)) | inr g ↦ inr (inr (omega (arith, g))) ] ]
 
 put_keeps : (front back : List Vertex) (y : Vertex) → KeepsOrder (front ++ back) (front ++ y ∷ back)
 put_keeps front back y v w (i, j, less, at_i, at_j) =

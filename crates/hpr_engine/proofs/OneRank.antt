@@ -1,6 +1,7 @@
 -- Three programs have one rank, and one list of arrangements in its order.
 use Rattle.std.proofs.Common.{◌≡◌, suc, ◌<◌, inl, inr, Option, Some, None, List, [], ◌∷◌, ◌++◌, length, Contains, slice_get, refl, sym, ap, ◌∙◌, subst, arith}
 use Rattle.std.proofs.lemmas.List.{append-nil}
+use Rattle.hpr_terms.proofs.Facts.{compared}
 use Rattle.hpr_syntax.specs.Issued.{Issued}
 use Rattle.hpr_syntax.specs.Shape.{IsProgram}
 use Rattle.hpr_syntax.specs.Tree.{Tree}
@@ -13,7 +14,7 @@ use Rattle.hpr_graph.proofs.Lists.{contains_at, once_tail, once_head, some_inj}
 use Rattle.hpr_order.proofs.Ranks.{rank_once}
 use Rattle.hpr_engine.specs.Budget.{AreTried}
 use Rattle.hpr_rebuild.proofs.First.{at_middle}
-use Rattle.hpr_engine.proofs.FirstInRank.{moved, compared, never_both, never_itself}
+use Rattle.hpr_engine.proofs.FirstInRank.{moved, never_both, never_itself}
 use Rattle.hpr_engine.proofs.OneList.{one_list}
 
 module _ {X : Type 0} where

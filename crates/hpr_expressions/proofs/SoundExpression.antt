@@ -15,10 +15,10 @@ use Rattle.hpr_terms.specs.declared.token.Token.{Token}
 use Rattle.hpr_terms.specs.declared.token.Token.TheVariants.{Word, Name, Number, Mark}
 use Rattle.hpr_terms.specs.Term.{operators}
 use Rattle.hpr_terms.specs.TermOf.{term_of}
+use Rattle.hpr_terms.proofs.Facts.{some_inj}
 use Rattle.hpr_syntax.specs.Grammar as grammar
 use Rattle.hpr_syntax.specs.Grammar.{Rule, expr, conj, comp, sum, term, atom, On, expr_conj, conj_comp, comp_sum, sum_term, term_prefixed, prefixed_atom, Joins, Compares, Prefixes, SpellsTerm, SpellsExpr}
 use Rattle.hpr_scan.proofs.SoundText.{guard_is}
-use Rattle.hpr_scan.proofs.Words.{some_is}
 use Rattle.hpr_expressions.specs.declared.pending.Left.{Left}
 use Rattle.hpr_expressions.specs.declared.pending.Pending.{Pending}
 use Rattle.hpr_expressions.specs.declared.expression.Context.{Context}
@@ -340,7 +340,7 @@ operand_is c (Number k) n ts h e =
     subst (λ (r : Reading). ReadingIs r (ts ++ Number k ∷ [])) g.1 made
 operand_is c (Name w) n ts h e =
     let made : AfterIs c (Var w) (ts ++ (Name w ∷ [])) = record { left = h.left; past = ts; last = Name w ∷ []; context = h.context; operand = grammar.name; parts = refl; count = omega (arith, h.count); fits = h.fits } in
-    subst (λ (r : Reading). ReadingIs r (ts ++ Name w ∷ [])) (some_is _ _ e) made
+    subst (λ (r : Reading). ReadingIs r (ts ++ Name w ∷ [])) (some_inj _ _ e) made
 operand_is c (Mark Open) n ts h e =
     let g = guard_is (nat_lt (length c.outer) MAX_BRACKETS) (Before (opened c)) n e in
     let o = opened_is h.left c ts (ltb-true _ _ g.0) h.context in
@@ -365,7 +365,7 @@ close_next_is (p ∷ ps) here count v ts n h r =
       count = omega (arith, h.count, whole_count here v);
       fits = h.fits;
     } in
-    subst (λ (x : Reading). ReadingIs x (ts ++ Mark Close ∷ [])) (some_is _ _ r) made
+    subst (λ (x : Reading). ReadingIs x (ts ++ Mark Close ∷ [])) (some_inj _ _ r) made
 
 operator_is : (c : Context) (v : Expr) (t : Token) (n : Reading) (ts : List Token) → AfterIs c v ts → operator_next c v t ≡ Some n → ReadingIs n (ts ++ t ∷ [])
 operator_is c v (Word Or) n ts h e = or_read c v _ binary.Or n ts grammar.or h e
@@ -405,7 +405,7 @@ ended_in_is [] here count v e ts h q =
     subst (λ (d : ℕ). Spelled expr d (h.context.inside ++ h.last) (whole here v)) o.0 w in
     let same : ts ≡ h.context.inside ++ h.last = rw (h.parts, h.context.parts, o.1) refl in
     let few : operators (term_of (whole here v)) ≤ MAX_OPERATORS = omega (arith, h.count, h.fits, whole_count here v) in
-    subst (λ (x : Expr). SpellsExpr ts x) (some_is _ _ q) (subst (λ (x : List Token). SpellsTerm expr MAX_BRACKETS x (term_of (whole here v))) (sym same) all, few)
+    subst (λ (x : Expr). SpellsExpr ts x) (some_inj _ _ q) (subst (λ (x : List Token). SpellsTerm expr MAX_BRACKETS x (term_of (whole here v))) (sym same) all, few)
 ended_in_is (p ∷ ps) here count v e ts h q = absurd cc
 
 pub ended_is : (r : Reading) (e : Expr) (ts : List Token) → ReadingIs r ts → ended r ≡ Some e → SpellsExpr ts e

@@ -2,8 +2,8 @@
 use Rattle.std.proofs.Common.{◌≡◌, List, [], ◌∷◌, ◌++◌, Option, Some, None, refl, subst, append_assoc}
 use Rattle.std.proofs.lemmas.List.{append-nil}
 use Rattle.hpr_terms.specs.declared.token.Token.{Token}
+use Rattle.hpr_terms.proofs.Facts.{some_inj}
 use Rattle.hpr_scan.specs.Steps.{and_then, runs}
-use Rattle.hpr_scan.proofs.Words.{some_is}
 use Rattle.hpr_expressions.specs.declared.expression.Reading.{Reading}
 use Rattle.hpr_expressions.specs.Expression.{start, read}
 use Rattle.hpr_expressions.specs.Read.{ReadAsSpelled}
@@ -16,7 +16,7 @@ runs_at r t past ts None n h e q go = absurd cc
 runs_at r t past ts (Some m) n h e q go = rw append_assoc at (go m (read_is r t m past h e) q)
 
 runs_is : (r : Reading) (past ts : List Token) (n : Reading) → ReadingIs r past → runs read r ts ≡ Some n → ReadingIs n (past ++ ts)
-runs_is r past [] n h e = rw append-nil (subst (λ (m : Reading). ReadingIs m past) (some_is r n e) h)
+runs_is r past [] n h e = rw append-nil (subst (λ (m : Reading). ReadingIs m past) (some_inj r n e) h)
 runs_is r past (t ∷ ts) n h e = runs_at r t past ts (read r t) n h refl e (λ m k q. runs_is m (past ++ (t ∷ [])) ts n k q)
 
 pub read_as_spelled : ReadAsSpelled

@@ -1,8 +1,9 @@
--- What an option holds, members and places of lists, and lists in which nothing stands twice.
-use Rattle.std.proofs.Common.{◌≡◌, ◌≢◌, Bool, true, false, ℕ, zero, suc, ◌+◌, ◌<◌, ◌≤◌, ◌↔◌, ◌⊎◌, inl, inr, Option, Some, None, IsSome, List, [], ◌∷◌, ◌++◌, length, set, take, get_or, Contains, slice_get, refl, sym, ap, ◌∙◌, subst, arith, length-append}
-use Rattle.std.proofs.lemmas.Option.{slice_get-get_or, get_or_from_slice_get, slice_get_within}
-use Rattle.std.proofs.lemmas.List.{take_more, take_all}
-use Rattle.std.proofs.lemmas.List.Elements.{Contains-push, Contains-push_cases, Contains-append_left, Contains-append_right, Contains-append_cases}
+-- Members and places of lists, and lists in which nothing stands twice.
+use Rattle.std.proofs.Common.{◌≡◌, ◌≢◌, Bool, true, false, ℕ, zero, suc, ◌+◌, ◌<◌, ◌≤◌, inl, inr, Option, Some, None, IsSome, List, [], ◌∷◌, ◌++◌, length, set, take, get_or, Contains, slice_get, refl, sym, ap, ◌∙◌, subst, arith, length-append}
+use Rattle.std.proofs.lemmas.Option.{slice_get-get_or}
+use Rattle.std.proofs.lemmas.List.{take_all}
+use Rattle.std.proofs.lemmas.List.Elements.{Contains-append_left, Contains-append_right, Contains-append_cases}
+pub use Rattle.hpr_terms.proofs.Facts.{some_inj, is_some_at, contains_at, place_of, in_none, in_cons, in_here, in_later, get_longer, at_push, at_end, in_taken}
 use Rattle.hpr_graph.specs.Graphs.{IsOnce}
 
 -- no test comes out both ways
@@ -10,26 +11,9 @@ pub never : (b : Bool) → b ≡ true → b ≡ false → ⊥
 never b is isnt = let e : true ≡ false = sym is ∙ isnt in cc
 
 module _ {X : Type 0} where
-  pub some_inj : (x y : X) → Some x ≡ Some y → x ≡ y
-  some_inj x y e = cc
-
   pub some_of : (o : Option X) → IsSome o → (x : X) × (o ≡ Some x)
   some_of None h = absurd cc
   some_of (Some x) h = (x, refl)
-
-  pub is_some_at : (o : Option X) (x : X) → o ≡ Some x → IsSome o
-  is_some_at o x e = subst (λ (p : Option X). IsSome p) (sym e) refl
-
-  pub contains_at : (xs : List X) (i : ℕ) (x : X) → slice_get xs i ≡ Some x → Contains xs x
-  contains_at xs i x h = (i, slice_get_within xs i x h, get_or_from_slice_get xs i x x h)
-
-  pub place_of : (xs : List X) (x : X) → Contains xs x → (i : ℕ) × (slice_get xs i ≡ Some x)
-  place_of xs x (i, l, e) = (i, slice_get-get_or xs i x l ∙ ap Some e)
-
-  pub item_at : (xs : List X) (i : ℕ) → i < length xs → (x : X) × (slice_get xs i ≡ Some x)
-  item_at [] i l = absurd (omega (arith, l))
-  item_at (x ∷ xs) zero l = (x, refl)
-  item_at (x ∷ xs) (suc i) l = item_at xs i (omega (arith, l))
 
   -- what the code reads of a list that is another
   pub read_at : (xs ys : List X) (i : ℕ) (x : X) → xs ≡ ys → i < length xs → x ≡ get_or xs i x → slice_get ys i ≡ Some x
@@ -41,46 +25,6 @@ module _ {X : Type 0} where
   -- the first i are all
   pub taken_all : (xs : List X) (i : ℕ) (x : X) → length xs ≤ i → Contains xs x → Contains (take i xs) x
   taken_all xs i x le = subst (λ (ys : List X). Contains ys x) (sym (take_all i xs le))
-
-  pub in_none : (x : X) → ¬ Contains [] x
-  in_none x h = omega (arith, h.1)
-
-  pub in_cons : (x y : X) (xs : List X) → Contains (x ∷ xs) y → (x ≡ y) ⊎ Contains xs y
-  in_cons x y xs (zero, h, e) = inl e
-  in_cons x y xs (suc k, h, e) = inr (k, omega arith, e)
-
-  pub in_here : (x : X) (xs : List X) → Contains (x ∷ xs) x
-  in_here x xs = (0, omega arith, refl)
-
-  pub in_later : (x y : X) (xs : List X) → Contains xs y → Contains (x ∷ xs) y
-  in_later x y xs h = Contains-append_right (x ∷ []) xs y h
-
-  -- a longer list keeps what stands in it
-  pub get_longer : (xs ys : List X) (i : ℕ) (x : X) → slice_get xs i ≡ Some x → slice_get (xs ++ ys) i ≡ Some x
-  get_longer [] ys i x h = absurd cc
-  get_longer (z ∷ xs) ys zero x h = h
-  get_longer (z ∷ xs) ys (suc i) x h = get_longer xs ys i x h
-
-  pub at_push : (xs : List X) (x : X) (i : ℕ) (y : X) → slice_get (xs ++ x ∷ []) i ≡ Some y → (slice_get xs i ≡ Some y) ⊎ ((i ≡ length xs) × (x ≡ y))
-  at_push [] x zero y h = inr (refl, cc)
-  at_push [] x (suc i) y h = absurd cc
-  at_push (z ∷ xs) x zero y h = inl h
-  at_push (z ∷ xs) x (suc i) y h = elim (at_push xs x i y h) [ inl a ↦ inl a | inr b ↦ inr (ap suc b.0, b.1) ]
-
-  pub at_end : (xs : List X) (x : X) → slice_get (xs ++ x ∷ []) (length xs) ≡ Some x
-  at_end [] x = refl
-  at_end (z ∷ xs) x = at_end xs x
-
-  -- the first i + 1 of a list are the first i and one more
-  pub in_taken : (xs : List X) (i : ℕ) (d y : X) → i < length xs → Contains (take (i + 1) xs) y ↔ (Contains (take i xs) y ⊎ (get_or xs i d ≡ y))
-  in_taken xs i d y l =
-      rw (take_more xs i d l) (
-        λ h. Contains-push_cases (take i xs) (get_or xs i d) y h,
-        λ h. elim h [
-          | inl was ↦ Contains-append_left (take i xs) (get_or xs i d ∷ []) y was
-          | inr e ↦ subst (λ (z : X). Contains (take i xs ++ get_or xs i d ∷ []) z) e (Contains-push (take i xs) (get_or xs i d))
-        ],
-      )
 
   -- what holds of the first i holds of one more
   pub taken_more : (xs : List X) (i : ℕ) (d : X) (P : X → Type 0) → i < length xs → ((y : X) → Contains (take i xs) y → P y) → P (get_or xs i d) → (y : X) → Contains (take (i + 1) xs) y → P y

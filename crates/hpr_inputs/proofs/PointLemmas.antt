@@ -5,9 +5,9 @@ use Rattle.std.proofs.lemmas.List.Elements.{All-more, All-weaker, Contains-get_o
 use Rattle.std.proofs.lemmas.Option.{slice_get-get_or, slice_get_within}
 use Rattle.std.proofs.lemmas.Slice.Eq.{bytes_eq-Decides}
 use Rattle.std.specs.Str.{bytes_eq}
+use Rattle.hpr_terms.proofs.Facts.{get_in_map, in_map, map_in}
 use Rattle.hpr_graph.specs.Graphs.{Graph, Same}
 use Rattle.hpr_graph.specs.Numbered.{Numbered, graph_in}
-use Rattle.hpr_build.proofs.Once.{among_map, map_among, map_of_item}
 use Rattle.hpr_words.specs.Request.{Text}
 use Rattle.hpr_inputs.specs.Points.{IsFirstStranger, IsNamed, point_text}
 use Rattle.hpr_inputs.specs.ReadsPoints.{AreNumbersFor, AreNumbersIn, RefusesPoint, TakesText}
@@ -130,14 +130,14 @@ module _ (g : Numbered) where
 
   text_names : (word : Text) → Contains vertex_texts word ↔ IsNamed (graph_in g) word
   text_names word = (
-    λ h. (let (v, has, is) = among_map point_text g.vertices word h in (v, has, sym is)),
-    λ (v, has, is). subst (Contains vertex_texts) (sym is) (map_among point_text g.vertices v has),
+    λ h. (let (v, has, is) = map_in point_text g.vertices word h in (v, has, sym is)),
+    λ (v, has, is). subst (Contains vertex_texts) (sym is) (in_map point_text g.vertices v has),
   )
 
   numbers_of : (words : List Text) (numbers : List ℕ) → AreNumbersIn vertex_texts words numbers → AreNumbersFor g words numbers
   numbers_of words numbers h = record {
     within = subst (λ n. All (λ m. m < n) numbers) (length-map g.vertices point_text) h.within;
-    exact = λ at v is. h.exact at (point_text v) (map_of_item point_text g.vertices at v is);
+    exact = λ at v is. h.exact at (point_text v) (get_in_map point_text g.vertices at v is);
   }
 
   -- what is found and judged of the texts is so of the vertices

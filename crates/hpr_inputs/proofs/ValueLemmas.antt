@@ -5,17 +5,14 @@ use Rattle.std.specs.Char.{is_digit}
 use Rattle.std.specs.List.{list_all}
 use Rattle.std.specs.Result.{result_ok}
 use Rattle.std.specs.Str.Parse.{AllDigits, IsNumeral, ParsesSigned, signed_digits_value, without_leading_sign}
+use Rattle.hpr_terms.proofs.Facts.{and_both}
 use Rattle.hpr_syntax.specs.Value.{in_range}
 use Rattle.hpr_words.specs.Request.{Text}
 use Rattle.hpr_inputs.specs.States.{behind_minus, value_of}
 
-both : (a b : Bool) → (a && b) ≡ true → (a ≡ true) × (b ≡ true)
-both true b e = (refl, e)
-both false b e = absurd cc
-
 digits_from : (ds : List ℕ) → list_all (λ d. is_digit d 10) ds ≡ true → AllDigits 10 ds
 digits_from [] e = tt
-digits_from (d ∷ ds) e = let parts = both _ _ e in (ltb-true _ _ parts.0, digits_from ds parts.1)
+digits_from (d ∷ ds) e = let parts = and_both _ _ e in (ltb-true _ _ parts.0, digits_from ds parts.1)
 
 digits_back : (ds : List ℕ) → AllDigits 10 ds → list_all (λ d. is_digit d 10) ds ≡ true
 digits_back [] h = refl
@@ -37,8 +34,8 @@ IsValue ds z = IsNumeral 10 ds × FitsSigned w64 z
 
 value_from : (ds : List ℕ) (z : ℤ) → is_value ds z ≡ true → IsValue ds z
 value_from ds z e =
-    let a = both _ _ e in
-    let b = both _ _ a.1 in
+    let a = and_both _ _ e in
+    let b = and_both _ _ a.1 in
     ((leb-true _ _ a.0, digits_from ds b.0), fits z b.1)
 
 value_back : (ds : List ℕ) (z : ℤ) → IsValue ds z → is_value ds z ≡ true

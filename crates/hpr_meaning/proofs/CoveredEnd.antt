@@ -30,12 +30,13 @@ use Rattle.hpr_paths.proofs.Says.{says_one}
 use Rattle.hpr_meaning.proofs.RunRecords.{vertex_at, nth_step, IsStepAt, step_says, steps_rise, at_stop, run_record, known}
 use Rattle.hpr_meaning.proofs.SameSlices.{InBoth, both_of_first, shares}
 use Rattle.hpr_graph.proofs.Laws.{same_turned, slice_at_same, same_then}
-use Rattle.hpr_meaning.proofs.TwoRuns.{order3, shared}
+use Rattle.hpr_meaning.proofs.TwoRuns.{shared}
 use Rattle.hpr_meaning.proofs.SharedSlices.{faults_at}
 use Rattle.std.proofs.lemmas.List.{length-append}
 use Rattle.std.proofs.Math.ListN.{length-reverse_aux}
 use Rattle.hpr_syntax.specs.Shape.{IsProgram}
 use Rattle.std.specs.List.{AllByRecursion}
+use Rattle.hpr_terms.proofs.Facts.{compared}
 use Rattle.hpr_meaning.specs.CoverLaw.{Version, IsCovered, steps_of, DoesEnd}
 use Rattle.hpr_paths.proofs.Different.{distinct_program}
 
@@ -58,7 +59,7 @@ no_more_numbers (suc n) g low far = no_more_numbers n (λ k. (moved g n (g (suc 
     y = g (suc n)
 
     below : (z : ℕ) → z < suc n → ¬ (z ≡ n) → z < n
-    below z a m = go (order3 z n)
+    below z a m = go (compared z n)
       where
         go : (z < n) ⊎ ((z ≡ n) ⊎ (n < z)) → z < n
         go (inl b) = b
@@ -209,7 +210,7 @@ module _ (m : Tree) (s : Values) (versions : List Version) (im : IsProgram m) (a
       sp = spent_all m s N dm w
 
       step_is : (k : ℕ) → k < suc N → IsStepAt m s N dm k
-      step_is k l = go (order3 k N)
+      step_is k l = go (compared k N)
         where
           go : (k < N) ⊎ ((k ≡ N) ⊎ (N < k)) → IsStepAt m s N dm k
           go (inl x) = let y = sp.1 in inl (omega (arith, x, y))

@@ -11,6 +11,7 @@ use Rattle.hpr_syntax.specs.Tree.{Tree}
 use Rattle.hpr_syntax.specs.Values.{Values, value_at}
 use Rattle.hpr_syntax.specs.Value.{Answer, value, is_true}
 use Rattle.hpr_terms.specs.Uses.{Uses}
+use Rattle.hpr_terms.proofs.Facts.{compared}
 use Rattle.hpr_syntax.proofs.ActByUses.{act_by_uses}
 use Rattle.hpr_syntax.specs.Skeleton.{at, exit, Distinct, skeleton}
 use Rattle.hpr_syntax.specs.Pairs.{first_of, FollowsIn}
@@ -37,7 +38,7 @@ use Rattle.hpr_meaning.proofs.RunFacts.{RunFacts, facts, HasCauseAtTop, met_of, 
 use Rattle.hpr_paths.proofs.Programs.{at_end}
 use Rattle.hpr_paths.proofs.Logs.{IsLawful}
 use Rattle.hpr_meaning.proofs.FlowPaths.{flow_of}
-use Rattle.hpr_meaning.proofs.TwoRuns.{order3, Language, OneRun}
+use Rattle.hpr_meaning.proofs.TwoRuns.{Language, OneRun}
 use Rattle.hpr_graph.specs.declared.vertex.Vertex.TheVariants.{Part}
 
 pub same_ok : (a b : ℤ) → ◌≡◌ {A = Answer} (Ok a) (Ok b) → a ≡ b
@@ -130,7 +131,7 @@ module _ (p : Tree) (s : Values) (n : ℕ) (di : Distinct (skeleton p.body)) whe
   content_standing k a r h = says_one p.body di (nth_step k).0.0 r.content (nth_step k).1.content (says_of_standing p.body [] None (nth_step k).0.0 r h) (step_says k a)
 
   earlier : (j k : ℕ) → j < length known.is → IsStepAt k → IsBefore p.body (nth_step j).0 (nth_step k).0 → j < k
-  earlier j k a b h = go (order3 j k)
+  earlier j k a b h = go (compared j k)
     where
       go : (j < k) ⊎ ((j ≡ k) ⊎ (k < j)) → j < k
       go (inl x) = x

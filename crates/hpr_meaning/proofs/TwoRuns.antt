@@ -1,7 +1,7 @@
 -- Two runs that share a slice, where the first ends: each step of the second that lies in the slice is an item of the first, with the
 -- same origins and the same value. All is said over a record of what is known of a run; nothing here looks at a program.
 use Rattle.std.proofs.Common.{◌≡◌, ℕ, zero, suc, ◌<◌, ◌≤◌, Bool, ◌⊎◌, sym, ap, subst, ◌∙◌, inl, inr, arith}
-use native.Mathlib.Decide.{dec_lt}
+use Rattle.hpr_terms.proofs.Facts.{compared}
 
 -- what a run is told in: spots, which are places with what the part there says, the names that they define and use, and what a spot does in
 -- a state, which depends on the names that it uses alone
@@ -50,14 +50,6 @@ pub record OneRun (l : Language) : Type 1 where
       → ((i : ℕ) → j < i → i < k → ¬ l.Defines x (spot i)) → l.get (state_at k) x ≡ gave j
   pub item_gives : (k : ℕ) → k < count → l.act (spot k) (state_at k) ≡ l.ok (gave k)
 
-pub order3 : (m n : ℕ) → (m < n) ⊎ ((m ≡ n) ⊎ (n < m))
-order3 m n = go (dec_lt m n) (dec_lt n m)
-  where
-    go : Dec (m < n) → Dec (n < m) → (m < n) ⊎ ((m ≡ n) ⊎ (n < m))
-    go (yes a) _ = inl a
-    go (no a) (yes b) = inr (inr b)
-    go (no a) (no b) = inr (inl (omega arith))
-
 abbrev pub IsStep : {l : Language} (r : OneRun l) → ℕ → Type 0
 IsStep r k = (k < r.count) ⊎ ((k ≡ r.count) × r.Stopped)
 
@@ -86,7 +78,7 @@ step_before r k j s a = inl (step_below r k j s a)
 
 -- the order of two steps by `before`
 in_order : {l : Language} (r : OneRun l) (j k : ℕ) → IsStep r j → IsStep r k → r.before (r.spot j) (r.spot k) → j < k
-in_order r j k sj sk b = go (order3 j k)
+in_order r j k sj sk b = go (compared j k)
   where
     go : (j < k) ⊎ ((j ≡ k) ⊎ (k < j)) → j < k
     go (inl a) = a
@@ -102,13 +94,13 @@ LastBefore {l = l} r x k = ((i : ℕ) → i < k → ¬ l.Defines x (r.spot i)) �
 
 last_step : {l : Language} (r : OneRun l) (x : l.Name) (k : ℕ) → Dec (l.Defines x (r.spot k)) → LastBefore r x k → LastBefore r x (suc k)
 last_step r x k (yes d) _ = inr (k, omega arith, d, λ i a b. absurd (omega arith))
-last_step {l = l} r x k (no n) (inl none) = inl (λ i a. go i a (order3 i k))
+last_step {l = l} r x k (no n) (inl none) = inl (λ i a. go i a (compared i k))
   where
     go : (i : ℕ) → i < suc k → (i < k) ⊎ ((i ≡ k) ⊎ (k < i)) → ¬ l.Defines x (r.spot i)
     go i a (inl b) = none i b
     go i a (inr (inl e)) = subst (λ y. ¬ l.Defines x (r.spot y)) (sym e) n
     go i a (inr (inr b)) = absurd (omega arith)
-last_step {l = l} r x k (no n) (inr h) = inr (h.0, omega (arith, h.1), h.2, λ i a b. go i a b (order3 i k))
+last_step {l = l} r x k (no n) (inr h) = inr (h.0, omega (arith, h.1), h.2, λ i a b. go i a b (compared i k))
   where
     go : (i : ℕ) → h.0 < i → i < suc k → (i < k) ⊎ ((i ≡ k) ⊎ (k < i)) → ¬ l.Defines x (r.spot i)
     go i a b (inl c) = h.3 i a c
@@ -164,7 +156,7 @@ due_in_second {l = l} p q Both s k st cl i a sl b ih (inr c) =
     )
   where
     same_item : (r : OneRun l) (a b : ℕ) → a < r.count → b < r.count → r.spot a ≡ r.spot b → a ≡ b
-    same_item r a b u v e = go (order3 a b)
+    same_item r a b u v e = go (compared a b)
       where
         go : (a < b) ⊎ ((a ≡ b) ⊎ (b < a)) → a ≡ b
         go (inl x) = absurd (r.irreflexive (r.spot b) (subst (λ y. r.before y (r.spot b)) e (r.ascends a b x (inl v))))
@@ -243,7 +235,7 @@ same_origin_of {l = l} p q Both s k i x st cl sl li e u lp (inr h) = go lp
 
     go : LastBefore p x i → SameOrigin p q x i k
     go (inl np) = absurd (np c.0 early dc)
-    go (inr t) = fin t.0 t.1 t.2 t.3 (order3 c.0 t.0)
+    go (inr t) = fin t.0 t.1 t.2 t.3 (compared c.0 t.0)
 
 pub same_origin : {l : Language} (p q : OneRun l) (Both : l.Spot → Type 0) (s : Shares l p q Both) (k i : ℕ) (x : l.Name) → IsStep q k → AllMeet p q Both k
     → Both (q.spot k) → i < p.count → p.spot i ≡ q.spot k → l.Uses x (q.spot k) → SameOrigin p q x i k
@@ -278,7 +270,7 @@ all_meet_next p q Both s k a below j b sl (inr (inr c)) = absurd (omega arith)
 
 all_meet : {l : Language} (p q : OneRun l) (Both : l.Spot → Type 0) (s : Shares l p q Both) (k : ℕ) → k ≤ q.count → AllMeet p q Both k
 all_meet p q Both s zero a j b sl = absurd (omega arith)
-all_meet p q Both s (suc k) a j b sl = all_meet_next p q Both s k (omega arith) (λ i c t. all_meet p q Both s k (omega arith) i c t) j b sl (order3 j k)
+all_meet p q Both s (suc k) a j b sl = all_meet_next p q Both s k (omega arith) (λ i c t. all_meet p q Both s k (omega arith) i c t) j b sl (compared j k)
 
 -- each step of the slice in q, the one at which q stopped too, is an item of p, with the same origins at what it uses,
 -- and in q's state it gives p's value, so it is no fault
@@ -310,7 +302,7 @@ same_final_value {l = l} p q Both Sl' s s' conv x fp fq use_order = go (last_bef
     go (inl a) (inl b) = p.none_defined p.count x a ∙ sym (q.none_defined q.count x b)
     go (inr a) (inl b) = let m = pin a.0 a.1 (fp a.0 a.1 a.2 a.3) in absurd (b m.0 m.1 (subst (l.Defines x) (sym m.2) a.2))
     go (inl a) (inr b) = let m = qin b.0 b.1 (fq b.0 b.1 b.2 b.3) in absurd (a m.0 m.1 (subst (l.Defines x) (sym m.2) b.2))
-    go (inr a) (inr b) = both (order3 m.0 a.0)
+    go (inr a) (inr b) = both (compared m.0 a.0)
       where
         m : Meets p q b.0
         m = qin b.0 b.1 (fq b.0 b.1 b.2 b.3)

@@ -1,8 +1,9 @@
 -- The merged graph of its parts, and the conflicts of both sides.
-use Rattle.std.proofs.Common.{◌≡◌, ℕ, zero, suc, ◌+◌, ◌<◌, ◌↔◌, ◌⊎◌, inl, inr, Some, List, [], ◌∷◌, ◌++◌, All, length, Contains, slice_get, refl, sym, ◌∙◌, subst, arith}
+use Rattle.std.proofs.Common.{◌≡◌, ℕ, ◌+◌, ◌<◌, ◌↔◌, inl, inr, Some, List, ◌++◌, All, length, Contains, slice_get, refl, sym, ◌∙◌, subst, arith}
 use Rattle.std.specs.Ordering.{nat_cmp}
 use Rattle.std.proofs.lemmas.Option.{slice_get_within}
 use Rattle.std.proofs.lemmas.List.Elements.{Contains-append_left, Contains-append_right, Contains-append_cases}
+use Rattle.hpr_terms.proofs.Facts.{at_append}
 use Rattle.hpr_graph.specs.declared.conflict.Conflict.{Conflict}
 use Rattle.hpr_graph.specs.declared.conflict.Side.{Side}
 use Rattle.hpr_graph.specs.declared.conflict.Side.TheVariants.{A, B}
@@ -45,12 +46,6 @@ added_same m m' g v e same (in_m, new, there) = (((slice_at_same m m' v same).1 
 
 least_same : (m m' g : Graph) (v : Vertex) (e : Edge) → Same m m' → IsLeast (IsAdded m g v) e → IsLeast (IsAdded m' g v) e
 least_same m m' g v e same (adds, least) = (added_same m m' g v e same adds, λ f added. least f (added_same m' m g v f (same_turned m m' same) added))
-
-module _ {X : Type 0} where
-  at_append : (xs ys : List X) (i : ℕ) (x : X) → slice_get (xs ++ ys) i ≡ Some x → (slice_get xs i ≡ Some x) ⊎ ((k : ℕ) × (i ≡ length xs + k) × (slice_get ys k ≡ Some x))
-  at_append [] ys i x h = inr (i, omega arith, h)
-  at_append (y ∷ xs) ys zero x h = inl h
-  at_append (y ∷ xs) ys (suc i) x h = elim (at_append xs ys i x h) [ inl a ↦ inl a | inr (k, e, b) ↦ inr (k, omega (arith, e), b) ]
 
 -- the conflicts of A and those of B behind them
 module _ (base ga gb m : Graph) (same : Same m (merged base ga gb)) (Pa Pb : Vertex → Type 0) (is_a : (v : Vertex) → Pa v ↔ IsAffected ga base v) (is_b : (v : Vertex) → Pb v ↔ IsAffected gb base v) (cs ds : List Conflict) (a : AreSideConflicts m ga Pa A cs) (b : AreSideConflicts m gb Pb B ds) where

@@ -1,6 +1,7 @@
 -- From the orders of the allowed trees of items to the arrangements, and back.
 use Rattle.std.proofs.Common.{◌≡◌, ℕ, zero, suc, ◌<◌, inl, inr, Some, None, List, [], ◌∷◌, ◌++◌, length, map, Contains, slice_get, refl, sym, ap, ◌∙◌, subst, arith}
 use Rattle.std.proofs.lemmas.List.Elements.{Contains-get_or}
+use Rattle.hpr_terms.proofs.Facts.{some_inj, contains_at, get_map, in_map, map_in}
 use Rattle.hpr_syntax.specs.declared.rows.Row.{Row}
 use Rattle.hpr_syntax.specs.Issued.{Issued}
 use Rattle.hpr_syntax.specs.Rows.{rows_of}
@@ -18,7 +19,7 @@ use Rattle.hpr_order.specs.declared.item.Item.{Item}
 use Rattle.hpr_order.specs.Arranging.{programs_of, IsProgramOrder, ArePrograms}
 use Rattle.hpr_order.specs.Items.{program_of}
 use Rattle.hpr_order.specs.Limits.{IsAllowedTree, AreOrdersOf}
-use Rattle.hpr_order.proofs.ListFacts.{there_get, in_map, map_in, map_append, some_same}
+use Rattle.hpr_order.proofs.ListFacts.{map_append}
 use Rattle.hpr_order.proofs.Shapes.{vertex_of, parts_in}
 use Rattle.hpr_order.proofs.Sound.{IsGiven, known_of, tree_arranged, block_read}
 use Rattle.hpr_order.proofs.Complete.{arranged_tree}
@@ -36,13 +37,8 @@ lex_split (a ∷ s) (b ∷ t) (inr (is, l)) e =
 ascending_at : {X : Type 0} (Before : X → X → Type 0) (xs : List X) → IsAscending Before xs → (i j : ℕ) (x y : X) → i < j → slice_get xs i ≡ Some x → slice_get xs j ≡ Some y → Before x y
 ascending_at Before [] up i j x y lt a b = absurd cc
 ascending_at Before (z ∷ xs) up i zero x y lt a b = absurd (omega (arith, lt))
-ascending_at Before (z ∷ xs) up zero (suc j) x y lt a b = subst (λ w. Before w y) (some_same z x a) (up.0 y (there_get xs j y b))
+ascending_at Before (z ∷ xs) up zero (suc j) x y lt a b = subst (λ w. Before w y) (some_inj z x a) (up.0 y (contains_at xs j y b))
 ascending_at Before (z ∷ xs) up (suc i) (suc j) x y lt a b = ascending_at Before xs up.1 i j x y (omega (arith, lt)) a b
-
-pub get_map : {X Y : Type 0} (f : X → Y) (xs : List X) (i : ℕ) (y : Y) → slice_get (map f xs) i ≡ Some y → (x : X) × (slice_get xs i ≡ Some x) × (f x ≡ y)
-get_map f [] i y e = absurd cc
-get_map f (x ∷ xs) zero y e = (x, refl, some_same (f x) y e)
-get_map f (x ∷ xs) (suc i) y e = get_map f xs i y e
 
 map_map : (f : List ℕ → Tree) (ts : List ItemTree) → map f (map preorder ts) ≡ map (λ t. f (preorder t)) ts
 map_map f [] = refl
@@ -92,7 +88,7 @@ module _ (g : Graph) (items : List Item) (issued : Issued) (finals : List (List 
               (let f : ItemTree → Tree = λ t. program_of items issued finals (preorder t) in
               let (t, ti, tp) = get_map f ts i p at_i in
               let (u, uj, uq) = get_map f ts j q at_j in
-              let e' = earlier t u (list.sound t (there_get ts i t ti)) (list.sound u (there_get ts j u uj)) (ascending_at Earlier ts list.ascending i j t u lt ti uj) in
+              let e' = earlier t u (list.sound t (contains_at ts i t ti)) (list.sound u (contains_at ts j u uj)) (ascending_at Earlier ts list.ascending i j t u lt ti uj) in
               subst (λ z. IsEarlier rank z q) tp (subst (λ z. IsEarlier rank (f t) z) uq e')),
         )
 

@@ -2,6 +2,7 @@
 use Rattle.std.proofs.Common.{◌≡◌, ℕ, suc, ◌+◌, ◌<◌, get_or, Option, Some, None, IfSome, IfNone, List, [], ◌∷◌, All, length, Vec, slice_get, refl, sym, ap, ◌∙◌, subst, arith}
 use Rattle.std.specs.Global.{Global}
 use Rattle.std.proofs.lemmas.Option.{get_or_from_slice_get}
+use Rattle.hpr_terms.proofs.Facts.{some_inj, place_of, get_below}
 use Rattle.hpr_syntax.specs.Issued.{Issued, IsIssued}
 use Rattle.hpr_syntax.specs.Proper.{IsProperPair}
 use Rattle.hpr_graph.specs.declared.vertex.Vertex.{Vertex}
@@ -20,7 +21,7 @@ use Rattle.hpr_order.specs.Ordered.{IsOrdered}
 use Rattle.hpr_order.specs.Regions.{AllPossible}
 use Rattle.hpr_order.proofs.Arranges.{orders_arranged, orders_programs}
 use Rattle.hpr_order.proofs.OuterControls.{outer_controls}
-use Rattle.hpr_order.proofs.ListFacts.{get_below, get_within, get_there, some_same}
+use Rattle.hpr_order.proofs.ListFacts.{get_within}
 use Rattle.hpr_order.proofs.Shapes.{tag_of, vertex_of, vertex_is}
 use Rattle.hpr_order.proofs.Sound.{IsGiven, item_at}
 
@@ -84,7 +85,7 @@ pub first_once : (low : ℕ) (ns : List ℕ) → ((k x : ℕ) → slice_get ns k
 first_once low [] all = tt
 first_once low (x ∷ ns) all = (
   λ h.
-      (let (k, e) = get_there ns x h in
+      (let (k, e) = place_of ns x h in
       let a : x ≡ low + 0 = all 0 x refl in
       let b : x ≡ low + (k + 1) = later k x e in
       omega arith),
@@ -95,7 +96,7 @@ first_once low (x ∷ ns) all = (
     later k y e = let b : y ≡ low + suc k = all (suc k) y e in omega arith
 
 pub numbers_once : (n : ℕ) (ns : List ℕ) → AreFirstNumbers n ns → IsDistinct ns
-numbers_once n ns (len, all) = first_once 0 ns (λ k x e. (let lt = get_within ns k x e in let same : k ≡ x = some_same k x (sym (all k (omega arith)) ∙ e) in omega arith))
+numbers_once n ns (len, all) = first_once 0 ns (λ k x e. (let lt = get_within ns k x e in let same : k ≡ x = some_inj k x (sym (all k (omega arith)) ∙ e) in omega arith))
 
 pub numbers_within : (n : ℕ) (ns : List ℕ) → AreFirstNumbers n ns → All (λ c. c < n) ns
 numbers_within n ns (len, all) = λ k d lt. (let less : k < n = omega arith in let e : get_or ns k d ≡ k = get_or_from_slice_get ns k k d (all k less) in omega arith)

@@ -7,6 +7,7 @@ use Rattle.std.proofs.lemmas.Bool.Decides.{nat_tests}
 use Rattle.std.proofs.lemmas.List.{append-nil}
 use Rattle.hpr_terms.specs.declared.limits.TheConstants.{MAX_LEVELS}
 use Rattle.hpr_terms.specs.declared.tag.Tag.{Tag}
+use Rattle.hpr_terms.proofs.Facts.{place_of, in_map}
 use Rattle.hpr_syntax.specs.declared.rows.Content.{Content}
 use Rattle.hpr_syntax.specs.declared.rows.Content.TheVariants.{Assign, If, While}
 use Rattle.hpr_syntax.specs.Rows.{content_by}
@@ -36,7 +37,6 @@ use Rattle.hpr_order.specs.Items.{IsItem, IsSource, Asks, slot_at, block_at, pro
 use Rattle.hpr_order.specs.Limits.{IsAllowedTree}
 use Rattle.hpr_order.proofs.BlockOf.{IsBlockOf, Places, IsParent, says_in, so_stands, stands_by_place, place_in, in_which}
 use Rattle.hpr_order.proofs.Lefts.{left_is, one_left, left_stands}
-use Rattle.hpr_order.proofs.ListFacts.{get_there, in_map}
 use Rattle.hpr_order.proofs.ReadBack.{read_whole}
 use Rattle.hpr_order.proofs.Shapes.{tag_of, tags_in, count_in, in_small, in_shallow}
 use Rattle.hpr_order.proofs.Sound.{IsKnown, source_control, item_at, below_of}
@@ -67,14 +67,14 @@ same_tag_itself t = ap₂ (λ (a b : Bool). a && b) (itself t.author) (itself t.
 once_by : {X : Type 0} (f : ℕ → X) (l : List ℕ) → ((i j : ℕ) (x : X) → slice_get (map f l) i ≡ Some x → slice_get (map f l) j ≡ Some x → i ≡ j) → IsDistinct l
 once_by f [] one = tt
 once_by {X} f (k ∷ l) one = (
-  λ h. (let (j, e) = get_there (map f l) (f k) (in_map f l k h) in let no : 0 ≡ suc j = one 0 (suc j) (f k) refl e in omega arith),
+  λ h. (let (j, e) = place_of (map f l) (f k) (in_map f l k h) in let no : 0 ≡ suc j = one 0 (suc j) (f k) refl e in omega arith),
   once_by f l (λ i j x a b. let e : suc i ≡ suc j = one (suc i) (suc j) x a b in omega arith),
 )
 
 names_before : (xs : List (List ℕ)) → Ascends name_cmp xs → IsAscending (λ x y. name_cmp x y ≡ Less) xs
 names_before [] up = tt
 names_before (x ∷ xs) up = (
-  λ y a. (let (j, e) = get_there xs y a in up 0 (suc j) x y (omega arith) refl e),
+  λ y a. (let (j, e) = place_of xs y a in up 0 (suc j) x y (omega arith) refl e),
   names_before xs (λ i j x' y' lt a b. up (suc i) (suc j) x' y' (omega (arith, lt)) a b),
 )
 

@@ -1,5 +1,6 @@
 -- Control edges by vertices and by numbers, and what they lead to from Entry.
 use Rattle.std.proofs.Common.{◌≡◌, ℕ, inl, inr, Bool, Some, List, [], ◌∷◌, length, slice_get, refl, sym, ap, ◌∙◌, subst}
+use Rattle.hpr_terms.proofs.Facts.{get_below}
 use Rattle.hpr_search.specs.Marks.{IsMarked}
 use Rattle.hpr_search.specs.Walks.{Walk, IsReached}
 use Rattle.hpr_graph.specs.declared.vertex.Vertex.{Vertex}
@@ -14,7 +15,7 @@ use Rattle.hpr_graph.specs.Numbered.{Numbered, HasVertex, HasLink, IsKindAt, IsN
 use Rattle.hpr_graph.specs.Arrangements.{edge_into}
 use Rattle.hpr_order.specs.Regions.{Controls, LeadsDown, IsUnderEntry, control_link}
 use Rattle.hpr_order.specs.Controls.{numbers_at, AreControlled, AreReached}
-use Rattle.hpr_graph.proofs.Lists.{some_inj, in_none, in_cons, in_here, item_at, contains_at}
+use Rattle.hpr_graph.proofs.Lists.{some_inj, in_none, in_cons, in_here, contains_at}
 use Rattle.hpr_order.proofs.Rows.{row_within, control_of}
 
 module _ (g : Numbered) (k : IsNumbered g) where
@@ -48,7 +49,7 @@ module _ (g : Numbered) (k : IsNumbered g) where
         ([], some_inj v w (sym is_v ∙ ap (slice_get g.vertices) same ∙ is_w))
     walk_down a (c ∷ via) b v w is_v is_w (step, rest) =
         let (label, has) = (all.exact a c).0 step in
-        let (u, is_u) = item_at g.vertices c (row_within g k c (control_link a label) has) in
+        let (u, is_u) = get_below g.vertices c (row_within g k c (control_link a label) has) in
         let (es, down) = walk_down c via b u w is_u is_w rest in
         (edge_into v u (kind.Control label) ∷ es, (control_edge a c label v u is_v is_u has, (label, refl), refl, down))
 

@@ -1,10 +1,9 @@
 -- The arrangement that has a given preorder.
 use Rattle.std.proofs.Common.{◌≡◌, ℕ, suc, ◌+◌, ◌<◌, inl, inr, true, false, Some, None, List, [], ◌∷◌, ◌++◌, length, map, Contains, slice_get, refl, sym, ap, ap₂, ◌∙◌, subst, arith, append_assoc}
-use Rattle.std.specs.Option.{option_map}
 use Rattle.std.proofs.lemmas.List.{append-nil}
 use Rattle.std.proofs.lemmas.List.Elements.{Contains-append_left, Contains-append_right}
-use Rattle.std.proofs.lemmas.Option.{slice_get-map}
 use Rattle.hpr_terms.specs.declared.tag.Tag.{Tag}
+use Rattle.hpr_terms.proofs.Facts.{some_inj, contains_at, place_of, get_in_map, get_map}
 use Rattle.hpr_syntax.specs.declared.rows.Row.{Row}
 use Rattle.hpr_syntax.specs.declared.rows.Content.{Content}
 use Rattle.hpr_syntax.specs.declared.rows.Content.TheVariants.{Assign, If, While}
@@ -29,9 +28,8 @@ use Rattle.hpr_order.specs.Arranging.{AreFirstNumbers, IsPreorderOf}
 use Rattle.hpr_order.specs.Items.{program_of}
 use Rattle.hpr_order.specs.Numbers.{ArePartsOf, AreItemsAt, AreItemsOf}
 use Rattle.hpr_order.specs.Ordered.{IsListedProgram}
-use Rattle.hpr_order.proofs.Arranges.{get_map}
 use Rattle.hpr_order.proofs.Complete.{arranged_tree, same_tag_itself}
-use Rattle.hpr_order.proofs.ListFacts.{get_there, there_get, map_append, one_get, some_same}
+use Rattle.hpr_order.proofs.ListFacts.{map_append, one_get}
 use Rattle.hpr_order.proofs.Shapes.{tag_of, vertex_of, vertex_is, parts_in}
 use Rattle.hpr_order.proofs.Sound.{IsKnown, item_at, part_same}
 
@@ -79,15 +77,12 @@ tags_rows (loop t e p rest) up i after =
     ∙ sym (append_assoc (map f ps) (map f rs) after)
     ∙ ap (λ z. z ++ after) (sym (map_append f ps rs)))
 
-get_in_map : {X Y : Type 0} (f : X → Y) (xs : List X) (i : ℕ) (x : X) → slice_get xs i ≡ Some x → slice_get (map f xs) i ≡ Some (f x)
-get_in_map f xs i x e = slice_get-map f xs i ∙ ap (option_map f) e
-
 list_same : (xs ys : List ℕ) → length xs ≡ length ys → ((k x : ℕ) → slice_get xs k ≡ Some x → slice_get ys k ≡ Some x) → xs ≡ ys
 list_same [] [] len all = refl
 list_same [] (y ∷ ys) len all = absurd (omega arith)
 list_same (x ∷ xs) [] len all = absurd (omega arith)
 list_same (x ∷ xs) (y ∷ ys) len all =
-    let first : y ≡ x = some_same y x (all 0 x refl) in
+    let first : y ≡ x = some_inj y x (all 0 x refl) in
     ap₂ (λ (u : ℕ) (us : List ℕ). u ∷ us) (sym first) (list_same xs ys (omega arith) (λ k z e. all (suc k) z e))
 
 module _ (g : Numbered) (num : IsNumbered g) (issued : Issued) (order : List ℕ) (p : Tree) (r : IsArrangement (graph_in g) issued p) (pre : IsPreorderOf g order p) where
@@ -119,8 +114,8 @@ module _ (g : Numbered) (num : IsNumbered g) (issued : Issued) (order : List ℕ
         let (row, er, is) = row_at k v ev in
         (row.tag, row.content, at ∙ ap Some (sym is)));
     all = λ n t c part.
-        (let (row, h, a, b) = says_row p.body None 0 t c ((r.parts t c).1 (there_get g.vertices n (Part t c) part)) in
-        let (k, ek) = get_there (rows_of None 0 p.body) row h in
+        (let (row, h, a, b) = says_row p.body None 0 t c ((r.parts t c).1 (contains_at g.vertices n (Part t c) part)) in
+        let (k, ek) = place_of (rows_of None 0 p.body) row h in
         let at_k : slice_get (parts_of p) k ≡ Some (Part t c) = get_in_map (λ (row : Row). Part row.tag row.content) (rows_of None 0 p.body) k row ek ∙ ap Some (ap₂ Part a b) in
         let (m, em, at) = order_at k (Part t c) at_k in
         (k, em ∙ ap Some (num.once m n (Part t c) at part)));
@@ -138,7 +133,7 @@ module _ (g : Numbered) (num : IsNumbered g) (issued : Issued) (order : List ℕ
     in_line : (t : ItemTree) → ((k : ℕ) → Contains (preorder t) k → k < length items) → parts_of p ≡ map (vertex_of items) (preorder t) → (k x : ℕ) → slice_get (preorder t) k ≡ Some x → k ≡ x
     in_line t within parts k x e =
         let u = tag_of items x in
-        let (c, i) = item_at items x (within x (there_get (preorder t) k x e)) in
+        let (c, i) = item_at items x (within x (contains_at (preorder t) k x e)) in
         let at_k : slice_get (parts_of p) k ≡ Some (Part u c) = subst (λ z. slice_get z k ≡ Some (Part u c)) (sym parts) (get_in_map (vertex_of items) (preorder t) k x e ∙ ap Some (vertex_is items x u c i)) in
         let (n, en, part) = order_at k (Part u c) at_k in
         is.items.once k x u c c ((at.parts k n u c en).1 part) i
@@ -149,7 +144,7 @@ module _ (g : Numbered) (num : IsNumbered g) (issued : Issued) (order : List ℕ
         let parts : parts_of p ≡ map (vertex_of items) (preorder t) = parts_in items t p.body None 0 h in
         let same : preorder t ≡ ns = list_same (preorder t) ns (a.arranged.len ∙ sym len) (λ k x ex.
         let is_x : k ≡ x = in_line t a.arranged.within parts k x ex in
-        subst (λ z. slice_get ns k ≡ Some z) is_x (first k (subst (λ z. z < length items) (sym is_x) (a.arranged.within x (there_get (preorder t) k x ex))))) in
+        subst (λ z. slice_get ns k ≡ Some z) is_x (first k (subst (λ z. z < length items) (sym is_x) (a.arranged.within x (contains_at (preorder t) k x ex))))) in
         subst (λ z. program_of items issued finals z ≡ p) same e
 
   pub listed_program : (items : List Item) → AreItemsOf g order items → IsListedProgram (graph_in g) items issued p

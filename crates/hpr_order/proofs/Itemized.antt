@@ -3,6 +3,7 @@ use Rattle.std.proofs.Common.{◌≡◌, ℕ, ◌<◌, ◌↔◌, inl, inr, Bool
 use Rattle.std.proofs.lemmas.Bool.{cases_eq}
 use Rattle.std.proofs.lemmas.Option.{slice_get_within, get_or_from_slice_get}
 use Rattle.hpr_terms.specs.declared.tag.Tag.{Tag}
+use Rattle.hpr_terms.proofs.Facts.{contains_at, place_of, get_below}
 use Rattle.hpr_syntax.specs.declared.rows.Content.{Content}
 use Rattle.hpr_graph.specs.declared.vertex.Vertex.{Vertex}
 use Rattle.hpr_graph.specs.declared.vertex.Vertex.TheVariants.{Entry, Init, Part, Final}
@@ -16,7 +17,7 @@ use Rattle.hpr_order.specs.Arranging.{IsProperItem}
 use Rattle.hpr_order.specs.Items.{AreItems, AreSlots, IsItem, IsSource, slot_at, slot_in}
 use Rattle.hpr_order.specs.Numbers.{ArePartsOf, ArePlaces, AreItemsAt, AreItemsOf, IsItemAt, IsPartAt, slot_by, slot_from}
 use Rattle.hpr_order.specs.Regions.{Allows, AllowsIn, AreRegionsOf, Controls, control_link}
-use Rattle.hpr_order.proofs.ListFacts.{get_below, get_there, there_get, one_get}
+use Rattle.hpr_order.proofs.ListFacts.{one_get}
 use Rattle.hpr_order.proofs.Sound.{part_same}
 
 abbrev item_in : Slot → ℕ
@@ -69,12 +70,12 @@ module _ (g : Numbered) (num : IsNumbered g) (rs : List (Option (ℕ × Bool))) 
 
   part_there : (t : Tag) (c : Content) → Contains g.vertices (Part t c) → (k : ℕ) × IsItem items k t c
   part_there t c h =
-      let (n, e) = get_there g.vertices (Part t c) h in
+      let (n, e) = place_of g.vertices (Part t c) h in
       let (k, ek) = parts.all n t c e in
       (k, item_by k n t c ek e)
 
   there_part : (k : ℕ) (t : Tag) (c : Content) → IsItem items k t c → Contains g.vertices (Part t c)
-  there_part k t c i = let (n, r, en, part, _, _) = number_by k t c i in there_get g.vertices n (Part t c) part
+  there_part k t c i = let (n, r, en, part, _, _) = number_by k t c i in contains_at g.vertices n (Part t c) part
 
   item_once : (k j : ℕ) (t : Tag) (c d : Content) → IsItem items k t c → IsItem items j t d → k ≡ j
   item_once k j t c d i i' = elim (cases_eq k j) [

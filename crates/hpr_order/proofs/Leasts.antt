@@ -7,6 +7,7 @@ use Rattle.std.specs.declared.cmp.Ordering.{Ordering}
 use Rattle.std.specs.declared.cmp.Ordering.TheVariants.{Less, Equal, Greater}
 use Rattle.hpr_terms.specs.declared.tag.Tag.{Tag}
 use Rattle.hpr_terms.specs.contracts.tag.TagOrd.TheImpl.Laws as tag_laws
+use Rattle.hpr_terms.proofs.Facts.{taken_item}
 use Rattle.hpr_syntax.specs.declared.rows.Content.{Content}
 use Rattle.hpr_graph.specs.declared.vertex.Vertex.{Vertex}
 use Rattle.hpr_graph.specs.declared.vertex.Vertex.TheVariants.{Entry, Init, Part, Final}
@@ -15,7 +16,7 @@ use Rattle.hpr_graph.specs.Order.{tag_cmp}
 use Rattle.hpr_order.specs.Regions.{IsLeastOf}
 use Rattle.hpr_order.specs.Least.{HasTag, HasTwoIn, IsLeastIn, before_or, lesser, noted}
 use Rattle.hpr_graph.proofs.VertexOrder.{then_equal}
-use Rattle.hpr_order.proofs.Lists.{taken_item, not_before}
+use Rattle.hpr_order.proofs.Lists.{not_before}
 
 -- the order of tags is total
 pub tag_total : IsTotalOrder tag_cmp

@@ -5,13 +5,13 @@ use Rattle.std.proofs.lemmas.Bool.{eqb-true, eq-eqb}
 use Rattle.std.proofs.lemmas.List.{take_all}
 use Rattle.std.proofs.lemmas.List.Elements.{Contains-append_left, Contains-append_right, Contains-append_cases}
 use Rattle.std.proofs.lemmas.Option.{slice_get-get_or}
+use Rattle.hpr_terms.proofs.Facts.{not_is, some_inj}
 use Rattle.hpr_graph.specs.declared.vertex.Vertex.{Vertex}
 use Rattle.hpr_graph.specs.declared.vertex.Vertex.TheVariants.{Final}
 use Rattle.hpr_graph.specs.declared.link.Link.{Link}
 use Rattle.hpr_graph.specs.Moves.{number_at}
 use Rattle.hpr_forest.proofs.Unique.{in_none, in_cons, in_first}
 use Rattle.hpr_order.specs.Numbers.{IsAskedBy, DirectsBy}
-use Rattle.hpr_order.proofs.ListFacts.{some_same}
 use Rattle.hpr_order.proofs.Marked.{asked_more}
 use Rattle.hpr_order.proofs.Steps.{links_skip, links_push, one_pair, take_step}
 
@@ -25,17 +25,13 @@ pub option_same : (a b : Option ℕ) → a ≡ b → option_eq eqb a b ≡ true
 option_same None None e = refl
 option_same None (Some y) e = absurd cc
 option_same (Some x) None e = absurd cc
-option_same (Some x) (Some y) e = eq-eqb x y (some_same x y e)
+option_same (Some x) (Some y) e = eq-eqb x y (some_inj x y e)
 
 pub differ_true : (r : Bool) (a b : Option ℕ) → r ≡ not (option_eq eqb a b) → r ≡ true → a ≡ b → ⊥
 differ_true r a b is t e = let f : not true ≡ true = ap not (sym (option_same a b e)) ∙ sym is ∙ t in absurd cc
 
 pub differ_false : (r : Bool) (a b : Option ℕ) → r ≡ not (option_eq eqb a b) → r ≡ false → a ≡ b
-differ_false r a b is f = option_true a b (turned (option_eq eqb a b) (sym is ∙ f))
-  where
-    turned : (t : Bool) → not t ≡ false → t ≡ true
-    turned true e = refl
-    turned false e = absurd cc
+differ_false r a b is f = option_true a b (not_is (option_eq eqb a b) (sym is ∙ f))
 
 pub true_is : (r : Bool) → r ≡ true → IsTrue r
 true_is true e = search
@@ -72,7 +68,7 @@ module _ (Old : ℕ → ℕ → Type 0) (item : ℕ) (places : List (Option ℕ)
       → (s t : ℕ) → Contains new (s, t) ↔ (Old s t ⊎ ((t ≡ item) × IsAskedBy places (take (index + 1) links) s))
   links_placed r o source pairs new dir yes' is some grown all =
       links_push Old item source (IsAskedBy places (take index links)) (IsAskedBy places (take (index + 1) links)) pairs new (λ s a. (more s).1 (inl a))
-      (λ s b. elim ((more s).0 b) [ inl a ↦ inl a | inr (_, x) ↦ inr (some_same s source (sym x ∙ sym is ∙ some)) ])
+      (λ s b. elim ((more s).0 b) [ inl a ↦ inl a | inr (_, x) ↦ inr (some_inj s source (sym x ∙ sym is ∙ some)) ])
       ((more source).1 (inr (dir.0 (true_is r yes'), sym is ∙ some))) grown all
 
 pub links_whole : (Old : ℕ → ℕ → Type 0) (item : ℕ) (places : List (Option ℕ)) (links : List Link) (index : ℕ) (pairs : List (ℕ × ℕ)) → length links ≤ index

@@ -2,13 +2,11 @@
 use Rattle.std.proofs.Common.{◌≡◌, ℕ, zero, suc, ◌+◌, ◌<◌, ◌↔◌, ◌⊎◌, inl, inr, Some, List, [], ◌∷◌, ◌++◌, length, take, drop, get_or, Contains, slice_get, sym, ap, subst}
 use Rattle.std.proofs.lemmas.Option.{get_or_from_slice_get, slice_get_within}
 use Rattle.std.proofs.lemmas.List.Elements.{Contains-append_left, Contains-append_right, Contains-append_cases}
+use Rattle.hpr_terms.proofs.Facts.{taken_item}
 use Rattle.hpr_graph.specs.Graphs.{IsOnce}
-use Rattle.hpr_graph.proofs.Lists.{some_inj, in_cons, in_here, in_later, in_taken, once_tail, once_head, once_cons, not_taken}
+use Rattle.hpr_graph.proofs.Lists.{some_inj, in_cons, in_here, in_later, once_tail, once_head, once_cons, not_taken}
 
 module _ {X : Type 0} where
-  -- the first i + 1 of a list are the first i and one more
-  pub taken_item : (xs : List X) (i : ℕ) (x y : X) → i < length xs → x ≡ get_or xs i x → Contains (take (i + 1) xs) y ↔ (Contains (take i xs) y ⊎ (x ≡ y))
-  taken_item xs i x y l is = subst (λ (z : X). Contains (take (i + 1) xs) y ↔ (Contains (take i xs) y ⊎ (z ≡ y))) (sym is) (in_taken xs i x y l)
 
   pub taken_at : (xs : List X) (i : ℕ) (x y : X) → slice_get xs i ≡ Some x → Contains (take (i + 1) xs) y ↔ (Contains (take i xs) y ⊎ (x ≡ y))
   taken_at xs i x y at = taken_item xs i x y (slice_get_within xs i x at) (sym (get_or_from_slice_get xs i x x at))

@@ -6,6 +6,7 @@ use Rattle.std.proofs.lemmas.List.Elements.{Contains-append_left, Contains-appen
 use Rattle.std.proofs.lemmas.Option.{slice_get_within, slice_get-get_or, get_or_from_slice_get}
 use Rattle.hpr_terms.specs.declared.limits.TheConstants.{MAX_LEVELS}
 use Rattle.hpr_terms.specs.declared.tag.Tag.{Tag}
+use Rattle.hpr_terms.proofs.Facts.{some_inj, get_below}
 use Rattle.hpr_syntax.specs.declared.rows.Content.{Content}
 use Rattle.hpr_graph.specs.declared.vertex.Vertex.{Vertex}
 use Rattle.hpr_graph.specs.declared.vertex.Vertex.TheVariants.{Part}
@@ -25,7 +26,7 @@ use Rattle.hpr_order.specs.Lifting.{AreLevels, LevelUnder, level_of, parent_in}
 use Rattle.hpr_order.specs.Limits.{level_in, one_more}
 use Rattle.hpr_order.specs.Numbers.{ArePartsOf, ArePlaces, AreItemsAt, AreAsked, IsAskedBy, IsPartAt, DirectsBy}
 use Rattle.hpr_order.proofs.Sound.{below_of}
-use Rattle.hpr_order.proofs.ListFacts.{get_below, one_get, some_same}
+use Rattle.hpr_order.proofs.ListFacts.{one_get}
 use Rattle.hpr_order.proofs.Shapes.{far_level, level_far}
 
 -- a place more
@@ -37,7 +38,7 @@ pub place_more : (numbers : List ℕ) (places : List (Option ℕ)) (place n : �
 place_more numbers places place n once here within are m k = elim (cases_eq m n) [
   | inl same ↦ (
       let now : number_at (set places n (Some place)) m ≡ Some place = ap (number_at (set places n (Some place))) same ∙ get_or-set_same places n (Some place) None within in (
-        (λ e. (let is_k : place ≡ k = some_same place k (sym now ∙ e) in (omega arith, subst (λ z. slice_get numbers z ≡ Some m) is_k (here ∙ ap Some (sym same))))),
+        (λ e. (let is_k : place ≡ k = some_inj place k (sym now ∙ e) in (omega arith, subst (λ z. slice_get numbers z ≡ Some m) is_k (here ∙ ap Some (sym same))))),
         (λ (lt, e). (let is_k : place ≡ k = once place k n here (e ∙ ap Some same) in now ∙ ap Some is_k)),
       ))
   | inr other ↦ (
@@ -71,7 +72,7 @@ levels_are items levels len all within = record {
         let none : parent_in items k ≡ None = ap above is in
         let far = (level_far (slot_at items) (MAX_LEVELS - 1) (level_of levels k) (slot_at items k) e).0 in
         subst (LevelUnder levels (level_of levels k)) (sym none) (let e' : level_in (slot_at items) (MAX_LEVELS - 1) None ≡ Some (level_of levels k) = subst (λ z. level_in (slot_at items) (MAX_LEVELS - 1) z ≡ Some (level_of levels k)) is e in
-        sym (some_same 0 (level_of levels k) e'))
+        sym (some_inj 0 (level_of levels k) e'))
     at k (Some (p, b)) is e inside lt =
         let some : parent_in items k ≡ Some p = ap above is in
         let e' : level_in (slot_at items) (MAX_LEVELS - 1) (Some (p, b)) ≡ Some (level_of levels k) = subst (λ z. level_in (slot_at items) (MAX_LEVELS - 1) z ≡ Some (level_of levels k)) is e in
@@ -83,8 +84,8 @@ levels_are items levels len all within = record {
         one_level p (Some m) was its e =
             let f : Some (m + 1) ≡ Some (level_of levels k) = subst (λ z. one_more z ≡ Some (level_of levels k)) was e in
             let (far, le) = level_far (slot_at items) (MAX_LEVELS - 2) m (slot_at items p) was in
-            let same : m ≡ level_of levels p = some_same m (level_of levels p) (sym (far_level (slot_at items) (MAX_LEVELS - 1) m (slot_at items p) far (omega arith)) ∙ its) in
-            let g : m + 1 ≡ level_of levels k = some_same (m + 1) (level_of levels k) f in
+            let same : m ≡ level_of levels p = some_inj m (level_of levels p) (sym (far_level (slot_at items) (MAX_LEVELS - 1) m (slot_at items p) far (omega arith)) ∙ its) in
+            let g : m + 1 ≡ level_of levels k = some_inj (m + 1) (level_of levels k) f in
             omega arith
 
 -- what the links into an item ask

@@ -2,12 +2,13 @@
 use Rattle.std.proofs.Common.{◌≡◌, ℕ, ◌+◌, ◌<◌, ◌≤◌, inl, inr, Bool, Option, Some, None, IsNone, IsSome, IfSome, List, length, take, drop, get_or, Contains, refl, sym, ap, ◌∙◌, subst}
 use Rattle.std.proofs.lemmas.List.{take_all, take-append-drop}
 use Rattle.std.proofs.lemmas.List.Elements.{Contains-get_or, Contains-append_left}
+use Rattle.hpr_terms.proofs.Facts.{taken_item}
 use Rattle.hpr_graph.specs.declared.link.Link.{Link}
 use Rattle.hpr_graph.specs.Graphs.{IsOnce}
 use Rattle.hpr_order.specs.Regions.{control_link}
 use Rattle.hpr_order.specs.Controls.{IsOnlyControl, label_of}
 use Rattle.hpr_graph.proofs.Lists.{some_inj}
-use Rattle.hpr_order.proofs.Lists.{taken_item, not_before}
+use Rattle.hpr_order.proofs.Lists.{not_before}
 use Rattle.hpr_order.proofs.Rows.{control_of, label_is, get_or_same}
 
 -- none, or the one control edge

@@ -4,6 +4,7 @@ use Rattle.std.proofs.lemmas.List.{append-nil}
 use Rattle.std.proofs.lemmas.List.Elements.{Contains-append_left, Contains-append_right, Contains-append_cases}
 use Rattle.std.proofs.lemmas.Bool.{eqb-true, eq-eqb}
 use Rattle.hpr_terms.specs.declared.tag.Tag.{Tag}
+use Rattle.hpr_terms.proofs.Facts.{get_below}
 use Rattle.hpr_syntax.specs.declared.rows.Content.{Content}
 use Rattle.hpr_syntax.specs.declared.rows.Content.TheVariants.{Assign, If, While}
 use Rattle.hpr_syntax.specs.Action.{assigns}
@@ -16,7 +17,6 @@ use Rattle.hpr_forest.proofs.Flat.{once_left, once_right}
 use Rattle.hpr_order.specs.declared.item.Item.{Item}
 use Rattle.hpr_order.specs.Items.{IsItem, slot_at, slot_in, said, same_slot, with_part, block_at}
 use Rattle.hpr_order.specs.Regions.{AllowsIn}
-use Rattle.hpr_order.proofs.ListFacts.{get_below}
 use Rattle.hpr_order.proofs.BlockOf.{IsBlockOf, in_one, in_two, in_three, in_which}
 
 pub same_slot_true : (u v : Slot) → same_slot u v ≡ true → u ≡ v

@@ -4,6 +4,7 @@ use Rattle.std.proofs.lemmas.Bool.{cases_eq, cases_lt}
 use Rattle.std.proofs.lemmas.Option.{slice_get_within, slice_get_past}
 use Rattle.std.proofs.lemmas.List.{get_or-set_same, get_or-set_other, length-map, take_all}
 use Rattle.std.proofs.lemmas.List.Elements.{Contains-push, Contains-push_cases, Contains-append_left, Contains-get_or}
+use Rattle.hpr_terms.proofs.Facts.{taken_item}
 use Rattle.hpr_graph.specs.declared.link.LinkKind.{LinkKind}
 use Rattle.hpr_graph.specs.declared.link.LinkKind.TheVariants.{Control, Independent, Carried, Order}
 use Rattle.hpr_graph.specs.declared.link.Link.{Link}
@@ -11,7 +12,6 @@ use Rattle.hpr_graph.specs.Numbered.{Numbered, HasLink, IsLink, IsNumbered, row_
 use Rattle.hpr_order.specs.Regions.{control_link}
 use Rattle.hpr_order.specs.Controls.{label_of, HasControl, numbers_at, numbers_of, AreWithin, AreControlled, IsPushed, IsPushedBy}
 use Rattle.hpr_graph.proofs.Lists.{some_inj, in_none, in_cons, in_here}
-use Rattle.hpr_order.proofs.Lists.{taken_item}
 
 -- what the code reads of a row
 pub read_row : (rows : List (Vec ℕ Global)) (at : ℕ) (row : Vec ℕ Global) → at < length rows → row ≡ get_or rows at row → numbers_at (numbers_of rows) at ≡ row.items

@@ -1,11 +1,12 @@
 -- What the block of a tree of items is: its parts, tags and levels, and that it has no refusal.
-use Rattle.std.proofs.Common.{◌≡◌, ℕ, zero, suc, ◌+◌, ◌-◌, ◌≤◌, inl, inr, Bool, true, false, ◌==◌, ◌&&◌, ◌||◌, if◌then◌else◌, IsSome, Option, Some, None, List, [], ◌∷◌, ◌++◌, All, length, map, Contains, slice_get, refl, sym, ap, ap₂, ◌∙◌, subst, arith, append_assoc, length-append}
+use Rattle.std.proofs.Common.{◌≡◌, ℕ, zero, suc, ◌+◌, ◌-◌, ◌≤◌, inl, inr, Bool, true, false, ◌==◌, ◌||◌, if◌then◌else◌, IsSome, Option, Some, None, List, [], ◌∷◌, ◌++◌, All, length, map, Contains, slice_get, refl, sym, ap, ap₂, ◌∙◌, subst, arith, append_assoc, length-append}
 use Rattle.std.specs.List.{list_any}
 use Rattle.std.specs.Option.{option_or}
 use Rattle.std.proofs.lemmas.Bool.Decides.{nat_tests}
 use Rattle.std.proofs.lemmas.List.Elements.{All-contains}
 use Rattle.hpr_terms.specs.declared.limits.TheConstants.{MAX_LEVELS}
 use Rattle.hpr_terms.specs.declared.tag.Tag.{Tag}
+use Rattle.hpr_terms.proofs.Facts.{and_both, if_none, unless, contains_at}
 use Rattle.hpr_syntax.specs.declared.rows.Row.{Row}
 use Rattle.hpr_syntax.specs.declared.rows.Content.{Content}
 use Rattle.hpr_syntax.specs.declared.rows.Content.TheVariants.{Assign, If, While}
@@ -26,7 +27,7 @@ use Rattle.hpr_order.specs.declared.item.Item.{Item}
 use Rattle.hpr_order.specs.Items.{IsItem}
 use Rattle.hpr_order.specs.Limits.{level_in, one_more}
 use Rattle.hpr_order.specs.Arranging.{IsProperItem, IsProperContent}
-use Rattle.hpr_order.proofs.ListFacts.{there_get, map_append}
+use Rattle.hpr_order.proofs.ListFacts.{map_append}
 use Rattle.hpr_order.proofs.BlockOf.{IsBlockOf, in_one, in_two, in_three, in_which, none_of, same_part}
 
 map_three : {X Y : Type 0} (f : X → Y) (xs ys zs : List X) → map f (xs ++ (ys ++ zs)) ≡ map f xs ++ (map f ys ++ map f zs)
@@ -141,7 +142,7 @@ module _ (items : List Item) where
 
   proper_item : (k : ℕ) (t : Tag) (c : Content) → All IsProperItem items → IsItem items k t c → IsProperTag t × IsProperContent c
   proper_item k t c all (i, a, it, ic) =
-      let p : IsProperItem i = All-contains IsProperItem items i all (there_get items k i a) in
+      let p : IsProperItem i = All-contains IsProperItem items i all (contains_at items k i a) in
       (subst IsProperTag it p.0, subst IsProperContent ic p.1)
 
   pub proper_in : (t : Tree) (b : Body) → All IsProperItem items → IsBlockOf items t b → IsProperBody b
@@ -157,15 +158,6 @@ module _ (items : List Item) where
   proper_in (node c y n r) (loop t e p rest) all h =
       (let i = proper_item c t (While e) all h.0 in (i.0, i.1, proper_in y p all h.1, proper_in r rest all h.3))
 
-  -- no expression is large exactly where none of an item is
-  small_if : {X : Type 0} (b : Bool) (x : X) (o : Option X) → b ≡ false → o ≡ None → (if b then Some x else o) ≡ None
-  small_if true x o is none = absurd cc
-  small_if false x o is none = none
-
-  if_small : {X : Type 0} (b : Bool) (x : X) (o : Option X) → (if b then Some x else o) ≡ None → (b ≡ false) × (o ≡ None)
-  if_small true x o e = absurd cc
-  if_small false x o e = (refl, e)
-
   none_or : {X : Type 0} (a b : Option X) → a ≡ None → b ≡ None → option_or a b ≡ None
   none_or None b x y = y
   none_or (Some z) b x y = absurd cc
@@ -176,11 +168,11 @@ module _ (items : List Item) where
   small_in empty (branch t e p q rest) all h = absurd h
   small_in empty (loop t e p rest) all h = absurd h
   small_in (node c y n r) done all h = absurd h
-  small_in (node c y n r) (action t (assigns x e) rest) all h = small_if (is_large e) t (first_large rest) (all c t (Assign x e) h.0) (small_in r rest all h.3)
+  small_in (node c y n r) (action t (assigns x e) rest) all h = unless (is_large e) t (first_large rest) (all c t (Assign x e) h.0) (small_in r rest all h.3)
   small_in (node c y n r) (branch t e p q rest) all h =
-      small_if (is_large e) t _ (all c t (If e) h.0) (none_or _ _ (small_in y p all h.1) (none_or _ _ (small_in n q all h.2) (small_in r rest all h.3)))
+      unless (is_large e) t _ (all c t (If e) h.0) (none_or _ _ (small_in y p all h.1) (none_or _ _ (small_in n q all h.2) (small_in r rest all h.3)))
   small_in (node c y n r) (loop t e p rest) all h =
-      small_if (is_large e) t _ (all c t (While e) h.0) (none_or _ _ (small_in y p all h.1) (small_in r rest all h.3))
+      unless (is_large e) t _ (all c t (While e) h.0) (none_or _ _ (small_in y p all h.1) (small_in r rest all h.3))
 
   small_at : (c k : ℕ) (t u : Tag) (d d' : Content) → c ≡ k → IsItem items c t d → IsItem items k u d' → is_large (expr_in d) ≡ false → is_large (expr_in d') ≡ false
   small_at c k t u d d' is i j small =
@@ -194,7 +186,7 @@ module _ (items : List Item) where
   in_small empty b k u d small h a i = absurd (in_none k a)
   in_small (node c y n r) done k u d small h a i = absurd h
   in_small (node c y n r) (action t (assigns x e) rest) k u d small h a i =
-      let (now, later) = if_small (is_large e) t (first_large rest) small in
+      let (now, later) = if_none (is_large e) t (first_large rest) small in
       elim (in_which c y n r k a) [
         | inl is ↦ small_at c k t u (Assign x e) d is h.0 i now
         | inr (inl none) ↦ absurd (none_there y h.1 k none)
@@ -202,7 +194,7 @@ module _ (items : List Item) where
         | inr (inr (inr three)) ↦ in_small r rest k u d later h.3 three i
       ]
   in_small (node c y n r) (branch t e p q rest) k u d small h a i =
-      let (now, later) = if_small (is_large e) t (option_or (first_large p) (option_or (first_large q) (first_large rest))) small in
+      let (now, later) = if_none (is_large e) t (option_or (first_large p) (option_or (first_large q) (first_large rest))) small in
       let (p_none, more) = or_none (first_large p) (option_or (first_large q) (first_large rest)) later in
       let (q_none, rest_none) = or_none (first_large q) (first_large rest) more in
       elim (in_which c y n r k a) [
@@ -212,7 +204,7 @@ module _ (items : List Item) where
         | inr (inr (inr three)) ↦ in_small r rest k u d rest_none h.3 three i
       ]
   in_small (node c y n r) (loop t e p rest) k u d small h a i =
-      let (now, later) = if_small (is_large e) t (option_or (first_large p) (first_large rest)) small in
+      let (now, later) = if_none (is_large e) t (option_or (first_large p) (first_large rest)) small in
       let (p_none, rest_none) = or_none (first_large p) (first_large rest) later in
       elim (in_which c y n r k a) [
         | inl is ↦ small_at c k t u (While e) d is h.0 i now
@@ -386,16 +378,12 @@ all_issued issued (t ∷ ts) h =
     go true is rest = absurd cc
     go false is rest = rest
 
-both_true : (a b : Bool) → (a && b) ≡ true → (a ≡ true) × (b ≡ true)
-both_true true b e = (refl, e)
-both_true false b e = absurd cc
-
 same_number : (a b : ℕ) → (a == b) ≡ true → a ≡ b
 same_number a b e = grind (arith, nat_tests)
 
 pub same_tag_true : (t u : Tag) → same_tag t u ≡ true → t ≡ u
 same_tag_true t u e =
-    let (a, b) = both_true (t.author == u.author) (t.serial == u.serial) e in
+    let (a, b) = and_both (t.author == u.author) (t.serial == u.serial) e in
     let p = same_number t.author u.author a in
     let q = same_number t.serial u.serial b in
     (λ i. record { author = p i; serial = q i })

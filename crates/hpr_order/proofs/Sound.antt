@@ -12,6 +12,7 @@ use Rattle.std.proofs.lemmas.Option.{slice_get_within}
 use Rattle.hpr_terms.specs.declared.limits.TheConstants.{MAX_LEVELS, MAX_PARTS}
 use Rattle.hpr_terms.specs.Names.{IsName}
 use Rattle.hpr_terms.specs.declared.tag.Tag.{Tag}
+use Rattle.hpr_terms.proofs.Facts.{place_of, get_below, map_in}
 use Rattle.hpr_syntax.specs.declared.rows.Content.{Content}
 use Rattle.hpr_syntax.specs.Body.{Body, part_count}
 use Rattle.hpr_syntax.specs.Issued.{Issued, IsIssued}
@@ -42,7 +43,6 @@ use Rattle.hpr_order.specs.Items.{AreItems, IsItem, IsSource, slot_at, block_at,
 use Rattle.hpr_order.specs.Limits.{IsAllowedTree}
 use Rattle.hpr_order.proofs.BlockOf.{IsBlockOf, IsParent, same_part, says_in, in_says, stands_so, so_stands, slot_of_place, in_place}
 use Rattle.hpr_order.proofs.Lefts.{LeftIn, is_left, left_once, stands_left}
-use Rattle.hpr_order.proofs.ListFacts.{get_below, get_there, map_in}
 use Rattle.hpr_order.proofs.ReadBack.{read_whole, block_there}
 use Rattle.hpr_order.proofs.Shapes.{no_tag, tag_in, tag_of, tags_in, count_in, proper_in, small_in, shallow_in, IsApart, none_repeated, all_issued, same_tag_true}
 
@@ -55,7 +55,7 @@ differ_name x y less = sym (sym (texts_ties x y) ∙ nat_list_eq_equiv.symm x y)
 pub names_apart : (xs : List (List ℕ)) → Ascends name_cmp xs → IsApart bytes_eq xs
 names_apart [] up = tt
 names_apart (x ∷ xs) up = (
-  λ y a. (let (j, e) = get_there xs y a in differ_name x y (up 0 (suc j) x y (omega arith) refl e)),
+  λ y a. (let (j, e) = place_of xs y a in differ_name x y (up 0 (suc j) x y (omega arith) refl e)),
   names_apart xs (λ i j x' y' lt a b. up (suc i) (suc j) x' y' (omega (arith, lt)) a b),
 )
 

@@ -12,6 +12,7 @@ use Rattle.hpr_graph.specs.Order.{name_cmp}
 use Rattle.std.proofs.lemmas.List.Elements.{All-contains, All-from_recursion, Contains-append_left, Contains-append_right, Contains-append_cases}
 use Rattle.std.proofs.lemmas.Option.{slice_get_within, slice_get_read, get_or_from_slice_get}
 use Rattle.hpr_terms.specs.declared.tag.Tag.{Tag}
+use Rattle.hpr_terms.proofs.Facts.{some_inj, is_some_at, contains_at, get_below, at_end}
 use Rattle.hpr_syntax.specs.declared.rows.Content.{Content}
 use Rattle.hpr_syntax.specs.Rows.{expr_in}
 use Rattle.hpr_syntax.specs.Shape.{is_large}
@@ -22,7 +23,7 @@ use Rattle.hpr_order.specs.Building.{IsSlot}
 use Rattle.hpr_order.specs.Items.{AreSlots, IsItem, slot_at, slot_in}
 use Rattle.hpr_order.specs.Lifting.{level_of}
 use Rattle.hpr_order.specs.Limits.{IsWithinLimits, level_in, one_more}
-use Rattle.hpr_order.proofs.ListFacts.{get_below, there_get, one_get, some_same, push_old, push_new}
+use Rattle.hpr_order.proofs.ListFacts.{one_get, push_old}
 
 pub read_of : {X : Type 0} (xs : List X) (i : ℕ) (x : X) → i < length xs → x ≡ get_or xs i x → slice_get xs i ≡ Some x
 read_of xs i x lt is = slice_get_read xs (length xs) i x refl lt is
@@ -42,10 +43,6 @@ level_more items (suc n) item b i o v ne e is at =
     ap one_more (is ∙ ap (λ z. level_in (slot_at items) z i.slot) less ∙ ap (level_in (slot_at items) n) (sym (ap slot_in e)))
     ∙ sym (ap (level_in (slot_at items) (suc n)) at)
 
-is_some_of : {X : Type 0} (o : Option X) (x : X) → o ≡ Some x → IsSome o
-is_some_of None x e = absurd cc
-is_some_of (Some y) x e = search
-
 no_some : {X : Type 0} (o : Option X) → o ≡ None → IsSome o → ⊥
 no_some None e h = absurd cc
 no_some (Some y) e h = absurd cc
@@ -60,7 +57,7 @@ pub level_pushed : (items : List Item) (index : ℕ) (levels more : List ℕ) (i
 level_pushed items index levels more i level len here found small is r = record {
   levels = λ k lt. elim (cases_eq k index) [
     | inl same ↦ (
-        let at : slice_get more k ≡ Some level = subst (λ z. slice_get z k ≡ Some level) (sym is) (subst (λ z. slice_get (levels ++ level ∷ []) z ≡ Some level) (len ∙ sym same) (push_new levels level)) in
+        let at : slice_get more k ≡ Some level = subst (λ z. slice_get z k ≡ Some level) (sym is) (subst (λ z. slice_get (levels ++ level ∷ []) z ≡ Some level) (len ∙ sym same) (at_end levels level)) in
         ap (level_in (slot_at items) (MAX_LEVELS - 1)) (ap (slot_at items) same ∙ ap slot_in here) ∙ found ∙ ap Some (sym (get_or_from_slice_get more k level 0 at)))
     | inr other ↦ (
         let less : k < index = omega (arith, lt) in
@@ -81,7 +78,7 @@ pub within_all : (items : List Item) (index : ℕ) (levels : List ℕ) → lengt
 within_all items index levels few end r = record {
   parts = few;
   operators = λ k t c i. (let (x, e, _, _) = i in let lt = slice_get_within items k x e in r.small k t c (omega (arith, lt)) i);
-  levels = λ k lt. is_some_of (level_in (slot_at items) (MAX_LEVELS - 1) (slot_at items k)) (level_of levels k) (r.levels k (omega (arith, lt)));
+  levels = λ k lt. is_some_at (level_in (slot_at items) (MAX_LEVELS - 1) (slot_at items k)) (level_of levels k) (r.levels k (omega (arith, lt)));
 }
 
 pub not_small : (items : List Item) (index : ℕ) (i : Item) → slice_get items index ≡ Some i → is_large (expr_in i.content) ≡ true → IsWithinLimits items → ⊥
@@ -119,7 +116,7 @@ row_whole P index n row all e = subst (λ z. (x : ℕ) → Contains row x ↔ ((
 -- numbers in line
 pub line_pushed : (index : ℕ) (ns more : List ℕ) → length ns ≡ index → ((k : ℕ) → k < index → slice_get ns k ≡ Some k) → more ≡ ns ++ index ∷ [] → (k : ℕ) → k < index + 1 → slice_get more k ≡ Some k
 line_pushed index ns more len all is k lt = subst (λ z. slice_get z k ≡ Some k) (sym is) (elim (cases_eq k index) [
-  | inl same ↦ subst (λ z. slice_get (ns ++ index ∷ []) z ≡ Some z) (sym same) (subst (λ z. slice_get (ns ++ index ∷ []) z ≡ Some index) len (push_new ns index))
+  | inl same ↦ subst (λ z. slice_get (ns ++ index ∷ []) z ≡ Some z) (sym same) (subst (λ z. slice_get (ns ++ index ∷ []) z ≡ Some index) len (at_end ns index))
   | inr other ↦ push_old ns index k k (all k (omega (arith, lt)))
 ])
 
@@ -130,7 +127,7 @@ pub line_more : {X : Type 0} (Q : ℕ → X → Type 0) (numbers : List ℕ) (it
 line_more {X} Q numbers items more index x len here is all k n lt e = elim (cases_eq k index) [
   | inl same ↦ (
     x,
-    subst (λ z. slice_get z k ≡ Some x) (sym is) (subst (λ z. slice_get (items ++ x ∷ []) z ≡ Some x) (len ∙ sym same) (push_new items x)),
+    subst (λ z. slice_get z k ≡ Some x) (sym is) (subst (λ z. slice_get (items ++ x ∷ []) z ≡ Some x) (len ∙ sym same) (at_end items x)),
     here n (subst (λ z. slice_get numbers z ≡ Some n) same e),
   )
   | inr other ↦ (let (i, ei, q) = all k n (omega (arith, lt)) e in (i, subst (λ z. slice_get z k ≡ Some i) (sym is) (push_old items x k i ei), q))
@@ -204,5 +201,5 @@ unfolding IsStrictlySortedBy
 names_up [] h i j x y lt a b = absurd cc
 names_up (z ∷ xs) h i zero x y lt a b = absurd (omega (arith, lt))
 names_up (z ∷ xs) h zero (suc j) x y lt a b =
-    subst (λ w. name_cmp w y ≡ Less) (some_same z x a) (All-contains (λ w. name_cmp z w ≡ Less) xs y (All-from_recursion (λ w. name_cmp z w ≡ Less) xs h.0) (there_get xs j y b))
+    subst (λ w. name_cmp w y ≡ Less) (some_inj z x a) (All-contains (λ w. name_cmp z w ≡ Less) xs y (All-from_recursion (λ w. name_cmp z w ≡ Less) xs h.0) (contains_at xs j y b))
 names_up (z ∷ xs) h (suc i) (suc j) x y lt a b = names_up xs h.1 i j x y (omega (arith, lt)) a b

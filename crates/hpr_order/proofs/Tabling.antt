@@ -3,6 +3,7 @@ use Rattle.std.proofs.Common.{◌≡◌, ℕ, ◌+◌, ◌<◌, ◌≤◌, ◌�
 use Rattle.std.specs.Global.{Global}
 use Rattle.std.proofs.lemmas.Bool.{cases_eq, cases_lt}
 use Rattle.std.proofs.lemmas.Option.{slice_get_within, slice_get_past, slice_get-get_or}
+use Rattle.hpr_terms.proofs.Facts.{some_inj, get_below, at_end}
 use Rattle.hpr_forest.proofs.Unique.{in_none}
 use Rattle.hpr_forest.specs.declared.blocks.Blocks.{Blocks}
 use Rattle.hpr_forest.specs.Blocks.{forest_in, parent_at, row_at}
@@ -13,7 +14,7 @@ use Rattle.hpr_order.specs.declared.item.Item.{Item}
 use Rattle.hpr_order.specs.Items.{AreSlots, slot_at, slot_in}
 use Rattle.hpr_order.specs.Lifting.{IsBelow, IsPairOver, parent_in}
 use Rattle.hpr_order.specs.Tables.{AreLifted, AreMarkedSiblings, AreTablesOf, HasRows, IsMarkedAt, MustPrecede, marks_in}
-use Rattle.hpr_order.proofs.ListFacts.{get_below, some_same, push_old, push_new}
+use Rattle.hpr_order.proofs.ListFacts.{push_old}
 use Rattle.hpr_order.proofs.Steps.{take_step}
 use Rattle.hpr_order.proofs.Tabled.{slot_below}
 
@@ -22,7 +23,7 @@ pub column_more : {X : Type 0} (Q : ℕ → Option X → Type 0) (xs more : List
     → ((k : ℕ) → k < index → Q k (slice_get xs k)) → (k : ℕ) → k < index + 1 → Q k (slice_get more k)
 column_more Q xs more index x len is here all k lt = elim (cases_eq k index) [
   | inl same ↦ (
-      let now : slice_get more index ≡ Some x = subst (λ z. slice_get z index ≡ Some x) (sym is) (subst (λ z. slice_get (xs ++ x ∷ []) z ≡ Some x) len (push_new xs x)) in
+      let now : slice_get more index ≡ Some x = subst (λ z. slice_get z index ≡ Some x) (sym is) (subst (λ z. slice_get (xs ++ x ∷ []) z ≡ Some x) len (at_end xs x)) in
       subst (λ z. Q z (slice_get more z)) (sym same) (subst (Q index) (sym now) here))
   | inr other ↦ (
       let less : k < index = omega (arith, lt) in
@@ -43,7 +44,7 @@ module _ (items : List Item) (pairs : List (ℕ × ℕ)) (index : ℕ) (pair : �
   pair_in = (index, slice_get_within pairs index pair here, get_or_here)
     where
       get_or_here : get_or pairs index (pair.0, pair.1) ≡ (pair.0, pair.1)
-      get_or_here = some_same (get_or pairs index (pair.0, pair.1)) (pair.0, pair.1) (sym (slice_get-get_or pairs index (pair.0, pair.1) (slice_get_within pairs index pair here)) ∙ here)
+      get_or_here = some_inj (get_or pairs index (pair.0, pair.1)) (pair.0, pair.1) (sym (slice_get-get_or pairs index (pair.0, pair.1) (slice_get_within pairs index pair here)) ∙ here)
 
   pub lifted_always : (asked : List (Vec Bool Global)) → IsLiftedTo items pairs index asked → (pair.0 ≡ pair.1) ⊎ IsBelow items pair.0 pair.1 → IsLiftedTo items pairs (index + 1) asked
   lifted_always asked r always = record {
@@ -167,7 +168,7 @@ if_none (Some x) h e = absurd cc
 
 pub if_some : {X : Type 0} (P : X → Type 0) (o : Option X) (x : X) → IfSome o P → o ≡ Some x → P x
 if_some P None x h e = absurd cc
-if_some P (Some y) x h e = subst P (some_same y x e) h
+if_some P (Some y) x h e = subst P (some_inj y x e) h
 
 pub more_some : {X : Type 0} (P Q : X → Type 0) (o : Option X) → ((x : X) → P x → Q x) → IfSome o P → IfSome o Q
 more_some P Q None f h = tt

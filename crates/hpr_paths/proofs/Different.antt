@@ -1,30 +1,19 @@
 -- No tag stands twice in a program.
-use Rattle.std.proofs.Common.{◌≡◌, Bool, true, false, ◌||◌, List, [], ◌∷◌, Option, Some, None, refl, ap, sym, subst, inl, inr, eq-eqb}
+use Rattle.std.proofs.Common.{◌≡◌, Bool, true, false, List, [], ◌∷◌, Option, Some, None, refl, sym, subst, inl, inr, eq-eqb}
 use Rattle.hpr_terms.specs.declared.tag.Tag.{Tag}
 use Rattle.hpr_syntax.specs.Body.{Body, done, action, branch, loop}
 use Rattle.hpr_syntax.specs.Parts.{same_tag, tags_of}
 use Rattle.std.specs.List.{list_any}
+use Rattle.hpr_terms.proofs.Facts.{or_right, or_left, or_false, if_none}
 use Rattle.hpr_syntax.specs.Tree.{Tree}
 use Rattle.hpr_syntax.specs.Shape.{IsProgram, shape, first_repeated}
 use Rattle.hpr_syntax.specs.Skeleton.{Skeleton, nil, act, fork, round, Point, at, StandsIn, Apart, Distinct, skeleton}
 use Rattle.hpr_syntax.proofs.NoRefusal.{no_refusal}
-use Rattle.hpr_syntax.proofs.ShownParts.{if_none}
 use Rattle.hpr_paths.proofs.SkeletonTags.{same_at}
 use Rattle.hpr_paths.proofs.Among.{no_both}
 
 pub same_tag-itself : (t : Tag) → same_tag t t ≡ true
 same_tag-itself t = let a = eq-eqb t.author t.author refl in let b = eq-eqb t.serial t.serial refl in rw (a, b) refl
-
-or_false : (a b : Bool) → (a || b) ≡ false → (a ≡ false) × (b ≡ false)
-or_false true b e = no_both refl e
-or_false false b e = (refl, e)
-
-or_second : (a b : Bool) → b ≡ true → (a || b) ≡ true
-or_second true b e = refl
-or_second false b e = e
-
-or_first : (a b : Bool) → a ≡ true → (a || b) ≡ true
-or_first a b e = ap (λ x. x || b) e
 
 -- a tag that stands earlier
 abbrev pub is_seen : Tag → List Tag → Bool
@@ -43,10 +32,10 @@ stays_out : (B : Skeleton) (seen : List Tag) (t : Tag) → ((u : Tag) → Stands
 stays_out B seen t f s i = no_both s (f t i)
 
 seen_itself : (t : Tag) (seen : List Tag) → IsSeen (t ∷ seen) t
-seen_itself t seen = or_first (same_tag t t) (is_seen t seen) (same_tag-itself t)
+seen_itself t seen = or_left (same_tag t t) (is_seen t seen) (same_tag-itself t)
 
 seen_before : (t u : Tag) (seen : List Tag) → IsSeen seen u → IsSeen (t ∷ seen) u
-seen_before t u seen s = or_second (same_tag u t) (is_seen u seen) s
+seen_before t u seen s = or_right (same_tag u t) (is_seen u seen) s
 
 new_before : (t u : Tag) (seen : List Tag) → is_seen u (t ∷ seen) ≡ false → is_seen u seen ≡ false
 new_before t u seen e = (or_false (same_tag u t) (is_seen u seen) e).1

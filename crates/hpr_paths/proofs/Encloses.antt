@@ -17,7 +17,8 @@ use Rattle.hpr_paths.specs.Spots.{Spot, point_of, tag_of, loops_of, tag_at, nest
 use Rattle.hpr_paths.specs.Successors.{first_step, spots}
 use Rattle.hpr_paths.specs.Numbers.{IsNumberOf}
 use Rattle.hpr_paths.proofs.Two.{TwoIn, at_spot, wider}
-use Rattle.hpr_terms.proofs.Few.{contains_none, contains_one, has_one}
+use Rattle.hpr_terms.proofs.Few.{contains_one, has_one}
+use Rattle.hpr_terms.proofs.Facts.{in_none}
 use Rattle.hpr_paths.proofs.Stands.{SpotIn, WholeIn, end_of, get_of_whole, whole_of_get}
 use Rattle.hpr_paths.proofs.Names.{Holds, role_of_get, get_of_role}
 use Rattle.hpr_paths.proofs.Whole.{holds_whole}
@@ -279,9 +280,9 @@ nests_of_encloses S (loop t e b rest) n f w d u v holds (inr h) =
 
 -- a point in a loop is a part
 nested_part : (t : Tree) (p : ℕ) (s : Spot) (l : ℕ) → WholeIn t p s → Contains s.nest l → SpotIn t.body 1 (end_of t) [] p s
-nested_part t p s l (inl h) c = absurd (contains_none l (nest_to s _ l h.1 c))
+nested_part t p s l (inl h) c = absurd (in_none l (nest_to s _ l h.1 c))
 nested_part t p s l (inr (inl h)) c = h
-nested_part t p s l (inr (inr h)) c = absurd (contains_none l (nest_to s _ l h.1 c))
+nested_part t p s l (inr (inr h)) c = absurd (in_none l (nest_to s _ l h.1 c))
 
 pub encloses_by_number : (t : Tree) (p q l : ℕ) (d u : Point) (v : Tag) → IsNumberOf (spots t) p d → IsNumberOf (spots t) q u → Contains (nest_at (spots t) p) l → Contains (nest_at (spots t) q) l → tag_at (spots t) l ≡ Some v → EnclosesBoth (skeleton t.body) d u v
 encloses_by_number t p q l d u v np nq c e tag =
@@ -294,7 +295,7 @@ encloses_by_number t p q l d u v np nq c e tag =
     let py : point_of y.0.role ≡ u = ap point_of y.2 ∙ sym nq.2 in
     let A : Point → Type 0 = λ a. EnclosesBoth (skeleton t.body) a u v in
     let B : Point → Type 0 = λ a. EnclosesBoth (skeleton t.body) (point_of x.0.role) a v in
-    subst A px (subst B py (encloses_of_nests (spots t) t.body 1 (end_of t) [] p q x.0 y.0 l v (holds_whole t) (contains_none l)
+    subst A px (subst B py (encloses_of_nests (spots t) t.body 1 (end_of t) [] p q x.0 y.0 l v (holds_whole t) (in_none l)
     (nested_part t p x.0 l (whole_of_get t p x.0 x.1) cx) (nested_part t q y.0 l (whole_of_get t q y.0 y.1) cy) cx cy tag))
 
 pub number_encloses : (t : Tree) (p q : ℕ) (d u : Point) (v : Tag) → IsProgram t → IsNumberOf (spots t) p d → IsNumberOf (spots t) q u → EnclosesBoth (skeleton t.body) d u v

@@ -7,13 +7,13 @@ use Rattle.std.proofs.lemmas.List.Elements.{All-weaker}
 use Rattle.hpr_terms.specs.TermOf.{term_of}
 use Rattle.hpr_syntax.proofs.ActByUses.{uses_in}
 use Rattle.hpr_terms.proofs.NamesUsed.{terms_used}
+use Rattle.hpr_terms.proofs.Facts.{in_none}
 use Rattle.hpr_paths.specs.declared.spot.Step.{Step}
 use Rattle.hpr_paths.specs.Spots.{Role, enter, part, exit, Spot, names_of, uses_of, used_at, RoleUses, steps_of, loops_of, nest_at, role_at, UsesAt, IsLoopAt}
 use Rattle.hpr_syntax.specs.Rows.{expr_in}
 use Rattle.hpr_paths.specs.Successors.{AreSpots}
 use Rattle.hpr_syntax.specs.declared.rows.Content.TheVariants.{While}
 use Rattle.hpr_paths.proofs.Names.{get_of_role}
-use Rattle.hpr_terms.proofs.Few.{contains_none}
 
 pub role_read : (xs : List Spot) (p : ℕ) (s : Spot) → p < length xs → s ≡ get_or xs p s → role_at xs p ≡ Some s.role
 role_read xs p s l is = ap (option_map (λ (t : Spot). t.role)) (slice_get_read xs (length xs) p s refl l is)
@@ -38,7 +38,7 @@ nest_within xs p s sound l is =
     subst P (ap loops_of (slice_get_read xs (length xs) p s refl l is)) (All-weaker (λ w. IsLoopAt xs w) (λ w. w < length xs) (λ w h. loop_within xs w h) (nest_at xs p) (sound.loops p))
 
 pub role_used : (r : Role) (x : List ℕ) → Contains (names_of r) x ↔ RoleUses r x
-role_used enter x = (contains_none x, λ h. absurd h)
+role_used enter x = (in_none x, λ h. absurd h)
 role_used (part t c) x = (
   (λ h. (uses_in c x).0 ((terms_used (term_of (expr_in c)) x).0 h)),
   (λ h. (terms_used (term_of (expr_in c)) x).1 ((uses_in c x).1 h)),

@@ -11,7 +11,8 @@ use Rattle.hpr_paths.specs.declared.spot.Step.{Step}
 use Rattle.hpr_paths.specs.Spots.{enter, exit, Spot, point_of, steps_of, role_at, next_at}
 use Rattle.hpr_paths.specs.Successors.{first_step, spot_of, spots}
 use Rattle.hpr_paths.specs.Numbers.{IsNumberOf, mark_of, Leads}
-use Rattle.hpr_terms.proofs.Few.{contains_none, contains_one, has_one}
+use Rattle.hpr_terms.proofs.Few.{contains_one, has_one}
+use Rattle.hpr_terms.proofs.Facts.{in_none}
 use Rattle.hpr_paths.proofs.Stands.{WholeIn, end_of, get_of_whole, whole_of_get}
 use Rattle.hpr_paths.proofs.Names.{Holds, Names, StepOf, role_of_get, get_of_role, names_one, first_names, follows_of_step, step_of_follows, step_named}
 
@@ -38,7 +39,7 @@ pair_at t p s st y (inl h) c hy =
     let P : Step → Type 0 = λ q. Names (spots t) q y in
     inl (ap (λ (q : Spot). point_of q.role) h.1, names_one (spots t) _ y _ (subst P (contains_one _ st (spot_to s _ st h.1 c)) hy) (start_names t))
 pair_at t p s st y (inr (inl h)) c hy = inr (follows_of_step (spots t) t.body 1 (end_of t) [] (points.exit, None) p s st y (holds_whole t) (end_names t) h c hy)
-pair_at t p s st y (inr (inr h)) c hy = absurd (contains_none st (spot_to s _ st h.1 c))
+pair_at t p s st y (inr (inr h)) c hy = absurd (in_none st (spot_to s _ st h.1 c))
 
 pub pair_of_step : (t : Tree) (p q : ℕ) (st : Step) (a z : Point) → Leads (spots t) p q st → IsNumberOf (spots t) p a → IsNumberOf (spots t) q z → IsPair t.body a z (mark_of (spots t) st)
 pair_of_step t p q st a z lead na nz =
@@ -72,11 +73,11 @@ named_at t p s st (inl h) c =
     let P : Step → Type 0 = λ q. (y : Next) × Names (spots t) q y in
     subst P (sym (contains_one _ st (spot_to s _ st h.1 c))) (first_of (skeleton t.body) (points.exit, None), start_names t)
 named_at t p s st (inr (inl h)) c = step_named (spots t) t.body 1 (end_of t) [] (points.exit, None) p s st (holds_whole t) (end_names t) h c
-named_at t p s st (inr (inr h)) c = absurd (contains_none st (spot_to s _ st h.1 c))
+named_at t p s st (inr (inr h)) c = absurd (in_none st (spot_to s _ st h.1 c))
 
 next_from : (S : List Spot) (p : ℕ) (st : Step) → Contains (next_at S p) st → (s : Spot) × (slice_get S p ≡ Some s) × Contains s.next st
 next_from S p st c = elim (slice_get S p) as (λ o. slice_get S p ≡ o → (s : Spot) × (slice_get S p ≡ Some s) × Contains s.next st) [
-  | None ↦ λ is. absurd (contains_none st (let P : List Step → Type 0 = λ xs. Contains xs st in subst P (ap steps_of is) c))
+  | None ↦ λ is. absurd (in_none st (let P : List Step → Type 0 = λ xs. Contains xs st in subst P (ap steps_of is) c))
   | Some s ↦ λ is. (s, is, at_spot S p s st is c)
 ] refl
 

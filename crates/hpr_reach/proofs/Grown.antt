@@ -1,8 +1,9 @@
 -- What a list contains after one more turn.
 use Rattle.std.proofs.Common.{◌≡◌, ℕ, ◌+◌, ◌<◌, ◌≤◌, Bool, List, [], ◌∷◌, ◌++◌, length, take, get_or, Contains, IsTrue, ◌↔◌, ◌⊎◌, inl, inr, sym, subst, arith, false}
 use Rattle.std.proofs.lemmas.Bool.{cases_eq, both_ways}
-use Rattle.std.proofs.lemmas.List.{take_more, take_all}
+use Rattle.std.proofs.lemmas.List.{take_all}
 use Rattle.std.proofs.lemmas.List.Elements.{Contains-push, Contains-push_cases, Contains-append_left}
+use Rattle.hpr_terms.proofs.Facts.{taken_item}
 pub use Rattle.hpr_reach.specs.Live.{Below}
 
 pub below_split : (P : ℕ → Type 0) (n : ℕ) → Below P (n + 1) ↔ (Below P n ⊎ P n)
@@ -30,20 +31,17 @@ kept_if xs y x t off = (
   (λ h. elim h [ inl o ↦ o | inr e ↦ absurd (both_ways t off e.0) ]),
 )
 
-pub taken_more : {X : Type 0} (xs : List X) (i : ℕ) (y x : X) → i < length xs → y ≡ get_or xs i y → Contains (take (i + 1) xs) x ↔ (Contains (take i xs) x ⊎ (y ≡ x))
-taken_more xs i y x l is = rw (take_more xs i y l) (rw (← is) (pushed (take i xs) y x))
-
 module _ {X : Type 0} (xs : List X) (i : ℕ) (y x : X) (P : X → Type 0) (t : Bool) (here : i < length xs) (is : y ≡ get_or xs i y) (test : IsTrue t ↔ P y) where
   -- the list, with the next element of xs where that passes the test
   pub turn_of_list : (A A' O : Type 0) → A' ↔ (A ⊎ (IsTrue t × (y ≡ x))) → A ↔ (O ⊎ (Contains (take i xs) x × P x)) → A' ↔ (O ⊎ (Contains (take (i + 1) xs) x × P x))
   turn_of_list A A' O new old = (
     (λ h. elim (new.0 h) [
-      | inl a ↦ (elim (old.0 a) [ inl o ↦ inl o | inr k ↦ inr ((taken_more xs i y x here is).1 (inl k.0), k.1) ])
-      | inr k ↦ inr ((taken_more xs i y x here is).1 (inr k.1), subst P k.1 (test.0 k.0))
+      | inl a ↦ (elim (old.0 a) [ inl o ↦ inl o | inr k ↦ inr ((taken_item xs i y x here is).1 (inl k.0), k.1) ])
+      | inr k ↦ inr ((taken_item xs i y x here is).1 (inr k.1), subst P k.1 (test.0 k.0))
     ]),
     (λ h. elim h [
       | inl o ↦ new.1 (inl (old.1 (inl o)))
-      | inr k ↦ (elim ((taken_more xs i y x here is).0 k.0) [
+      | inr k ↦ (elim ((taken_item xs i y x here is).0 k.0) [
         | inl was ↦ new.1 (inl (old.1 (inr (was, k.1))))
         | inr e ↦ new.1 (inr (test.1 (subst P (sym e) k.1), e))
       ])

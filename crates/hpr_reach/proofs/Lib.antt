@@ -1,4 +1,3 @@
-pub mod Lists
 pub mod Targets
 pub mod Avoids
 pub mod Walks

@@ -3,6 +3,7 @@ use Rattle.std.proofs.Common.{◌≡◌, ℕ, Bool, true, false, cond, Option, S
 use Rattle.std.specs.Option.{option_and_then}
 use Rattle.std.proofs.lemmas.List.{take-map}
 use Rattle.hpr_terms.specs.declared.tag.Tag.{Tag}
+use Rattle.hpr_terms.proofs.Facts.{in_none, in_here, in_later, in_cons}
 use Rattle.hpr_syntax.specs.Skeleton.{at}
 use Rattle.hpr_syntax.specs.Tree.{Tree}
 use Rattle.hpr_syntax.specs.Shape.{IsProgram}
@@ -13,29 +14,28 @@ use Rattle.hpr_paths.specs.Numbers.{IsNumberOf, HaveTags, mark_of, marks_of}
 use Rattle.hpr_paths.proofs.Tags.{number_once}
 use Rattle.hpr_reach.specs.Reaches.{back_to, AvoidsLoops}
 use Rattle.hpr_reach.specs.ByTags.{AvoidsTags, AvoidsShared}
-use Rattle.hpr_reach.proofs.Lists.{contains_none, contains_here, contains_later, contains_cases}
 
 module _ (S : List Spot) where
   pub tag_of_loop : (loops : List ℕ) (tags : List Tag) (l : ℕ) → HaveTags S loops tags → Contains loops l → (w : Tag) × Contains tags w × (tag_at S l ≡ Some w)
-  tag_of_loop [] tags l have h = absurd (contains_none l h)
+  tag_of_loop [] tags l have h = absurd (in_none l h)
   tag_of_loop (k ∷ loops) [] l have h = absurd cc
   tag_of_loop (k ∷ loops) (v ∷ tags) l have h =
       let first : tag_at S k ≡ Some v = cc in
       let rest : HaveTags S loops tags = cc in
-      elim (contains_cases k l loops h) [
-        | inl e ↦ (v, contains_here v tags, ap (tag_at S) (sym e) ∙ first)
-        | inr later ↦ (let r = tag_of_loop loops tags l rest later in (r.0, contains_later v r.0 tags r.1, r.2))
+      elim (in_cons k l loops h) [
+        | inl e ↦ (v, in_here v tags, ap (tag_at S) (sym e) ∙ first)
+        | inr later ↦ (let r = tag_of_loop loops tags l rest later in (r.0, in_later v r.0 tags r.1, r.2))
       ]
 
   pub loop_of_tag : (loops : List ℕ) (tags : List Tag) (w : Tag) → HaveTags S loops tags → Contains tags w → (l : ℕ) × Contains loops l × (tag_at S l ≡ Some w)
-  loop_of_tag loops [] w have h = absurd (contains_none w h)
+  loop_of_tag loops [] w have h = absurd (in_none w h)
   loop_of_tag [] (v ∷ tags) w have h = absurd cc
   loop_of_tag (k ∷ loops) (v ∷ tags) w have h =
       let first : tag_at S k ≡ Some v = cc in
       let rest : HaveTags S loops tags = cc in
-      elim (contains_cases v w tags h) [
-        | inl e ↦ (k, contains_here k loops, first ∙ ap (λ (t : Tag). Some t) e)
-        | inr later ↦ (let r = loop_of_tag loops tags w rest later in (r.0, contains_later k r.0 loops r.1, r.2))
+      elim (in_cons v w tags h) [
+        | inl e ↦ (k, in_here k loops, first ∙ ap (λ (t : Tag). Some t) e)
+        | inr later ↦ (let r = loop_of_tag loops tags w rest later in (r.0, in_later k r.0 loops r.1, r.2))
       ]
 
   mark_by : (s : Step) (b : Bool) (w : Tag) → s.back ≡ b → cond b (tag_at S s.to) None ≡ Some w → (s ≡ back_to s.to) × (tag_at S s.to ≡ Some w)
@@ -43,17 +43,17 @@ module _ (S : List Spot) where
   mark_by s false w is h = absurd cc
 
   pub step_of_mark : (steps : List Step) (w : Tag) → Contains (marks_of S steps) (Some w) → (l : ℕ) × Contains steps (back_to l) × (tag_at S l ≡ Some w)
-  step_of_mark [] w h = absurd (contains_none (Some w) h)
-  step_of_mark (s ∷ steps) w h = elim (contains_cases (mark_of S s) (Some w) (marks_of S steps) h) [
-    | inl e ↦ (let m = mark_by s s.back w refl e in (s.to, subst (Contains (s ∷ steps)) m.0 (contains_here s steps), m.1))
-    | inr later ↦ (let r = step_of_mark steps w later in (r.0, contains_later s (back_to r.0) steps r.1, r.2))
+  step_of_mark [] w h = absurd (in_none (Some w) h)
+  step_of_mark (s ∷ steps) w h = elim (in_cons (mark_of S s) (Some w) (marks_of S steps) h) [
+    | inl e ↦ (let m = mark_by s s.back w refl e in (s.to, subst (Contains (s ∷ steps)) m.0 (in_here s steps), m.1))
+    | inr later ↦ (let r = step_of_mark steps w later in (r.0, in_later s (back_to r.0) steps r.1, r.2))
   ]
 
   pub mark_of_step : (steps : List Step) (l : ℕ) (w : Tag) → Contains steps (back_to l) → tag_at S l ≡ Some w → Contains (marks_of S steps) (Some w)
-  mark_of_step [] l w h is = absurd (contains_none (back_to l) h)
-  mark_of_step (s ∷ steps) l w h is = elim (contains_cases s (back_to l) steps h) [
-    | inl e ↦ subst (Contains (mark_of S s ∷ marks_of S steps)) (ap (mark_of S) e ∙ is) (contains_here (mark_of S s) (marks_of S steps))
-    | inr later ↦ contains_later (mark_of S s) (Some w) (marks_of S steps) (mark_of_step steps l w later is)
+  mark_of_step [] l w h is = absurd (in_none (back_to l) h)
+  mark_of_step (s ∷ steps) l w h is = elim (in_cons s (back_to l) steps h) [
+    | inl e ↦ subst (Contains (mark_of S s ∷ marks_of S steps)) (ap (mark_of S) e ∙ is) (in_here (mark_of S s) (marks_of S steps))
+    | inr later ↦ in_later (mark_of S s) (Some w) (marks_of S steps) (mark_of_step steps l w later is)
   ]
 
   pub tags_taken : (cut : ℕ) (loops : List ℕ) (tags : List Tag) → HaveTags S loops tags → HaveTags S (take cut loops) (take cut tags)

@@ -2,6 +2,7 @@
 use Rattle.std.proofs.Common.{◌≡◌, ℕ, Bool, true, false, cond, Option, Some, None, List, [], ◌∷◌, Contains, ◌↔◌, refl, sym, ap, ◌∙◌, subst}
 use Rattle.std.proofs.lemmas.Slice.Eq.{bytes_eq-Decides}
 use Rattle.std.proofs.lemmas.Bool.{false_from_ne_true}
+use Rattle.hpr_terms.proofs.Facts.{in_none}
 use Rattle.hpr_search.specs.Walks.{Walk, IsReached}
 use Rattle.hpr_syntax.specs.Paths.{Path, one, step}
 use Rattle.hpr_paths.specs.declared.spot.Step.{Step}
@@ -9,7 +10,6 @@ use Rattle.hpr_paths.specs.Spots.{Spot, next_at, defined_at}
 use Rattle.hpr_paths.specs.Numbers.{Leads}
 use Rattle.hpr_reach.specs.Reaches.{AvoidsLoops}
 use Rattle.hpr_reach.specs.OpenSteps.{is_at, is_back_to, targets, open_steps, Stops, ReachesPast}
-use Rattle.hpr_reach.proofs.Lists.{contains_none}
 use Rattle.hpr_reach.proofs.Avoids.{avoids_none, avoids_first, avoids_rest, avoids_more}
 use Rattle.hpr_reach.proofs.Targets.{Free, from_target, to_target}
 
@@ -30,7 +30,7 @@ module _ (spots : List Spot) (name : Option (List ℕ)) (loops : List ℕ) where
   test_at p = stops_at spots name p (defined_at spots p) refl
 
   from_open_by : (p q : ℕ) (b : Bool) → is_at name (defined_at spots p) ≡ b → Contains (cond b [] (targets loops (next_at spots p))) q → ¬ Stops spots name p × Free loops (next_at spots p) q
-  from_open_by p q true is h = absurd (contains_none q h)
+  from_open_by p q true is h = absurd (in_none q h)
   from_open_by p q false is h = ((λ stops. (let t = (test_at p).1 stops in cc)), from_target loops (next_at spots p) q h)
 
   -- an open step leaves from a point that doesn't stop a path

@@ -1,5 +1,5 @@
 -- Names in ascending order: put one by one, each at its place.
-use Rattle.std.proofs.Common.{◌≡◌, ℕ, zero, suc, Bool, true, false, ◌||◌, Option, Some, None, List, [], ◌∷◌, Contains, inl, inr, refl, sym, ap, ◌∙◌, subst, arith, if◌then◌else◌}
+use Rattle.std.proofs.Common.{◌≡◌, ℕ, zero, suc, Bool, true, false, None, List, [], ◌∷◌, Contains, inl, inr, refl, sym, ap, ◌∙◌, subst, arith}
 use Rattle.std.specs.declared.cmp.Ordering.{Ordering}
 use Rattle.std.specs.declared.cmp.Ordering.TheVariants.{Less, Equal, Greater}
 use Rattle.std.specs.Cmp.Lexicographic.{nat_list_cmp_total, same_text}
@@ -10,6 +10,7 @@ use Rattle.std.specs.Str.{bytes_eq}
 use Rattle.std.proofs.lemmas.Bool.{cases_lt}
 use Rattle.std.proofs.lemmas.Cmp.{tied_itself}
 use Rattle.std.proofs.lemmas.List.Sorted.{IsPermutation-refl, IsPermutation-sym, IsPermutation-trans, IsPermutation-cons, IsPermutation-append_left, IsPermutation-append_comm, Contains-permutation}
+use Rattle.hpr_terms.proofs.Facts.{neither, unless}
 use Rattle.hpr_syntax.specs.Shape.{first_repeated}
 use Rattle.hpr_graph.specs.Graphs.{IsOnce}
 use Rattle.hpr_graph.specs.Order.{name_cmp}
@@ -100,13 +101,6 @@ differ x y ne = at (bytes_eq x y) refl
     at : (b : Bool) → bytes_eq x y ≡ b → b ≡ false
     at false e = refl
     at true e = absurd (ne (same_text x y (sym e)))
-
-neither : (a b : Bool) → a ≡ false → b ≡ false → (a || b) ≡ false
-neither a b e f = rw (e, f) refl
-
-pub unless : {X : Type 0} (b : Bool) (x : X) (o : Option X) → b ≡ false → o ≡ None → (if b then Some x else o) ≡ None
-unless false x o e f = f
-unless true x o e f = absurd cc
 
 unrepeated_from : (earlier xs : Names) → ((x : List ℕ) → Contains xs x → list_any (bytes_eq x) earlier ≡ false) → IsOnce xs → first_repeated bytes_eq earlier xs ≡ None
 unrepeated_from earlier [] new once = refl

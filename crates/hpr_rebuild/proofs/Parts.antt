@@ -3,6 +3,7 @@ use Rattle.std.proofs.Common.{◌≡◌, ◌≤◌, ℕ, ◌+◌, ◌==◌, ◌|
 use Rattle.std.proofs.lemmas.List.{map-append, length-map}
 use Rattle.std.proofs.lemmas.List.Elements.{Contains-append_left, Contains-append_right, Contains-append_cases}
 use Rattle.hpr_terms.specs.declared.tag.Tag.{Tag}
+use Rattle.hpr_terms.proofs.Facts.{unless, get_in_map, get_map}
 use Rattle.hpr_syntax.specs.declared.rows.Row.{Row}
 use Rattle.hpr_syntax.specs.declared.rows.Content.{Content}
 use Rattle.hpr_syntax.specs.declared.rows.Content.TheVariants.{Assign, If, While}
@@ -21,8 +22,6 @@ use Rattle.hpr_graph.specs.declared.vertex.Vertex.{Vertex}
 use Rattle.hpr_graph.specs.declared.vertex.Vertex.TheVariants.{Entry, Init, Part, Final}
 use Rattle.hpr_graph.specs.Rank.{parts_of}
 use Rattle.hpr_graph.proofs.Lists.{place_of, in_none, in_cons, in_here, in_later}
-use Rattle.hpr_build.proofs.Once.{item_of_map, map_of_item}
-use Rattle.hpr_rebuild.proofs.Names.{unless}
 
 abbrev vertex_of : Row → Vertex
 vertex_of row = Part row.tag row.content
@@ -141,8 +140,8 @@ tags_in (loop t e b rest) =
 tag_place : (b : Body) (i : ℕ) (t : Tag) (c : Content) → slice_get (parts_in b) i ≡ Some (Part t c) → slice_get (tags_of b []) i ≡ Some t
 tag_place b i t c h =
     let at : slice_get (some_tags (tags_of b [])) i ≡ Some (Some t) =
-    subst (λ (ts : List (Option Tag)). slice_get ts i ≡ Some (Some t)) (tags_in b) (map_of_item tag_in (parts_in b) i (Part t c) h) in
-    let (u, there, is) = item_of_map (λ (t : Tag). Some t) (tags_of b []) i (Some t) at in
+    subst (λ (ts : List (Option Tag)). slice_get ts i ≡ Some (Some t)) (tags_in b) (get_in_map tag_in (parts_in b) i (Part t c) h) in
+    let (u, there, is) = get_map (λ (t : Tag). Some t) (tags_of b []) i (Some t) at in
     there ∙ is
 
 tag_same : (t : Tag) → same_tag t t ≡ true

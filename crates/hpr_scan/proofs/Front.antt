@@ -10,6 +10,7 @@ use Rattle.hpr_terms.specs.declared.token.Token.{Token}
 use Rattle.hpr_terms.specs.declared.token.Token.TheVariants.{Word, Name, Number, Mark}
 use Rattle.hpr_terms.specs.Names.{is_name_byte}
 use Rattle.hpr_terms.specs.Tokens.{is_word, is_blank}
+use Rattle.hpr_terms.proofs.Facts.{some_inj}
 use Rattle.hpr_scan.specs.declared.reader.Refusal.{Refusal}
 use Rattle.hpr_scan.specs.declared.reader.Refusal.TheVariants.{Stuck, Memory}
 use Rattle.hpr_scan.specs.declared.scanner.Lex.{Lex}
@@ -20,7 +21,7 @@ use Rattle.hpr_scan.specs.Place.{IsViable, IsPlace, BeginsWith, Accepts, IfStuck
 use Rattle.hpr_scan.specs.Steps.{IsReading}
 use Rattle.hpr_scan.specs.Words.{word_token, begins}
 use Rattle.hpr_scan.specs.Scanner.{at, sign_of, longer, after_sign, feed_sign, feed_gap, finish, feed_half, feed, feeds, FeedsAt}
-use Rattle.hpr_scan.proofs.Words.{some_is, small, token_is, true_false}
+use Rattle.hpr_scan.proofs.Words.{small, token_is, true_false}
 use Rattle.hpr_scan.proofs.SoundText.{guard_of, guard_is, then_of}
 use Rattle.hpr_scan.proofs.Live.{is_front, Good, good_feeds}
 use Rattle.hpr_scan.proofs.Loop.{feeds_more, scan_end, scan_reads}
@@ -49,8 +50,8 @@ false_by false f = refl
 -- what has begun leads to no end
 finish_goes_on : {S : Type 0} (next : S → Token → Option S) (may_end : S → Bool) → IsTokenMachine next → Fronts next may_end → (l : Lex) (s m : S) → Good next l s → may_end s ≡ false → finish next l s ≡ Some m → may_end m ≡ false
 unfolding finish
-finish_goes_on next may_end laws fronts Gap s m g e f = ap may_end (sym (some_is _ _ f)) ∙ e
-finish_goes_on next may_end laws fronts Comment s m g e f = ap may_end (sym (some_is _ _ f)) ∙ e
+finish_goes_on next may_end laws fronts Gap s m g e f = ap may_end (sym (some_inj _ _ f)) ∙ e
+finish_goes_on next may_end laws fronts Comment s m g e f = ap may_end (sym (some_inj _ _ f)) ∙ e
 finish_goes_on next may_end laws fronts (InWord w) s m g e f =
     let k = then_of (word_token w) (next s) m f in
     let t = token_is w k.0 k.1 (small next laws s m k.0 k.2) in
@@ -66,7 +67,7 @@ waits_settled {S = S} may_end l s a e f = subst (Settled {S = S} may_end) f (λ 
 
 after_settled : {S : Type 0} (may_end : S → Bool) (o : Option S) (a : Scanner S) → after_sign o ≡ Some a → Settled may_end a
 after_settled may_end None a e = absurd cc
-after_settled {S = S} may_end (Some n) a e = subst (Settled {S = S} may_end) (some_is (at Gap n) a e) (λ h. refl)
+after_settled {S = S} may_end (Some n) a e = subst (Settled {S = S} may_end) (some_inj (at Gap n) a e) (λ h. refl)
 
 sign_settled : {S : Type 0} (next : S → Token → Option S) (may_end : S → Bool) (s : S) (sign : Sign) (a : Scanner S) → may_end s ≡ false → feed_sign next s sign ≡ Some a → Settled may_end a
 sign_settled next may_end s Colon a e f = waits_settled may_end (Half Colon) s a e (guard_is _ (at (Half Colon) s) a f).1
@@ -78,9 +79,9 @@ gap_settled : {S : Type 0} (next : S → Token → Option S) (may_end : S → Bo
 unfolding feed_gap
 gap_settled next may_end s b a e f =
     elim (guard_of (is_blank b) _ _ a f) [
-      | inl h ↦ waits_settled may_end Gap s a e (some_is _ _ h.1)
+      | inl h ↦ waits_settled may_end Gap s a e (some_inj _ _ h.1)
       | inr h ↦ elim (guard_of (eqb b 35) _ _ a h.1) [
-        | inl i ↦ waits_settled may_end Comment s a e (some_is _ _ i.1)
+        | inl i ↦ waits_settled may_end Comment s a e (some_inj _ _ i.1)
         | inr i ↦ elim (guard_of (is_name_byte b) _ _ a i.1) [
           | inl j ↦ waits_settled may_end (InWord (b ∷ [])) s a e (guard_is (begins next s (b ∷ [])) (at (InWord (b ∷ [])) s) a j.1).1
           | inr j ↦ let k = then_of (sign_of b) (feed_sign next s) a j.1 in sign_settled next may_end s k.0 a e k.2
@@ -97,7 +98,7 @@ half_settled next may_end laws fronts s None sign b a g e f =
 fed_settled : {S : Type 0} (next : S → Token → Option S) (may_end : S → Bool) → IsTokenMachine next → Fronts next may_end → (l : Lex) (s : S) (b : ℕ) (a : Scanner S) → Good next l s → may_end s ≡ false → feed next l s b ≡ Some a → Settled may_end a
 unfolding feed
 fed_settled next may_end laws fronts Gap s b a g e f = gap_settled next may_end s b a e f
-fed_settled next may_end laws fronts Comment s b a g e f = waits_settled may_end _ s a e (some_is _ _ f)
+fed_settled next may_end laws fronts Comment s b a g e f = waits_settled may_end _ s a e (some_inj _ _ f)
 fed_settled next may_end laws fronts (Half sign) s b a g e f = half_settled next may_end laws fronts s (longer sign b) sign b a g e f
 fed_settled next may_end laws fronts (InWord w) s b a g e f =
     elim (guard_of (is_name_byte b) _ _ a f) [

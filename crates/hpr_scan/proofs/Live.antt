@@ -14,6 +14,7 @@ use Rattle.hpr_terms.specs.declared.token.Token.TheVariants.{Word, Name, Number,
 use Rattle.hpr_terms.specs.Keywords.{keyword_text, keywords, keyword_of}
 use Rattle.hpr_terms.specs.Names.{is_name_like, is_name_byte, is_name}
 use Rattle.hpr_terms.specs.Tokens.{sign_text, IsToken, is_word, is_blank, nothing, blank, blanks, Text, ending, token}
+use Rattle.hpr_terms.proofs.Facts.{some_inj}
 use Rattle.hpr_scan.specs.declared.scanner.Lex.{Lex}
 use Rattle.hpr_scan.specs.declared.scanner.Lex.TheVariants.{Gap, Comment, InWord, Half}
 use Rattle.hpr_scan.specs.declared.scanner.Scanner.{Scanner}
@@ -21,7 +22,7 @@ use Rattle.hpr_scan.specs.Machine.{IsTokenMachine, HasText, Live, ends, goes}
 use Rattle.hpr_scan.specs.Steps.{runs}
 use Rattle.hpr_scan.specs.Words.{value_after, is_numeral, begins_name, begins_number, begins_keyword, begins}
 use Rattle.hpr_scan.specs.Scanner.{at, sign_of, longer, after_sign, waiting, feed_sign, feed_gap, finish, feed_half, feed, scan, feeds}
-use Rattle.hpr_scan.proofs.Words.{some_is, small, keyword_is, number_text, keyword_bytes}
+use Rattle.hpr_scan.proofs.Words.{small, keyword_is, number_text, keyword_bytes}
 use Rattle.hpr_scan.proofs.WholeText.{NoWord, Follows, blank_follows, half_scan, word_scan, text_scan}
 use Rattle.hpr_scan.proofs.SoundText.{apart_cons, run_first, guard_of, guard_is, then_of}
 
@@ -232,7 +233,7 @@ good_is {S = S} next m a e g = subst (λ (x : Scanner S). IsGood next x) e g
 
 good_after : {S : Type 0} (next : S → Token → Option S) (o : Option S) (a : Scanner S) → after_sign o ≡ Some a → IsGood next a
 good_after next None a e = absurd cc
-good_after next (Some n) a e = good_is next (at Gap n) a (some_is _ _ e) tt
+good_after next (Some n) a e = good_is next (at Gap n) a (some_inj _ _ e) tt
 
 long_scan : {S : Type 0} (next : S → Token → Option S) (s n : S) (sign long : Sign) (b : ℕ) (rest : List ℕ) → longer sign b ≡ Some long → next s (Mark long) ≡ Some n → scan next (Half sign) s (b ∷ rest) ≡ scan next Gap n rest
 unfolding scan feed
@@ -284,9 +285,9 @@ good_gap : {S : Type 0} (next : S → Token → Option S) (s : S) (b : ℕ) (a :
 unfolding feed_gap
 good_gap next s b a e =
     elim (guard_of (is_blank b) _ _ a e) [
-      | inl h ↦ good_is next (at Gap s) a (some_is _ _ h.1) tt
+      | inl h ↦ good_is next (at Gap s) a (some_inj _ _ h.1) tt
       | inr h ↦ elim (guard_of (eqb b 35) _ _ a h.1) [
-        | inl i ↦ good_is next (at Comment s) a (some_is _ _ i.1) tt
+        | inl i ↦ good_is next (at Comment s) a (some_inj _ _ i.1) tt
         | inr i ↦ elim (guard_of (is_name_byte b) _ _ a i.1) [
           | inl j ↦ good_word next s (b ∷ []) a j.1
           | inr j ↦ let k = then_of (sign_of b) (feed_sign next s) a j.1 in good_sign next s k.0 a k.2
@@ -295,8 +296,8 @@ good_gap next s b a e =
     ]
 
 good_comment : {S : Type 0} (next : S → Token → Option S) (s : S) (v : Bool) (a : Scanner S) → Some (at (cond v Gap Comment) s) ≡ Some a → IsGood next a
-good_comment next s true a e = good_is next (at Gap s) a (some_is _ _ e) tt
-good_comment next s false a e = good_is next (at Comment s) a (some_is _ _ e) tt
+good_comment next s true a e = good_is next (at Gap s) a (some_inj _ _ e) tt
+good_comment next s false a e = good_is next (at Comment s) a (some_inj _ _ e) tt
 
 good_half : {S : Type 0} (next : S → Token → Option S) (s : S) (o : Option Sign) (sign : Sign) (b : ℕ) (a : Scanner S) → feed_half next o sign s b ≡ Some a → IsGood next a
 good_half next s (Some long) sign b a e = good_after next (next s (Mark long)) a e
@@ -315,7 +316,7 @@ good_fed next (InWord w) s b a e =
 
 pub good_feeds : {S : Type 0} (next : S → Token → Option S) (bytes : List ℕ) (l : Lex) (s : S) (a : Scanner S) → Good next l s → feeds next l s bytes ≡ Some a → Good next a.lex a.machine
 unfolding feeds
-good_feeds next [] l s a g e = good_is next (at l s) a (some_is _ _ e) g
+good_feeds next [] l s a g e = good_is next (at l s) a (some_inj _ _ e) g
 good_feeds next (b ∷ bs) l s a g e =
     let k = then_of (feed next l s b) (λ a. feeds next a.lex a.machine bs) a e in
     good_feeds next bs k.0.lex k.0.machine a (good_fed next l s b k.0 k.1) k.2

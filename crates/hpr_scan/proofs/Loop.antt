@@ -3,6 +3,7 @@ use Rattle.std.proofs.Common.{◌≡◌, ℕ, suc, ◌+◌, ◌<◌, List, [], �
 use Rattle.std.proofs.Math.Seq.{take-suc}
 use Rattle.std.proofs.lemmas.List.{append-nil, take-append-drop}
 use Rattle.hpr_terms.specs.declared.token.Token.{Token}
+use Rattle.hpr_terms.proofs.Facts.{some_inj}
 use Rattle.hpr_scan.specs.declared.machine.Fault.{Fault}
 use Rattle.hpr_scan.specs.declared.machine.Fault.TheVariants.{Refused}
 use Rattle.hpr_scan.specs.declared.reader.Refusal.{Refusal}
@@ -13,7 +14,6 @@ use Rattle.hpr_scan.specs.declared.scanner.Scanner.{Scanner}
 use Rattle.hpr_scan.specs.Machine.{IsTokenMachine}
 use Rattle.hpr_scan.specs.Steps.{Steps, IsReading}
 use Rattle.hpr_scan.specs.Scanner.{at, feed, feeds, scan, finish, FeedsAt, IsStuck, Scans}
-use Rattle.hpr_scan.proofs.Words.{some_is}
 use Rattle.hpr_scan.proofs.WholeText.{text_scan}
 use Rattle.hpr_scan.proofs.SoundText.{then_of, scan_from}
 
@@ -25,7 +25,7 @@ start_feeds next s a e = ap Some (sym e)
 
 feeds_push : {S : Type 0} (next : S → Token → Option S) (x : List ℕ) (b : ℕ) (l : Lex) (s : S) (a n : Scanner S) → feeds next l s x ≡ Some a → feed next a.lex a.machine b ≡ Some n → feeds next l s (x ++ b ∷ []) ≡ Some n
 unfolding feeds
-feeds_push {S = S} next [] b l s a n e f = rw (subst (λ (y : Scanner S). feed next y.lex y.machine b ≡ Some n) (sym (some_is _ _ e)) f) refl
+feeds_push {S = S} next [] b l s a n e f = rw (subst (λ (y : Scanner S). feed next y.lex y.machine b ≡ Some n) (sym (some_inj _ _ e)) f) refl
 feeds_push next (c ∷ x) b l s a n e f =
     let k = then_of (feed next l s c) (λ a. feeds next a.lex a.machine x) a e in
     rw k.1 (feeds_push next x b k.0.lex k.0.machine a n k.2 f)
@@ -38,7 +38,7 @@ feeds_more next s bytes i a n lt e f = rw (add-one, take-suc bytes i 0 lt) (feed
 
 pub feeds_scan : {S : Type 0} (next : S → Token → Option S) (x y : List ℕ) (l : Lex) (s : S) (a : Scanner S) → feeds next l s x ≡ Some a → scan next l s (x ++ y) ≡ scan next a.lex a.machine y
 unfolding feeds scan
-feeds_scan {S = S} next [] y l s a e = ap (λ (b : Scanner S). scan next b.lex b.machine y) (some_is _ _ e)
+feeds_scan {S = S} next [] y l s a e = ap (λ (b : Scanner S). scan next b.lex b.machine y) (some_inj _ _ e)
 feeds_scan next (b ∷ x) y l s a e =
     let k = then_of (feed next l s b) (λ a. feeds next a.lex a.machine x) a e in
     rw k.1 (feeds_scan next x y k.0.lex k.0.machine a k.2)
@@ -55,7 +55,7 @@ scan_stops next l s b more e = rw e refl
 pub scan_reads : {S : Type 0} (next : S → Token → Option S) → IsTokenMachine next → (s m : S) (bytes : List ℕ) → scan next Gap s bytes ≡ Some m → IsReading next s bytes m
 scan_reads next laws s m bytes e =
     let k = scan_from next laws bytes Gap s m e in
-    record { tokens = k.0; text = k.1; leads = k.2; only = λ ts n t r. some_is n m (sym (text_scan next laws t s n r) ∙ e) }
+    record { tokens = k.0; text = k.1; leads = k.2; only = λ ts n t r. some_inj n m (sym (text_scan next laws t s n r) ∙ e) }
 
 pub split_at : (bytes : List ℕ) (n : ℕ) → n < length bytes → bytes ≡ take n bytes ++ (get_or bytes n 0 ∷ drop (suc n) bytes)
 split_at bytes n lt = sym (take-append-drop n bytes) ∙ ap (λ (x : List ℕ). take n bytes ++ x) (drop-cons bytes n 0 lt)

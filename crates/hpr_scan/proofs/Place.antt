@@ -5,6 +5,7 @@ use Rattle.std.proofs.lemmas.Bool.Decides.{nat_tests}
 use Rattle.std.proofs.lemmas.List.{take-take, length-take, get_or-take}
 use Rattle.std.proofs.lemmas.Grind.{common_steps}
 use Rattle.hpr_terms.specs.declared.token.Token.{Token}
+use Rattle.hpr_terms.proofs.Facts.{some_inj}
 use Rattle.hpr_scan.specs.declared.reader.Refusal.{Refusal}
 use Rattle.hpr_scan.specs.declared.reader.Refusal.TheVariants.{Stuck, Memory}
 use Rattle.hpr_scan.specs.declared.scanner.Lex.TheVariants.{Gap}
@@ -12,7 +13,7 @@ use Rattle.hpr_scan.specs.declared.scanner.Scanner.{Scanner}
 use Rattle.hpr_scan.specs.Machine.{IsTokenMachine, Live}
 use Rattle.hpr_scan.specs.Place.{IsViable, IsPlace, Accepts, IfStuck}
 use Rattle.hpr_scan.specs.Scanner.{feed, feeds, scan, finish, IsStuck, Scans}
-use Rattle.hpr_scan.proofs.Words.{some_is, none_some, true_false}
+use Rattle.hpr_scan.proofs.Words.{none_some, true_false}
 use Rattle.hpr_scan.proofs.WholeText.{text_scan}
 use Rattle.hpr_scan.proofs.SoundText.{scan_from}
 use Rattle.hpr_scan.proofs.Live.{completed, good_feeds}
@@ -119,5 +120,5 @@ too_early_is next may_end laws live s m bytes a e f h =
     ends_elsewhere : Accepts next may_end s bytes → ⊥
     ends_elsewhere k =
         let r = accepts_scan next may_end laws s bytes k in
-        let same : r.0 ≡ m = some_is r.0 m (sym r.1 ∙ scan_end next bytes s a e ∙ f) in
+        let same : r.0 ≡ m = some_inj r.0 m (sym r.1 ∙ scan_end next bytes s a e ∙ f) in
         true_false (sym (ap may_end same) ∙ r.2) h

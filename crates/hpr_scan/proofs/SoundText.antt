@@ -10,6 +10,7 @@ use Rattle.hpr_terms.specs.declared.token.Token.{Token}
 use Rattle.hpr_terms.specs.declared.token.Token.TheVariants.{Mark}
 use Rattle.hpr_terms.specs.Names.{is_name_byte}
 use Rattle.hpr_terms.specs.Tokens.{sign_text, IsToken, is_word, is_blank, HasNoNewline, Blanks, nothing, blank, blanks, comment, Apart, Text, ending, token}
+use Rattle.hpr_terms.proofs.Facts.{some_inj}
 use Rattle.hpr_scan.specs.declared.scanner.Lex.{Lex}
 use Rattle.hpr_scan.specs.declared.scanner.Lex.TheVariants.{Gap, Comment, InWord, Half}
 use Rattle.hpr_scan.specs.declared.scanner.Scanner.{Scanner}
@@ -17,7 +18,7 @@ use Rattle.hpr_scan.specs.Machine.{IsTokenMachine}
 use Rattle.hpr_scan.specs.Steps.{and_then, runs}
 use Rattle.hpr_scan.specs.Words.{word_token, begins}
 use Rattle.hpr_scan.specs.Scanner.{at, sign_of, longer, after_sign, waiting, feed_sign, feed_gap, finish, feed_half, feed, scan}
-use Rattle.hpr_scan.proofs.Words.{some_is, none_some, true_false, IsSmall, small, word_bytes, token_is}
+use Rattle.hpr_scan.proofs.Words.{none_some, true_false, IsSmall, small, word_bytes, token_is}
 use Rattle.hpr_scan.proofs.WholeText.{NoWord, run_parts}
 
 -- the bytes go on with a comment, up to its newline or to their end
@@ -156,7 +157,7 @@ word_longer w b bs ts f = record {
 next_sign : (b k : ℕ) (sign goal : Sign) (other : Option Sign) → sign_text sign ≡ k ∷ [] → cond (eqb b k) (Some sign) other ≡ Some goal → (other ≡ Some goal → sign_text goal ≡ b ∷ []) → sign_text goal ≡ b ∷ []
 next_sign b k sign goal other t e f =
     elim (guard_of (eqb b k) (Some sign) other goal e) [
-      | inl h ↦ rw (eqb-true _ _ h.0, ← some_is _ _ h.1) t
+      | inl h ↦ rw (eqb-true _ _ h.0, ← some_inj _ _ h.1) t
       | inr h ↦ f h.1
     ]
 
@@ -177,7 +178,7 @@ mark_text {w = w} sign rest ts f = token [] (sign_text sign) nothing refl (free 
 
 after_back : {S : Type 0} (next : S → Token → Option S) (s : S) (sign : Sign) (o : Option S) (b : ℕ) (bs : List ℕ) (a : Scanner S) (ts : List Token) (n : S) → sign_text sign ≡ b ∷ [] → next s (Mark sign) ≡ o → after_sign o ≡ Some a → From a.lex bs ts → runs next a.machine ts ≡ Some n → Back next Gap s b bs n
 after_back next s sign None b bs a ts n t e q = absurd cc
-after_back next s sign (Some m) b bs a ts n t e q = stay_back next Gap s b bs a (at Gap m) ts n (some_is _ _ q) (λ (f : Text false bs ts) r. record {
+after_back next s sign (Some m) b bs a ts n t e q = stay_back next Gap s b bs a (at Gap m) ts n (some_inj _ _ q) (λ (f : Text false bs ts) r. record {
   tokens = Mark sign ∷ ts;
   from = subst (λ (x : List ℕ). Text false (x ++ bs) (Mark sign ∷ ts)) t (mark_text sign bs ts f);
   run = run_first next s m n (Mark sign) ts e r;
@@ -210,9 +211,9 @@ gap_back : {S : Type 0} (next : S → Token → Option S) (s : S) (b : ℕ) (bs 
 unfolding feed_gap
 gap_back next s b bs a ts n e f q =
     elim (guard_of (is_blank b) _ _ a e) [
-      | inl h ↦ stay_back next Gap s b bs a (at Gap s) ts n (some_is _ _ h.1) (λ (f : Text false bs ts) r. record { tokens = ts; from = blank_text b h.0 f; run = r }) f q
+      | inl h ↦ stay_back next Gap s b bs a (at Gap s) ts n (some_inj _ _ h.1) (λ (f : Text false bs ts) r. record { tokens = ts; from = blank_text b h.0 f; run = r }) f q
       | inr h ↦ elim (guard_of (eqb b 35) _ _ a h.1) [
-        | inl i ↦ stay_back next Gap s b bs a (at Comment s) ts n (some_is _ _ i.1) (λ (f : FromComment bs ts) r. record { tokens = ts; from = rw (eqb-true _ _ i.0) (comment_from f); run = r }) f q
+        | inl i ↦ stay_back next Gap s b bs a (at Comment s) ts n (some_inj _ _ i.1) (λ (f : FromComment bs ts) r. record { tokens = ts; from = rw (eqb-true _ _ i.0) (comment_from f); run = r }) f q
         | inr i ↦ elim (guard_of (is_name_byte b) _ _ a i.1) [
           | inl j ↦ grown_back next s b bs a ts n j.1 f q
           | inr j ↦ let k = then_of (sign_of b) (feed_sign next s) a j.1 in sign_back next s b k.0 bs a ts n (sign_is b k.0 k.1) k.2 f q
@@ -222,9 +223,9 @@ gap_back next s b bs a ts n e f q =
 
 comment_back : {S : Type 0} (next : S → Token → Option S) (s : S) (b : ℕ) (bs : List ℕ) (a : Scanner S) (ts : List Token) (n : S) (v : Bool) → eqb b 10 ≡ v → Some (at (cond v Gap Comment) s) ≡ Some a → From a.lex bs ts → runs next a.machine ts ≡ Some n → Back next Comment s b bs n
 comment_back next s b bs a ts n true v e =
-    stay_back next Comment s b bs a (at Gap s) ts n (some_is _ _ e) (λ (f : Text false bs ts) r. record { tokens = ts; from = rw (eqb-true _ _ v) (goes [] no_newline_none f); run = r })
+    stay_back next Comment s b bs a (at Gap s) ts n (some_inj _ _ e) (λ (f : Text false bs ts) r. record { tokens = ts; from = rw (eqb-true _ _ v) (goes [] no_newline_none f); run = r })
 comment_back next s b bs a ts n false v e =
-    stay_back next Comment s b bs a (at Comment s) ts n (some_is _ _ e) (λ (f : FromComment bs ts) r. record { tokens = ts; from = longer_comment b v f; run = r })
+    stay_back next Comment s b bs a (at Comment s) ts n (some_inj _ _ e) (λ (f : FromComment bs ts) r. record { tokens = ts; from = longer_comment b v f; run = r })
 
 -- ---- the byte after a word or a sign
 
@@ -254,7 +255,7 @@ longer_is : (sign long : Sign) (b : ℕ) → longer sign b ≡ Some long → sig
 longer_is Colon long b e = let g = guard_is (eqb b 61) Becomes long e in rw (← g.1, eqb-true _ _ g.0) refl
 longer_is Less long b e =
     elim (guard_of (eqb b 61) (Some LessEqual) _ long e) [
-      | inl h ↦ rw (← some_is _ _ h.1, eqb-true _ _ h.0) refl
+      | inl h ↦ rw (← some_inj _ _ h.1, eqb-true _ _ h.0) refl
       | inr h ↦ let g = guard_is (eqb b 62) Differ long h.1 in rw (← g.1, eqb-true _ _ g.0) refl
     ]
 longer_is Greater long b e = let g = guard_is (eqb b 61) GreaterEqual long e in rw (← g.1, eqb-true _ _ g.0) refl
@@ -262,7 +263,7 @@ longer_is _ long b e = absurd cc
 
 long_back : {S : Type 0} (next : S → Token → Option S) (s : S) (sign long : Sign) (o : Option S) (b : ℕ) (bs : List ℕ) (a : Scanner S) (ts : List Token) (n : S) → longer sign b ≡ Some long → next s (Mark long) ≡ o → after_sign o ≡ Some a → From a.lex bs ts → runs next a.machine ts ≡ Some n → Back next (Half sign) s b bs n
 long_back next s sign long None b bs a ts n l e q = absurd cc
-long_back next s sign long (Some m) b bs a ts n l e q = stay_back next (Half sign) s b bs a (at Gap m) ts n (some_is _ _ q) (λ (f : Text false bs ts) r. record {
+long_back next s sign long (Some m) b bs a ts n l e q = stay_back next (Half sign) s b bs a (at Gap m) ts n (some_inj _ _ q) (λ (f : Text false bs ts) r. record {
   tokens = Mark long ∷ ts;
   from = record { more = b ∷ []; rest = bs; other = long; others = ts; is = longer_is sign long b l; text = f; bytes_are = refl; tokens_are = refl };
   run = run_first next s m n (Mark long) ts e r;

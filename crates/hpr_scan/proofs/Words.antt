@@ -1,5 +1,5 @@
 -- Words: their bytes, their tokens and their fronts.
-use Rattle.std.proofs.Common.{◌≡◌, ◌^◌, ℕ, zero, suc, ◌+◌, ◌-◌, ◌*◌, ◌≤◌, ◌<◌, List, [], ◌∷◌, ◌++◌, length, get_or, Bool, true, false, not, cond, ltb, leb, eqb, ◌&&◌, ◌||◌, Option, Some, None, Err, refl, sym, ap, subst, ◌∙◌, arith, inl, inr, ◌⊎◌, rules}
+use Rattle.std.proofs.Common.{◌≡◌, ◌^◌, ℕ, zero, suc, ◌+◌, ◌-◌, ◌*◌, ◌≤◌, ◌<◌, List, [], ◌∷◌, ◌++◌, length, get_or, Bool, true, false, not, cond, ltb, leb, eqb, ◌&&◌, Option, Some, None, Err, refl, sym, ap, subst, ◌∙◌, arith, inl, inr, ◌⊎◌, rules}
 use Rattle.std.specs.Option.{is_some, is_none}
 use Rattle.std.specs.List.{find, list_all, list_any, starts_with}
 use Rattle.std.specs.Str.{bytes_eq}
@@ -19,6 +19,7 @@ use Rattle.hpr_terms.specs.declared.token.Token.TheVariants.{Word, Name, Number,
 use Rattle.hpr_terms.specs.Keywords.{keyword_text, keywords, keyword_of}
 use Rattle.hpr_terms.specs.Names.{is_name_like, is_name_byte, begins_with_digit, is_name}
 use Rattle.hpr_terms.specs.Tokens.{IsToken, is_word}
+use Rattle.hpr_terms.proofs.Facts.{or_right, or_left, some_inj}
 use Rattle.hpr_scan.specs.declared.machine.Fault.{Fault}
 use Rattle.hpr_scan.specs.declared.machine.Fault.TheVariants.{Refused, Memory}
 use Rattle.hpr_scan.specs.Machine.{IsTokenMachine}
@@ -26,9 +27,6 @@ use Rattle.hpr_scan.specs.Steps.{and_then, Steps}
 use Rattle.hpr_scan.specs.Words.{is_digit, value_after, is_numeral, number_token, other_token, keyword_or, word_token, IsNoToken, ReadsWord, begins_keyword, begins}
 
 -- ---- what a machine takes
-
-pub some_is : {A : Type 0} (x y : A) → Some x ≡ Some y → x ≡ y
-some_is x y e = cc
 
 pub none_some : {A : Type 0} {x : A} → None ≡ Some x → ⊥
 none_some e = absurd cc
@@ -206,7 +204,7 @@ find_passes p [] x e = absurd cc
 find_passes p (y ∷ xs) x e = at_test (p y) refl e (find_passes p xs x)
   where
     at_test : (v : Bool) → p y ≡ v → cond v (Some y) (find p xs) ≡ Some x → (find p xs ≡ Some x → p x ≡ true) → p x ≡ true
-    at_test true h e later = subst (λ z. p z ≡ true) (some_is y x e) h
+    at_test true h e later = subst (λ z. p z ≡ true) (some_inj y x e) h
     at_test false h e later = later e
 
 pub keyword_is : (w : List ℕ) (k : Keyword) → keyword_of w ≡ Some k → w ≡ keyword_text k
@@ -300,7 +298,7 @@ number_word w t e s = at_test (is_numeral w) refl e
   where
     at_test : (v : Bool) → is_numeral w ≡ v → cond v (Some (Number (value_after 0 w))) None ≡ Some t → IsWord w t
     at_test true h e =
-        let same = some_is (Number (value_after 0 w)) t e in
+        let same = some_inj (Number (value_after 0 w)) t e in
         let made : IsWord w (Number (value_after 0 w)) = (number_text w h (subst IsSmall (sym same) s), refl) in
         subst (IsWord w) same made
     at_test false h e = absurd cc
@@ -309,7 +307,7 @@ other_word : (w : List ℕ) (t : Token) → other_token w ≡ Some t → IsSmall
 other_word w t e s = at_test (is_name w) refl e
   where
     at_test : (v : Bool) → is_name w ≡ v → cond v (Some (Name w)) (number_token w) ≡ Some t → IsWord w t
-    at_test true h e = let made : IsWord w (Name w) = ((refl, h), refl) in subst (IsWord w) (some_is (Name w) t e) made
+    at_test true h e = let made : IsWord w (Name w) = ((refl, h), refl) in subst (IsWord w) (some_inj (Name w) t e) made
     at_test false h e = number_word w t e s
 
 -- what is read as a token is its text
@@ -318,7 +316,7 @@ unfolding word_token
 token_is text t e s = token_at (keyword_of text) refl e
   where
     token_at : (o : Option Keyword) → keyword_of text ≡ o → keyword_or o text ≡ Some t → IsWord text t
-    token_at (Some k) h e = let made : IsWord text (Word k) = (keyword_is text k h, refl) in subst (IsWord text) (some_is (Word k) t e) made
+    token_at (Some k) h e = let made : IsWord text (Word k) = (keyword_is text k h, refl) in subst (IsWord text) (some_inj (Word k) t e) made
     token_at None h e = other_word text t e s
 
 -- ---- fronts of words
@@ -384,14 +382,6 @@ number_front (a ∷ c ∷ u) v b e =
 
 -- ---- every front of a word that is taken begins a word
 
-or_l : (a b : Bool) → a ≡ true → (a || b) ≡ true
-or_l true b e = refl
-or_l false b e = absurd cc
-
-or_r : (a b : Bool) → b ≡ true → (a || b) ≡ true
-or_r true b e = refl
-or_r false b e = e
-
 any_keyword : (p : Keyword → Bool) (k : Keyword) → p k ≡ true → list_any p keywords ≡ true
 any_keyword p Program e = list_any_at p keywords 0 Program (omega arith) e
 any_keyword p Issued e = list_any_at p keywords 1 Program (omega arith) e
@@ -411,15 +401,15 @@ any_keyword p Out e = list_any_at p keywords 14 Program (omega arith) e
 
 name_begins : {S : Type 0} (next : S → Token → Option S) (s : S) (w : List ℕ) → is_name_like w ≡ true → is_some (next s (Name w)) ≡ true → begins next s w ≡ true
 unfolding begins
-name_begins next s w e f = or_l _ _ (or_l _ _ (and_from (is_name_like w) (is_some (next s (Name w))) e f))
+name_begins next s w e f = or_left _ _ (or_left _ _ (and_from (is_name_like w) (is_some (next s (Name w))) e f))
 
 number_begins : {S : Type 0} (next : S → Token → Option S) (s : S) (w : List ℕ) → is_numeral w ≡ true → is_some (next s (Number (value_after 0 w))) ≡ true → begins next s w ≡ true
 unfolding begins
-number_begins next s w e f = or_l _ _ (or_r _ _ (and_from (is_numeral w) (is_some (next s (Number (value_after 0 w)))) e f))
+number_begins next s w e f = or_left _ _ (or_right _ _ (and_from (is_numeral w) (is_some (next s (Number (value_after 0 w)))) e f))
 
 keyword_begins : {S : Type 0} (next : S → Token → Option S) (s : S) (w : List ℕ) (k : Keyword) → begins_keyword next s w k ≡ true → begins next s w ≡ true
 unfolding begins
-keyword_begins next s w k e = or_r _ _ (any_keyword (begins_keyword next s w) k e)
+keyword_begins next s w k e = or_right _ _ (any_keyword (begins_keyword next s w) k e)
 
 number_fronts : {S : Type 0} (next : S → Token → Option S) → IsTokenMachine next → (s n : S) (x : ℕ) (u v : List ℕ) (b : ℕ) → is_numeral (u ++ (b ∷ v)) ≡ true → value_after 0 (u ++ (b ∷ v)) ≡ x → NumberFront u v b → next s (Number x) ≡ Some n → begins next s (u ++ (b ∷ [])) ≡ true
 number_fronts next laws s n x u v b e h f q =

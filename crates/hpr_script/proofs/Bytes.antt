@@ -15,6 +15,7 @@ use Rattle.hpr_terms.specs.declared.token.Token.TheVariants.{Word, Name, Number,
 use Rattle.hpr_terms.specs.Keywords.{keywords, keyword_of}
 use Rattle.hpr_terms.specs.Names.{is_name_byte, is_name_like, is_name, begins_with_digit}
 use Rattle.hpr_terms.specs.Tokens.{IsToken, is_word, is_blank}
+use Rattle.hpr_terms.proofs.Facts.{or_right, or_left, some_inj}
 use Rattle.hpr_scan.specs.declared.scanner.Lex.{Lex}
 use Rattle.hpr_scan.specs.declared.scanner.Lex.TheVariants as lex
 use Rattle.hpr_scan.specs.declared.scanner.Scanner.{Scanner}
@@ -22,7 +23,7 @@ use Rattle.hpr_scan.specs.Steps.{and_then, runs}
 use Rattle.hpr_scan.specs.Words as words
 use Rattle.hpr_scan.specs.Words.{is_digit, is_numeral, value_after, keyword_or, begins_keyword, word_token}
 use Rattle.hpr_scan.specs.Scanner.{at, sign_of, after_sign, feed_sign, feed_gap, finish, feed, scan, feeds}
-use Rattle.hpr_scan.proofs.Words.{some_is, none_some, some_takes, true_false, small, own, find_passes, fronts_begin}
+use Rattle.hpr_scan.proofs.Words.{none_some, some_takes, true_false, small, own, find_passes, fronts_begin}
 use Rattle.hpr_scan.proofs.Live.{or_of, taken, front_of}
 use Rattle.hpr_scan.proofs.WholeText.{run_parts}
 use Rattle.hpr_scan.proofs.SoundText.{guard_of, guard_is, scan_from}
@@ -43,14 +44,6 @@ use Rattle.hpr_script.specs.Reading.{reader, begins_word, begins_number, begins,
 use Rattle.hpr_script.proofs.MachineLaws.{lost_some, number_some, script_is_token_machine}
 
 -- ---- Booleans
-
-or_l : (a b : Bool) → a ≡ true → (a || b) ≡ true
-or_l true b e = refl
-or_l false b e = absurd cc
-
-or_r : (a b : Bool) → b ≡ true → (a || b) ≡ true
-or_r true b e = refl
-or_r false b e = e
 
 guard_none : {A : Type 0} (b : Bool) (x : A) (o : Option A) → cond b (Some x) o ≡ None → (b ≡ false) × (o ≡ None)
 guard_none true x o e = absurd cc
@@ -170,13 +163,13 @@ name_part : (f : Found) (s : Stage) (w : List ℕ) → (takes_name s && is_name_
 unfolding words.begins
 name_part f s w e =
     let p = and_parts (takes_name s) (is_name_like w) e in
-    or_l _ _ (or_l _ _ (and_from (is_name_like w) (is_some (next (head f s) (Name w))) p.1 (lenient_name f s w p.0)))
+    or_left _ _ (or_left _ _ (and_from (is_name_like w) (is_some (next (head f s) (Name w))) p.1 (lenient_name f s w p.0)))
 
 number_part : (f : Found) (s : Stage) (w : List ℕ) → begins_number s w ≡ true → words.begins next (head f s) w ≡ true
 unfolding words.begins
 number_part f s w e =
     let p = and_parts (is_numeral w) (is_some (number_turn s (value_after 0 w))) e in
-    or_l _ _ (or_r _ _ (and_from (is_numeral w) (is_some (next (head f s) (Number (value_after 0 w)))) p.0 (lenient_number f s (value_after 0 w) ∙ p.1)))
+    or_left _ _ (or_right _ _ (and_from (is_numeral w) (is_some (next (head f s) (Number (value_after 0 w)))) p.0 (lenient_number f s (value_after 0 w) ∙ p.1)))
 
 word_part : (f : Found) (s : Stage) (u : List ℕ) (b : ℕ) (k : ScriptWord) → begins_word s (u ++ (b ∷ [])) k ≡ true → words.begins next (head f s) (u ++ (b ∷ [])) ≡ true
 word_part f s u b k e =
@@ -236,7 +229,7 @@ sign_fed f s GreaterEqual = refl
 
 settled_some : (p : Option (Found × Stage)) (r : Reader) → settled p ≡ Some r → after_sign (at_head p) ≡ Some (scanner_of r)
 settled_some None r e = absurd cc
-settled_some (Some p) r e = ap (λ (x : Reader). Some (scanner_of x)) (some_is _ _ e)
+settled_some (Some p) r e = ap (λ (x : Reader). Some (scanner_of x)) (some_inj _ _ e)
 
 settled_none : (p : Option (Found × Stage)) → settled p ≡ None → after_sign (at_head p) ≡ None
 settled_none None e = refl
@@ -262,9 +255,9 @@ pub gap_some : (f : Found) (s : Stage) (b : ℕ) (r : Reader) → gap_next f s b
 unfolding gap_next feed_gap signed
 gap_some f s b r e =
     elim (guard_of (is_blank b) _ _ r e) [
-      | inl h ↦ (rw h.0 (ap (λ (x : Reader). Some (scanner_of x)) (some_is _ _ h.1)), subst IsSound (some_is (reader Gap f s) r h.1) tt)
+      | inl h ↦ (rw h.0 (ap (λ (x : Reader). Some (scanner_of x)) (some_inj _ _ h.1)), subst IsSound (some_inj (reader Gap f s) r h.1) tt)
       | inr h ↦ elim (guard_of (eqb b 35) _ _ r h.1) [
-        | inl i ↦ (rw (h.0, i.0) (ap (λ (x : Reader). Some (scanner_of x)) (some_is _ _ i.1)), subst IsSound (some_is (reader Comment f s) r i.1) tt)
+        | inl i ↦ (rw (h.0, i.0) (ap (λ (x : Reader). Some (scanner_of x)) (some_inj _ _ i.1)), subst IsSound (some_inj (reader Comment f s) r i.1) tt)
         | inr i ↦ elim (guard_of (is_name_byte b) _ _ r i.1) [
           | inl j ↦ let g = grown_some f s [] b r j.1 in (rw (h.0, i.0, j.0) g.0, g.1)
           | inr j ↦ (rw (h.0, i.0, j.0) (sign_some f s (sign_of b) r j.1), settled_sound (and_then (sign_of b) (λ sign. sign_after f sign s)) j.1)
@@ -274,11 +267,11 @@ gap_some f s b r e =
   where
     settled_sound : (p : Option (Found × Stage)) → settled p ≡ Some r → IsSound r
     settled_sound None e = absurd cc
-    settled_sound (Some p) e = subst IsSound (some_is (reader Gap p.0 p.1) r e) tt
+    settled_sound (Some p) e = subst IsSound (some_inj (reader Gap p.0 p.1) r e) tt
 
 comment_some : (f : Found) (s : Stage) (v : Bool) (r : Reader) → Some (reader (cond v Gap Comment) f s) ≡ Some r → (Some (at (cond v lex.Gap lex.Comment) (head f s)) ≡ Some (scanner_of r)) × IsSound r
-comment_some f s true r e = (ap (λ (x : Reader). Some (scanner_of x)) (some_is _ _ e), subst IsSound (some_is (reader Gap f s) r e) tt)
-comment_some f s false r e = (ap (λ (x : Reader). Some (scanner_of x)) (some_is _ _ e), subst IsSound (some_is (reader Comment f s) r e) tt)
+comment_some f s true r e = (ap (λ (x : Reader). Some (scanner_of x)) (some_inj _ _ e), subst IsSound (some_inj (reader Gap f s) r e) tt)
+comment_some f s false r e = (ap (λ (x : Reader). Some (scanner_of x)) (some_inj _ _ e), subst IsSound (some_inj (reader Comment f s) r e) tt)
 
 pub inner_some : (begun : Begun) (f : Found) (s : Stage) (b : ℕ) (r : Reader) → IsInner begun b → inner begun f s b ≡ Some r → (feed next (lex_of begun) (head f s) b ≡ Some (scanner_of r)) × IsSound r
 unfolding feed
@@ -344,7 +337,7 @@ Doomed l s bytes = (g : Found) → scan next l s bytes ≡ Some (head g AtComman
 
 lost_runs : (ts : List Token) (g : Found) → runs next lost ts ≡ Some (head g AtCommand) → ⊥
 unfolding next
-lost_runs [] g e = true_false (ap is_end (some_is _ _ e)) refl
+lost_runs [] g e = true_false (ap is_end (some_inj _ _ e)) refl
 lost_runs (t ∷ ts) g e = none_some e
 
 lost_doomed : (bytes : List ℕ) → Doomed lex.Gap lost bytes
@@ -364,15 +357,15 @@ Stopped s w = begins s w ≡ false
 
 by_name : (s : Stage) (w : List ℕ) → takes_name s ≡ true → is_name_like w ≡ true → Stopped s w → ⊥
 unfolding begins
-by_name s w e h stop = true_false (or_l _ _ (or_l _ _ (and_from (takes_name s) (is_name_like w) e h))) stop
+by_name s w e h stop = true_false (or_left _ _ (or_left _ _ (and_from (takes_name s) (is_name_like w) e h))) stop
 
 by_number : (s : Stage) (w : List ℕ) → begins_number s w ≡ true → Stopped s w → ⊥
 unfolding begins
-by_number s w e stop = true_false (or_l _ _ (or_r _ _ e)) stop
+by_number s w e stop = true_false (or_left _ _ (or_right _ _ e)) stop
 
 by_word : (s : Stage) (w : List ℕ) (k : ScriptWord) → begins_word s w k ≡ true → Stopped s w → ⊥
 unfolding begins
-by_word s w k e stop = true_false (or_r _ _ (any_word (begins_word s w) k e)) stop
+by_word s w k e stop = true_false (or_right _ _ (any_word (begins_word s w) k e)) stop
 
 -- a token with the front w, and what follows it
 record Goes (f : Found) (s : Stage) (u : List ℕ) (b : ℕ) (t : Token) (g : Found) : Type 0 where
@@ -394,7 +387,7 @@ script_goes s w v x (Some k) q h e same stop =
     by_word s w k (and_from (is_some (word_stage s k)) (starts_with eqb (script_text k) w) (some_takes _ q e) (ap (λ (y : List ℕ). starts_with eqb y w) text ∙ starts_front w v)) stop
 
 lost_or : (f : Found) (s : Stage) (x : List ℕ) (o : Option Stage) (n : State) (others : List Token) (g : Found) → or_lost (at_turn (turns_to f o)) ≡ Some n → runs next n others ≡ Some (head g AtCommand) → (q : Stage) × (o ≡ Some q)
-lost_or f s x None n others g e r = absurd (lost_runs others g (subst (λ (m : State). runs next m others ≡ Some (head g AtCommand)) (sym (some_is lost n e)) r))
+lost_or f s x None n others g e r = absurd (lost_runs others g (subst (λ (m : State). runs next m others ≡ Some (head g AtCommand)) (sym (some_inj lost n e)) r))
 lost_or f s x (Some q) n others g e r = (q, refl)
 
 name_goes : (f : Found) (s : Stage) (u : List ℕ) (b : ℕ) (x : List ℕ) (g : Found) (v : Bool) → wants_word s ≡ v → Goes f s u b (Name x) g → Stopped s (u ++ (b ∷ [])) → ⊥

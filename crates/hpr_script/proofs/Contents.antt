@@ -6,9 +6,10 @@ use Rattle.hpr_terms.specs.declared.token.Sign.TheVariants.{Semicolon}
 use Rattle.hpr_terms.specs.declared.token.Token.{Token}
 use Rattle.hpr_terms.specs.declared.token.Token.TheVariants.{Mark}
 use Rattle.hpr_terms.specs.Tokens.{Text, ending, token, blanks, nothing}
+use Rattle.hpr_terms.proofs.Facts.{some_inj}
 use Rattle.hpr_syntax.specs.declared.rows.Content.{Content}
 use Rattle.hpr_scan.specs.Steps.{and_then, runs}
-use Rattle.hpr_scan.proofs.Words.{some_is, none_some, true_false}
+use Rattle.hpr_scan.proofs.Words.{none_some, true_false}
 use Rattle.hpr_expressions.specs.Expression.{read}
 use Rattle.hpr_text.specs.declared.content.ContentState.{ContentState}
 use Rattle.hpr_text.specs.declared.content.ContentState.TheVariants.{Start, AfterTarget, InExpression, Ended}
@@ -80,7 +81,7 @@ splits_at f h c t ts g (Some (AfterTarget x)) e q go = longer c (AfterTarget x) 
 splits_at f h c t ts g (Some (InExpression aim r)) e q go = longer c (InExpression aim r) t ts e (go (InExpression aim r) q)
 
 inside_ends : (f g : Found) (h : Holder) (c : ContentState) → Some (inside f h c) ≡ Some (head g AtCommand) → ⊥
-inside_ends f g h c e = true_false (ap is_end (some_is (inside f h c) (head g AtCommand) e)) refl
+inside_ends f g h c e = true_false (ap is_end (some_inj (inside f h c) (head g AtCommand) e)) refl
 
 splits : (f : Found) (h : Holder) (c : ContentState) (ts : List Token) (g : Found) → runs next (inside f h c) ts ≡ Some (head g AtCommand) → Splits c ts
 unfolding next

@@ -1,9 +1,10 @@
 -- What the machine of scripts keeps for the reader of bytes.
-use Rattle.std.proofs.Common.{◌≡◌, ℕ, ◌≤◌, ◌^◌, List, Bool, true, false, nat_lt, nat_le, ◌&&◌, Option, Some, None, is_some, refl, sym, ap, subst, ◌∙◌, arith}
+use Rattle.std.proofs.Common.{◌≡◌, ℕ, ◌≤◌, ◌^◌, List, Bool, true, false, nat_lt, nat_le, Option, Some, None, is_some, refl, sym, ap, subst, ◌∙◌, arith}
 use Rattle.std.proofs.lemmas.Bool.{le-ltb, le-leb, and_parts, and_from}
 use Rattle.hpr_terms.specs.declared.token.Sign.TheVariants as sign
 use Rattle.hpr_terms.specs.declared.token.Token.{Token}
 use Rattle.hpr_terms.specs.declared.token.Token.TheVariants.{Name, Number, Mark}
+use Rattle.hpr_terms.proofs.Facts.{and_false, some_inj}
 use Rattle.hpr_syntax.specs.declared.rows.Content.{Content}
 use Rattle.hpr_scan.specs.Machine.{IsTokenMachine}
 use Rattle.hpr_expressions.specs.Laws.{guarded, guards, unguarded, below}
@@ -26,10 +27,6 @@ small_false n le = le-ltb n (2 ^ 32) (omega (arith, le))
 
 serial_false : (n : ℕ) → 2 ^ 64 ≤ n → is_serial n ≡ false
 serial_false n le = rw (small_false n le) (and_false (nat_le 1 n))
-  where
-    and_false : (b : Bool) → (b && false) ≡ false
-    and_false true = refl
-    and_false false = refl
 
 pub large_number : (s : Stage) (n : ℕ) → 2 ^ 64 ≤ n → number_turn s n ≡ None
 unfolding number_turn
@@ -96,9 +93,6 @@ names_alike f s x y false e = rw e (any_alike f s x y (takes_name s) refl)
 
 -- ---- contents
 
-some_is : {A : Type 0} (x y : A) → Some x ≡ Some y → x ≡ y
-some_is x y e = cc
-
 content_some : (f : Found) (h : Holder) (o : Option ContentState) → is_some (content_goes f h o) ≡ is_some o
 content_some f h None = refl
 content_some f h (Some Start) = refl
@@ -114,10 +108,10 @@ content_stops : (f : Found) (h : Holder) (t : Token) (o : Option ContentState) (
     → ((m : ContentState) → o ≡ Some m → content_next m t ≡ None) → ((c : Content) → next (head (with_command (filled h c) f) AtCommand) t ≡ None) → Stops t n
 unfolding next
 content_stops f h t None n e g k = absurd cc
-content_stops f h t (Some (Ended c)) n e g k = subst (Stops t) (some_is _ _ e) (k c)
-content_stops f h t (Some Start) n e g k = subst (Stops t) (some_is _ _ e) (ap (content_goes f h) (g Start refl))
-content_stops f h t (Some (AfterTarget x)) n e g k = subst (Stops t) (some_is _ _ e) (ap (content_goes f h) (g (AfterTarget x) refl))
-content_stops f h t (Some (InExpression aim r)) n e g k = subst (Stops t) (some_is _ _ e) (ap (content_goes f h) (g (InExpression aim r) refl))
+content_stops f h t (Some (Ended c)) n e g k = subst (Stops t) (some_inj _ _ e) (k c)
+content_stops f h t (Some Start) n e g k = subst (Stops t) (some_inj _ _ e) (ap (content_goes f h) (g Start refl))
+content_stops f h t (Some (AfterTarget x)) n e g k = subst (Stops t) (some_inj _ _ e) (ap (content_goes f h) (g (AfterTarget x) refl))
+content_stops f h t (Some (InExpression aim r)) n e g k = subst (Stops t) (some_inj _ _ e) (ap (content_goes f h) (g (InExpression aim r) refl))
 
 -- ---- the laws
 

@@ -9,6 +9,7 @@ use Rattle.hpr_terms.specs.declared.token.Sign.TheVariants as sign
 use Rattle.hpr_terms.specs.declared.token.Token.TheVariants.{Mark}
 use Rattle.hpr_terms.specs.Names.{is_name_byte}
 use Rattle.hpr_terms.specs.Tokens.{is_blank}
+use Rattle.hpr_terms.proofs.Facts.{some_inj}
 use Rattle.hpr_syntax.specs.declared.rows.Content.{Content}
 use Rattle.hpr_scan.specs.declared.scanner.Lex.{Lex}
 use Rattle.hpr_scan.specs.declared.scanner.Lex.TheVariants as lex
@@ -17,7 +18,7 @@ use Rattle.hpr_scan.specs.Place.{IsViable, IsPlace, BeginsWith}
 use Rattle.hpr_scan.specs.Steps.{and_then}
 use Rattle.hpr_scan.specs.Scanner.{sign_of, longer, after_sign, feed_sign, feed_gap, feed_half, finish, feed, scan, feeds}
 use Rattle.hpr_scan.specs.Scanner as scanner
-use Rattle.hpr_scan.proofs.Words.{some_is, none_some}
+use Rattle.hpr_scan.proofs.Words.{none_some}
 use Rattle.hpr_scan.proofs.WholeText.{text_scan}
 use Rattle.hpr_scan.proofs.SoundText.{then_of, scan_from}
 use Rattle.hpr_scan.proofs.Loop.{feeds_scan, scan_end}
@@ -228,7 +229,7 @@ feeds_split (b ∷ x) y l s a e =
 
 after_gap : (o : Option State) (a : Scanner State) → after_sign o ≡ Some a → a.lex ≡ lex.Gap
 after_gap None a e = absurd (none_some e)
-after_gap (Some n) a e = ap (λ (x : Scanner State). x.lex) (sym (some_is _ _ e))
+after_gap (Some n) a e = ap (λ (x : Scanner State). x.lex) (sym (some_inj _ _ e))
 
 gap_semicolon : (s : State) (a : Scanner State) → feed_gap next s 59 ≡ Some a → a.lex ≡ lex.Gap
 unfolding feed_gap is_blank is_name_byte sign_of
@@ -244,7 +245,7 @@ no_longer _ = refl
 semicolon_fed : (l : Lex) (s : State) (a : Scanner State) → feed next l s 59 ≡ Some a → (a.lex ≡ lex.Gap) ⊎ ((l ≡ lex.Comment) × (scanner.at lex.Comment s ≡ a))
 unfolding feed is_name_byte
 semicolon_fed lex.Gap s a e = inl (gap_semicolon s a e)
-semicolon_fed lex.Comment s a e = inr (refl, some_is _ _ e)
+semicolon_fed lex.Comment s a e = inr (refl, some_inj _ _ e)
 semicolon_fed (lex.InWord w) s a e = let k = then_of (finish next (lex.InWord w) s) (λ n. feed_gap next n 59) a e in inl (gap_semicolon k.0 a k.2)
 semicolon_fed (lex.Half x) s a e =
     let e' : feed_half next None x s 59 ≡ Some a = ap (λ (o : Option Sign). feed_half next o x s 59) (sym (no_longer x)) ∙ e in
@@ -255,7 +256,7 @@ gap_finish : (l : Lex) (s m : State) → l ≡ lex.Gap → finish next l s ≡ S
 unfolding finish
 gap_finish l s m h e =
     let here : Some s ≡ Some m = ap (λ (x : Lex). finish next x s) (sym h) ∙ e in
-    ap (λ (x : Lex). scanner.at x s) h ∙ ap (scanner.at lex.Gap) (some_is s m here)
+    ap (λ (x : Lex). scanner.at x s) h ∙ ap (scanner.at lex.Gap) (some_inj s m here)
 
 comment_finish : (l : Lex) (s : State) → l ≡ lex.Comment → finish next l s ≡ Some s
 unfolding finish
@@ -319,7 +320,7 @@ content_fed f h bytes at place c le lt t semicolon first =
 
 feeds_append : (x y : List ℕ) (l : Lex) (s : State) (a : Scanner State) → feeds next l s x ≡ Some a → feeds next l s (x ++ y) ≡ feeds next a.lex a.machine y
 unfolding feeds
-feeds_append [] y l s a e = ap (λ (b : Scanner State). feeds next b.lex b.machine y) (some_is _ _ e)
+feeds_append [] y l s a e = ap (λ (b : Scanner State). feeds next b.lex b.machine y) (some_inj _ _ e)
 feeds_append (b ∷ x) y l s a e =
     let k = then_of (feed next l s b) (λ a. feeds next a.lex a.machine x) a e in
     rw k.1 (feeds_append x y k.0.lex k.0.machine a k.2)

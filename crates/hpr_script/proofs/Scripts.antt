@@ -5,12 +5,13 @@ use Rattle.hpr_terms.specs.declared.tag.Tag.{Tag}
 use Rattle.hpr_terms.specs.declared.token.Token.{Token}
 use Rattle.hpr_terms.specs.declared.token.Token.TheVariants.{Word, Name, Number, Mark}
 use Rattle.hpr_terms.specs.Tokens.{is_word}
+use Rattle.hpr_terms.proofs.Facts.{some_inj}
 use Rattle.hpr_scan.specs.declared.scanner.Lex.TheVariants as lex
 use Rattle.hpr_scan.specs.Place.{IsViable, IsPlace}
 use Rattle.hpr_scan.specs.Steps.{and_then}
 use Rattle.hpr_scan.specs.Words.{word_token}
 use Rattle.hpr_scan.specs.Scanner.{finish, scan, feeds}
-use Rattle.hpr_scan.proofs.Words.{some_is, none_some, true_false, small, token_is}
+use Rattle.hpr_scan.proofs.Words.{none_some, true_false, small, token_is}
 use Rattle.hpr_scan.proofs.WholeText.{text_scan}
 use Rattle.hpr_scan.proofs.SoundText.{then_of, scan_from}
 use Rattle.hpr_scan.proofs.Loop.{feeds_scan, scan_end}
@@ -62,7 +63,7 @@ script_place bytes n p =
 
 pub one_script : OneScript
 one_script bytes cs ds h k =
-    ap commands_of (some_is (head (read cs) AtCommand) (head (read ds) AtCommand) (sym (script_leads bytes cs h) ∙ script_leads bytes ds k))
+    ap commands_of (some_inj (head (read cs) AtCommand) (head (read ds) AtCommand) (sym (script_leads bytes cs h) ∙ script_leads bytes ds k))
 
 -- ---- no word ends a script
 
@@ -71,7 +72,7 @@ Goes (turn.Head s) = ends_script s ≡ false
 Goes (turn.Content h) = Unit {0}
 
 goes_is : (s q : Stage) → ends_script s ≡ false → Some s ≡ Some q → ends_script q ≡ false
-goes_is s q h e = ap ends_script (sym (some_is s q e)) ∙ h
+goes_is s q h e = ap ends_script (sym (some_inj s q e)) ∙ h
 
 command_goes : (k : ScriptWord) (q : Stage) → command_stage k ≡ Some q → ends_script q ≡ false
 command_goes words.Insert q e = goes_is _ q refl e
@@ -109,7 +110,7 @@ placed_goes placed.New q = tt
 placed_goes (placed.Part t) q = refl
 
 guarded_goes : (b : Bool) (t q : Turn) → Goes t → cond b (Some t) None ≡ Some q → Goes q
-guarded_goes true t q h e = subst Goes (some_is t q e) h
+guarded_goes true t q h e = subst Goes (some_inj t q e) h
 guarded_goes false t q h e = absurd (none_some e)
 
 number_goes : (s : Stage) (n : ℕ) (q : Turn) → number_turn s n ≡ Some q → Goes q
@@ -122,15 +123,15 @@ number_goes s n q e = absurd cc
 
 -- the state is none at which a script may end
 turn_goes : (f g : Found) (t : Turn) → Goes t → Some (turned f t) ≡ Some (head g AtCommand) → ⊥
-turn_goes f g (turn.Head s) h e = true_false (ap is_end (some_is (head f s) (head g AtCommand) e)) h
-turn_goes f g (turn.Content c) h e = true_false (ap is_end (some_is (turned f (turn.Content c)) (head g AtCommand) e)) refl
+turn_goes f g (turn.Head s) h e = true_false (ap is_end (some_inj (head f s) (head g AtCommand) e)) h
+turn_goes f g (turn.Content c) h e = true_false (ap is_end (some_inj (turned f (turn.Content c)) (head g AtCommand) e)) refl
 
 number_ends : (f g : Found) (s : Stage) (n : ℕ) (o : Option Turn) → number_turn s n ≡ o → at_turn (turns_at f o) ≡ Some (head g AtCommand) → ⊥
 number_ends f g s n None q e = none_some e
 number_ends f g s n (Some t) q e = turn_goes f g t (number_goes s n t q) e
 
 word_turn_ends : (f g : Found) (s : Stage) (o : Option ScriptWord) (p : Option Stage) → and_then o (word_stage s) ≡ p → or_lost (at_turn (turns_to f p)) ≡ Some (head g AtCommand) → ⊥
-word_turn_ends f g s o None q e = true_false (ap is_end (some_is lost (head g AtCommand) e)) refl
+word_turn_ends f g s o None q e = true_false (ap is_end (some_inj lost (head g AtCommand) e)) refl
 word_turn_ends f g s None (Some p) q e = none_some q
 word_turn_ends f g s (Some k) (Some p) q e = turn_goes f g (turn.Head p) (word_goes s k p q) e
 

@@ -7,11 +7,12 @@ use Rattle.hpr_terms.specs.declared.token.Sign.{Sign}
 use Rattle.hpr_terms.specs.declared.token.Sign.TheVariants.{Dot, Comma, Semicolon, Open, Close}
 use Rattle.hpr_terms.specs.declared.token.Token.{Token}
 use Rattle.hpr_terms.specs.declared.token.Token.TheVariants.{Word, Name, Number, Mark}
+use Rattle.hpr_terms.proofs.Facts.{some_inj}
 use Rattle.hpr_syntax.specs.declared.rows.Content.{Content}
 use Rattle.hpr_syntax.specs.Grammar.{IsAuthor, IsTag, SpellsNames}
 use Rattle.hpr_syntax.specs.Grammar as grammar
 use Rattle.hpr_scan.specs.Steps.{and_then, runs}
-use Rattle.hpr_scan.proofs.Words.{some_is, none_some}
+use Rattle.hpr_scan.proofs.Words.{none_some}
 use Rattle.hpr_scan.proofs.SoundText.{guard_is}
 use Rattle.hpr_text.specs.declared.content.ContentState.{ContentState}
 use Rattle.hpr_text.specs.declared.content.ContentState.TheVariants.{Start, AfterTarget, InExpression, Ended}
@@ -146,13 +147,13 @@ placed_is xs placed.New q ps hs h k e = λ c cs s. subst (λ (x : List Token). S
 placed_is xs (placed.Part t) q ps hs h k e = subst (λ (x : List Token). SpellsCommand x (command.Move t q)) (sym e) (script.move h k)
 
 command_is : (xs : List (List ℕ)) (k : ScriptWord) (q : Stage) → command_stage k ≡ Some q → HeadIs xs q (word k ∷ [])
-command_is xs words.Insert q e = subst (λ (s : Stage). HeadIs xs s (word words.Insert ∷ [])) (some_is _ _ e) (tt, refl)
-command_is xs words.Delete q e = subst (λ (s : Stage). HeadIs xs s (word words.Delete ∷ [])) (some_is _ _ e) (tt, refl)
-command_is xs words.Move q e = subst (λ (s : Stage). HeadIs xs s (word words.Move ∷ [])) (some_is _ _ e) (tt, refl)
-command_is xs words.Set q e = subst (λ (s : Stage). HeadIs xs s (word words.Set ∷ [])) (some_is _ _ e) (tt, refl)
-command_is xs words.Wrap q e = subst (λ (s : Stage). HeadIs xs s (word words.Wrap ∷ [])) (some_is _ _ e) (tt, refl)
-command_is xs words.Unwrap q e = subst (λ (s : Stage). HeadIs xs s (word words.Unwrap ∷ [])) (some_is _ _ e) (tt, refl)
-command_is xs words.Finals q e = subst (λ (s : Stage). HeadIs xs s (word words.Finals ∷ [])) (some_is _ _ e) refl
+command_is xs words.Insert q e = subst (λ (s : Stage). HeadIs xs s (word words.Insert ∷ [])) (some_inj _ _ e) (tt, refl)
+command_is xs words.Delete q e = subst (λ (s : Stage). HeadIs xs s (word words.Delete ∷ [])) (some_inj _ _ e) (tt, refl)
+command_is xs words.Move q e = subst (λ (s : Stage). HeadIs xs s (word words.Move ∷ [])) (some_inj _ _ e) (tt, refl)
+command_is xs words.Set q e = subst (λ (s : Stage). HeadIs xs s (word words.Set ∷ [])) (some_inj _ _ e) (tt, refl)
+command_is xs words.Wrap q e = subst (λ (s : Stage). HeadIs xs s (word words.Wrap ∷ [])) (some_inj _ _ e) (tt, refl)
+command_is xs words.Unwrap q e = subst (λ (s : Stage). HeadIs xs s (word words.Unwrap ∷ [])) (some_inj _ _ e) (tt, refl)
+command_is xs words.Finals q e = subst (λ (s : Stage). HeadIs xs s (word words.Finals ∷ [])) (some_inj _ _ e) refl
 command_is xs words.At q e = absurd (none_some e)
 command_is xs words.Top q e = absurd (none_some e)
 command_is xs words.True q e = absurd (none_some e)
@@ -160,10 +161,10 @@ command_is xs words.False q e = absurd (none_some e)
 
 block_is : (xs : List (List ℕ)) (p : Placed) (t : Tag) (k : ScriptWord) (q : Stage) (hs : List Token) → HeadIs xs (AfterParent p t) hs → block_stage p t k ≡ Some q → HeadIs xs q (hs ++ (word k ∷ []))
 block_is xs p t words.True q hs h e =
-    subst (λ (s : Stage). HeadIs xs s (hs ++ (word words.True ∷ []))) (some_is _ _ e)
+    subst (λ (s : Stage). HeadIs xs s (hs ++ (word words.True ∷ []))) (some_inj _ _ e)
     (h.0, h.1, behind hs _ _ (word words.True) h.2 (append_assoc (placed_tokens p) (word words.At ∷ tag_then t []) (word words.True ∷ [])))
 block_is xs p t words.False q hs h e =
-    subst (λ (s : Stage). HeadIs xs s (hs ++ (word words.False ∷ []))) (some_is _ _ e)
+    subst (λ (s : Stage). HeadIs xs s (hs ++ (word words.False ∷ []))) (some_inj _ _ e)
     (h.0, h.1, behind hs _ _ (word words.False) h.2 (append_assoc (placed_tokens p) (word words.At ∷ tag_then t []) (word words.False ∷ [])))
 block_is xs p t words.Insert q hs h e = absurd (none_some e)
 block_is xs p t words.Delete q hs h e = absurd (none_some e)
@@ -179,10 +180,10 @@ word_step : (xs : List (List ℕ)) (s : Stage) (k : ScriptWord) (q : Stage) (hs 
 unfolding word_stage
 word_step xs AtCommand k q hs h e = subst (HeadIs xs q) (ap (λ (x : List Token). x ++ (word k ∷ [])) (sym h)) (command_is xs k q e)
 word_step xs (AtPlace p) words.At q hs h e =
-    subst (λ (s : Stage). HeadIs xs s (hs ++ (word words.At ∷ []))) (some_is _ _ e) (h.0, behind hs _ _ (word words.At) h.1 refl)
+    subst (λ (s : Stage). HeadIs xs s (hs ++ (word words.At ∷ []))) (some_inj _ _ e) (h.0, behind hs _ _ (word words.At) h.1 refl)
 word_step xs (AtPlace p) k q hs h e = absurd cc
 word_step xs (AfterAt p) words.Top q hs h e =
-    subst (λ (s : Stage). HeadIs xs s (hs ++ (word words.Top ∷ []))) (some_is _ _ e)
+    subst (λ (s : Stage). HeadIs xs s (hs ++ (word words.Top ∷ []))) (some_inj _ _ e)
     (h.0, tt, behind hs _ _ (word words.Top) h.1 (append_assoc (placed_tokens p) (word words.At ∷ []) (word words.Top ∷ [])))
 word_step xs (AfterAt p) k q hs h e = absurd cc
 word_step xs (AfterParent p t) k q hs h e = block_is xs p t k q hs h e
@@ -260,7 +261,7 @@ StateIs (inside f h c) ts = (ds hs cs : List Token) × SpellsScript ds f.command
 StateIs lost ts = Unit {0}
 
 to_state : (m n : State) (ts : List Token) → Some m ≡ Some n → StateIs m ts → StateIs n ts
-to_state m n ts e h = subst (λ (s : State). StateIs s ts) (some_is m n e) h
+to_state m n ts e h = subst (λ (s : State). StateIs s ts) (some_inj m n e) h
 
 further : (ds hs ts : List Token) (t : Token) → ts ≡ ds ++ hs → ts ++ (t ∷ []) ≡ ds ++ (hs ++ (t ∷ []))
 further ds hs ts t e = ap (λ (x : List Token). x ++ (t ∷ [])) e ∙ append_assoc ds hs (t ∷ [])

@@ -6,11 +6,11 @@ use Rattle.hpr_terms.specs.declared.tag.Tag.{Tag}
 use Rattle.hpr_terms.specs.declared.token.Sign.TheVariants.{Dot, Comma, Semicolon, Open, Close}
 use Rattle.hpr_terms.specs.declared.token.Token.{Token}
 use Rattle.hpr_terms.specs.declared.token.Token.TheVariants.{Name, Number, Mark}
+use Rattle.hpr_terms.proofs.Facts.{some_inj}
 use Rattle.hpr_syntax.specs.declared.rows.Content.{Content}
 use Rattle.hpr_syntax.specs.Grammar.{IsTag, SpellsNames}
 use Rattle.hpr_syntax.specs.Grammar as grammar
 use Rattle.hpr_scan.specs.Steps.{and_then, runs}
-use Rattle.hpr_scan.proofs.Words.{some_is}
 use Rattle.hpr_scan.proofs.SoundText.{then_of}
 use Rattle.hpr_text.specs.declared.content.ContentState.TheVariants.{Start}
 use Rattle.hpr_text.specs.Contents.{SpellsContent}
@@ -44,7 +44,7 @@ one : (s n : State) (t : Token) (ts : List Token) → next s t ≡ Some n → ru
 one s n t ts e = ap (λ (o : Option State). and_then o (λ m. runs next m ts)) e
 
 append : (s n : State) (xs ys : List Token) → runs next s xs ≡ Some n → runs next s (xs ++ ys) ≡ runs next n ys
-append s n [] ys e = ap (λ (m : State). runs next m ys) (some_is _ _ e)
+append s n [] ys e = ap (λ (m : State). runs next m ys) (some_inj _ _ e)
 append s n (t ∷ xs) ys e =
     let k = then_of (next s t) (λ m. runs next m xs) n e in
     one s k.0 t (xs ++ ys) k.1 ∙ append k.0 n xs ys k.2

@@ -1,6 +1,7 @@
 -- The marks of a search are those of a slice, or of what is reached.
 use Rattle.std.proofs.Common.{◌≡◌, ℕ, ◌<◌, Bool, List, All, Contains, length, ◌∙◌, subst}
 use Rattle.std.proofs.lemmas.List.Elements.{All-contains}
+use Rattle.hpr_terms.proofs.Facts.{get_below}
 use Rattle.hpr_search.specs.Walks as walks
 use Rattle.hpr_search.specs.Marks.{IsMarked}
 use Rattle.hpr_graph.specs.declared.vertex.Vertex.{Vertex}
@@ -10,7 +11,7 @@ use Rattle.hpr_graph.specs.Slices.{IsReached, ReachesOne}
 use Rattle.hpr_graph.proofs.Laws.{restrict_same_on, closed_by_numbers}
 use Rattle.hpr_slice.specs.Vertices.{IsOneOf, MarksExactly}
 use Rattle.hpr_slice.specs.Neighbours.{AreSources, AreTurned, numbers_at}
-use Rattle.hpr_graph.proofs.Lists.{place_of, item_at}
+use Rattle.hpr_graph.proofs.Lists.{place_of}
 use Rattle.hpr_slice.proofs.Walks.{leads_back, walk_back, leads_ahead, walk_ahead}
 
 module _ (g : Numbered) (k : IsNumbered g) (rows : List (List ℕ)) (sources : AreSources g rows) (numbers : List ℕ) (within : All (λ n. n < length g.vertices) numbers) (marks : List Bool) where
@@ -21,7 +22,7 @@ module _ (g : Numbered) (k : IsNumbered g) (rows : List (List ℕ)) (sources : A
     exact = λ at v at_v. (
       λ m.
           (let (n, via, has, walk) = sound at m in
-          let (s, at_s) = item_at g.vertices n (All-contains (λ x. x < length g.vertices) numbers n within has) in
+          let (s, at_s) = get_below g.vertices n (All-contains (λ x. x < length g.vertices) numbers n within has) in
           let (es, leads) = leads_back g k rows sources n at via s v walk at_s at_v in
           (s, es, (n, has, at_s), leads)),
       λ (s, es, (n, has, at_s), leads).
@@ -37,7 +38,7 @@ module _ (g : Numbered) (k : IsNumbered g) (rows : List (List ℕ)) (sources : A
     exact = λ at v at_v. (
       λ m.
           (let (n, via, has, walk) = sound at m in
-          let (s, at_s) = item_at g.vertices n (All-contains (λ x. x < length g.vertices) numbers n within has) in
+          let (s, at_s) = get_below g.vertices n (All-contains (λ x. x < length g.vertices) numbers n within has) in
           let (es, leads) = leads_ahead g k rows sources turned round n at via s v walk at_s at_v in
           (s, es, (n, has, at_s), leads)),
       λ (s, es, (n, has, at_s), leads).

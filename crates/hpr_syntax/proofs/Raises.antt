@@ -12,6 +12,7 @@ use Rattle.std.proofs.lemmas.Map.Keys.{IsDistinct-IsPermutation}
 use Rattle.hpr_terms.specs.declared.limits.TheConstants.{MAX_LEVELS}
 use Rattle.hpr_terms.specs.declared.tag.Tag.{Tag}
 use Rattle.hpr_terms.specs.Names.{IsName}
+use Rattle.hpr_terms.proofs.Facts.{or_false, neither, if_none}
 use Rattle.hpr_syntax.specs.Body.{part_count}
 use Rattle.hpr_syntax.specs.Parts.{tags_of}
 use Rattle.hpr_syntax.specs.Issued.{Issued, AscendsFrom, IsIssued, issued_to, raised, raised_by}
@@ -24,7 +25,6 @@ use Rattle.hpr_syntax.specs.Print.{text}
 use Rattle.hpr_syntax.proofs.TextSpells.{text_spells}
 use Rattle.hpr_syntax.proofs.IssuedLemmas.{raised_keeps, raised_greater, raised_others}
 use Rattle.hpr_syntax.proofs.NoRefusal.{no_refusal, shaped}
-use Rattle.hpr_syntax.proofs.ShownParts.{if_none}
 
 -- ---- issued numbers
 
@@ -125,18 +125,10 @@ differ_more x earlier (y ∷ ys) h =
     let e = or_false (bytes_eq y x) (list_any (bytes_eq y) earlier) h.0 in
     let r = differ_more x earlier ys h.1 in
     ((e.1, r.0), (nat_list_eq_equiv.symm x y ∙ e.0, r.1))
-  where
-    or_false : (a b : Bool) → (a || b) ≡ false → (a ≡ false) × (b ≡ false)
-    or_false false b h = (refl, h)
-    or_false true b h = absurd cc
 
 more_differ : (x : List ℕ) (earlier names : List (List ℕ)) → Differ earlier names → AllByRecursion (λ y. bytes_eq x y ≡ false) names → Differ (x ∷ earlier) names
 more_differ x earlier [] h k = tt
 more_differ x earlier (y ∷ ys) h k = (neither (bytes_eq y x) (list_any (bytes_eq y) earlier) (nat_list_eq_equiv.symm y x ∙ k.0) h.0, more_differ x earlier ys h.1 k.1)
-  where
-    neither : (a b : Bool) → a ≡ false → b ≡ false → (a || b) ≡ false
-    neither false b e f = f
-    neither true b e f = absurd cc
 
 distinct_names : (earlier names : List (List ℕ)) → first_repeated bytes_eq earlier names ≡ None → Differ earlier names × IsDistinct bytes_eq names
 unfolding IsDistinct

@@ -1,25 +1,18 @@
 -- A list in which nothing is repeated has each of its items at one place.
-use Rattle.std.proofs.Common.{◌≡◌, ℕ, zero, suc, Bool, true, false, ◌||◌, if◌then◌else◌, Option, Some, None, List, [], ◌∷◌, refl, ap, subst}
+use Rattle.std.proofs.Common.{◌≡◌, ℕ, zero, suc, Bool, true, false, Some, None, List, [], ◌∷◌, refl, ap, subst}
 use Rattle.std.specs.List.{slice_get, list_any}
 use Rattle.std.proofs.lemmas.Option.{same_Some}
+use Rattle.hpr_terms.proofs.Facts.{or_false, if_none}
 use Rattle.hpr_syntax.specs.Shape.{first_repeated}
-
-or_false : (a b : Bool) → (a || b) ≡ false → (a ≡ false) × (b ≡ false)
-or_false true b h = absurd cc
-or_false false b h = (refl, h)
-
-fresh_now : {X : Type 0} (b : Bool) (x : X) (o : Option X) → (if b then Some x else o) ≡ None → (b ≡ false) × (o ≡ None)
-fresh_now true x o h = absurd cc
-fresh_now false x o h = (refl, h)
 
 module _ {X : Type 0} (same : X → X → Bool) (itself : (x : X) → same x x ≡ true) where
   fresh : (earlier xs : List X) (j : ℕ) (x : X) → first_repeated same earlier xs ≡ None → slice_get xs j ≡ Some x → list_any (same x) earlier ≡ false
   fresh earlier [] j x none get = absurd cc
   fresh earlier (h ∷ xs) zero x none get =
       let P : X → Type 0 = λ u. list_any (same u) earlier ≡ false in
-      subst P (same_Some h x get) (fresh_now (list_any (same h) earlier) h (first_repeated same (h ∷ earlier) xs) none).0
+      subst P (same_Some h x get) (if_none (list_any (same h) earlier) h (first_repeated same (h ∷ earlier) xs) none).0
   fresh earlier (h ∷ xs) (suc j) x none get =
-      (or_false (same x h) (list_any (same x) earlier) (fresh (h ∷ earlier) xs j x (fresh_now (list_any (same h) earlier) h (first_repeated same (h ∷ earlier) xs) none).1 get)).1
+      (or_false (same x h) (list_any (same x) earlier) (fresh (h ∷ earlier) xs j x (if_none (list_any (same h) earlier) h (first_repeated same (h ∷ earlier) xs) none).1 get)).1
 
   not_again : (earlier xs : List X) (h : X) (j : ℕ) (x : X) → first_repeated same (h ∷ earlier) xs ≡ None → slice_get xs j ≡ Some x → h ≡ x → ⊥
   not_again earlier xs h j x none get is =
@@ -32,8 +25,8 @@ module _ {X : Type 0} (same : X → X → Bool) (itself : (x : X) → same x x �
   places_once earlier [] i j x none a b = absurd cc
   places_once earlier (h ∷ xs) zero zero x none a b = refl
   places_once earlier (h ∷ xs) zero (suc j) x none a b =
-      absurd (not_again earlier xs h j x (fresh_now (list_any (same h) earlier) h (first_repeated same (h ∷ earlier) xs) none).1 b (same_Some h x a))
+      absurd (not_again earlier xs h j x (if_none (list_any (same h) earlier) h (first_repeated same (h ∷ earlier) xs) none).1 b (same_Some h x a))
   places_once earlier (h ∷ xs) (suc i) zero x none a b =
-      absurd (not_again earlier xs h i x (fresh_now (list_any (same h) earlier) h (first_repeated same (h ∷ earlier) xs) none).1 a (same_Some h x b))
+      absurd (not_again earlier xs h i x (if_none (list_any (same h) earlier) h (first_repeated same (h ∷ earlier) xs) none).1 a (same_Some h x b))
   places_once earlier (h ∷ xs) (suc i) (suc j) x none a b =
-      ap suc (places_once (h ∷ earlier) xs i j x (fresh_now (list_any (same h) earlier) h (first_repeated same (h ∷ earlier) xs) none).1 a b)
+      ap suc (places_once (h ∷ earlier) xs i j x (if_none (list_any (same h) earlier) h (first_repeated same (h ∷ earlier) xs) none).1 a b)

@@ -1,17 +1,13 @@
 -- What `==` answers at issued numbers, at lists of names and at trees.
-use Rattle.std.proofs.Common.{◌≡◌, ℕ, ◌==◌, ◌&&◌, Bool, true, false, List, [], ◌∷◌, ◌↔◌, IsTrue, refl, sym, ◌∙◌, arith, subst}
+use Rattle.std.proofs.Common.{◌≡◌, ℕ, ◌==◌, ◌&&◌, Bool, true, List, [], ◌∷◌, ◌↔◌, IsTrue, refl, sym, ◌∙◌, arith, subst}
 use Rattle.std.specs.Cmp.Lexicographic.{pointwise, same_text}
 use Rattle.std.proofs.lemmas.Bool.{eqb-true, eq-eqb}
 use Rattle.std.proofs.lemmas.Cmp.{nat_list_eq_equiv}
+use Rattle.hpr_terms.proofs.Facts.{and_both}
 use Rattle.hpr_syntax.specs.BodyOrder.{block_code}
 use Rattle.hpr_syntax.specs.Private.BodyCode.{body_inj}
 use Rattle.hpr_syntax.specs.Tree.{Tree}
 use Rattle.hpr_syntax.specs.Comparisons.{same_pair, same_issued, same_block, same_names, same_tree}
-
-and_both : (a b : Bool) → (a && b) ≡ true → (a ≡ true) × (b ≡ true)
-and_both true true h = (refl, refl)
-and_both true false h = absurd cc
-and_both false b h = absurd cc
 
 both : {a b : Bool} → a ≡ true → b ≡ true → (a && b) ≡ true
 both p q = λ i. p i && q i

@@ -1,5 +1,5 @@
 -- The tokens of a block's canonical text spell the block.
-use Rattle.std.proofs.Common.{◌≡◌, ℕ, zero, suc, ◌+◌, ◌≤◌, List, [], ◌∷◌, ◌++◌, Bool, true, false, nat_lt, ◌==◌, ◌||◌, if◌then◌else◌, Option, Some, None, refl, arith}
+use Rattle.std.proofs.Common.{◌≡◌, ℕ, zero, suc, ◌+◌, ◌≤◌, List, [], ◌∷◌, ◌++◌, false, nat_lt, ◌==◌, ◌||◌, if◌then◌else◌, None, arith}
 use Rattle.std.specs.Option.{option_or}
 use Rattle.std.proofs.lemmas.Bool.Decides.{nat_tests}
 use Rattle.hpr_terms.specs.declared.limits.TheConstants.{MAX_BRACKETS, MAX_OPERATORS}
@@ -11,6 +11,7 @@ use Rattle.hpr_terms.specs.declared.token.Token.{Token}
 use Rattle.hpr_terms.specs.declared.token.Token.TheVariants.{Word, Name, Number, Mark}
 use Rattle.hpr_terms.specs.Term.{operators}
 use Rattle.hpr_terms.specs.TermOf.{term_of}
+use Rattle.hpr_terms.proofs.Facts.{if_none}
 use Rattle.hpr_syntax.specs.Action.{assigns}
 use Rattle.hpr_syntax.specs.Body.{Body, done, action, branch, loop}
 use Rattle.hpr_syntax.specs.Parts.{tags_of}
@@ -41,10 +42,6 @@ shown_body (branch t e a b rest) =
 shown_body (loop t e b rest) = label t ++ (Word keyword.While ∷ (shown_expr e ++ (Word keyword.Do ∷ (shown_body b ++ (Word keyword.Od ∷ shown_body rest)))))
 
 -- ---- what the tests of a tree say
-
-pub if_none : {X : Type 0} (b : Bool) (x : X) (o : Option X) → (if b then Some x else o) ≡ None → (b ≡ false) × (o ≡ None)
-if_none false x o h = (refl, h)
-if_none true x o h = absurd cc
 
 -- each part's serial is at least 1
 abbrev pub HasSerials : Body → Type 0

@@ -14,6 +14,7 @@ use Rattle.hpr_terms.specs.declared.token.Token.{Token}
 use Rattle.hpr_terms.specs.declared.token.Token.TheVariants.{Word, Name, Mark}
 use Rattle.hpr_terms.specs.Names.{IsName}
 use Rattle.hpr_terms.specs.Tokens.{nothing, blanks, Text, ending}
+use Rattle.hpr_terms.proofs.Facts.{if_none}
 use Rattle.hpr_syntax.specs.Body.{Body}
 use Rattle.hpr_syntax.specs.Parts.{tags_of}
 use Rattle.hpr_syntax.specs.Issued.{Issued, AscendsFrom, IsIssued, raised, raised_by}
@@ -26,7 +27,7 @@ use Rattle.hpr_syntax.specs.Shape.{is_unissued, first_unissued, IsProgram}
 use Rattle.hpr_syntax.specs.Tree.{Tree}
 use Rattle.hpr_syntax.proofs.NoRefusal.{HasNoRefusal, no_refusal}
 use Rattle.hpr_syntax.proofs.Printed.{Printed, weaker, space, newline, mark, word, number, name}
-use Rattle.hpr_syntax.proofs.ShownParts.{shown_body, if_none, has_serials, body_spelled}
+use Rattle.hpr_syntax.proofs.ShownParts.{shown_body, has_serials, body_spelled}
 use Rattle.hpr_syntax.proofs.PrintedParts.{body_is}
 
 -- ---- the names of `end`

@@ -1,9 +1,6 @@
--- Lists of none, one or two elements.
+-- Lists of one or two elements.
 use Rattle.std.proofs.Common.{◌≡◌, ◌<◌, ℕ, zero, suc, ◌⊎◌, inl, inr, [], ◌∷◌, refl, sym, arith}
 use Rattle.std.specs.List.{slice_index_or, Contains}
-
-pub contains_none : {X : Type 0} (x : X) → Contains [] x → ⊥
-contains_none x h = let l : h.0 < 0 = h.1 in absurd (omega arith)
 
 one_at : {X : Type 0} (a x : X) (k : ℕ) → k < 1 → slice_index_or (a ∷ []) k x ≡ x → x ≡ a
 one_at a x zero l e = sym e

@@ -1,3 +1,4 @@
+pub mod Facts
 pub mod Compare
 pub mod Equal
 pub mod InOrder

@@ -3,10 +3,11 @@ use Rattle.std.proofs.Common.{ℕ, ◌↔◌, inl, inr, List, [], ◌∷◌, Con
 use Rattle.std.proofs.lemmas.List.Elements.{Contains-append_left, Contains-append_right, Contains-append_cases}
 use Rattle.hpr_terms.specs.Term.{Term, num, var, prefix, infix'}
 use Rattle.hpr_terms.specs.Uses.{TermUses, names_in}
-use Rattle.hpr_terms.proofs.Few.{contains_none, contains_one, has_one}
+use Rattle.hpr_terms.proofs.Few.{contains_one, has_one}
+use Rattle.hpr_terms.proofs.Facts.{in_none}
 
 pub terms_used : (t : Term) (x : List ℕ) → Contains (names_in t) x ↔ TermUses t x
-terms_used (num n) x = (contains_none x, λ h. absurd h)
+terms_used (num n) x = (in_none x, λ h. absurd h)
 terms_used (var y) x =
     let P : List ℕ → Type 0 = λ z. Contains (y ∷ []) z in
     (contains_one y x, λ h. subst P (sym h) (has_one y))

@@ -7,12 +7,12 @@ use Rattle.hpr_terms.specs.declared.token.Sign.TheVariants.{Becomes, Semicolon}
 use Rattle.hpr_terms.specs.declared.token.Token.{Token}
 use Rattle.hpr_terms.specs.declared.token.Token.TheVariants.{Word, Name, Mark}
 use Rattle.hpr_terms.specs.Tokens.{Text}
+use Rattle.hpr_terms.proofs.Facts.{some_inj}
 use Rattle.hpr_syntax.specs.declared.rows.Content.{Content}
 use Rattle.hpr_syntax.specs.Grammar.{SpellsExpr}
 use Rattle.hpr_scan.specs.Place.{IsPlace, BeginsWith, Accepts}
 use Rattle.hpr_scan.specs.Steps.{and_then, runs, IsReading}
 use Rattle.hpr_scan.proofs.Place.{same_place}
-use Rattle.hpr_scan.proofs.Words.{some_is}
 use Rattle.hpr_expressions.specs.declared.expression.Reading.{Reading}
 use Rattle.hpr_text.specs.declared.content.Aim.{Aim}
 use Rattle.hpr_text.specs.declared.content.Aim.TheVariants.{Assign, Test, Guard}
@@ -42,7 +42,7 @@ ContentIs (InExpression aim r) ts = (e : List Token) × ReadingIs r e × (ts ≡
 ContentIs (Ended c) ts = (e : List Token) × SpellsContent e c × (ts ≡ e ++ (Mark Semicolon ∷ []))
 
 to_content : (m n : ContentState) (ts : List Token) → Some m ≡ Some n → ContentIs m ts → ContentIs n ts
-to_content m n ts e h = subst (λ (s : ContentState). ContentIs s ts) (some_is m n e) h
+to_content m n ts e h = subst (λ (s : ContentState). ContentIs s ts) (some_inj m n e) h
 
 spelled : (aim : Aim) (e : Expr) (ts : List Token) → SpellsExpr ts e → SpellsContent (begins aim ++ ts) (content_of aim e)
 spelled (Assign x) e ts s = contents.assignment s
@@ -95,7 +95,7 @@ reads_at aim r n t ts rest None e q go = absurd cc
 reads_at aim r n t ts rest (Some m) e q go = run_one _ (InExpression aim m) t (ts ++ rest) (content_goes_read aim r m t e) ∙ go m q
 
 lift : (aim : Aim) (r n : Reading) (ts rest : List Token) → runs read r ts ≡ Some n → runs content_next (InExpression aim r) (ts ++ rest) ≡ runs content_next (InExpression aim n) rest
-lift aim r n [] rest e = ap (λ (m : Reading). runs content_next (InExpression aim m) rest) (some_is _ _ e)
+lift aim r n [] rest e = ap (λ (m : Reading). runs content_next (InExpression aim m) rest) (some_inj _ _ e)
 lift aim r n (t ∷ ts) rest e = reads_at aim r n t ts rest (read r t) refl e (λ m q. lift aim m n ts rest q)
 
 inside_runs : (aim : Aim) (ts : List Token) (e : Expr) → SpellsExpr ts e → runs content_next (InExpression aim start) (ts ++ (Mark Semicolon ∷ [])) ≡ Some (Ended (content_of aim e))
@@ -114,7 +114,7 @@ content_runs _ _ (contents.while_loop {e = e} {test = test} s) = inside_runs Gua
 content_text : (bytes : List ℕ) (ts : List Token) (s : ContentState) (c : Content) → Text false bytes ts → runs content_next Start ts ≡ Some s → content_read s ≡ Some c → IsContentText bytes c
 content_text bytes ts (Ended d) c x r e =
     let h = content_is Start [] ts (Ended d) refl r in
-    record { tokens = h.0; spelled = subst (SpellsContent h.0) (some_is d c e) h.1; text = subst (Text false bytes) h.2 x }
+    record { tokens = h.0; spelled = subst (SpellsContent h.0) (some_inj d c e) h.1; text = subst (Text false bytes) h.2 x }
 content_text bytes ts Start c x r e = absurd cc
 content_text bytes ts (AfterTarget y) c x r e = absurd cc
 content_text bytes ts (InExpression aim y) c x r e = absurd cc
@@ -174,4 +174,4 @@ one_content bytes c d h k =
     let behind : List Token = Mark Semicolon ∷ [] in
     let same : Ended c ≡ Ended d =
     text_once content_next content_is_token_machine Start bytes (h.tokens ++ behind) (k.tokens ++ behind) (Ended c) (Ended d) h.text (content_runs h.tokens c h.spelled) k.text (content_runs k.tokens d k.spelled) in
-    some_is c d (ap content_read same)
+    some_inj c d (ap content_read same)

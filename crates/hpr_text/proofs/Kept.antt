@@ -9,10 +9,10 @@ use Rattle.hpr_terms.specs.declared.keyword.Keyword.TheVariants.{Program, Issued
 use Rattle.hpr_terms.specs.declared.token.Sign.TheVariants.{Colon, Becomes, Dot, Comma, Semicolon, Open, Close}
 use Rattle.hpr_terms.specs.declared.token.Token.{Token}
 use Rattle.hpr_terms.specs.declared.token.Token.TheVariants.{Word, Name, Number, Mark}
+use Rattle.hpr_terms.proofs.Facts.{some_inj}
 use Rattle.hpr_syntax.specs.Action.{assigns}
 use Rattle.hpr_syntax.specs.Body.{Body, done, action, branch, loop}
 use Rattle.hpr_scan.specs.Steps.{runs}
-use Rattle.hpr_scan.proofs.Words.{some_is}
 use Rattle.hpr_scan.proofs.SoundText.{then_of}
 use Rattle.hpr_text.specs.declared.blocks.Around.{Around}
 use Rattle.hpr_text.specs.declared.blocks.Begun.{Begun}
@@ -258,7 +258,7 @@ as_many : (c : ℕ) → OneMore c c
 as_many c = (omega arith, omega arith)
 
 counts_some : (s n : State) (c : ℕ) → OneMore c s.found.count → Some s ≡ Some n → OneMore c n.found.count
-counts_some s n c h e = subst (λ (x : State). OneMore c x.found.count) (some_is _ _ e) h
+counts_some s n c h e = subst (λ (x : State). OneMore c x.found.count) (some_inj _ _ e) h
 
 counts_guard : (b : Bool) (s n : State) (c : ℕ) → OneMore c s.found.count → cond b (Some s) None ≡ Some n → OneMore c n.found.count
 counts_guard true s n c h e = counts_some s n c h e
@@ -365,7 +365,7 @@ step_counts f p t n e = absurd cc
 -- ---- where each part is kept
 
 few : (s n : State) → Some s ≡ Some n → n.found.count ≤ MAX_PARTS → s.found.count ≤ MAX_PARTS
-few s n e le = subst (λ (x : State). x.found.count ≤ MAX_PARTS) (sym (some_is _ _ e)) le
+few s n e le = subst (λ (x : State). x.found.count ≤ MAX_PARTS) (sym (some_inj _ _ e)) le
 
 few_counted : (c : ℕ) → c + 1 ≤ MAX_PARTS → counted limit c ≡ c + 1
 few_counted c le = omega (arith, le)
@@ -460,13 +460,13 @@ same_step s t n le e = step_same s.found s.place t n le e
 
 shows_some : (n : State) (o : Option State) → Some (bare n) ≡ bared o → (m : State) × (o ≡ Some m) × (bare n ≡ bare m)
 shows_some n None e = absurd cc
-shows_some n (Some m) e = (m, refl, some_is _ _ e)
+shows_some n (Some m) e = (m, refl, some_inj _ _ e)
 
 kept_step : (s k : State) (t : Token) (n : State) → Kept s k → next None s t ≡ Some n → (m : State) × (next limit k t ≡ Some m) × Kept n m
 kept_step s k t n h e =
     let m = shows_some n (next limit k t) (sym (ap bared e) ∙ steps_bare None limit s k t h.shows) in
     let same : n.found.count ≤ MAX_PARTS → n ≡ m.0 =
-    λ (le : n.found.count ≤ MAX_PARTS). some_is n m.0
+    λ (le : n.found.count ≤ MAX_PARTS). some_inj n m.0
     (sym (same_step s t n le e) ∙ ap (λ (x : State). next limit x t) (h.same (omega (arith, le, (counts_step s t n e).0))) ∙ m.1) in
     (m.0, m.1, record { shows = m.2; same = same })
 
@@ -474,11 +474,11 @@ kept_back : (s k : State) (t : Token) (m : State) → Kept s k → next limit k 
 kept_back s k t m h e =
     let n = shows_some m (next None s t) (sym (ap bared e) ∙ sym (steps_bare None limit s k t h.shows)) in
     let j = kept_step s k t n.0 h n.1 in
-    (n.0, n.1, subst (λ (x : State). Kept n.0 x) (some_is _ _ (sym j.1 ∙ e)) j.2)
+    (n.0, n.1, subst (λ (x : State). Kept n.0 x) (some_inj _ _ (sym j.1 ∙ e)) j.2)
 
 -- where each part is kept, tokens lead where they lead otherwise
 pub kept_runs : (s k : State) (ts : List Token) (n : State) → Kept s k → runs (next None) s ts ≡ Some n → (m : State) × (runs (next limit) k ts ≡ Some m) × Kept n m
-kept_runs s k [] n h e = (k, refl, subst (λ (x : State). Kept x k) (some_is _ _ e) h)
+kept_runs s k [] n h e = (k, refl, subst (λ (x : State). Kept x k) (some_inj _ _ e) h)
 kept_runs s k (t ∷ ts) n h e =
     let a = then_of (next None s t) (λ (x : State). runs (next None) x ts) n e in
     let b = kept_step s k t a.0 h a.1 in
@@ -486,7 +486,7 @@ kept_runs s k (t ∷ ts) n h e =
     (c.0, rw b.1 c.1, c.2)
 
 pub kept_runs_back : (s k : State) (ts : List Token) (m : State) → Kept s k → runs (next limit) k ts ≡ Some m → (n : State) × (runs (next None) s ts ≡ Some n) × Kept n m
-kept_runs_back s k [] m h e = (s, refl, subst (λ (x : State). Kept s x) (some_is _ _ e) h)
+kept_runs_back s k [] m h e = (s, refl, subst (λ (x : State). Kept s x) (some_inj _ _ e) h)
 kept_runs_back s k (t ∷ ts) m h e =
     let a = then_of (next limit k t) (λ (x : State). runs (next limit) x ts) m e in
     let b = kept_back s k t a.0 h a.1 in

@@ -6,9 +6,10 @@ use Rattle.hpr_terms.specs.declared.token.Sign.TheVariants.{Colon, Becomes, Dot,
 use Rattle.hpr_terms.specs.declared.token.Token.{Token}
 use Rattle.hpr_terms.specs.declared.token.Token.TheVariants.{Word, Name, Number, Mark}
 use Rattle.hpr_terms.specs.Tokens.{sign_text, IsToken, Text, ending, token}
+use Rattle.hpr_terms.proofs.Facts.{some_inj}
 use Rattle.hpr_scan.specs.Steps.{runs}
 use Rattle.hpr_scan.proofs.SoundText.{then_of}
-use Rattle.hpr_scan.proofs.Words.{some_is, small, WordBytes, word_bytes}
+use Rattle.hpr_scan.proofs.Words.{small, WordBytes, word_bytes}
 use Rattle.hpr_text.specs.declared.state.State.{State}
 use Rattle.hpr_text.specs.Machine.{next}
 use Rattle.hpr_text.specs.Laws.{is_token_machine}
@@ -44,7 +45,7 @@ token_long text (Number n) s m h e = word_long text (word_bytes text (Number n) 
 token_long text (Mark x) s m h e = subst (λ (w : List ℕ). 1 ≤ length w) (sym h) (sign_long x)
 
 pub text_counts : {w : Bool} {bytes : List ℕ} {ts : List Token} → Text w bytes ts → (s n : State) → runs (next None) s ts ≡ Some n → n.found.count ≤ s.found.count + length bytes
-text_counts {bytes = bytes} (ending h) s n e = subst (λ (x : State). x.found.count ≤ s.found.count + length bytes) (some_is _ _ e) (omega arith)
+text_counts {bytes = bytes} (ending h) s n e = subst (λ (x : State). x.found.count ≤ s.found.count + length bytes) (some_inj _ _ e) (omega arith)
 text_counts (token blanks text {rest = rest} {t = t} {ts = ts} b i a k) s n e =
     let m = then_of (next None s t) (λ (x : State). runs (next None) x ts) n e in
     let long : 1 ≤ length text = token_long text t s m.0 i m.1 in

@@ -1,10 +1,11 @@
 -- Parts that get their tags in preorder: the tags are distinct and issued, and the last serial is the number of parts.
-use Rattle.std.proofs.Common.{◌≡◌, ℕ, zero, suc, ◌+◌, ◌<◌, ◌≤◌, max, Bool, true, false, cond, eqb, nat_lt, ◌&&◌, ◌||◌, List, [], ◌∷◌, map, Option, Some, None, refl, ap, sym, subst, ◌∙◌, arith}
+use Rattle.std.proofs.Common.{◌≡◌, ℕ, zero, suc, ◌+◌, ◌<◌, ◌≤◌, max, Bool, false, cond, eqb, nat_lt, ◌&&◌, ◌||◌, List, [], ◌∷◌, map, Option, Some, None, refl, ap, sym, subst, ◌∙◌, arith}
 use Rattle.std.specs.List.{list_any}
 use Rattle.std.proofs.lemmas.Bool.{ne_eqb, eq-eqb, le-ltb, lt-ltb}
 use Rattle.hpr_terms.specs.declared.limits.TheConstants.{MAX_PARTS}
 use Rattle.hpr_terms.specs.declared.tag.Tag.{Tag}
 use Rattle.hpr_terms.specs.declared.token.Token.{Token}
+use Rattle.hpr_terms.proofs.Facts.{and_false}
 use Rattle.hpr_syntax.specs.declared.shape.ShapeError.TheVariants.{TooManyParts}
 use Rattle.hpr_syntax.specs.Body.{Body, part_count}
 use Rattle.hpr_syntax.specs.Parts.{same_tag, tags_of}
@@ -61,10 +62,6 @@ UpTo n (t ∷ ts) = (t.serial ≤ n) × UpTo n ts
 up_more : (n m : ℕ) (ts : List Tag) → n ≤ m → UpTo n ts → UpTo m ts
 up_more n m [] le h = tt
 up_more n m (t ∷ ts) le h = (omega (arith, le, h.0), up_more n m ts le h.1)
-
-and_false : (b : Bool) → (b && false) ≡ false
-and_false true = refl
-and_false false = refl
 
 differs : (t u : Tag) → u.serial < t.serial → same_tag t u ≡ false
 differs t u lt = ap (λ (b : Bool). eqb t.author u.author && b) (ne_eqb t.serial u.serial (λ e. omega (arith, lt, e))) ∙ and_false (eqb t.author u.author)

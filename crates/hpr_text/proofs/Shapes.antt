@@ -9,6 +9,7 @@ use Rattle.hpr_terms.specs.declared.expr.Expr.{Expr}
 use Rattle.hpr_terms.specs.declared.token.Token.{Token}
 use Rattle.hpr_terms.specs.Term.{operators}
 use Rattle.hpr_terms.specs.TermOf.{term_of}
+use Rattle.hpr_terms.proofs.Facts.{some_inj}
 use Rattle.hpr_syntax.specs.declared.shape.ShapeError.{ShapeError}
 use Rattle.hpr_syntax.specs.declared.shape.ShapeError.TheVariants.{DuplicateTag, Unissued, TooDeep, ExprTooLarge, TooManyParts, DuplicateFinal}
 use Rattle.hpr_syntax.specs.Body.{Body, part_count}
@@ -18,7 +19,6 @@ use Rattle.hpr_syntax.specs.Grammar as grammar
 use Rattle.hpr_syntax.specs.Grammar.{Form, SpellsExpr, SpellsParts}
 use Rattle.hpr_syntax.specs.Shape.{first_repeated_tag, first_unissued, first_deep, is_large, first_large, first_repeated, too_many, shape}
 use Rattle.hpr_syntax.specs.Spelling.{Spells}
-use Rattle.hpr_scan.proofs.Words.{some_is}
 use Rattle.hpr_text.specs.Answers.{ComesFromText}
 
 -- ---- levels and operators
@@ -43,17 +43,17 @@ none_large (grammar.while_loop label test inner rest) = rw (not_large _ _ test, 
 -- ---- the refusals that are left
 
 count_comes : (b : Bool) (n : ℕ) (names : Option (List ℕ)) (e : ShapeError) → option_or (cond b (Some (TooManyParts n)) None) (option_map DuplicateFinal names) ≡ Some e → ComesFromText e
-count_comes true n names e h = subst ComesFromText (some_is _ _ h) tt
+count_comes true n names e h = subst ComesFromText (some_inj _ _ h) tt
 count_comes false n None e h = absurd cc
-count_comes false n (Some x) e h = subst ComesFromText (some_is _ _ h) tt
+count_comes false n (Some x) e h = subst ComesFromText (some_inj _ _ h) tt
 
 -- the tests in their order, where two of them find nothing
 first_comes : (repeated unissued deep large : Option Tag) (n : ℕ) (names : Option (List ℕ)) (e : ShapeError) → deep ≡ None → large ≡ None
     → option_or (option_map DuplicateTag repeated)
     (option_or (option_map Unissued unissued) (option_or (option_map TooDeep deep) (option_or (option_map ExprTooLarge large) (option_or (too_many n) (option_map DuplicateFinal names))))) ≡ Some e
     → ComesFromText e
-first_comes (Some t) unissued deep large n names e p q h = subst ComesFromText (some_is _ _ h) tt
-first_comes None (Some t) deep large n names e p q h = subst ComesFromText (some_is _ _ h) tt
+first_comes (Some t) unissued deep large n names e p q h = subst ComesFromText (some_inj _ _ h) tt
+first_comes None (Some t) deep large n names e p q h = subst ComesFromText (some_inj _ _ h) tt
 first_comes None None (Some t) large n names e p q h = absurd cc
 first_comes None None None (Some t) n names e p q h = absurd cc
 first_comes None None None None n names e p q h = count_comes (nat_lt MAX_PARTS n) n names e h

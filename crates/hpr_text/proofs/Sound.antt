@@ -9,6 +9,7 @@ use Rattle.hpr_terms.specs.declared.keyword.Keyword.TheVariants.{Program, Issued
 use Rattle.hpr_terms.specs.declared.token.Sign.TheVariants.{Colon, Becomes, Dot, Comma, Semicolon, Open, Close}
 use Rattle.hpr_terms.specs.declared.token.Token.{Token}
 use Rattle.hpr_terms.specs.declared.token.Token.TheVariants.{Word, Name, Number, Mark}
+use Rattle.hpr_terms.proofs.Facts.{and_both, some_inj}
 use Rattle.hpr_syntax.specs.Action.{assigns}
 use Rattle.hpr_syntax.specs.Body.{Body, done, action, branch, loop}
 use Rattle.hpr_syntax.specs.Issued as issued
@@ -17,7 +18,6 @@ use Rattle.hpr_syntax.specs.Grammar as grammar
 use Rattle.hpr_syntax.specs.Grammar.{Form, IsAuthor, IsSerial, IsTag, IsIssuedPair, Labels, SpellsExpr, SpellsParts, SpellsPairs, SpellsHeader, SpellsNames, SpellsProgram, tag_pair, pair_then, issued_of}
 use Rattle.hpr_scan.specs.Steps.{and_then, runs}
 use Rattle.hpr_scan.proofs.SoundText.{guard_is}
-use Rattle.hpr_scan.proofs.Words.{some_is}
 use Rattle.hpr_expressions.specs.declared.expression.Reading.{Reading}
 use Rattle.hpr_text.specs.declared.blocks.Around.{Around}
 use Rattle.hpr_text.specs.declared.blocks.Begun.{Begun}
@@ -38,13 +38,8 @@ use Rattle.hpr_text.proofs.Parts.{raised_after, tags_read, read_then, tag_raises
 
 -- ---- what is taken
 
-both : (a b : Bool) → (a && b) ≡ true → (a ≡ true) × (b ≡ true)
-both true true e = (refl, refl)
-both true false e = absurd cc
-both false b e = absurd cc
-
 serial_is : (n : ℕ) → (nat_le 1 n && nat_lt n (2 ^ 32)) ≡ true → IsSerial n
-serial_is n e = let two = both (nat_le 1 n) (nat_lt n (2 ^ 32)) e in (leb-true 1 n two.0, ltb-true n (2 ^ 32) two.1)
+serial_is n e = let two = and_both (nat_le 1 n) (nat_lt n (2 ^ 32)) e in (leb-true 1 n two.0, ltb-true n (2 ^ 32) two.1)
 
 -- ---- the header
 
@@ -208,7 +203,7 @@ abbrev pub StateIs : Mode → State → List Token → Type 0
 StateIs m s ts = PlaceIs m s.place s.found ts
 
 to_state : (m : Mode) (f : Found) (p : Place) (ts : List Token) (n : State) → Some (state_at f p) ≡ Some n → PlaceIs m p f ts → StateIs m n ts
-to_state m f p ts n e h = subst (λ (s : State). StateIs m s ts) (some_is _ _ e) h
+to_state m f p ts n e h = subst (λ (s : State). StateIs m s ts) (some_inj _ _ e) h
 
 -- ---- steps in the header
 
@@ -448,7 +443,7 @@ first_is m l f (Untagged a) t ts n h q e =
 tag_is : (m : Mode) (l : ℕ) (f : Found) (o : Mode) (a : ℕ) (ts : List Token) (n : State) → PartsAre m l f [] ts → f.mode ≡ o → tag_next o f a ≡ Some n → StateIs m n (ts ++ (Number a ∷ []))
 tag_is m l f Tagged a ts n h q e =
     let g = guard_is (nat_lt (length f.blocks) MAX_LEVELS && nat_lt a (2 ^ 32)) (state_at f (AfterAuthor a)) n e in
-    let two = both (nat_lt (length f.blocks) MAX_LEVELS) (nat_lt a (2 ^ 32)) g.0 in
+    let two = and_both (nat_lt (length f.blocks) MAX_LEVELS) (nat_lt a (2 ^ 32)) g.0 in
     to_state m f (AfterAuthor a) (ts ++ (Number a ∷ [])) n (ap (λ s. Some s) g.1)
     (ltb-true a (2 ^ 32) two.1, record { tagged = sym h.mode ∙ q; level = l; past = ts; parts = h; room = ltb-true (length f.blocks) MAX_LEVELS two.0; tokens = refl })
 tag_is m l f (Untagged b) a ts n h q e = absurd cc
@@ -575,7 +570,7 @@ else_is m (begun.Then r ∷ os) l f g ts h e q =
       no_names = h.no_names;
       tokens = rw h.tokens (simp (append_assoc, append-nil));
     } in
-    (l, subst (λ (x : Found). PartsAre m l x [] (ts ++ (Word Else ∷ []))) (some_is _ _ q) made)
+    (l, subst (λ (x : Found). PartsAre m l x [] (ts ++ (Word Else ∷ []))) (some_inj _ _ q) made)
 else_is m [] l f g ts h e q = absurd cc
 else_is m (begun.Else r first ∷ os) l f g ts h e q = absurd cc
 else_is m (begun.Loop r ∷ os) l f g ts h e q = absurd cc
@@ -602,7 +597,7 @@ fi_is m (begun.Then r ∷ os) l f g ts h e q =
       no_names = h.no_names;
       tokens = closes h.header h.around h.inside b.2.past b.2.before b.2.label b.2.test ts (Word If) (Word Then) (Word Fi) h.tokens b.2.tokens;
     } in
-    (suc l, subst (λ (x : Found). PartsAre m (suc l) x [] (ts ++ (Word Fi ∷ []))) (some_is _ _ q) made)
+    (suc l, subst (λ (x : Found). PartsAre m (suc l) x [] (ts ++ (Word Fi ∷ []))) (some_inj _ _ q) made)
 fi_is m (begun.Else r first ∷ os) l f g ts h e q =
     let b = subst (λ (x : List Begun). BlocksAre (form_of m) l h.from x h.around) e h.blocks in
     let part : Body = branch r.tag r.test first f.parts done in
@@ -623,7 +618,7 @@ fi_is m (begun.Else r first ∷ os) l f g ts h e q =
       no_names = h.no_names;
       tokens = closes_second h.header h.around h.inside b.2 b.1 b.4.past b.4.before b.4.label b.4.test ts (Word If) (Word Then) (Word Else) (Word Fi) h.tokens b.5 b.4.tokens;
     } in
-    (suc l, subst (λ (x : Found). PartsAre m (suc l) x [] (ts ++ (Word Fi ∷ []))) (some_is _ _ q) made)
+    (suc l, subst (λ (x : Found). PartsAre m (suc l) x [] (ts ++ (Word Fi ∷ []))) (some_inj _ _ q) made)
 fi_is m [] l f g ts h e q = absurd cc
 fi_is m (begun.Loop r ∷ os) l f g ts h e q = absurd cc
 
@@ -649,7 +644,7 @@ od_is m (begun.Loop r ∷ os) l f g ts h e q =
       no_names = h.no_names;
       tokens = closes h.header h.around h.inside b.2.past b.2.before b.2.label b.2.test ts (Word While) (Word Do) (Word Od) h.tokens b.2.tokens;
     } in
-    (suc l, subst (λ (x : Found). PartsAre m (suc l) x [] (ts ++ (Word Od ∷ []))) (some_is _ _ q) made)
+    (suc l, subst (λ (x : Found). PartsAre m (suc l) x [] (ts ++ (Word Od ∷ []))) (some_inj _ _ q) made)
 od_is m [] l f g ts h e q = absurd cc
 od_is m (begun.Then r ∷ os) l f g ts h e q = absurd cc
 od_is m (begun.Else r first ∷ os) l f g ts h e q = absurd cc
@@ -821,7 +816,7 @@ runs_at m s t past ts None n h e q go = absurd cc
 runs_at m s t past ts (Some k) n h e q go = rw append_assoc at (go k (step_is m s t past k h e) q)
 
 runs_is : (m : Mode) (s : State) (past ts : List Token) (n : State) → StateIs m s past → runs (next None) s ts ≡ Some n → StateIs m n (past ++ ts)
-runs_is m s past [] n h e = rw append-nil (subst (λ (k : State). StateIs m k past) (some_is _ _ e) h)
+runs_is m s past [] n h e = rw append-nil (subst (λ (k : State). StateIs m k past) (some_inj _ _ e) h)
 runs_is m s past (t ∷ ts) n h e = runs_at m s t past ts (next None s t) n h refl e (λ k i q. runs_is m k (past ++ (t ∷ [])) ts n i q)
 
 -- a tree that is spelled, with as many parts as have begun
@@ -843,7 +838,7 @@ accepted_is m f AtEnd t ts h e =
       issued_is = b.numbers;
       tokens_are = b.tokens;
     } in
-    subst (λ (u : Tree). IsCounted m ts f u) (some_is _ _ e) (made, b.counts)
+    subst (λ (u : Tree). IsCounted m ts f u) (some_inj _ _ e) (made, b.counts)
 accepted_is m f p t ts h e = absurd cc
 
 -- what is accepted is spelled

@@ -3,6 +3,7 @@ use Rattle.std.proofs.Common.{◌≡◌, ℕ, ◌+◌, ◌≤◌, ◌<◌, ◌^�
 use Rattle.std.proofs.lemmas.Bool.{ltb-true, ltb-false}
 use Rattle.hpr_terms.specs.declared.limits.TheConstants.{MAX_PARTS}
 use Rattle.hpr_terms.specs.declared.token.Token.{Token}
+use Rattle.hpr_terms.proofs.Facts.{some_inj}
 use Rattle.hpr_syntax.specs.declared.shape.ShapeError.{ShapeError}
 use Rattle.hpr_syntax.specs.declared.shape.ShapeError.TheVariants.{TooManyParts}
 use Rattle.hpr_syntax.specs.Tree.{Tree}
@@ -12,7 +13,6 @@ use Rattle.hpr_syntax.specs.Spelling.{Spells}
 use Rattle.hpr_scan.specs.Place.{IsPlace, Accepts}
 use Rattle.hpr_scan.specs.Steps.{IsReading}
 use Rattle.hpr_scan.proofs.Place.{same_place}
-use Rattle.hpr_scan.proofs.Words.{some_is}
 use Rattle.hpr_text.specs.declared.form.Mode.{Mode}
 use Rattle.hpr_text.specs.declared.form.Mode.TheVariants.{Tagged, Untagged}
 use Rattle.hpr_text.specs.declared.found.Found.{Found}
@@ -37,7 +37,7 @@ one_in : (m : Mode) (bytes : List ℕ) (t u : Tree) → Spells (form_of m) bytes
 one_in m bytes t u h k =
     let same : spelled_state m h.tokens t h.program ≡ spelled_state m k.tokens u k.program =
     text_once (next None) (is_token_machine None) (initially m) bytes h.tokens k.tokens _ _ h.text (spelled_runs m h.tokens t h.program) k.text (spelled_runs m k.tokens u k.program) in
-    some_is t u (sym (spelled_accepted m h.tokens t h.program) ∙ ap accepted same ∙ spelled_accepted m k.tokens u k.program)
+    some_inj t u (sym (spelled_accepted m h.tokens t h.program) ∙ ap accepted same ∙ spelled_accepted m k.tokens u k.program)
 
 pub one_tree : (form : Form) (bytes : List ℕ) (t u : Tree) → Spells form bytes t → Spells form bytes u → t ≡ u
 one_tree tagged bytes t u h k = one_in Tagged bytes t u h k

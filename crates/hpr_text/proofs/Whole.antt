@@ -9,6 +9,7 @@ use Rattle.hpr_terms.specs.declared.keyword.Keyword.TheVariants.{Program, Issued
 use Rattle.hpr_terms.specs.declared.token.Sign.TheVariants.{Colon, Becomes, Dot, Comma, Semicolon, Open, Close}
 use Rattle.hpr_terms.specs.declared.token.Token.{Token}
 use Rattle.hpr_terms.specs.declared.token.Token.TheVariants.{Word, Name, Number, Mark}
+use Rattle.hpr_terms.proofs.Facts.{some_inj}
 use Rattle.hpr_syntax.specs.Action.{assigns}
 use Rattle.hpr_syntax.specs.Body.{Body, done, action, branch, loop}
 use Rattle.hpr_syntax.specs.Parts.{tags_of}
@@ -17,7 +18,6 @@ use Rattle.hpr_syntax.specs.Tree.{Tree}
 use Rattle.hpr_syntax.specs.Grammar as grammar
 use Rattle.hpr_syntax.specs.Grammar.{Form, IsAuthor, IsSerial, IsTag, IsIssuedPair, Labels, SpellsExpr, SpellsParts, SpellsPairs, SpellsHeader, SpellsNames, SpellsProgram, tag_pair, pair_then, issued_of}
 use Rattle.hpr_scan.specs.Steps.{and_then, runs}
-use Rattle.hpr_scan.proofs.Words.{some_is}
 use Rattle.hpr_text.specs.declared.blocks.Around.{Around}
 use Rattle.hpr_text.specs.declared.blocks.Begun.{Begun}
 use Rattle.hpr_text.specs.declared.blocks.Begun.TheVariants as begun
@@ -53,7 +53,7 @@ reads_at f p r n t ts rest (Some m) e q go = run_one _ (reading f p m) t (ts ++ 
 
 -- where a reading leads, the machine of programs is led
 lift : (f : Found) (p : Purpose) (r n : Reading) (ts rest : List Token) → runs read r ts ≡ Some n → runs (next None) (reading f p r) (ts ++ rest) ≡ runs (next None) (reading f p n) rest
-lift f p r n [] rest e = ap (λ (m : Reading). runs (next None) (reading f p m) rest) (some_is _ _ e)
+lift f p r n [] rest e = ap (λ (m : Reading). runs (next None) (reading f p m) rest) (some_inj _ _ e)
 lift f p r n (t ∷ ts) rest e = reads_at f p r n t ts rest (read r t) refl e (λ m q. lift f p m n ts rest q)
 
 value_step : (f : Found) (t : Tag) (x : List ℕ) (r : Reading) (e : Expr) → ended r ≡ Some e → next None (reading f (Assign t x) r) (Mark Semicolon) ≡ Some (state_at (with_part None t x e f) AtPart)

@@ -1,6 +1,6 @@
 use Rattle.std.proofs.Common.{◌≡◌, ℕ, ◌+◌, ◌<◌, ◌≤◌, List, take, length, get_or, inl, inr, refl, sym, subst, arith}
 use Rattle.std.proofs.lemmas.List.{take_all, get_or_default}
-use Rattle.hpr_reach.proofs.Grown.{taken_more}
+use Rattle.hpr_terms.proofs.Facts.{taken_item}
 use Rattle.hpr_build.specs.declared.places.Span.{Span}
 use Rattle.hpr_build.specs.Places.{IsAmong}
 use Rattle.hpr_build.proofs.orders.is_among.Goals.{else-span-point-via-then-span-point+else-point-span, else-span-point-via-else-span-point}
@@ -8,7 +8,7 @@ use Rattle.hpr_build.proofs.orders.is_among.Goals as goal
 
 not_here : (spans : List Span) (i q : ℕ) (s : Span) → i < length spans → s ≡ get_or spans i s → ¬ IsAmong (take i spans) q → (s.from ≤ q → q < s.to → ⊥) → ¬ IsAmong (take (i + 1) spans) q
 not_here spans i q s l is before here (r, there, low, high) =
-    elim ((taken_more spans i s r l is).0 there) [
+    elim ((taken_item spans i s r l is).0 there) [
       | inl was ↦ before (r, was, low, high)
       | inr e ↦ here (subst (λ (t : Span). t.from ≤ q) (sym e) low) (subst (λ (t : Span). q < t.to) (sym e) high)
     ]

@@ -1,7 +1,7 @@
 use Rattle.std.proofs.Common.{ℕ, get_or}
 use Rattle.std.proofs.lemmas.List.{take_all}
 use Rattle.std.proofs.lemmas.Option.{slice_get-get_or}
-use Rattle.hpr_order.proofs.ListFacts.{there_get}
+use Rattle.hpr_terms.proofs.Facts.{contains_at}
 use Rattle.hpr_order.proofs.Tabling.{blank_rows, lifted_always, lifted_marked, lifted_whole}
 use Rattle.hpr_order.proofs.blocks.mark_pairs.Goals as goal
 
@@ -11,12 +11,12 @@ loop-source-init c = blank_rows c.args.items.now c.args.pairs.now c.args.asked.n
 pub lifted-requires-clause-source : goal.lifted-requires-clause-source
 lifted-requires-clause-source c =
     let pair : ℕ × ℕ = get_or c.args.pairs.now c.loop-source.source-index (0, 0) in
-    (c.requires.within pair.0 pair.1 (there_get c.args.pairs.now c.loop-source.source-index pair (slice_get-get_or c.args.pairs.now c.loop-source.source-index (0, 0) c.loop-source-test.true))).0
+    (c.requires.within pair.0 pair.1 (contains_at c.args.pairs.now c.loop-source.source-index pair (slice_get-get_or c.args.pairs.now c.loop-source.source-index (0, 0) c.loop-source-test.true))).0
 
 pub lifted-requires-clause-target : goal.lifted-requires-clause-target
 lifted-requires-clause-target c =
     let pair : ℕ × ℕ = get_or c.args.pairs.now c.loop-source.source-index (0, 0) in
-    (c.requires.within pair.0 pair.1 (there_get c.args.pairs.now c.loop-source.source-index pair (slice_get-get_or c.args.pairs.now c.loop-source.source-index (0, 0) c.loop-source-test.true))).1
+    (c.requires.within pair.0 pair.1 (contains_at c.args.pairs.now c.loop-source.source-index pair (slice_get-get_or c.args.pairs.now c.loop-source.source-index (0, 0) c.loop-source-test.true))).1
 
 pub loop-source-preserved-in-Always : goal.loop-source-preserved-in-Always
 loop-source-preserved-in-Always c =

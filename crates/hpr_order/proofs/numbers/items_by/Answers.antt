@@ -1,9 +1,9 @@
 use Rattle.std.proofs.Common.{◌≡◌, ℕ, Some, length, get_or, slice_get, sym, ◌∙◌, subst, arith, rules}
 use Rattle.std.proofs.lemmas.Option.{slice_get-get_or, slice_get_within}
+use Rattle.hpr_terms.proofs.Facts.{some_inj}
 use Rattle.hpr_order.specs.Arranging.{IsProperItem}
 use Rattle.hpr_order.specs.Numbers.{IsItemAt}
 use Rattle.hpr_order.proofs.Itemized.{are_items_of}
-use Rattle.hpr_order.proofs.ListFacts.{some_same}
 use Rattle.hpr_order.proofs.Steps.{line_more}
 use Rattle.hpr_order.proofs.numbers.items_by.Goals as goal
 
@@ -15,7 +15,7 @@ loop-number-preserved c =
       len = omega (arith, c.in_ok-push.ensures.len, c.loop-number.invariant.len);
       at = line_more (λ n i. IsItemAt c.args.graph.now c.args.regions.now c.args.places.now n i × IsProperItem i) c.args.numbers.now c.loop-number.items.items c.push.new.self.items c.loop-number.number-index
           c.in_ok-item_at.field-0 (search (rules, c.loop-number.invariant.len))
-          (λ n e. (subst (λ z. IsItemAt c.args.graph.now c.args.regions.now c.args.places.now z c.in_ok-item_at.field-0) (some_same number n (sym here ∙ e)) c.in_ok-item_at.ensures.at, c.in_ok-item_at.ensures.proper))
+          (λ n e. (subst (λ z. IsItemAt c.args.graph.now c.args.regions.now c.args.places.now z c.in_ok-item_at.field-0) (some_inj number n (sym here ∙ e)) c.in_ok-item_at.ensures.at, c.in_ok-item_at.ensures.proper))
           c.in_ok-push.ensures.items c.loop-number.invariant.at;
     }
 

@@ -1,7 +1,7 @@
 use Rattle.std.proofs.Common.{◌∙◌, ◌+◌, Bor, refl, Option, Some, ap, length, sym, subst, arith}
 use Rattle.std.specs.Option.{option_copied}
+use Rattle.hpr_terms.proofs.Facts.{get_below}
 use Rattle.hpr_graph.specs.declared.vertex.Vertex.{Vertex}
-use Rattle.hpr_graph.proofs.Lists.{item_at}
 use Rattle.hpr_order.proofs.Places.{IsLeastTo, least_more, least_kept, least_whole, clear_whole, copied_none}
 use Rattle.hpr_order.proofs.tree.least_impossible.Goals as goal
 use Rattle.hpr_order.proofs.tree.least_impossible.Goals.{then-is_impossible, else-is_impossible}
@@ -13,7 +13,7 @@ loop-at-preserved c = elim c.if-is_impossible.branch [
       (w.if-is_impossible.ensures.impossible refl w.vertex.result.now w.vertex.ensures) (option_copied c.if-is_impossible.least)
       (ap option_copied w.least-is ∙ ap (λ (v : Vertex). Some v) w.lesser_vertex.ensures)
   | else-is_impossible w ↦
-      (let (v, is) = item_at c.args.graph.now.vertices c.loop-at.at (omega (arith, c.loop-at-test.true, ap length c.vertices-at-end.ensures.vertices)) in
+      (let (v, is) = get_below c.args.graph.now.vertices c.loop-at.at (omega (arith, c.loop-at-test.true, ap length c.vertices-at-end.ensures.vertices)) in
       subst (λ (o : Option (Bor Vertex)). IsLeastTo c.args.graph.now (c.loop-at.at + 1) (option_copied o)) (sym w.least-is)
       (least_kept c.args.graph.now c.loop-at.at v is (option_copied c.loop-at.least) c.loop-at.invariant (λ ne. w.if-is_impossible.ensures.possible refl v is ne)))
 ]
