@@ -1,15 +1,14 @@
 -- Where nothing failed and each file spells a program, the outcome is the one that those programs have.
-use Rattle.std.proofs.Common.{◌≡◌, ◌≤◌, ℕ, suc, Bool, All, arith, List, [], ◌∷◌, refl, ap, sym, ◌∙◌, subst, inl, inr, ◌⊎◌, Option, Some, Ok}
+use Rattle.std.proofs.Common.{◌≡◌, ◌≤◌, ℕ, Bool, All, List, refl, ap, sym, ◌∙◌, subst, inl, inr, ◌⊎◌, Option, Some, Ok}
 use Rattle.hpr_io.specs.Counts.{Rose}
 use Rattle.hpr_io.specs.Files.{Files, bytes_of}
 use Rattle.hpr_io.specs.Taken.{taken_then}
-use Rattle.hpr_syntax.specs.Grammar.{tagged, untagged}
+use Rattle.hpr_syntax.specs.Grammar.{untagged}
 use Rattle.hpr_syntax.specs.Print.{text}
 use Rattle.hpr_syntax.specs.Shape.{IsProgram}
 use Rattle.hpr_syntax.specs.Tree.{Tree}
 use Rattle.hpr_syntax.specs.Values.{Values}
 use Rattle.hpr_graph.specs.Answer.{Answer, interference, printed, no_program, spent, IsAnswer, issued_of}
-use Rattle.hpr_graph.specs.Graphs.{Graph}
 use Rattle.hpr_graph.specs.Points.{IsAffected}
 use Rattle.hpr_graph.specs.ProgramGraph.{graph_of}
 use Rattle.hpr_graph.specs.Slices.{slice_of}
@@ -17,7 +16,7 @@ use Rattle.hpr_report.specs.AffectedText.{IsAffectedText}
 use Rattle.hpr_report.specs.GraphTexts.{IsGraphText}
 use Rattle.hpr_words.specs.Request.{Request, Text, IsInRange, integrate, run, graph, slice, affected, trial, edit, tag}
 use Rattle.hpr_decisions.specs.Complete.{DonePrinting, Completes, IsOtherText, PrintsOther, RequestCompletes, Runs, Tries}
-use Rattle.hpr_inputs.specs.Decision.{Decision, OnRead, Prints, prints}
+use Rattle.hpr_inputs.specs.Decision.{Decision, Prints, prints}
 use Rattle.hpr_decisions.specs.AffectedFiles.{AffectedPoints, AffectedOutcome}
 use Rattle.hpr_decisions.specs.EditFiles.{EditOutcome, OnScript, TagOutcome, edit_decision}
 use Rattle.hpr_decisions.specs.GraphFile.{IsShown, Graphed, GraphOutcome}
@@ -29,10 +28,10 @@ use Rattle.hpr_decisions.specs.Graphs.{OnGraph}
 use Rattle.hpr_inputs.specs.Files.{OnFile, OnFiles}
 use Rattle.hpr_decisions.specs.Integrate.{OnGraphs, report, IsReported, Integrated, IntegrateOutcome}
 use Rattle.hpr_decisions.specs.Outcome.{RequestOutcome, OutcomeIfTold}
-use Rattle.hpr_inputs.specs.Points.{IsFirstStranger, IsNamed, IsPoint, OnPoints}
+use Rattle.hpr_inputs.specs.Points.{IsNamed, IsPoint, OnPoints}
 use Rattle.hpr_edit.specs.declared.command.Command.{Command}
 use Rattle.hpr_refusals.specs.Applied.{applied, becomes}
-use Rattle.hpr_refusals.specs.Refusals.{IsFileIn, IsFileOf, IsOne, IsRefused, IsRefusedIn, IsRefusedScript, IsScriptOf}
+use Rattle.hpr_refusals.specs.Refusals.{IsFileIn, IsFileOf, IsRefusedIn, IsRefusedScript, IsScriptOf}
 use Rattle.hpr_refusals.proofs.Once.{one_file, one_script_file}
 use Rattle.hpr_inputs.specs.States.{OnState}
 use Rattle.hpr_decisions.specs.RunFile.{Ran, RunOutcome}
@@ -45,14 +44,8 @@ use Rattle.hpr_decisions.specs.declared.status.Status.{Status}
 use Rattle.hpr_decisions.specs.declared.status.Status.TheVariants as status
 use Rattle.hpr_decisions.proofs.EndsLemmas.{asked_ends}
 use Rattle.hpr_inputs.proofs.VersionLemmas.{of_state}
-
--- what is read one way is not refused
-of_read : {A : Type 0} (refused : List ℕ → Type 0) (is : A → Type 0) → IsOne refused is → (next : A → Type 0) (r : Decision) (a : A) → OnRead refused is next r → is a → next a
-of_read refused is one next r a (inl (m, h, _)) k = absurd (one.apart m a h k)
-of_read refused is one next r a (inr (b, h, n)) k = subst next (one.value b a h k) n
-
-pub of_program : (fs : Files) (file : List ℕ) (next : Tree → Type 0) (r : Decision) (p : Tree) → OnFile fs file next r → IsFileOf (bytes_of fs file) p → next p
-of_program fs file next r p o h = of_read (IsRefused file (bytes_of fs file)) (IsFileOf (bytes_of fs file)) (one_file tagged (bytes_of fs file) file) next r p o h
+use Rattle.hpr_inputs.proofs.SpelledFiles.{of_program, of_programs}
+use Rattle.hpr_inputs.proofs.PointLemmas.{of_points}
 
 done_printing : (P : List ℕ → Type 0) (old new : Option (List ℕ)) (s : Status) (d : Decision) → s ≡ status_of d → new ≡ taken_then old (text_of d) → Prints P d → DonePrinting P old new s
 done_printing P old new s d is took (bytes, text, same) = (is ∙ ap status_of same, bytes, text, took ∙ ap (λ x. taken_then old (text_of x)) same)
@@ -61,13 +54,6 @@ done_printing P old new s d is took (bytes, text, same) = (is ∙ ap status_of s
 pub of_program_graph : (file : Text) (p : Tree) (next : Type 0) (r : Decision) → (HasTooManyEdges p → ⊥) → OnGraph file p next r → next
 of_program_graph file p next r few (inl (many, _)) = absurd (few many)
 of_program_graph file p next r few (inr (_, n)) = n
-
-pub of_programs : (fs : Files) (base a b : List ℕ) (next : Tree → Tree → Tree → Type 0) (d : Decision) (p q r : Tree) → OnFiles fs base a b next d
-    → IsFileOf (bytes_of fs base) p → IsFileOf (bytes_of fs a) q → IsFileOf (bytes_of fs b) r → next p q r
-of_programs fs base a b next d p q r o hp hq hr =
-    let on_base = of_program fs base (λ p. OnFile fs a (λ q. OnFile fs b (λ r. next p q r) d) d) d p o hp in
-    let on_a = of_program fs a (λ q. OnFile fs b (λ r. next p q r) d) d q on_base hq in
-    of_program fs b (λ r. next p q r) d r on_a hr
 
 pub of_program_graphs : (base : List ℕ) (p : Tree) (a : List ℕ) (q : Tree) (b : List ℕ) (r : Tree) (next : Type 0) (d : Decision) → AreInLimit p q r → OnGraphs base p a q b r next d → next
 of_program_graphs base p a q b r next d few o =
@@ -147,16 +133,6 @@ module _ (state : Values) (p q r : Tree) (old new : Option (List ℕ)) (s : Stat
       let on_files = of_state (states_of words) state told (λ t d. OnFiles fs base a b (λ p q r. Tried base p a q b r t steps d) d) d o in
       let on_graphs = of_programs fs base a b (λ p q r. Tried base p a q b r state steps d) d p q r on_files hp hq hr in
       (d, of_program_graphs base p a q b r (IsTried p q r state steps d) d few on_graphs, is, took)
-
--- where each word is that for a vertex, no point is refused
-pub not_stranger : (P : Text → Type 0) (words : List Text) (word : Text) → IsFirstStranger P words word → All P words → ⊥
-not_stranger P [] word h all = h
-not_stranger P (w ∷ ws) word (inl (n, _)) all = n (all 0 w (omega arith))
-not_stranger P (w ∷ ws) word (inr (_, later)) all = not_stranger P ws word later (λ k d low. all (suc k) d (omega (arith, low)))
-
-pub of_points : (g : Graph) (words : List Text) (next : Type 0) (r : Decision) → All (IsNamed g) words → OnPoints g words next r → next
-of_points g words next r all (inl (word, first, _)) = absurd (not_stranger (IsNamed g) words word first all)
-of_points g words next r all (inr (_, n)) = n
 
 module _ (old new : Option (List ℕ)) (s : Status) (fs : Files) (d : Decision) (is : s ≡ status_of d) (took : new ≡ taken_then old (text_of d)) where
   of_graph : (file : Text) (json : Bool) (p : Tree) → GraphOutcome fs file json d → IsFileOf (bytes_of fs file) p → (HasTooManyEdges p → ⊥)

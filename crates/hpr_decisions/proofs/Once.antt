@@ -1,5 +1,5 @@
 -- The words and the files make one decision.
-use Rattle.std.proofs.Common.{◌≡◌, ℕ, List, [], ◌∷◌, refl, sym, ap, ◌∙◌, subst, inl, inr, Option, Some, None, Result, Ok, Err}
+use Rattle.std.proofs.Common.{◌≡◌, ℕ, List, refl, sym, ap, ◌∙◌, subst, inl, inr, Option, Some, None, Result, Ok, Err}
 use Rattle.hpr_io.specs.Counts.{Rose}
 use Rattle.hpr_io.specs.Files.{Files, bytes_of}
 use Rattle.hpr_syntax.specs.Grammar.{tagged, untagged}
@@ -27,7 +27,7 @@ use Rattle.hpr_report.specs.ConflictsText.{conflicts_text}
 use Rattle.hpr_inputs.specs.Files.{OnFile, OnFiles}
 use Rattle.hpr_decisions.specs.Integrate.{OnGraphs, report, spent_text, no_program_text, IsReported, Integrated}
 use Rattle.hpr_decisions.specs.Outcome.{RequestOutcome, Outcome, OutcomeIfTold, HasSearched, AgreeButForBudget}
-use Rattle.hpr_inputs.specs.Points.{IsFirstStranger, IsNamed, IsPoint, OnPoints, no_such_point}
+use Rattle.hpr_inputs.specs.Points.{IsNamed, IsPoint, OnPoints, no_such_point}
 use Rattle.hpr_edit.specs.declared.command.Command.{Command}
 use Rattle.hpr_refusals.specs.Applied.{applied}
 use Rattle.hpr_refusals.specs.Refusals.{IsFileIn, IsFileOf, IsOne, IsRefused, IsRefusedIn, IsRefusedScript, IsScriptOf}
@@ -41,9 +41,9 @@ use Rattle.hpr_inputs.specs.declared.answer.Kind.TheVariants.{Done, Interference
 use Rattle.hpr_decisions.specs.declared.status.Status.{Status}
 use Rattle.hpr_decisions.specs.declared.status.Status.TheVariants as status
 use Rattle.hpr_decisions.proofs.EndsLemmas.{asked_ends}
-use Rattle.hpr_decisions.proofs.Completeness.{not_stranger}
 use Rattle.hpr_decisions.proofs.GraphLemmas.{one_shown}
 use Rattle.hpr_decisions.proofs.TrialLemmas.{one_tried}
+use Rattle.hpr_inputs.proofs.PointLemmas.{not_stranger, one_stranger}
 
 -- where one text has P, what prints it is one decision
 one_printed : (P : List ℕ → Type 0) → ((x y : List ℕ) → P x → P y → x ≡ y) → (r s : Decision) → Prints P r → Prints P s → r ≡ s
@@ -70,13 +70,6 @@ one_on_graph r s file p next also rest (inl (_, is)) (inl (_, so)) = inl (is ∙
 one_on_graph r s file p next also rest (inl (many, _)) (inr (few, _)) = absurd (few many)
 one_on_graph r s file p next also rest (inr (few, _)) (inl (many, _)) = absurd (few many)
 one_on_graph r s file p next also rest (inr (_, h)) (inr (_, k)) = rest h k
-
-one_stranger : (P : Text → Type 0) (words : List Text) (x y : Text) → IsFirstStranger P words x → IsFirstStranger P words y → x ≡ y
-one_stranger P [] x y h k = absurd h
-one_stranger P (w ∷ ws) x y (inl (_, is)) (inl (_, so)) = is ∙ sym so
-one_stranger P (w ∷ ws) x y (inl (n, _)) (inr (p, _)) = absurd (n p)
-one_stranger P (w ∷ ws) x y (inr (p, _)) (inl (n, _)) = absurd (n p)
-one_stranger P (w ∷ ws) x y (inr (_, h)) (inr (_, k)) = one_stranger P ws x y h k
 
 one_on_graphs : (r s : Decision) (base : Text) (p : Tree) (a : Text) (q : Tree) (b : Text) (o : Tree) (next also : Type 0) → (next → also → AgreeButForBudget r s)
     → OnGraphs base p a q b o next r → OnGraphs base p a q b o also s → AgreeButForBudget r s

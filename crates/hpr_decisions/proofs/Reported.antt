@@ -40,9 +40,10 @@ use Rattle.hpr_decisions.specs.TrialFiles.{IsTrialBy, IsTried, ShowsIf, Tried, h
 use Rattle.hpr_inputs.specs.declared.answer.Kind.TheVariants as kind
 use Rattle.hpr_decisions.specs.declared.status.Status.{Status}
 use Rattle.hpr_decisions.specs.declared.status.Status.TheVariants as status
-use Rattle.hpr_decisions.proofs.Completeness.{settled, of_programs, of_program_graphs}
+use Rattle.hpr_decisions.proofs.Completeness.{settled, of_program_graphs}
 use Rattle.hpr_decisions.proofs.Once.{one_interference}
 use Rattle.hpr_inputs.proofs.VersionLemmas.{on_state, of_state}
+use Rattle.hpr_inputs.proofs.SpelledFiles.{of_programs}
 
 -- an answer of the files is reported
 answer_outcome : (request : Request) (fs : Files) (cs : List Conflict) → HasAnswer request fs (interference cs)

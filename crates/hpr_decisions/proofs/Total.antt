@@ -1,37 +1,32 @@
 -- For each request and all files there is a decision.
-use Rattle.std.proofs.Common.{◌≡◌, ℕ, Option, Some, None, IfSome, Result, Ok, Err, refl, arith}
+use Rattle.std.proofs.Common.{◌≡◌, ℕ, Option, Some, None, IfSome, refl, arith}
 use Rattle.hpr_terms.specs.declared.limits.TheConstants.{DEFAULT_TRIES}
 use Rattle.hpr_io.specs.Files.{Files}
 use Rattle.hpr_syntax.specs.Print.{text}
 use Rattle.hpr_syntax.specs.Tree.{Tree}
-use Rattle.hpr_syntax.specs.Values.{Values}
 use Rattle.hpr_graph.specs.Answer.{Answer, IsAnswer}
 use Rattle.hpr_refusals.specs.Applied.{applied}
 use Rattle.hpr_words.specs.Request.{Request, integrate, run, graph, slice, affected, trial, edit, tag, IsInRange}
 use Rattle.hpr_decisions.specs.AffectedFiles.{AffectedPoints}
-use Rattle.hpr_inputs.specs.Decision.{Decision, prints, refuses, usage}
+use Rattle.hpr_inputs.specs.Decision.{Decision, prints, usage}
 use Rattle.hpr_decisions.specs.GraphFile.{Graphed}
 use Rattle.hpr_decisions.specs.EditFiles.{OnScript, edit_decision}
 use Rattle.hpr_inputs.specs.Files.{OnFile, OnFiles}
 use Rattle.hpr_decisions.specs.Integrate.{IsReported, Integrated, report}
 use Rattle.hpr_decisions.specs.Outcome.{RequestOutcome, Outcome}
-use Rattle.hpr_inputs.specs.States.{OnState}
 use Rattle.hpr_decisions.specs.RunFile.{Ran}
 use Rattle.hpr_decisions.specs.SliceFile.{Sliced}
-use Rattle.hpr_inputs.specs.States.{RefusedWord, refused_word_text, states_of}
+use Rattle.hpr_inputs.specs.States.{states_of}
 use Rattle.hpr_decisions.specs.TrialFiles.{IsTried, Tried}
 use Rattle.hpr_inputs.specs.declared.answer.Kind.TheVariants.{Done}
-use Rattle.hpr_decisions.proofs.TotalAnswers.{some_answer}
-use Rattle.hpr_decisions.proofs.TotalFiles.{HasOne, on_file, on_files, on_script, on_untagged}
+use Rattle.hpr_engine.proofs.SomeAnswer.{some_answer}
+use Rattle.hpr_decisions.proofs.TotalFiles.{on_script, on_untagged}
 use Rattle.hpr_decisions.proofs.TotalGraphs.{on_graphs, graphed, sliced, affected_points}
 use Rattle.hpr_decisions.proofs.TotalTables.{tried}
+use Rattle.hpr_inputs.proofs.SomeDecision.{HasOne, on_file, on_files, on_state}
 
 reported : (p q s : Tree) (tries : ℕ) → ¬ (¬ ((x : Answer) × IsAnswer p q s tries x)) → HasOne (IsReported p q s tries)
 reported p q s tries some n = some (λ x. n (report tries x.0, (x.0, x.1, refl)))
-
-on_state : (told : Result Values RefusedWord) (next : Values → Decision → Type 0) → ((state : Values) → HasOne (next state)) → HasOne (λ r. OnState told (λ state. next state r) r)
-on_state (Ok state) next decides n = decides state n
-on_state (Err refused) next decides n = n (refuses (refused_word_text refused), refl)
 
 module _ (fs : Files) where
   request_decided : (request : Request) → IsInRange request → HasOne (RequestOutcome request fs)

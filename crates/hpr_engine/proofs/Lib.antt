@@ -11,4 +11,4 @@ pub mod OneAnswer
 mod IssuedRows
 mod Unsearched
 pub mod PrintedKeeps
-pub mod WithinBounds
+pub mod SomeAnswer

@@ -11,11 +11,11 @@ use Rattle.hpr_graph.specs.Graphs.{Graph, IsOnce}
 use Rattle.hpr_graph.specs.Rank.{parts_of, StandsBefore, IsAddedAt, IsPutIn, IsJoined, IsRankOf, IsRank}
 use Rattle.hpr_graph.specs.Arrangements.{IsEarlier, AreArrangements}
 use Rattle.hpr_graph.proofs.Lists.{contains_at, once_tail, once_head, some_inj}
+use Rattle.hpr_graph.proofs.PutInOrder.{one_list}
 use Rattle.hpr_order.proofs.Ranks.{rank_once}
 use Rattle.hpr_engine.specs.Budget.{AreTried}
 use Rattle.hpr_rebuild.proofs.First.{at_middle}
 use Rattle.hpr_engine.proofs.FirstInRank.{moved, never_both, never_itself}
-use Rattle.hpr_engine.proofs.OneList.{one_list}
 
 module _ {X : Type 0} where
   -- what is there without an item is there once too

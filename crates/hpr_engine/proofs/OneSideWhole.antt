@@ -20,7 +20,7 @@ use Rattle.hpr_paths.proofs.DirectWays.{encloses_in}
 use Rattle.hpr_paths.proofs.Programs.{enter_outside}
 use Rattle.hpr_merge.specs.Loops.{HasLoops}
 use Rattle.hpr_merge.proofs.EdgeStands.{edge_inside}
-use Rattle.hpr_merge.proofs.Bounded.{all_of}
+use Rattle.hpr_graph.proofs.Bounded.{all_of}
 use Rattle.hpr_merge.proofs.BoundedGraph.{vertices_bounded, edges_bounded, read_is, flow_at, control_to}
 use Rattle.hpr_meaning.proofs.Unions.{program_uses}
 use Rattle.hpr_engine.proofs.OneSide.{other_loops, a_within, b_within}

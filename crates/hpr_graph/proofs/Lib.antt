@@ -1,4 +1,5 @@
 pub mod Lists
+pub mod Bounded
 mod Rows
 mod Numbers
 pub mod EdgeList
@@ -13,5 +14,7 @@ mod Twinned
 mod Linked
 mod Ascending
 pub mod VertexOrder
+pub mod EdgeOrder
 pub mod InOrder
 mod Reordered
+pub mod PutInOrder

@@ -93,7 +93,7 @@ module _ {X : Type 0} where
       get_or_same (y ∷ ys) zero e k = refl
       get_or_same (y ∷ ys) (suc j) e k = get_or_same ys j e (omega (arith, k))
 
-  split : (xs : List X) (x : X) → Contains xs x → (l r : List X) × (xs ≡ l ++ x ∷ r)
+  pub split : (xs : List X) (x : X) → Contains xs x → (l r : List X) × (xs ≡ l ++ x ∷ r)
   split [] x h = absurd (in_none x h)
   split (y ∷ xs) x h = elim (in_cons y x xs h) [
     | inl e ↦ ([], xs, ap (λ z. z ∷ xs) e)

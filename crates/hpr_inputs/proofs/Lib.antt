@@ -4,3 +4,5 @@ pub mod VersionLemmas
 pub mod ValueLemmas
 pub mod StateLemmas
 pub mod PointLemmas
+pub mod SomeDecision
+pub mod SpelledFiles

@@ -9,10 +9,11 @@ use Rattle.hpr_terms.proofs.Facts.{get_in_map, in_map, map_in}
 use Rattle.hpr_graph.specs.Graphs.{Graph, Same}
 use Rattle.hpr_graph.specs.Numbered.{Numbered, graph_in}
 use Rattle.hpr_words.specs.Request.{Text}
-use Rattle.hpr_inputs.specs.Points.{IsFirstStranger, IsNamed, point_text}
+use Rattle.hpr_inputs.specs.Points.{IsFirstStranger, IsNamed, point_text, OnPoints}
 use Rattle.hpr_inputs.specs.ReadsPoints.{AreNumbersFor, AreNumbersIn, RefusesPoint, TakesText}
 use Rattle.hpr_inputs.specs.declared.answer.Stop.{Stop}
 use Rattle.hpr_inputs.specs.declared.answer.Stop.TheVariants as stop
+use Rattle.hpr_inputs.specs.Decision.{Decision}
 
 some_same : (x y : Text) → Some x ≡ Some y → x ≡ y
 some_same x y e = cc
@@ -154,3 +155,21 @@ module _ (g : Numbered) where
 -- the same graphs name the same
 pub named_same : (g h : Graph) → Same g h → (word : Text) → IsNamed g word ↔ IsNamed h word
 named_same g h same word = (λ (v, has, is). (v, (same.0 v).0 has, is), λ (v, has, is). (v, (same.0 v).1 has, is))
+
+-- where each word is that for a vertex, no point is refused
+pub not_stranger : (P : Text → Type 0) (words : List Text) (word : Text) → IsFirstStranger P words word → All P words → ⊥
+not_stranger P [] word h all = h
+not_stranger P (w ∷ ws) word (inl (n, _)) all = n (all 0 w (omega arith))
+not_stranger P (w ∷ ws) word (inr (_, later)) all = not_stranger P ws word later (λ k d low. all (suc k) d (omega (arith, low)))
+
+-- there is one first stranger
+pub one_stranger : (P : Text → Type 0) (words : List Text) (x y : Text) → IsFirstStranger P words x → IsFirstStranger P words y → x ≡ y
+one_stranger P [] x y h k = absurd h
+one_stranger P (w ∷ ws) x y (inl (_, is)) (inl (_, so)) = is ∙ sym so
+one_stranger P (w ∷ ws) x y (inl (n, _)) (inr (p, _)) = absurd (n p)
+one_stranger P (w ∷ ws) x y (inr (p, _)) (inl (n, _)) = absurd (n p)
+one_stranger P (w ∷ ws) x y (inr (_, h)) (inr (_, k)) = one_stranger P ws x y h k
+
+pub of_points : (g : Graph) (words : List Text) (next : Type 0) (r : Decision) → All (IsNamed g) words → OnPoints g words next r → next
+of_points g words next r all (inl (word, first, _)) = absurd (not_stranger (IsNamed g) words word first all)
+of_points g words next r all (inr (_, n)) = n

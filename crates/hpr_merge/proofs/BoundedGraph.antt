@@ -20,7 +20,7 @@ use Rattle.hpr_graph.specs.declared.edge.Kind.TheVariants.{Control, Independent,
 use Rattle.hpr_graph.specs.declared.edge.Edge.{Edge}
 use Rattle.hpr_graph.specs.ProgramGraph.{Defines, Reads, IsTop, HasFlow, IsVertexOf, IsEdgeBy, IsEdgeOf}
 use Rattle.hpr_paths.proofs.Says.{says_of_standing}
-use Rattle.hpr_merge.proofs.Bounded.{Bounded, of_none, of_one, of_within, of_either, of_list, of_each, of_term}
+use Rattle.hpr_graph.proofs.Bounded.{Bounded, of_none, of_one, of_within, of_either, of_list, of_each, of_term}
 
 -- the parts of a block
 abbrev IsSaid : Body → Vertex → Type 0

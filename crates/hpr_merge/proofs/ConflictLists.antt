@@ -19,7 +19,7 @@ use Rattle.hpr_slice.specs.Vertices.{IsOneOf}
 use Rattle.hpr_graph.proofs.Lists.{some_inj, in_none, contains_at, place_of, at_push}
 use Rattle.hpr_merge.specs.Beside.{AreBeside, IsLeastAdded}
 use Rattle.hpr_merge.specs.SideConflicts.{IsSideConflict, AreSideConflicts, IsEdgeOfPoint, with_conflict}
-use Rattle.hpr_merge.proofs.EdgeOrder.{edge_one}
+use Rattle.hpr_graph.proofs.EdgeOrder.{edge_one}
 use Rattle.hpr_graph.proofs.LinkOrder.{link_cmp}
 use Rattle.hpr_merge.proofs.Widened.{least_narrow, least_wide}
 

@@ -11,7 +11,7 @@ use Rattle.hpr_graph.specs.Order.{vertex_cmp, edge_cmp}
 use Rattle.hpr_graph.specs.Slices.{Leads, LeadsTo, ReachesOne, slice_at}
 use Rattle.hpr_graph.proofs.Lists.{in_none, in_cons, in_here, in_later}
 use Rattle.hpr_merge.specs.Loops.{IsListed}
-use Rattle.hpr_merge.proofs.EdgeOrder.{edge_cases}
+use Rattle.hpr_graph.proofs.EdgeOrder.{edge_cases}
 use Rattle.hpr_graph.proofs.VertexOrder.{edge_never, edge_total, vertex_tied, vertex_itself}
 
 abbrev pub Decided : Type 0 → Type 0

@@ -1,6 +1,5 @@
 mod Searches
 mod FirstLinks
-pub mod EdgeOrder
 mod Decided
 mod AddedLinks
 mod Widened
@@ -9,7 +8,7 @@ mod BothSides
 pub mod EdgeStands
 pub mod ProgramLoops
 pub mod OneContent
-pub mod Bounded
 pub mod BoundedGraph
 pub mod ProgramRegular
 mod ProgramStands
+pub mod SomeConflicts

@@ -16,7 +16,7 @@ use Rattle.hpr_graph.specs.Points.{merged}
 use Rattle.hpr_graph.specs.ProgramGraph.{Defines, Reads, HasFlow, IsVertexOf, IsEdgeBy, IsEdgeOf, graph_of}
 use Rattle.hpr_merge.specs.Loops.{HasEnds, IsListed, IsRegular}
 use Rattle.hpr_merge.proofs.ProgramLoops.{program_loops}
-use Rattle.hpr_merge.proofs.Bounded.{of_within, of_either, listed_of}
+use Rattle.hpr_graph.proofs.Bounded.{of_within, of_either, listed_of}
 use Rattle.hpr_merge.proofs.BoundedGraph.{edges_bounded, read_is, control_to}
 use Rattle.hpr_merge.proofs.OneContent.{says_once}
 

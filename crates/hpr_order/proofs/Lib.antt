@@ -27,3 +27,5 @@ pub mod Tabling
 pub mod Coming
 pub mod Preorders
 mod OuterControls
+pub mod SomeRank
+pub mod OneBody

@@ -10,3 +10,4 @@ pub mod Regular
 pub mod Sames
 mod Amongst
 pub mod Unchanged
+pub mod SomeArrangements

@@ -7,3 +7,5 @@ mod TableRows
 pub mod OneText
 pub mod OneTable
 pub mod Ends
+pub mod SomeText
+pub mod SomeTable

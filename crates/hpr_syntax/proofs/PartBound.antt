@@ -6,7 +6,7 @@ use Rattle.hpr_syntax.specs.Tree.{Tree}
 use Rattle.hpr_syntax.specs.Shape.{IsProgram, too_many}
 use Rattle.hpr_syntax.proofs.NoRefusal.{no_refusal}
 
-few : (n : ℕ) → too_many n ≡ None → n ≤ MAX_PARTS
+pub few : (n : ℕ) → too_many n ≡ None → n ≤ MAX_PARTS
 few n h = grind (arith, h)
 
 pub few_parts : (t : Tree) → IsProgram t → part_count t.body ≤ MAX_PARTS

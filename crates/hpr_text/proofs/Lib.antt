@@ -13,3 +13,5 @@ pub mod Texts
 pub mod ContentGoing
 pub mod LastSign
 pub mod Contents
+pub mod SomeReading
+pub mod SpelledProper

@@ -23,3 +23,4 @@ pub mod RunPlaceLemmas
 pub mod TrialPlaceLemmas
 pub mod NameLemmas
 pub mod AskedLemmas
+pub mod WordLemmas

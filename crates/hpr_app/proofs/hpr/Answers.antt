@@ -9,7 +9,7 @@ use Rattle.hpr_decisions.proofs.Reported.{conflict_ends, interference_ends, inte
 use Rattle.hpr_decisions.proofs.Once.{asked_refused}
 use Rattle.hpr_decisions.proofs.Theorem.{request_keeps, request_fits}
 use Rattle.hpr_decisions.proofs.TrialTheorem.{trial_keeps, ends_trial}
-use Rattle.hpr_decisions.proofs.WordLemmas.{plain_is_taken}
+use Rattle.hpr_words.proofs.WordLemmas.{plain_is_taken}
 use Rattle.hpr_app.proofs.hpr.Goals as goal
 
 pub run_asked-requires-clause-serves : goal.run_asked-requires-clause-serves

@@ -1,18 +1,11 @@
 -- Three programs have a rank.
-use Rattle.std.proofs.Common.{◌≡◌, inl, inr, Option, Some, None, List, [], ◌∷◌, ◌++◌, Contains, slice_get, refl, ap}
+use Rattle.std.proofs.Common.{◌≡◌, inl, inr, Option, Some, None, List, [], ◌∷◌, ◌++◌, Contains, slice_get, refl}
+use Rattle.hpr_terms.proofs.Facts.{by_both}
 use Rattle.hpr_syntax.specs.Tree.{Tree}
 use Rattle.hpr_graph.specs.declared.vertex.Vertex.{Vertex}
 use Rattle.hpr_graph.specs.Rank.{parts_of, IsAddedAt, IsPutIn, IsJoined, IsRankOf, IsRank}
-use Rattle.hpr_graph.proofs.Lists.{in_none, in_cons, in_here}
+use Rattle.hpr_graph.proofs.Lists.{in_here, split}
 use Rattle.hpr_order.proofs.Ranks.{joined_has}
-use Rattle.hpr_engine.proofs.WithinBounds.{by_both}
-
-parted : (xs : List Vertex) (v : Vertex) → Contains xs v → (front back : List Vertex) × (xs ≡ front ++ v ∷ back)
-parted [] v h = absurd (in_none v h)
-parted (w ∷ xs) v h = elim (in_cons w v xs h) [
-  | inl e ↦ ([], xs, ap (λ (u : Vertex). u ∷ xs) e)
-  | inr later ↦ (let found = parted xs v later in (w ∷ found.0, found.1, ap (λ (ys : List Vertex). w ∷ ys) found.2))
-]
 
 -- the next vertex, if there is one, stands there
 abbrev Stands : Option Vertex → List Vertex → Type 0
@@ -21,7 +14,7 @@ Stands (Some next) xs = Contains xs next
 
 added : (v : Vertex) (next : Option Vertex) (xs : List Vertex) → Stands next xs → (ys : List Vertex) × IsAddedAt v next xs ys
 added v None xs there = (xs ++ v ∷ [], refl)
-added v (Some next) xs there = let found = parted xs next there in (found.0 ++ v ∷ next ∷ found.1, (found.0, found.1, found.2, refl))
+added v (Some next) xs there = let found = split xs next there in (found.0 ++ v ∷ next ∷ found.1, (found.0, found.1, found.2, refl))
 
 put : (v : Vertex) (next : Option Vertex) (xs : List Vertex) → Stands next xs → ¬ (¬ ((ys : List Vertex) × IsPutIn v next xs ys))
 put v next xs there =

@@ -5,15 +5,10 @@ use Rattle.std.proofs.Common.{◌≡◌, ℕ, ◌↔◌, inl, inr, ◌⊎◌, Li
 use Rattle.std.proofs.lemmas.List.Elements.{Contains-append_left, Contains-append_right}
 use Rattle.hpr_terms.specs.Term.{Term, num, var, prefix, infix'}
 use Rattle.hpr_terms.specs.Uses.{TermUses}
-use Rattle.hpr_graph.proofs.Lists.{in_none, in_cons, in_here, in_later}
+use Rattle.hpr_terms.proofs.Facts.{by_both, in_none, in_cons, in_here, in_later}
 
 abbrev pub Bounded : {X : Type 0} → (X → Type 0) → Type 0
 Bounded {X} P = ¬ (¬ ((xs : List X) × ((x : X) → P x → Contains xs x)))
-
--- what is so either way can't be refuted
-module _ (A : Type 0) where
-  pub by_both : (C : Type 0) → (A → ¬ (¬ C)) → ((¬ A) → ¬ (¬ C)) → ¬ (¬ C)
-  by_both C holds fails n = fails (λ a. holds a n) n
 
 module _ {X : Type 0} where
   pub of_none : Bounded {X = X} (λ x. ⊥)

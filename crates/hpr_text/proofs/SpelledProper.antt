@@ -1,5 +1,5 @@
 -- The names and the numbers of a tree that a text spells are proper.
-use Rattle.std.proofs.Common.{ℕ, ◌<◌, ◌≤◌, ◌^◌, ◌==◌, max, nat_lt, Bool, true, false, if◌then◌else◌, All, Option, List, [], ◌∷◌, ◌++◌, map, Contains, inl, inr, sym, subst, arith}
+use Rattle.std.proofs.Common.{ℕ, ◌<◌, ◌≤◌, ◌^◌, ◌==◌, max, nat_lt, Bool, true, false, if◌then◌else◌, All, Option, List, [], ◌∷◌, ◌++◌, map, Contains, inl, inr, sym, subst, arith, ◌≡◌, None}
 use Rattle.std.specs.List.{AllByRecursion}
 use Rattle.std.proofs.lemmas.List.Elements.{All-from_recursion, Contains-append_left, Contains-append_right}
 use Rattle.hpr_terms.specs.declared.tag.Tag.{Tag}
@@ -11,6 +11,8 @@ use Rattle.hpr_terms.specs.Names.{IsName}
 use Rattle.hpr_terms.specs.Term.{Term}
 use Rattle.hpr_terms.specs.Tokens as tokens
 use Rattle.hpr_terms.specs.Tokens.{IsToken, Text}
+use Rattle.hpr_terms.proofs.Facts.{in_none, in_cons, in_here, in_later}
+use Rattle.hpr_terms.specs.declared.limits.TheConstants.{MAX_PARTS}
 use Rattle.hpr_syntax.specs.Body.{Body, part_count}
 use Rattle.hpr_syntax.specs.Grammar as grammar
 use Rattle.hpr_syntax.specs.Grammar.{Form, tagged, untagged, Rule, IsTag, Labels, IsIssuedPair, SpellsTerm, SpellsParts, SpellsPairs, SpellsHeader, SpellsNames, issued_of, tag_pair}
@@ -20,8 +22,10 @@ use Rattle.hpr_syntax.specs.Proper.{IsProperTerm, IsProperTag, IsProperBody, IsP
 use Rattle.hpr_syntax.specs.Spelling.{Spells}
 use Rattle.hpr_syntax.specs.Tree.{Tree}
 use Rattle.hpr_syntax.proofs.IssuedLemmas.{raised_keeps}
+use Rattle.hpr_syntax.proofs.PartBound.{few}
+use Rattle.hpr_syntax.proofs.NoRefusal.{no_refusal}
+use Rattle.hpr_syntax.specs.Shape.{shape}
 use Rattle.hpr_text.proofs.Numbered.{parts_counted}
-use Rattle.hpr_graph.proofs.Lists.{in_none, in_cons, in_here, in_later}
 
 -- the names among the tokens are names
 abbrev Named : List Token → Type 0
@@ -195,3 +199,9 @@ untagged_labels a most author few n ts t grammar.Labels.none within = (author, (
 pub untagged_proper : (a : ℕ) (bytes : List ℕ) (t : Tree) → a < 2 ^ 32 → part_count t.body < 2 ^ 32 → Spells (untagged a) bytes t → IsProper t
 untagged_proper a bytes t author few h =
     spelled_proper (untagged a) bytes t h (untagged_labels a h.program.count author (omega (arith, few, parts_counted h.program.parts_are)))
+
+-- one that no test of its shape refuses, too
+pub untagged_well : (author : ℕ) (bytes : List ℕ) → author < 2 ^ 32 → (t : Tree) → Spells (untagged author) bytes t → shape t ≡ None → IsProper t
+untagged_well author bytes low t is e =
+    let parts : part_count t.body ≤ MAX_PARTS = few (part_count t.body) (no_refusal t e).parts in
+    untagged_proper author bytes t low (omega (arith, parts)) is

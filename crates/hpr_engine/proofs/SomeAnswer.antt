@@ -1,5 +1,6 @@
 -- Three programs have an answer.
 use Rattle.std.proofs.Common.{◌⊎◌, ℕ, inl, inr, List, [], ◌∷◌, length, Contains, refl, sym, ap, subst}
+use Rattle.hpr_terms.proofs.Facts.{by_both}
 use Rattle.hpr_syntax.specs.Shape.{IsProgram}
 use Rattle.hpr_syntax.specs.Tree.{Tree}
 use Rattle.hpr_graph.specs.declared.conflict.Conflict.{Conflict}
@@ -11,12 +12,14 @@ use Rattle.hpr_graph.specs.Order.{vertex_cmp}
 use Rattle.hpr_graph.specs.ProgramGraph.{graph_of, IsVertexOf}
 use Rattle.hpr_graph.proofs.Lists.{in_none, in_cons}
 use Rattle.hpr_graph.proofs.VertexOrder.{vertex_total, vertex_tied, vertex_never}
+use Rattle.hpr_graph.proofs.Bounded.{Bounded, of_within, of_either}
 use Rattle.hpr_rebuild.proofs.Member.{member, settled, settled_fits}
-use Rattle.hpr_engine.proofs.WithinBounds.{Bounded, by_both, of_within, of_either, vertices_bounded, of_variant, ranking, proper_issued, parts_issued}
-use Rattle.hpr_decisions.proofs.TotalArrangements.{some_arrangements}
-use Rattle.hpr_decisions.proofs.TotalConflicts.{some_conflicts}
-use Rattle.hpr_decisions.proofs.TotalLists.{ascending, once_ascending}
-use Rattle.hpr_decisions.proofs.TotalRank.{some_rank}
+use Rattle.hpr_rebuild.proofs.SomeArrangements.{some_arrangements}
+use Rattle.hpr_merge.proofs.SomeConflicts.{some_conflicts}
+use Rattle.hpr_graph.proofs.PutInOrder.{ascending, once_ascending}
+use Rattle.hpr_order.proofs.SomeRank.{some_rank}
+use Rattle.hpr_merge.proofs.BoundedGraph.{vertices_bounded}
+use Rattle.hpr_engine.proofs.Premises.{of_variant, ranking, proper_issued, parts_issued}
 
 -- where some program of a list fits, one is the first
 module _ (g : Graph) where

@@ -1,8 +1,8 @@
--- What lies within bounds can be put in order, where an order tells any two things apart.
+-- What lies within bounds can be put in order, where an order tells any two things apart, and in one way.
 --
 -- InTurn Before xs        == each item comes before all those behind it
 -- AreInOrder Before P xs  == the list has exactly the things with P, in turn
-use Rattle.std.proofs.Common.{◌≡◌, ℕ, zero, suc, ◌<◌, ◌↔◌, ◌⊎◌, inl, inr, Some, List, [], ◌∷◌, Contains, slice_get, refl, sym, ap, ◌∙◌, subst, arith}
+use Rattle.std.proofs.Common.{◌≡◌, ℕ, zero, suc, ◌<◌, ◌↔◌, ◌⊎◌, inl, inr, Some, List, [], ◌∷◌, Contains, slice_get, refl, sym, ap, ◌∙◌, subst, arith, ap₂}
 use Rattle.std.specs.declared.cmp.Ordering.{Ordering}
 use Rattle.std.specs.declared.cmp.Ordering.TheVariants.{Less, Equal, Greater}
 use Rattle.std.specs.Cmp.{IsTotalOrder}
@@ -10,8 +10,8 @@ use Rattle.std.specs.Ordering.{ordering_reverse}
 use Rattle.std.proofs.lemmas.Bool.{cases_order}
 use Rattle.hpr_graph.specs.Graphs.{IsOnce}
 use Rattle.hpr_graph.specs.InOrder.{Ascends}
-use Rattle.hpr_graph.proofs.Lists.{contains_at, in_none, in_cons, in_here, in_later}
-use Rattle.hpr_engine.proofs.WithinBounds.{Bounded, listed_of}
+use Rattle.hpr_graph.proofs.Lists.{contains_at, in_none, in_cons, in_here, in_later, place_of}
+use Rattle.hpr_graph.proofs.Bounded.{Bounded, listed_of}
 
 module _ {X : Type 0} (Before : X → X → Type 0) where
   abbrev Rises : List X → Type 0
@@ -157,3 +157,39 @@ module _ {X : Type 0} (cmp : X → X → Ordering) where
       | inr more ↦ (let before : cmp x x ≡ Less = up j i x x more q p in absurd (never x x before before))
     ]
   ]
+
+-- lists with the same members in turn are the same, in an order of which no two things stand before each other
+module _ {X : Type 0} (Before : X → X → Type 0) (never : (c d : X) → Before c d → Before d c → ⊥) where
+  rest_in_turn : (c : X) (cs : List X) → InTurn Before (c ∷ cs) → InTurn Before cs
+  rest_in_turn c cs up i j x y l p q = up (suc i) (suc j) x y (omega (arith, l)) p q
+
+  first_before : (c : X) (cs : List X) → InTurn Before (c ∷ cs) → (d : X) → Contains cs d → Before c d
+  first_before c cs up d h = let (i, at) = place_of cs d h in up 0 (suc i) c d (omega arith) refl at
+
+  not_itself : (c d : X) → c ≡ d → Before c d → ⊥
+  not_itself c d e before = let again : Before c c = subst (λ (x : X). Before c x) (sym e) before in never c c again again
+
+  -- what stands behind the first of one list stands behind the first of the other
+  behind : (c d : X) (cs ds : List X) → InTurn Before (c ∷ cs) → c ≡ d → ((z : X) → Contains (c ∷ cs) z → Contains (d ∷ ds) z) → (z : X) → Contains cs z → Contains ds z
+  behind c d cs ds up e into z h = elim (in_cons d z ds (into z (in_later c z cs h))) [
+    | inl is ↦ absurd (not_itself c z (e ∙ is) (first_before c cs up z h))
+    | inr later ↦ later
+  ]
+
+  pub one_list : (cs ds : List X) → InTurn Before cs → InTurn Before ds → ((z : X) → Contains cs z ↔ Contains ds z) → cs ≡ ds
+  one_list [] [] up down same = refl
+  one_list [] (d ∷ ds) up down same = absurd (in_none d ((same d).1 (in_here d ds)))
+  one_list (c ∷ cs) [] up down same = absurd (in_none c ((same c).0 (in_here c cs)))
+  one_list (c ∷ cs) (d ∷ ds) up down same =
+      let first : c ≡ d = elim (in_cons d c ds ((same c).0 (in_here c cs))) [
+        | inl e ↦ sym e
+        | inr later ↦ (elim (in_cons c d cs ((same d).1 (in_here d ds))) [
+          | inl e ↦ e
+          | inr later_too ↦ absurd (never c d (first_before c cs up d later_too) (first_before d ds down c later))
+        ])
+      ] in
+      let rest : (z : X) → Contains cs z ↔ Contains ds z = λ z. (
+        behind c d cs ds up first (λ y. (same y).0) z,
+        behind d c ds cs down (sym first) (λ y. (same y).1) z,
+      ) in
+      ap₂ (λ (x : X) (xs : List X). x ∷ xs) first (one_list cs ds (rest_in_turn c cs up) (rest_in_turn d ds down) rest)

@@ -12,9 +12,11 @@ use Rattle.hpr_graph.specs.Graphs.{Graph}
 use Rattle.hpr_graph.specs.Order.{vertex_cmp, edge_cmp}
 use Rattle.hpr_graph.specs.ProgramGraph.{graph_of, IsVertexOf}
 use Rattle.hpr_graph.proofs.VertexOrder.{vertex_total, edge_total, vertex_tied}
-use Rattle.hpr_engine.proofs.WithinBounds.{Bounded, of_one, of_within, of_either, of_each, vertices_bounded, merged_listed}
-use Rattle.hpr_merge.proofs.EdgeOrder.{edge_tied}
-use Rattle.hpr_decisions.proofs.TotalLists.{compared, in_order}
+use Rattle.hpr_graph.proofs.Bounded.{Bounded, of_one, of_within, of_either, of_each}
+use Rattle.hpr_graph.proofs.EdgeOrder.{edge_tied}
+use Rattle.hpr_graph.proofs.PutInOrder.{compared, in_order}
+use Rattle.hpr_merge.proofs.BoundedGraph.{vertices_bounded}
+use Rattle.hpr_merge.proofs.ProgramRegular.{merged_listed}
 
 abbrev conflict : Side → Vertex → Edge → Conflict
 conflict s v e = record { side = s; point = v; edge = e }

@@ -5,6 +5,7 @@ use Rattle.std.specs.declared.cmp.Ordering.TheVariants.{Less}
 use Rattle.std.proofs.lemmas.Bool.{cases_order}
 use Rattle.std.proofs.lemmas.Cmp.{tied_itself}
 use Rattle.hpr_terms.specs.declared.tag.Tag.{Tag}
+use Rattle.hpr_terms.proofs.Facts.{by_both}
 use Rattle.hpr_syntax.specs.declared.rows.Content.{Content}
 use Rattle.hpr_syntax.specs.Issued.{Issued}
 use Rattle.hpr_syntax.specs.Nests.{Standing, StandsAsIn}
@@ -19,12 +20,11 @@ use Rattle.hpr_graph.specs.Order.{name_cmp}
 use Rattle.hpr_graph.specs.ProgramGraph.{IsControl}
 use Rattle.hpr_graph.specs.Rank.{parts_of, StandsBefore}
 use Rattle.hpr_graph.proofs.Lists.{place_of, in_here, in_later, no_longer, some_inj}
+use Rattle.hpr_graph.proofs.Bounded.{Bounded, of_one, of_within, of_either, of_list, of_each}
 use Rattle.hpr_order.proofs.Ranks.{parts_once}
 use Rattle.hpr_rebuild.proofs.Parts.{part_says, says_part}
-use Rattle.hpr_engine.proofs.OneList.{one_list}
-use Rattle.hpr_engine.proofs.WithinBounds.{Bounded, by_both, of_one, of_within, of_either, of_list, of_each}
-use Rattle.hpr_decisions.proofs.TotalBodies.{Placed, vertex, placed, parts_placed, stands_so, one_body}
-use Rattle.hpr_decisions.proofs.TotalLists.{in_order}
+use Rattle.hpr_order.proofs.OneBody.{Placed, vertex, placed, parts_placed, stands_so, one_body}
+use Rattle.hpr_graph.proofs.PutInOrder.{in_order, one_list}
 
 -- ---- what the parts in preorder say of an arrangement
 
