@@ -5,7 +5,7 @@ use Rattle.hpr_syntax.specs.Print.{text}
 use Rattle.hpr_syntax.specs.Tree.{Tree}
 use Rattle.hpr_edit.specs.declared.command.Command.{Command}
 use Rattle.hpr_edit.specs.declared.command.EditError.{EditError}
-use Rattle.hpr_refusals.specs.Applied.{Applied, applied, becomes, refused}
+use Rattle.hpr_edit.specs.Applied.{Applied, applied, becomes, refused}
 use Rattle.hpr_refusals.specs.Reasons.{command_text}
 use Rattle.hpr_refusals.specs.Refusals.{IsRefusedScript, IsScriptOf}
 use Rattle.hpr_inputs.specs.Answer.{StopIs, Decides, Merges}

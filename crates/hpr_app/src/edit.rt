@@ -1,16 +1,17 @@
 //! The command `edit`.
 ghost use Rattle.std.specs.Prelude.{◌≡◌, ◌≤◌, IsTrue, Some};
 ghost use Rattle.hpr_words.specs.Request.{edit};
-ghost use Rattle.hpr_refusals.specs.Applied.{applied};
+ghost use Rattle.hpr_edit.specs.Applied.{applied};
 ghost use Rattle.hpr_decisions.specs.EditFiles.{edit_decision};
 ghost use Rattle.hpr_decisions.specs.Outcome.{OutcomeIfTold};
 ghost use Rattle.hpr_decisions.specs.Reads.{MayRead};
 ghost use Rattle.hpr_inputs.specs.Answer.{Decides, Merges};
 
 use crate::programs::print_program;
+use hpr_edit::{Command, apply_script};
 use hpr_inputs::{Report, Stop, read_commands, read_program};
 use hpr_io::Shelf;
-use hpr_refusals::{Command, apply_script};
+use hpr_refusals::command_message;
 use hpr_syntax::Program;
 use std::alloc::Global;
 
@@ -48,7 +49,7 @@ fn show_edited(
     match apply_script(alloc, program, commands, author) {
         Ok(edited) => print_program(alloc, &edited),
         Err(refusal) => {
-            let message = refusal.message(alloc, script)?;
+            let message = command_message(alloc, script, &refusal)?;
             Err(Stop::Refused(message))
         }
     }

@@ -2,8 +2,8 @@
 ghost use Rattle.std.specs.Prelude.{◌≡◌, ◌≤◌, ℕ, OnOk};
 ghost use Rattle.hpr_syntax.specs.Issued.{issued_to};
 
-use hpr_edit::{Command, EditError, Editor};
-use hpr_refusals::{Refusal, apply_script};
+use hpr_edit::{Command, EditError, Editor, apply_script};
+use hpr_refusals::{Refusal, command_message};
 use hpr_rows::{Out, Row, put_count, put_message, put_program};
 use hpr_script::{ScriptError, read_script};
 use std::alloc::Global;
@@ -49,7 +49,7 @@ fn applied(row: Row<'_>, out: &mut Out, commands: &[Command]) -> Option<()> {
     }
     match apply_script(row.alloc, row.program(2)?, commands, author) {
         Ok(edited) => put_program(row.alloc, out, &edited),
-        Err(refusal) => put_message(out, refusal.message(row.alloc, name)),
+        Err(refusal) => put_message(out, command_message(row.alloc, name, &refusal)),
     }
     Some(())
 }

@@ -30,7 +30,7 @@ use Rattle.hpr_decisions.specs.Integrate.{OnGraphs, report, IsReported, Integrat
 use Rattle.hpr_decisions.specs.Outcome.{RequestOutcome, OutcomeIfTold}
 use Rattle.hpr_inputs.specs.Points.{IsNamed, IsPoint, OnPoints}
 use Rattle.hpr_edit.specs.declared.command.Command.{Command}
-use Rattle.hpr_refusals.specs.Applied.{applied, becomes}
+use Rattle.hpr_edit.specs.Applied.{applied, becomes}
 use Rattle.hpr_refusals.specs.Refusals.{IsFileIn, IsFileOf, IsRefusedIn, IsRefusedScript, IsScriptOf}
 use Rattle.hpr_refusals.proofs.Once.{one_file, one_script_file}
 use Rattle.hpr_inputs.specs.States.{OnState}

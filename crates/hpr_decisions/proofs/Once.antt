@@ -29,7 +29,7 @@ use Rattle.hpr_decisions.specs.Integrate.{OnGraphs, report, spent_text, no_progr
 use Rattle.hpr_decisions.specs.Outcome.{RequestOutcome, Outcome, OutcomeIfTold, HasSearched, AgreeButForBudget}
 use Rattle.hpr_inputs.specs.Points.{IsNamed, IsPoint, OnPoints, no_such_point}
 use Rattle.hpr_edit.specs.declared.command.Command.{Command}
-use Rattle.hpr_refusals.specs.Applied.{applied}
+use Rattle.hpr_edit.specs.Applied.{applied}
 use Rattle.hpr_refusals.specs.Refusals.{IsFileIn, IsFileOf, IsOne, IsRefused, IsRefusedIn, IsRefusedScript, IsScriptOf}
 use Rattle.hpr_refusals.proofs.Once.{one_file, one_script_file}
 use Rattle.hpr_decisions.specs.EditFiles.{OnScript, OnUntagged, edit_decision}

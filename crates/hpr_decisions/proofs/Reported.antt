@@ -29,7 +29,7 @@ use Rattle.hpr_inputs.specs.Files.{OnFile, OnFiles}
 use Rattle.hpr_decisions.specs.Integrate.{OnGraphs, report, IsReported, Integrated, no_program_text, spent_text}
 use Rattle.hpr_decisions.specs.Outcome.{RequestOutcome, OutcomeIfTold}
 use Rattle.hpr_inputs.specs.Points.{OnPoints}
-use Rattle.hpr_refusals.specs.Applied as made
+use Rattle.hpr_edit.specs.Applied as made
 use Rattle.hpr_refusals.specs.Refusals.{IsFileIn, IsFileOf, IsRefused, IsRefusedIn, IsRefusedScript, IsScriptOf}
 use Rattle.hpr_decisions.specs.EditFiles.{edit_decision}
 use Rattle.hpr_decisions.specs.Reports.{HasAnswer, HasConflict, IsInterference, tries_of}

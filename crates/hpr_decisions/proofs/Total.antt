@@ -5,7 +5,7 @@ use Rattle.hpr_io.specs.Files.{Files}
 use Rattle.hpr_syntax.specs.Print.{text}
 use Rattle.hpr_syntax.specs.Tree.{Tree}
 use Rattle.hpr_graph.specs.Answer.{Answer, IsAnswer}
-use Rattle.hpr_refusals.specs.Applied.{applied}
+use Rattle.hpr_edit.specs.Applied.{applied}
 use Rattle.hpr_words.specs.Request.{Request, integrate, run, graph, slice, affected, trial, edit, tag, IsInRange}
 use Rattle.hpr_decisions.specs.AffectedFiles.{AffectedPoints}
 use Rattle.hpr_inputs.specs.Decision.{Decision, prints, usage}

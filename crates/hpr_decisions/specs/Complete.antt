@@ -36,7 +36,7 @@ use Rattle.hpr_rebuild.specs.Settled.{IsSettled}
 use Rattle.hpr_decisions.specs.Integrate.{report}
 use Rattle.hpr_inputs.specs.Points.{IsNamed, IsPoint}
 use Rattle.hpr_edit.specs.declared.command.Command.{Command}
-use Rattle.hpr_refusals.specs.Applied.{applied, becomes}
+use Rattle.hpr_edit.specs.Applied.{applied, becomes}
 use Rattle.hpr_refusals.specs.Refusals.{IsFileIn, IsFileOf, IsScriptOf}
 use Rattle.hpr_decisions.specs.RunFile.{kind_of}
 use Rattle.hpr_inputs.specs.States.{states_of}

@@ -8,3 +8,4 @@ pub mod Fresh
 pub mod Outside
 pub mod Back
 pub mod Ends
+pub mod Scripts

@@ -2,6 +2,7 @@ pub mod Editing
 pub mod Places
 pub mod Changes
 pub mod Edited
+pub mod Applied
 pub mod Reverted
 pub mod Rows
 pub mod Steps

@@ -8,6 +8,8 @@ mod editor;
 pub mod laws;
 mod places;
 mod revert;
+mod script;
 
 pub use command::{Command, EditError, FinalNames, Inverse, Place};
 pub use editor::Editor;
+pub use script::{CommandRefusal, apply_script};

@@ -1,3 +1,2 @@
 pub mod Reasons
 pub mod Refusals
-pub mod Applied

@@ -6,8 +6,8 @@ mod files;
 pub mod laws;
 mod reasons;
 
-pub use commands::{CommandRefusal, apply_script};
+pub use commands::command_message;
 pub use files::Refusal;
-pub use hpr_edit::{Command, EditError};
+pub use hpr_edit::{Command, CommandRefusal, EditError};
 pub use hpr_syntax::{Program, ShapeError, Tag};
 pub use reasons::{about, tag_name};

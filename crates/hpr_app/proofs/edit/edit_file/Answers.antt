@@ -1,7 +1,7 @@
 use Rattle.std.proofs.Common.{◌≡◌, ◌∙◌, subst}
 use Rattle.std.proofs.lemmas.Result.{err_from_is_err_and}
 use Rattle.hpr_io.specs.Files.{bytes_of}
-use Rattle.hpr_refusals.specs.Applied.{applied}
+use Rattle.hpr_edit.specs.Applied.{applied}
 use Rattle.hpr_refusals.specs.Refusals.{IsRefusedScript, IsScriptOf}
 use Rattle.hpr_inputs.specs.Answer.{Merges}
 use Rattle.hpr_decisions.specs.EditFiles.{edit_decision}

@@ -1,4 +1,4 @@
-use Rattle.hpr_refusals.specs.Applied.{applied}
+use Rattle.hpr_edit.specs.Applied.{applied}
 use Rattle.hpr_app.proofs.EditLemmas.{edited_decides, refused_decides}
 use Rattle.hpr_app.proofs.edit.show_edited.Goals as goal
 

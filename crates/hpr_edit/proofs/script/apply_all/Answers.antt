@@ -1,6 +1,6 @@
 use Rattle.std.proofs.Common.{◌∙◌}
-use Rattle.hpr_refusals.proofs.Scripts.{one_more}
-use Rattle.hpr_refusals.proofs.commands.apply_all.Goals as goal
+use Rattle.hpr_edit.proofs.Scripts.{one_more}
+use Rattle.hpr_edit.proofs.script.apply_all.Goals as goal
 
 pub loop-at-preserved : goal.loop-at-preserved
 loop-at-preserved c =

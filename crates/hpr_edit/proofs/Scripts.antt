@@ -7,7 +7,7 @@ use Rattle.hpr_edit.specs.declared.command.EditError.{EditError}
 use Rattle.hpr_edit.specs.declared.command.Inverse.{Inverse}
 use Rattle.hpr_edit.specs.Edited as one
 use Rattle.hpr_edit.specs.Edited.{edited}
-use Rattle.hpr_refusals.specs.Applied.{applied, applied_from, becomes, refused, then_on}
+use Rattle.hpr_edit.specs.Applied.{applied, applied_from, becomes, refused, then_on}
 
 module _ (p : Tree) (commands : List Command) (author : ℕ) where
   -- what is left to do behind so many commands, which made q

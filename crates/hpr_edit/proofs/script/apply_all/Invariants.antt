@@ -1,6 +1,6 @@
 use Rattle.std.proofs.Common.{◌≡◌}
-use Rattle.hpr_refusals.proofs.Scripts.{Left}
-use Rattle.hpr_refusals.proofs.commands.apply_all.Given as goal
+use Rattle.hpr_edit.proofs.Scripts.{Left}
+use Rattle.hpr_edit.proofs.script.apply_all.Given as goal
 
 abbrev pub invariant-loop-at : goal.invariant-loop-at
 invariant-loop-at l = record {
