@@ -5,7 +5,6 @@ use Rattle.hpr_terms.proofs.Facts.{get_below}
 use Rattle.hpr_search.proofs.Rows.{marked_within}
 use Rattle.hpr_graph.specs.declared.vertex.Vertex.{Vertex}
 use Rattle.hpr_graph.specs.declared.edge.Kind.{Kind}
-use Rattle.hpr_graph.specs.declared.edge.Kind.TheVariants as kind
 use Rattle.hpr_graph.specs.declared.link.LinkKind.{LinkKind}
 use Rattle.hpr_graph.specs.declared.link.LinkKind.TheVariants.{Control, Independent, Carried, Order}
 use Rattle.hpr_graph.specs.declared.link.Link.{Link}
@@ -13,7 +12,7 @@ use Rattle.hpr_graph.specs.Graphs.{IsWithin, Same, OnThird, restrict_to}
 use Rattle.hpr_graph.specs.Numbered.{Numbered, HasVertex, HasEdge, IsKindAt, IsNumbered, graph_in, rows_of}
 use Rattle.hpr_graph.specs.Moves.{number_at}
 use Rattle.hpr_graph.specs.Slices.{ReachesOne, slice_at}
-use Rattle.hpr_graph.proofs.Laws.{closed_by_numbers, same_from_within, within_from_same, same_turned}
+use Rattle.hpr_graph.proofs.Laws.{closed_by_numbers, same_from_within, within_from_same, same_turned, third_map_on}
 use Rattle.hpr_slice.specs.Vertices.{IsOneOf, MarksExactly}
 use Rattle.hpr_graph.proofs.Lists.{some_inj, contains_at, place_of}
 use Rattle.hpr_affected.specs.declared.lacking.OneWay.{OneWay}
@@ -35,12 +34,6 @@ module _ (g : Numbered) (P : Vertex → Type 0) (marks : List Bool) (m : MarksEx
   marked_third (Carried w) v e (x, y, d, at, is) t = subst (OnThird P) (sym is) ((m.exact w y at).0 t)
   marked_third (Order u) v e (y, at, is) t = subst (OnThird P) (sym is) ((m.exact u y at).0 t)
 
-third_then : (V P Q : Vertex → Type 0) → ((v : Vertex) → V v → P v → Q v) → (k : Kind) → OnThird V k → OnThird P k → OnThird Q k
-third_then V P Q f (kind.Control label) v p = tt
-third_then V P Q f (kind.Independent x) v p = tt
-third_then V P Q f (kind.Carried x w) v p = f w v p
-third_then V P Q f (kind.Order u) v p = f u v p
-
 module _ (g h : Numbered) (kg : IsNumbered g) (kh : IsNumbered h) (ns : List (Option ℕ)) (rows : List (List Link)) (way : IsOneWay g h ns rows) (P Q : Vertex → Type 0) (marks others : List Bool) (mg : MarksExactly g P marks) (mh : MarksExactly h Q others) where
   in_other : AllKept ns rows marks others → (v : Vertex) → HasVertex g v → P v → HasVertex h v × Q v
   in_other kept v there p =
@@ -60,7 +53,7 @@ module _ (g h : Numbered) (kg : IsNumbered g) (kh : IsNumbered h) (ns : List (Op
           | inr there ↦ edge_from_there g h kh ns way.numbers at l e is there
         ] in
         let f = λ (v : Vertex) (there : HasVertex g v) (p : P v). (in_other kept v there p).1 in
-        (has_h, (f e.to v_to to, f e.from v_from from, third_then (HasVertex g) P Q f e.kind v_third third))),
+        (has_h, (f e.to v_to to, f e.from v_from from, third_map_on (HasVertex g) P Q f e.kind v_third third))),
   )
 
   kept_from_within : IsWithin (restrict_to (graph_in g) P) (restrict_to (graph_in h) Q) → AllKept ns rows marks others

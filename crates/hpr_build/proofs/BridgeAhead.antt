@@ -11,12 +11,14 @@ use Rattle.hpr_syntax.specs.Paths.{Path, one, step}
 use Rattle.hpr_syntax.specs.Tree.{Tree}
 use Rattle.hpr_paths.specs.declared.spot.Step.{Step}
 use Rattle.hpr_paths.specs.Spots.{Spot, loops_of, steps_of, next_at, nest_at}
-use Rattle.hpr_paths.specs.Successors.{step_to, first_step, spots_of, spots}
+use Rattle.hpr_paths.specs.Successors.{step_to, first_step, spots}
 use Rattle.hpr_paths.specs.Numbers.{Leads}
 use Rattle.hpr_terms.proofs.Few.{contains_one, contains_two}
 use Rattle.hpr_terms.proofs.Facts.{in_none, in_here, in_later}
-use Rattle.hpr_paths.proofs.Stands.{SpotIn, WholeIn, has_low, has_of_in, count_spots, count_whole, end_of, whole_of_get}
-use Rattle.hpr_paths.proofs.Sound.{has_high, get_below, are_spots}
+use Rattle.hpr_paths.proofs.Stands.{SpotIn, WholeIn, count_whole, end_of, whole_of_get}
+use Rattle.hpr_paths.proofs.Sound.{get_below, are_spots}
+use Rattle.hpr_paths.proofs.Left.{spot_range}
+use Rattle.hpr_paths.proofs.Encloses.{nest_to, outer_in}
 use Rattle.hpr_reach.specs.Reaches.{back_to}
 use Rattle.hpr_reach.proofs.Chains.{contains_taken}
 use Rattle.hpr_reach.proofs.Flows.{step_within}
@@ -93,35 +95,6 @@ steps_follow (loop t e b rest) n f w p s hf h =
       | inr (inr i) ↦ steps_follow rest next f w p s behind i
     ]
 
-spot_range : (b : Body) (n : ℕ) (f : Step) (w : List ℕ) (p : ℕ) (s : Spot) → SpotIn b n f w p s → (n ≤ p) × (p < n + part_count b)
-spot_range b n f w p s h =
-    let has = has_of_in b n f w p s h in
-    (has_low (spots_of b n f w) n p s has, omega (arith, has_high (spots_of b n f w) n p s has, count_spots b n f w))
-
-nest_to : (s q : Spot) (l : ℕ) → s ≡ q → Contains s.nest l → Contains q.nest l
-nest_to s q l is c = subst (λ (x : Spot). Contains x.nest l) is c
-
--- the loops around a block are around its parts
-nest_keeps : (b : Body) (n : ℕ) (f : Step) (w : List ℕ) (p : ℕ) (s : Spot) (l : ℕ) → SpotIn b n f w p s → Contains w l → Contains s.nest l
-nest_keeps done n f w p s l h c = absurd h
-nest_keeps (action t d rest) n f w p s l (inl h) c = nest_to _ s l (sym h.1) c
-nest_keeps (action t d rest) n f w p s l (inr h) c = nest_keeps rest (n + 1) f w p s l h c
-nest_keeps (branch t e a b rest) n f w p s l h c =
-    let no : ℕ = n + 1 + part_count a in
-    let next : ℕ = no + part_count b in
-    let after : Step = first_step rest next f in
-    elim h [
-      | inl i ↦ nest_to _ s l (sym i.1) c
-      | inr (inl i) ↦ nest_keeps a (n + 1) after w p s l i c
-      | inr (inr (inl i)) ↦ nest_keeps b no after w p s l i c
-      | inr (inr (inr i)) ↦ nest_keeps rest next f w p s l i c
-    ]
-nest_keeps (loop t e b rest) n f w p s l h c = elim h [
-  | inl i ↦ nest_to _ s l (sym i.1) (more_inside w n l c)
-  | inr (inl i) ↦ nest_keeps b (n + 1) (back_to n) (w ++ n ∷ []) p s l i (more_inside w n l c)
-  | inr (inr i) ↦ nest_keeps rest (n + 1 + part_count b) f w p s l i c
-]
-
 -- and the others are in the block, and not behind the part
 abbrev Low : List ℕ → ℕ → ℕ → ℕ → Type 0
 Low w n p l = Contains w l ⊎ ((n ≤ l) × (l ≤ p))
@@ -163,15 +136,15 @@ across b n f w q u l h c less = elim (nest_low b n f w q u l h c) [ inl x ↦ x 
 -- a loop with a part has each that stands between its predicate and that part
 nest_between : (b : Body) (n : ℕ) (f : Step) (w : List ℕ) (p q : ℕ) (s u : Spot) (l : ℕ) → SpotIn b n f w p s → SpotIn b n f w q u → Contains u.nest l → l ≤ p → p ≤ q → Contains s.nest l
 nest_between done n f w p q s u l h k c le le' = absurd h
-nest_between (action t (assigns x e) rest) n f w p q s u l h (inl k) c le le' = nest_keeps (action t (assigns x e) rest) n f w p s l h (nest_to u _ l k.1 c)
+nest_between (action t (assigns x e) rest) n f w p q s u l h (inl k) c le le' = outer_in (action t (assigns x e) rest) n f w p s l h (nest_to u _ l k.1 c)
 nest_between (action t (assigns x e) rest) n f w p q s u l (inl h) (inr k) c le le' =
-    nest_keeps (action t (assigns x e) rest) n f w p s l (inl h) (across rest (n + 1) f w q u l k c (omega (arith, le, h.0)))
+    outer_in (action t (assigns x e) rest) n f w p s l (inl h) (across rest (n + 1) f w q u l k c (omega (arith, le, h.0)))
 nest_between (action t d rest) n f w p q s u l (inr h) (inr k) c le le' = nest_between rest (n + 1) f w p q s u l h k c le le'
 nest_between (branch t e a b rest) n f w p q s u l h k c le le' =
     let no : ℕ = n + 1 + part_count a in
     let next : ℕ = no + part_count b in
     let after : Step = first_step rest next f in
-    let keep : Contains w l → Contains s.nest l = λ x. nest_keeps (branch t e a b rest) n f w p s l h x in
+    let keep : Contains w l → Contains s.nest l = λ x. outer_in (branch t e a b rest) n f w p s l h x in
     elim k [
       | inl y ↦ keep (nest_to u _ l y.1 c)
       | inr (inl y) ↦ elim h [
@@ -196,7 +169,7 @@ nest_between (branch t e a b rest) n f w p q s u l h k c le le' =
 nest_between (loop t e b rest) n f w p q s u l h k c le le' =
     let next : ℕ = n + 1 + part_count b in
     let inside : List ℕ = w ++ n ∷ [] in
-    let keep : Contains w l → Contains s.nest l = λ x. nest_keeps (loop t e b rest) n f w p s l h x in
+    let keep : Contains w l → Contains s.nest l = λ x. outer_in (loop t e b rest) n f w p s l h x in
     elim k [
       | inl y ↦ elim h [
         | inl x ↦ nest_to _ s l (sym x.1) (nest_to u _ l y.1 c)

@@ -7,7 +7,7 @@ use Rattle.hpr_terms.proofs.Facts.{contains_at, place_of}
 use Rattle.hpr_syntax.specs.Skeleton as points
 use Rattle.hpr_syntax.specs.Skeleton.{Point}
 use Rattle.hpr_syntax.specs.Paths.{IsUndisturbed}
-use Rattle.hpr_syntax.specs.Initial.{UsedBy, IsInitial}
+use Rattle.hpr_syntax.specs.Initial.{IsInitial}
 use Rattle.hpr_syntax.specs.Shape.{IsProgram}
 use Rattle.hpr_syntax.specs.Tree.{Tree}
 use Rattle.hpr_paths.specs.Spots.{Role, enter, part, exit, defined, role_at, defined_at, RoleUses}
@@ -20,6 +20,7 @@ use Rattle.hpr_graph.specs.declared.vertex.Vertex.{Vertex}
 use Rattle.hpr_graph.specs.declared.vertex.Vertex.TheVariants.{Entry, Init, Part, Final}
 use Rattle.hpr_graph.specs.Graphs.{name_of}
 use Rattle.hpr_graph.specs.ProgramGraph.{Defines, Reads}
+use Rattle.hpr_graph.proofs.Laws.{used_by_reads}
 use Rattle.hpr_build.specs.Links.{part_vertex, vertices_of, exit_of, first_init, IsSourceAt, IsTargetAt}
 use Rattle.hpr_build.proofs.PlaceLaws.{role_of_part, number_of_part}
 use Rattle.hpr_build.proofs.BridgeNumbers.{part_of_defined, role_within}
@@ -40,12 +41,6 @@ reads_once t x y Entry a b h k = absurd h
 reads_once t x y (Init z) a b h k = absurd h
 reads_once t x y (Part u c) a b h k = h.2 ∙ sym k.2
 reads_once t x y (Final z) a b h k = h.2 ∙ sym k.2
-
-used_by_reads : (t : Tree) (x : List ℕ) (v : Vertex) (z : Point) → Reads t x v z → UsedBy t x z
-used_by_reads t x Entry z h = absurd h
-used_by_reads t x (Init y) z h = absurd h
-used_by_reads t x (Part u c) z (uses, says, e) = subst (UsedBy t x) (sym e) (c, says, uses)
-used_by_reads t x (Final y) z (e, there, f) = subst (UsedBy t x) (sym f) there
 
 -- an Init vertex from which a value flows to a use is one of the program
 pub flows_from_init : (t : Tree) (x y : List ℕ) (to : Vertex) (a z : Point) (marks : Marks) → Defines t x (Init y) a → Reads t x to z → IsUndisturbed t.body x a z marks → IsInitial t y

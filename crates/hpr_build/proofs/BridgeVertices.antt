@@ -26,6 +26,7 @@ use Rattle.hpr_build.specs.Links.{part_vertex, vertices_of, exit_of, first_init}
 use Rattle.hpr_build.proofs.PlaceIn.{PartAt, count_places, part_of_place, place_of_part}
 use Rattle.hpr_build.proofs.PlaceLaws.{role_of_part, part_of_role, tag_of_part}
 
+-- two lists, the one behind the other
 get_second : {X : Type 0} (xs ys : List X) (k n : ℕ) (x : X) → n ≡ length xs + k → slice_get ys k ≡ Some x → slice_get (xs ++ ys) n ≡ Some x
 get_second [] ys k n x e h = let same : n ≡ k = omega arith in ap (slice_get ys) same ∙ h
 get_second (z ∷ xs) ys k zero x e h = absurd (omega (arith, e))

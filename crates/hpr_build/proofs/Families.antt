@@ -3,7 +3,8 @@ use Rattle.std.proofs.Common.{◌≡◌, ℕ, ◌+◌, ◌<◌, ◌≤◌, List,
 use Rattle.std.proofs.lemmas.List.{take_all}
 use Rattle.hpr_terms.proofs.Facts.{taken_item}
 use Rattle.hpr_graph.specs.Graphs.{IsOnce}
-use Rattle.hpr_build.proofs.Once.{not_yet, taken_among}
+use Rattle.hpr_graph.proofs.Lists.{not_before}
+use Rattle.hpr_build.proofs.Once.{taken_among}
 
 -- some item of the list has P
 abbrev pub SomeOf : {X : Type 0} → List X → (X → Type 0) → Type 0
@@ -33,7 +34,7 @@ module _ {X : Type 0} (xs : List X) (P : X → Type 0) (k : ℕ) (A O : Type 0) 
     pub fresh_family : IsOnce xs → (O → ¬ P x) → ((y : X) → Contains xs y → P y → P x → y ≡ x) → A → ¬ P x
     fresh_family once fresh one a p = elim (old.0 a) [
       | inl o ↦ fresh o p
-      | inr (y, t, q) ↦ not_yet xs k x once here is (subst (Contains (take k xs)) (one y (taken_among xs k y t) q p) t)
+      | inr (y, t, q) ↦ not_before xs k x once here is (subst (Contains (take k xs)) (one y (taken_among xs k y t) q p) t)
     ]
 
 pub other_family : (A O B C : Type 0) → (B → C) → (C → B) → A ↔ (O ⊎ B) → A ↔ (O ⊎ C)

@@ -11,8 +11,9 @@ use Rattle.hpr_build.specs.declared.error.BuildError.{BuildError}
 use Rattle.hpr_build.specs.declared.pushes.NewLink.{NewLink}
 use Rattle.hpr_build.specs.Links.{IsLinkOf, HasMoreLinks}
 use Rattle.hpr_graph.specs.Graphs.{IsOnce}
+use Rattle.hpr_graph.proofs.Lists.{not_before}
 use Rattle.hpr_build.specs.Stages.{IsBegun}
-use Rattle.hpr_build.proofs.Once.{not_yet, taken_among}
+use Rattle.hpr_build.proofs.Once.{taken_among}
 
 abbrev pub into : ℕ → Link → NewLink
 into to l = record { to = to; link = l }
@@ -50,7 +51,7 @@ module _ (links : List NewLink) (k : ℕ) (n : NewLink) (here : k < length links
 
   -- the next link isn't there yet
   pub fresh_link : (A O : Type 0) → IsOnce links → (O → ⊥) → A ↔ (O ⊎ Contains (take k links) n) → ¬ A
-  fresh_link A O once new old a = elim (old.0 a) [ inl o ↦ new o | inr t ↦ not_yet links k n once here is t ]
+  fresh_link A O once new old a = elim (old.0 a) [ inl o ↦ new o | inr t ↦ not_before links k n once here is t ]
 
 pub all_links : (links : List NewLink) (k to : ℕ) (l : Link) (A O : Type 0) → length links ≤ k → A ↔ (O ⊎ Contains (take k links) (into to l)) → A ↔ (O ⊎ Contains links (into to l))
 all_links links k to l A O end old = subst (λ (ns : List NewLink). A ↔ (O ⊎ Contains ns (into to l))) (take_all k links end) old

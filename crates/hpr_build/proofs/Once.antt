@@ -1,11 +1,12 @@
 -- Nothing stands twice.
-use Rattle.std.proofs.Common.{◌≡◌, ℕ, ◌+◌, ◌<◌, Some, List, [], ◌∷◌, ◌++◌, map, length, length-take, get_or, take, Contains, slice_get, inl, inr, sym, ap, ◌∙◌, subst, arith}
-use Rattle.std.proofs.lemmas.Option.{slice_get_within, slice_get-get_or}
+use Rattle.std.proofs.Common.{◌≡◌, ℕ, ◌+◌, ◌<◌, Some, List, [], ◌∷◌, ◌++◌, map, length, length-take, get_or, take, Contains, sym, ap, ◌∙◌, subst, arith}
+use Rattle.std.proofs.lemmas.Option.{slice_get_within}
 use Rattle.std.proofs.lemmas.List.{get_or-take, map_push, take_more}
-use Rattle.hpr_terms.proofs.Facts.{contains_at, at_push, get_map}
+use Rattle.hpr_terms.proofs.Facts.{contains_at, get_map}
 use Rattle.hpr_paths.specs.Spots.{Spot, nest_at}
 use Rattle.hpr_paths.specs.Successors.{AreSpots}
 use Rattle.hpr_graph.specs.Graphs.{IsOnce}
+use Rattle.hpr_graph.proofs.Lists.{once_push}
 
 -- no loop stands twice in a nest
 pub nest_once : (spots : List Spot) (p : ℕ) → AreSpots spots → IsOnce (nest_at spots p)
@@ -13,28 +14,6 @@ nest_once spots p are i j w a b =
     let nest : List ℕ = nest_at spots p in
     let same : take (i + 1) nest ≡ take (j + 1) nest = sym (are.chain p i w a) ∙ are.chain p j w b in
     omega (arith, ap length same, length-take (i + 1) nest, length-take (j + 1) nest, slice_get_within nest i w a, slice_get_within nest j w b)
-
--- the next element isn't among those before it
-pub not_yet : {X : Type 0} (xs : List X) (k : ℕ) (x : X) → IsOnce xs → k < length xs → x ≡ get_or xs k x → ¬ Contains (take k xs) x
-not_yet {X} xs k x once l is (i, li, e) =
-    let low : i < k = omega (arith, li, length-take k xs) in
-    let within : i < length xs = omega (arith, li, length-take k xs) in
-    let at : slice_get xs i ≡ Some x = slice_get-get_or xs i x within ∙ ap (λ (y : X). Some y) (sym (get_or-take k xs i x low) ∙ e) in
-    let there : slice_get xs k ≡ Some x = slice_get-get_or xs k x l ∙ ap (λ (y : X). Some y) (sym is) in
-    let same : i ≡ k = once i k x at there in
-    omega (arith, low, same)
-
-once_push : {X : Type 0} (xs : List X) (x : X) → IsOnce xs → ¬ Contains xs x → IsOnce (xs ++ x ∷ [])
-once_push xs x once new i j y a b = elim (at_push xs x i y a) [
-  | inl a' ↦ elim (at_push xs x j y b) [
-    | inl b' ↦ once i j y a' b'
-    | inr b' ↦ absurd (new (subst (λ z. Contains xs z) (sym b'.1) (contains_at xs i y a')))
-  ]
-  | inr a' ↦ elim (at_push xs x j y b) [
-    | inl b' ↦ absurd (new (subst (λ z. Contains xs z) (sym a'.1) (contains_at xs j y b')))
-    | inr b' ↦ a'.0 ∙ sym b'.0
-  ]
-]
 
 pub once_after : {X : Type 0} (xs xs' : List X) (x : X) → IsOnce xs → ¬ Contains xs x → xs' ≡ xs ++ x ∷ [] → IsOnce xs'
 once_after {X} xs xs' x once new is = subst (λ (ys : List X). IsOnce ys) (sym is) (once_push xs x once new)
@@ -45,6 +24,7 @@ taken_among xs k x (i, l, e) =
     let within : i < length xs = omega (arith, l, length-take k xs) in
     (i, within, sym (get_or-take k xs i x low) ∙ e)
 
+-- a list of different things about different items
 pub once_map : {X Y : Type 0} (f : X → Y) (xs : List X) → IsOnce xs → ((x y : X) → Contains xs x → Contains xs y → f x ≡ f y → x ≡ y) → IsOnce (map f xs)
 once_map {X} f xs once one i j y a b =
     let p = get_map f xs i y a in

@@ -1,31 +1,21 @@
 -- The places of the parts of a block, a statement after another.
-use Rattle.std.proofs.Common.{◌≡◌, ℕ, suc, ◌+◌, ◌<◌, true, false, Option, Some, List, [], ◌∷◌, ◌++◌, length, get_or, drop, refl, sym, ap, ◌∙◌, append_assoc, append-nil, arith}
+use Rattle.std.proofs.Common.{◌≡◌, ℕ, ◌+◌, true, false, Option, Some, List, [], ◌∷◌, ◌++◌, refl, sym, ap, ◌∙◌, append_assoc, append-nil, arith}
 use Rattle.hpr_terms.specs.declared.tag.Tag.{Tag}
 use Rattle.hpr_terms.specs.declared.expr.Expr.{Expr}
 use Rattle.hpr_syntax.specs.Parts.{tag_of}
 use Rattle.hpr_syntax.specs.Rows.{content_of}
-use Rattle.std.proofs.Math.Seq.{drop-cons}
 use Rattle.hpr_syntax.specs.declared.tree.Stmt.{Stmt}
 use Rattle.hpr_syntax.specs.declared.tree.Stmt.TheVariants.{Assign, If, While}
 use Rattle.hpr_syntax.specs.declared.rows.Content.TheVariants as content
 use Rattle.hpr_syntax.specs.Body.{Body, done, part_count}
-use Rattle.hpr_syntax.specs.BodyOf.{body_of, before}
+use Rattle.hpr_syntax.specs.BodyOf.{before}
+use Rattle.hpr_paths.proofs.Blocks.{count_cons}
 use Rattle.hpr_build.specs.declared.places.Parent.{Parent}
 use Rattle.hpr_build.specs.declared.places.Span.{Span}
 use Rattle.hpr_build.specs.Places.{Place, place_of, places_of}
 
-pub drop_turn : (stmts : List Stmt) (i : ℕ) (s : Stmt) → i < length stmts → s ≡ get_or stmts i s → body_of (drop i stmts) ≡ before s (body_of (drop (i + 1) stmts))
-drop_turn stmts i s l is =
-    let next : suc i ≡ i + 1 = omega arith in
-    ap body_of (drop-cons stmts i s l ∙ ap (λ (t : Stmt). t ∷ drop (suc i) stmts) (sym is) ∙ ap (λ (k : ℕ). s ∷ drop k stmts) next)
-
-parts_before : (s : Stmt) (rest : Body) → part_count (before s rest) ≡ part_count (before s done) + part_count rest
-parts_before (Assign t x e) rest = omega arith
-parts_before (If t e a b) rest = omega arith
-parts_before (While t e b) rest = omega arith
-
 pub turn_parts : (here rest : Body) (s : Stmt) → here ≡ before s rest → part_count here ≡ part_count (before s done) + part_count rest
-turn_parts here rest s is = ap part_count is ∙ parts_before s rest
+turn_parts here rest s is = ap part_count is ∙ count_cons s rest
 
 module _ (up : Option Parent) (others : List Span) where
   after_one : (xs zs : List Place) → xs ++ zs ≡ (xs ++ []) ++ zs

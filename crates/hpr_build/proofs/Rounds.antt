@@ -2,7 +2,7 @@
 --
 -- Backs old steps k marks == the marks of old, and one at each loop to which one of the first k steps is a back edge
 -- Turns spots x d w p     == the value leaves p, from which a back edge leads to the loop w
-use Rattle.std.proofs.Common.{◌≡◌, ℕ, zero, suc, ◌+◌, ◌<◌, ◌≤◌, Bool, true, false, List, length, get_or, set, take, replicate, All, Contains, ◌⊎◌, ◌↔◌, inl, inr, sym, ap, ◌∙◌, subst, arith}
+use Rattle.std.proofs.Common.{◌≡◌, ℕ, ◌+◌, ◌<◌, ◌≤◌, Bool, true, false, List, length, get_or, set, take, All, Contains, ◌⊎◌, ◌↔◌, inl, inr, sym, ap, ◌∙◌, subst, arith}
 use Rattle.std.proofs.lemmas.Bool.{cases_eq}
 use Rattle.std.proofs.lemmas.List.{get_or-set_same, get_or-set_other}
 use Rattle.hpr_terms.proofs.Facts.{taken_item}
@@ -13,12 +13,7 @@ use Rattle.hpr_reach.specs.Reaches.{back_to}
 use Rattle.hpr_reach.specs.Flows.{Leaves, ComesRound}
 use Rattle.hpr_reach.proofs.Grown.{Below, turn_of_number}
 use Rattle.hpr_reach.proofs.Flows.{step_within}
-
-pub no_marks : (n p : ℕ) → ¬ IsMarked (replicate n false) p
-no_marks zero zero h = absurd cc
-no_marks zero (suc p) h = absurd cc
-no_marks (suc n) zero h = absurd cc
-no_marks (suc n) (suc p) h = no_marks n p h
+use Rattle.hpr_reach.proofs.Avoids.{step_back}
 
 -- marks after a write
 marked_then : (marks : List Bool) (p q : ℕ) → p < length marks → IsMarked (set marks p true) q ↔ (IsMarked marks q ⊎ (p ≡ q))
@@ -32,9 +27,6 @@ marked_then marks p q l = (
 
 abbrev pub Backs : List Bool → List Step → ℕ → List Bool → Type 0
 Backs old steps k marks = (w : ℕ) → IsMarked marks w ↔ (IsMarked old w ⊎ Contains (take k steps) (back_to w))
-
-step_back : (s : Step) → s.back ≡ true → back_to s.to ≡ s
-step_back s e = ap (λ (b : Bool). record { to = s.to; back = b }) (sym e)
 
 to_of : (s : Step) (w : ℕ) → s ≡ back_to w → (s.back ≡ true) × (s.to ≡ w)
 to_of s w e = (ap (λ (x : Step). x.back) e, ap (λ (x : Step). x.to) e)

@@ -1,6 +1,5 @@
 -- What stands around a place in a body.
-use Rattle.std.proofs.Common.{◌≡◌, ℕ, ◌+◌, ◌≤◌, ◌==◌, Bool, true, false, Option, Some, None, ◌⊎◌, refl, ap, sym, ◌∙◌, arith, cond, inl, inr, subst}
-use Rattle.std.proofs.lemmas.Bool.{eqb-true, eq-eqb}
+use Rattle.std.proofs.Common.{◌≡◌, ℕ, ◌+◌, ◌≤◌, Bool, true, false, Option, Some, None, ◌⊎◌, refl, ap, sym, ◌∙◌, arith, cond, inl, inr, subst}
 use Rattle.hpr_terms.specs.declared.tag.Tag.{Tag}
 use Rattle.hpr_syntax.specs.declared.tree.Stmt.{Stmt}
 use Rattle.hpr_syntax.specs.declared.tree.Stmt.TheVariants.{Assign, If, While}
@@ -9,7 +8,6 @@ use Rattle.hpr_syntax.specs.Action.{assigns}
 use Rattle.hpr_syntax.specs.Body.{Body, done, action, branch, loop}
 use Rattle.hpr_syntax.specs.BodyOf.{before}
 use Rattle.std.specs.Option.{option_or}
-use Rattle.hpr_terms.proofs.Facts.{and_both}
 use Rattle.hpr_syntax.specs.Parts.{same_tag, tag_of, find_stmt}
 use Rattle.hpr_syntax.specs.Rows.{Parent}
 use Rattle.hpr_edit.specs.declared.command.Place.{Place}
@@ -58,16 +56,6 @@ place_in p i (inside t e c rest) = place_in (Some (t, true)) 0 c
 pub no_one : (b : Bool) → one_if b ≡ 0 → b ≡ false
 no_one true h = absurd (omega (arith, h))
 no_one false h = refl
-
-pub same_self : (t : Tag) → same_tag t t ≡ true
-same_self t = rw (eq-eqb t.author t.author refl, eq-eqb t.serial t.serial refl) refl
-
-pub same_is : (u t : Tag) → same_tag u t ≡ true → u ≡ t
-same_is u t h =
-    let p : ((u.author == t.author) ≡ true) × ((u.serial == t.serial) ≡ true) = and_both _ _ h in
-    let a : u.author ≡ t.author = eqb-true _ _ p.0 in
-    let b : u.serial ≡ t.serial = eqb-true _ _ p.1 in
-    (λ i. record { author = a i; serial = b i })
 
 -- how often a tag stands
 pub times_before : (t : Tag) (s : Stmt) (x : Body) → times t (before s x) ≡ times t (before s done) + times t x

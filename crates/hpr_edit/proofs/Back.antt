@@ -19,6 +19,8 @@ use Rattle.hpr_syntax.specs.Tree.{Tree}
 use Rattle.hpr_syntax.specs.Proper.{IsProperBody}
 use Rattle.hpr_syntax.specs.Shape.{IsProgram, is_unissued, first_unissued, first_repeated_tag, first_deep, first_large, too_many, first_repeated}
 use Rattle.hpr_syntax.proofs.NoRefusal.{HasNoRefusal, no_refusal, shaped}
+use Rattle.hpr_syntax.proofs.TagLemmas.{same_tag_itself, same_tag_is}
+use Rattle.hpr_syntax.proofs.IssuedLemmas.{bounds_issued}
 use Rattle.hpr_edit.specs.declared.command.Command.{Command}
 use Rattle.hpr_edit.specs.declared.command.Command.TheVariants.{Insert, Delete, Move, Set, Wrap, Unwrap, Finals}
 use Rattle.hpr_edit.specs.declared.command.Inverse.{Inverse}
@@ -28,9 +30,9 @@ use Rattle.hpr_edit.specs.Places.{joined, is_place, place_of}
 use Rattle.hpr_edit.specs.Changes.{at_part, gone, saying, wrapped, unwrapped}
 use Rattle.hpr_edit.specs.Edited.{becomes, edited, settled, next_tag, is_spent, same_kind, is_assignment, stands_in}
 use Rattle.hpr_edit.specs.Reverted.{reverted, body_back, finals_back, put_back, Undoes, IsPutBackIssued}
-use Rattle.hpr_edit.proofs.Around.{plug, same_is, same_self, times_plug, times_before}
+use Rattle.hpr_edit.proofs.Around.{plug, times_plug, times_before}
 use Rattle.hpr_edit.proofs.Placed.{PlacedIn, placed_in}
-use Rattle.hpr_edit.proofs.Tags.{count, counted, once, all_issued, issued_in, issued_bounds, bounds_issued}
+use Rattle.hpr_edit.proofs.Tags.{count, counted, once, all_issued, issued_in, issued_bounds}
 use Rattle.hpr_edit.proofs.Undone.{refuse_is, found_is, FoundIs, settled_is, Known, known, known_at, Said, said, times_joined, undone}
 use Rattle.hpr_edit.proofs.Fresh.{After, after_command}
 
@@ -113,7 +115,7 @@ stay p is (Unwrap t) author q i h =
     let f : FoundIs (find_stmt t p.body) (place_of t p.body) _ q i = found_is t _ _ _ q i h in
     let k : Known t p.body f.part f.place = known t p.body f.part f.place (once p is) f.part_is f.place_is in
     let a : (is_assignment (content_of f.part) ≡ false) × _ = refuse_is _ (is_assignment (content_of f.part)) _ q i f.then in
-    let e : tag_of f.part ≡ t = same_is (tag_of f.part) t k.tag in
+    let e : tag_of f.part ≡ t = same_tag_is (tag_of f.part) t k.tag in
     stay_end p _ q _ i a.1 (record {
       stays = λ u. omega (arith, ap (times u) k.is, ap (times u) (known_at t p.body f.part f.place k unwrapped), times_plug u k.around (unwrapped f.part k.rest), times_plug u k.around (before f.part k.rest), times_left u f.part k.rest, ap (λ y. one_if (same_tag y u)) e);
       back = λ u. omega (arith, ap (times u) k.is, times_plug u k.around (before f.part k.rest), own_tag u f.part k.rest, ap (λ y. one_if (same_tag y u)) e);
@@ -123,10 +125,10 @@ stay p is (Finals names) author q i h = stay_end p _ q _ i h (record { stays = �
 -- a list of tags, one by one
 all_of : (P : Tag → Type 0) (ts : List Tag) → ((t : Tag) → 1 ≤ count t ts → P t) → AllByRecursion P ts
 all_of P [] h = tt
-all_of P (t ∷ ts) h = (h t (rw (same_self t) (omega arith)), all_of P ts (λ u k. h u (omega (arith, k))))
+all_of P (t ∷ ts) h = (h t (rw (same_tag_itself t) (omega arith)), all_of P ts (λ u k. h u (omega (arith, k))))
 
 one_of : (P : Tag → Type 0) (u t : Tag) (ts : List Tag) (b : Bool) → same_tag u t ≡ b → AllByRecursion P (u ∷ ts) → 1 ≤ one_if b + count t ts → (1 ≤ count t ts → P t) → P t
-one_of P u t ts true e h k more = subst P (same_is u t e) h.0
+one_of P u t ts true e h k more = subst P (same_tag_is u t e) h.0
 one_of P u t ts false e h k more = more (omega (arith, k))
 
 all_at : (P : Tag → Type 0) (ts : List Tag) (t : Tag) → AllByRecursion P ts → 1 ≤ count t ts → P t

@@ -17,6 +17,7 @@ use Rattle.hpr_syntax.specs.Parts.{same_tag, tag_of, find_stmt, tags_of}
 use Rattle.hpr_syntax.specs.Rows.{Parent, rows_of, content_of, made}
 use Rattle.hpr_syntax.specs.Tree.{Tree}
 use Rattle.hpr_syntax.specs.Shape.{IsProgram}
+use Rattle.hpr_syntax.proofs.TagLemmas.{same_tag_itself, same_tag_is}
 use Rattle.hpr_edit.specs.declared.command.Command.{Command}
 use Rattle.hpr_edit.specs.declared.command.Command.TheVariants.{Insert, Delete, Move, Set, Wrap, Unwrap, Finals}
 use Rattle.hpr_edit.specs.declared.command.Inverse.{Inverse}
@@ -26,7 +27,7 @@ use Rattle.hpr_edit.specs.Places.{joined, is_place, place_of}
 use Rattle.hpr_edit.specs.Changes.{at_part, at_place, gone, saying, wrapped, unwrapped}
 use Rattle.hpr_edit.specs.Edited.{becomes, edited, settled, next_tag, is_spent, same_kind, is_assignment, stands_in}
 use Rattle.hpr_edit.specs.Rows.{told, is_other, others, tags_in, touched}
-use Rattle.hpr_edit.proofs.Around.{Around, here, past, first, second, inside, plug, same_self, same_is, times_plug, times_before}
+use Rattle.hpr_edit.proofs.Around.{Around, here, past, first, second, inside, plug, times_plug, times_before}
 use Rattle.hpr_edit.proofs.Placed.{PlacedIn, placed_in}
 use Rattle.hpr_edit.proofs.Tags.{count, counted, once}
 use Rattle.hpr_edit.proofs.Undone.{refuse_is, found_is, FoundIs, settled_is, Known, known, known_at}
@@ -125,26 +126,26 @@ not_told : (ts : List Tag) (t : Tag) (c : Content) (rows : List (Tag × Content)
 not_told ts t c rows h = rw h refl
 
 alone : (t : Tag) (c : Content) (rows : List (Tag × Content)) → filter (is_other (t ∷ [])) ((t, c) ∷ rows) ≡ filter (is_other (t ∷ [])) rows
-alone t c rows = not_told (t ∷ []) t c rows (rw (same_self t) refl)
+alone t c rows = not_told (t ∷ []) t c rows (rw (same_tag_itself t) refl)
 
 none_told : (ts : List Tag) (b : Body) → ((u : Tag) → 1 ≤ times u b → list_any (same_tag u) ts ≡ true) → (after : List (Tag × Content)) → filter (is_other ts) (listed b after) ≡ filter (is_other ts) after
 none_told ts done h after = refl
 none_told ts (action t d rest) h after =
-    not_told ts t (content_by d) (listed rest after) (h t (rw (same_self t) (omega arith))) ∙ none_told ts rest (λ u k. h u (omega (arith, k))) after
+    not_told ts t (content_by d) (listed rest after) (h t (rw (same_tag_itself t) (omega arith))) ∙ none_told ts rest (λ u k. h u (omega (arith, k))) after
 none_told ts (branch t e a b rest) h after =
-    not_told ts t (If e) (listed a (listed b (listed rest after))) (h t (rw (same_self t) (omega arith)))
+    not_told ts t (If e) (listed a (listed b (listed rest after))) (h t (rw (same_tag_itself t) (omega arith)))
     ∙ none_told ts a (λ u k. h u (omega (arith, k))) (listed b (listed rest after))
     ∙ none_told ts b (λ u k. h u (omega (arith, k))) (listed rest after)
     ∙ none_told ts rest (λ u k. h u (omega (arith, k))) after
 none_told ts (loop t e b rest) h after =
-    not_told ts t (While e) (listed b (listed rest after)) (h t (rw (same_self t) (omega arith)))
+    not_told ts t (While e) (listed b (listed rest after)) (h t (rw (same_tag_itself t) (omega arith)))
     ∙ none_told ts b (λ u k. h u (omega (arith, k))) (listed rest after)
     ∙ none_told ts rest (λ u k. h u (omega (arith, k))) after
 
 among_if : (b : Bool) (u t : Tag) (us : List Tag) → b ≡ same_tag u t → (list_any (same_tag t) us ≡ true) ⊎ (b ≡ true) → (same_tag t u || list_any (same_tag t) us) ≡ true
 among_if b u t us e (inr h) =
-    let is : u ≡ t = same_is u t (sym e ∙ h) in
-    subst (λ y. (same_tag t y || list_any (same_tag t) us) ≡ true) (sym is) (rw (same_self t) refl)
+    let is : u ≡ t = same_tag_is u t (sym e ∙ h) in
+    subst (λ y. (same_tag t y || list_any (same_tag t) us) ≡ true) (sym is) (rw (same_tag_itself t) refl)
 among_if b u t us e (inl h) = or_right (same_tag t u) _ h
 
 one_or : (b : Bool) (n : ℕ) → 1 ≤ one_if b + n → (b ≡ true) ⊎ (1 ≤ n)
@@ -247,7 +248,7 @@ others_stay p is (Set t c) author q i h =
     let f : FoundIs (find_stmt t p.body) (place_of t p.body) _ q i = found_is t _ _ _ q i h in
     let k : Known t p.body f.part f.place = known t p.body f.part f.place (once p is) f.part_is f.place_is in
     let a : (not (same_kind c (content_of f.part)) ≡ false) × _ = refuse_is _ (not (same_kind c (content_of f.part))) _ q i f.then in
-    let e : tag_of f.part ≡ t = same_is (tag_of f.part) t k.tag in
+    let e : tag_of f.part ≡ t = same_tag_is (tag_of f.part) t k.tag in
     end_others (t ∷ []) _ q _ i p.body a.1
     (at_others (t ∷ []) t p.body f.part f.place (saying c) k
     (subst (λ u. Same (u ∷ []) (saying c f.part k.rest) (before f.part k.rest)) e (same_said c f.part k.rest (not_is _ a.0))))
@@ -263,7 +264,7 @@ others_stay p is (Unwrap t) author q i h =
     let f : FoundIs (find_stmt t p.body) (place_of t p.body) _ q i = found_is t _ _ _ q i h in
     let k : Known t p.body f.part f.place = known t p.body f.part f.place (once p is) f.part_is f.place_is in
     let a : (is_assignment (content_of f.part) ≡ false) × _ = refuse_is _ (is_assignment (content_of f.part)) _ q i f.then in
-    let e : tag_of f.part ≡ t = same_is (tag_of f.part) t k.tag in
+    let e : tag_of f.part ≡ t = same_tag_is (tag_of f.part) t k.tag in
     end_others (t ∷ []) _ q _ i p.body a.1
     (at_others (t ∷ []) t p.body f.part f.place unwrapped k
     (subst (λ u. Same (u ∷ []) (unwrapped f.part k.rest) (before f.part k.rest)) e (same_unwrapped f.part k.rest a.0)))

@@ -9,11 +9,12 @@ use Rattle.hpr_syntax.specs.Body.{Body, done, action, branch, loop}
 use Rattle.hpr_syntax.specs.BodyOf.{before}
 use Rattle.hpr_syntax.specs.Parts.{same_tag, find_stmt}
 use Rattle.hpr_syntax.specs.Rows.{Parent}
+use Rattle.hpr_syntax.proofs.TagLemmas.{same_tag_itself}
 use Rattle.hpr_edit.specs.declared.command.Place.{Place}
 use Rattle.hpr_edit.specs.Places.{width, block_in, block_in_found, block_at, is_within, is_place}
 use Rattle.hpr_edit.specs.InPlace.{times}
 use Rattle.hpr_edit.specs.Changes.{at_part, from, with_block, at_place}
-use Rattle.hpr_edit.proofs.Around.{Around, here, past, first, second, inside, plug, into, plug_into, place_in, no_one, same_self, absent, times_before, times_plug, at_before, at_plug, times_head, FoundIn, found_in}
+use Rattle.hpr_edit.proofs.Around.{Around, here, past, first, second, inside, plug, into, plug_into, place_in, no_one, absent, times_before, times_plug, at_before, at_plug, times_head, FoundIn, found_in}
 
 -- what a place's change does to a part that has its block
 abbrev pub entering : Bool → ℕ → (Body → Body) → Stmt → Body → Body
@@ -61,9 +62,9 @@ deep_first p i t e c b rest (inl f) = record {
   tag = t;
   branch = true;
   at = f.n;
-  stands = rw (same_self t) (omega arith);
+  stands = rw (same_tag_itself t) (omega arith);
   place = f.place ∙ (let h : f.at ≡ f.n = omega (arith, f.sum) in ap (λ y. record { parent = Some (t, true); at = y }) h);
-  change = λ g x le. rw (same_self t) (ap (λ y. branch t e y b rest) (f.change g x));
+  change = λ g x le. rw (same_tag_itself t) (ap (λ y. branch t e y b rest) (f.change g x));
 }
 deep_first p i t e c b rest (inr d) = record {
   tag = d.tag;
@@ -81,9 +82,9 @@ deep_second p i t e a c rest (inl f) = record {
   tag = t;
   branch = false;
   at = f.n;
-  stands = rw (same_self t) (omega arith);
+  stands = rw (same_tag_itself t) (omega arith);
   place = f.place ∙ (let h : f.at ≡ f.n = omega (arith, f.sum) in ap (λ y. record { parent = Some (t, false); at = y }) h);
-  change = λ g x le. rw (same_self t) (ap (λ y. branch t e a y rest) (f.change g x));
+  change = λ g x le. rw (same_tag_itself t) (ap (λ y. branch t e a y rest) (f.change g x));
 }
 deep_second p i t e a c rest (inr d) = record {
   tag = d.tag;
@@ -101,9 +102,9 @@ deep_inside p i t e c rest (inl f) = record {
   tag = t;
   branch = true;
   at = f.n;
-  stands = rw (same_self t) (omega arith);
+  stands = rw (same_tag_itself t) (omega arith);
   place = f.place ∙ (let h : f.at ≡ f.n = omega (arith, f.sum) in ap (λ y. record { parent = Some (t, true); at = y }) h);
-  change = λ g x le. rw (same_self t) (ap (λ y. loop t e y rest) (f.change g x));
+  change = λ g x le. rw (same_tag_itself t) (ap (λ y. loop t e y rest) (f.change g x));
 }
 deep_inside p i t e c rest (inr d) = record {
   tag = d.tag;

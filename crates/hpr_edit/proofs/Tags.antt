@@ -1,7 +1,7 @@
 -- In a program a tag stands at most once, and only where it was issued.
 use Rattle.std.proofs.Common.{◌≡◌, ℕ, ◌+◌, ◌≤◌, ◌<◌, ◌==◌, Bool, true, false, ◌||◌, ◌⊎◌, inl, inr, Option, Some, None, List, [], ◌∷◌, refl, sym, arith, cond, subst, nat_lt}
 use Rattle.std.specs.List.{list_any}
-use Rattle.std.proofs.lemmas.Bool.{ltb-false, le-ltb, eqb-false, ne_eqb}
+use Rattle.std.proofs.lemmas.Bool.{ltb-false, eqb-false}
 use Rattle.hpr_terms.specs.declared.tag.Tag.{Tag}
 use Rattle.hpr_terms.proofs.Facts.{or_right, or_false}
 use Rattle.hpr_syntax.specs.Body.{Body, done, action, branch, loop}
@@ -10,9 +10,9 @@ use Rattle.hpr_syntax.specs.Issued.{Issued, issued_to}
 use Rattle.hpr_syntax.specs.Tree.{Tree}
 use Rattle.hpr_syntax.specs.Shape.{IsProgram, first_repeated, is_unissued, first_unissued}
 use Rattle.hpr_syntax.proofs.NoRefusal.{no_refusal}
+use Rattle.hpr_syntax.proofs.TagLemmas.{same_tag_itself, same_tag_is}
 use Rattle.hpr_edit.specs.InPlace.{one_if, times}
 use Rattle.hpr_edit.specs.Edited.{next_tag}
-use Rattle.hpr_edit.proofs.Around.{same_is, same_self}
 
 -- how often a tag is listed
 abbrev pub count : Tag → List Tag → ℕ
@@ -34,8 +34,8 @@ none_of false x o h = (refl, h)
 at_most : (b : Bool) (u t : Tag) (seen : List Tag) (n : ℕ) → b ≡ same_tag u t → list_any (same_tag u) seen ≡ false → ((same_tag t u || list_any (same_tag t) seen) ≡ true → n ≡ 0) → n ≤ 1
     → (list_any (same_tag t) seen ≡ true → one_if b + n ≡ 0) × (one_if b + n ≤ 1)
 at_most true u t seen n is new if_seen le =
-    let e : u ≡ t = same_is u t (sym is) in
-    let s : (same_tag t u || list_any (same_tag t) seen) ≡ true = subst (λ y. (same_tag t y || list_any (same_tag t) seen) ≡ true) (sym e) (rw (same_self t) refl) in
+    let e : u ≡ t = same_tag_is u t (sym is) in
+    let s : (same_tag t u || list_any (same_tag t) seen) ≡ true = subst (λ y. (same_tag t y || list_any (same_tag t) seen) ≡ true) (sym e) (rw (same_tag_itself t) refl) in
     let z : n ≡ 0 = if_seen s in
     (λ h. let f : list_any (same_tag u) seen ≡ true = subst (λ y. list_any (same_tag y) seen ≡ true) (sym e) h in absurd cc, omega (arith, z))
 at_most false u t seen n is new if_seen le = (λ h. omega (arith, if_seen (or_right (same_tag t u) _ h)), omega (arith, le))
@@ -52,7 +52,7 @@ once p is t = omega (arith, counted t p.body [], (once_each t [] (tags_of p.body
 
 -- a tag that is listed was issued
 listed : (b : Bool) (u t : Tag) (n : ℕ) → b ≡ same_tag u t → 1 ≤ one_if b + n → (u ≡ t) ⊎ (1 ≤ n)
-listed true u t n is h = inl (same_is u t (sym is))
+listed true u t n is h = inl (same_tag_is u t (sym is))
 listed false u t n is h = inr (omega (arith, h))
 
 issued_each : (issued : Issued) (ts : List Tag) (t : Tag) → first_unissued issued ts ≡ None → 1 ≤ count t ts → is_unissued issued t ≡ false
@@ -67,7 +67,7 @@ issued_each issued (u ∷ us) t h k =
 pub all_issued : (issued : Issued) (ts : List Tag) → ((t : Tag) → 1 ≤ count t ts → is_unissued issued t ≡ false) → first_unissued issued ts ≡ None
 all_issued issued [] h = refl
 all_issued issued (u ∷ us) h =
-    rw (h u (rw (same_self u) (omega arith))) (all_issued issued us (λ t k. h t (omega (arith, k))))
+    rw (h u (rw (same_tag_itself u) (omega arith))) (all_issued issued us (λ t k. h t (omega (arith, k))))
 
 pub issued_in : (p : Tree) → IsProgram p → (t : Tag) → 1 ≤ times t p.body → is_unissued p.issued t ≡ false
 issued_in p is t k = issued_each p.issued (tags_of p.body []) t (no_refusal p is.shape).issued (omega (arith, k, counted t p.body []))
@@ -78,9 +78,6 @@ issued_bounds issued t h =
     let p : ((t.serial == 0) ≡ false) × (nat_lt (issued_to t.author issued) t.serial ≡ false) = or_false _ _ h in
     let ne : t.serial ≡ 0 → ⊥ = eqb-false t.serial 0 p.0 in
     (grind (arith, ne), ltb-false _ _ p.1)
-
-pub bounds_issued : (issued : Issued) (t : Tag) → 1 ≤ t.serial → t.serial ≤ issued_to t.author issued → is_unissued issued t ≡ false
-bounds_issued issued t h k = rw (ne_eqb t.serial 0 (λ e. omega (arith, h, e)), le-ltb (issued_to t.author issued) t.serial k) refl
 
 none_stands : (p : Tree) → IsProgram p → (t : Tag) → issued_to t.author p.issued < t.serial → 1 ≤ times t p.body → ⊥
 none_stands p is t lt k = omega (arith, lt, (issued_bounds p.issued t (issued_in p is t k)).1)

@@ -14,6 +14,7 @@ use Rattle.hpr_syntax.specs.Rows.{content_of, made}
 use Rattle.hpr_syntax.specs.Tree.{Tree}
 use Rattle.hpr_syntax.specs.Shape.{IsProgram, shape}
 use Rattle.hpr_syntax.specs.declared.shape.ShapeError.{ShapeError}
+use Rattle.hpr_syntax.proofs.TagLemmas.{same_tag_itself, same_tag_is}
 use Rattle.hpr_edit.specs.declared.command.Place.{Place}
 use Rattle.hpr_edit.specs.declared.command.Command.{Command}
 use Rattle.hpr_edit.specs.declared.command.Command.TheVariants.{Insert, Delete, Move, Set, Wrap, Unwrap, Finals}
@@ -25,7 +26,7 @@ use Rattle.hpr_edit.specs.InPlace.{times}
 use Rattle.hpr_edit.specs.Changes.{at_part, at_place, gone, first_block, second_block, saying, wrapped, unwrapped, firsts, later, rewrapped}
 use Rattle.hpr_edit.specs.Edited.{Edited, becomes, refuse, found, settled, unless, edited, next_tag, is_spent, same_kind, is_assignment}
 use Rattle.hpr_edit.specs.Reverted.{moved, Restores}
-use Rattle.hpr_edit.proofs.Around.{Around, plug, place_in, same_self, same_is, times_before, times_plug, times_head, at_plug, find_plug, place_plug, FoundIn, found_in}
+use Rattle.hpr_edit.proofs.Around.{Around, plug, place_in, times_before, times_plug, times_head, at_plug, find_plug, place_plug, FoundIn, found_in}
 use Rattle.hpr_edit.proofs.Placed.{change_at, PlacedIn, placed_in}
 use Rattle.hpr_edit.proofs.Tags.{once, next_is_new}
 
@@ -108,7 +109,7 @@ tag_made t (content.If e) a b = refl
 tag_made t (content.While e) a b = refl
 
 same_made : (t : Tag) (c : Content) (a b : Body) → same_tag (tag_of (made t c a b)) t ≡ true
-same_made t c a b = rw (tag_made t c a b) (same_self t)
+same_made t c a b = rw (tag_made t c a b) (same_tag_itself t)
 
 insert_back : (t : Tag) (body : Body) (place : Place) (c : Content) → ((u : Tag) → times u body ≤ 1) → times t body ≡ 0 → is_place place body ≡ true → at_part t gone (at_place place (before (made t c done done)) body) ≡ body
 insert_back t body place c le new is =
@@ -221,7 +222,7 @@ rewrapped_unwrapped s rest h =
 unwrap_back : (t : Tag) (body : Body) (s : Stmt) (old : Place) → Known t body s old → is_assignment (content_of s) ≡ false →
     at_place old (rewrapped t (content_of s) (width (first_block s)) (width (second_block s))) (at_part t unwrapped body) ≡ body
 unwrap_back t body s old k h =
-    let e : tag_of s ≡ t = same_is (tag_of s) t k.tag in
+    let e : tag_of s ≡ t = same_tag_is (tag_of s) t k.tag in
     rw (known_at t body s old k unwrapped)
     (known_back t body s old k (rewrapped t (content_of s) (width (first_block s)) (width (second_block s))) (unwrapped s k.rest)
     (λ u. times_unwrapped u s k.rest)

@@ -12,6 +12,7 @@ use Rattle.std.proofs.lemmas.List.Edits.{swap_is}
 use Rattle.std.proofs.lemmas.List.Elements.{Contains-append_cases}
 use Rattle.std.proofs.lemmas.List.Sorted.{IsPermutation-keeps, ranks_by, sorted_far}
 use Rattle.std.proofs.lemmas.Option.{slice_get-get_or, slice_get_within, get_or_from_slice_get}
+use Rattle.hpr_terms.proofs.Facts.{map_in}
 use Rattle.hpr_graph.specs.Graphs.{IsOnce}
 use Rattle.hpr_graph.specs.InOrder.{Ascends}
 use Rattle.hpr_graph.proofs.Lists.{some_inj, contains_at, place_of, in_none, in_cons, in_here, in_later, get_set_same, get_set_other}
@@ -116,25 +117,12 @@ total_by cmp ord same total = record {
 }
 
 module _ {X Y : Type 0} (cmp : X → X → Ordering) (ord : Y → Y → Ordering) (f : X → Y) where
-  pub in_map : (xs : List X) (y : Y) → Contains (map f xs) y → (x : X) × Contains xs x × (f x ≡ y)
-  in_map [] y h = absurd (in_none y h)
-  in_map (x ∷ xs) y h = elim (in_cons (f x) y (map f xs) h) [
-    | inl e ↦ (x, in_here x xs, e)
-    | inr later ↦ (let (z, there, is) = in_map xs y later in (z, in_later x z xs there, is))
-  ]
-
-  pub map_in : (xs : List X) (x : X) → Contains xs x → Contains (map f xs) (f x)
-  map_in [] x h = absurd (in_none x h)
-  map_in (z ∷ xs) x h = elim (in_cons z x xs h) [
-    | inl e ↦ subst (λ (w : X). Contains (f z ∷ map f xs) (f w)) e (in_here (f z) (map f xs))
-    | inr later ↦ in_later (f z) (f x) (map f xs) (map_in xs x later)
-  ]
 
   pub rises_map : (xs : List X) → Rises cmp xs → ((a b : X) → Contains xs a → Contains xs b → cmp a b ≡ Less → ord (f a) (f b) ≡ Less) → Rises ord (map f xs)
   rises_map [] r keeps = tt
   rises_map (x ∷ xs) r keeps = (
     λ y h.
-        (let (z, there, is) = in_map xs y h in
+        (let (z, there, is) = map_in f xs y h in
         subst (λ (w : Y). ord (f x) w ≡ Less) is (keeps x z (in_here x xs) (in_later x z xs there) (r.0 z there))),
     rises_map xs r.1 (λ a b p q l. keeps a b (in_later x a xs p) (in_later x b xs q) l),
   )

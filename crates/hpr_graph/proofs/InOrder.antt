@@ -11,6 +11,7 @@ use Rattle.std.proofs.lemmas.Option.{get_or_from_slice_get}
 use Rattle.std.proofs.lemmas.List.{length-map}
 use Rattle.std.proofs.lemmas.List.Sums.{sum_by-cons}
 use Rattle.std.proofs.lemmas.List.Elements.{Contains-append_left, Contains-append_right, Contains-append_cases}
+use Rattle.hpr_terms.proofs.Facts.{in_map, map_in}
 use Rattle.hpr_graph.specs.declared.vertex.Vertex.{Vertex}
 use Rattle.hpr_graph.specs.declared.vertex.Vertex.TheVariants.{Entry}
 use Rattle.hpr_graph.specs.declared.edge.Kind.{Kind}
@@ -24,7 +25,7 @@ use Rattle.hpr_graph.specs.Graphs.{Graph, Same, name_of}
 use Rattle.hpr_graph.specs.Numbered.{Numbered, IsKindAt, IsEdgeAt, IsNumbered, graph_in, link_count, row_items}
 use Rattle.hpr_graph.specs.Order.{vertex_cmp, kind_cmp, edge_cmp}
 use Rattle.hpr_graph.specs.InOrder.{Ascends, AreVerticesOf, AreEdgesOf, RowsAscend, vertex_at, name_at, kind_of, edge_of, edges_from, edges_of}
-use Rattle.hpr_graph.proofs.Ascending.{Rises, rises, ascends, rises_append, rises_map, in_map, map_in, ascending_one}
+use Rattle.hpr_graph.proofs.Ascending.{Rises, rises, ascends, rises_append, rises_map, ascending_one}
 use Rattle.hpr_graph.proofs.LinkOrder.{link_cmp}
 use Rattle.hpr_graph.proofs.Lists.{some_inj, in_none}
 use Rattle.hpr_graph.proofs.VertexOrder.{vertex_never, vertex_itself, edge_never}
@@ -145,7 +146,7 @@ module _ (vs : List Vertex) where
   in_rows : (n : ℕ) (rows : List (List Link)) (e : Edge) → Contains (edges_from vs n rows) e → InRows n rows e
   in_rows n [] e h = absurd (in_none e h)
   in_rows n (row ∷ rows) e h = elim (Contains-append_cases (map (edge_of vs n) row) (edges_from vs (n + 1) rows) e h) [
-    | inl here ↦ (let (l, there, is) = in_map link_cmp edge_cmp (edge_of vs n) row e here in
+    | inl here ↦ (let (l, there, is) = map_in (edge_of vs n) row e here in
         let none : n + 0 ≡ n = omega arith in
         (0, l, there, ap (λ (m : ℕ). edge_of vs m l) none ∙ is))
     | inr later ↦ (let (i, l, there, is) = in_rows (n + 1) rows e later in (suc i, l, there, at_next n i l e is))
@@ -156,7 +157,7 @@ module _ (vs : List Vertex) where
   rows_in n (row ∷ rows) zero l h =
       let none : n ≡ n + 0 = omega arith in
       subst (λ (m : ℕ). Contains (map (edge_of vs n) row ++ edges_from vs (n + 1) rows) (edge_of vs m l)) none
-      (Contains-append_left (map (edge_of vs n) row) (edges_from vs (n + 1) rows) (edge_of vs n l) (map_in link_cmp edge_cmp (edge_of vs n) row l h))
+      (Contains-append_left (map (edge_of vs n) row) (edges_from vs (n + 1) rows) (edge_of vs n l) (in_map (edge_of vs n) row l h))
   rows_in n (row ∷ rows) (suc i) l h =
       let one : (n + 1) + i ≡ n + suc i = omega arith in
       subst (λ (m : ℕ). Contains (map (edge_of vs n) row ++ edges_from vs (n + 1) rows) (edge_of vs m l)) one
@@ -181,7 +182,7 @@ module _ (vs : List Vertex) where
       (λ a b p q less. link_less vs up n a b (edge_of vs n a) (edge_of vs n b) (here a p) (here b q) less))
       (rows_rise up (n + 1) rows (λ i. row_up (suc i)) later)
       (λ x y p q.
-      (let (l, there, is) = in_map link_cmp edge_cmp (edge_of vs n) row x p in
+      (let (l, there, is) = map_in (edge_of vs n) row x p in
       let (i, m, there', is') = in_rows (n + 1) rows y q in
       row_less vs up n ((n + 1) + i) x y (omega arith)
       (subst (λ (e : Edge). slice_get vs n ≡ Some e.to) is (here l there).0)

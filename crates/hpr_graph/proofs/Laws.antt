@@ -1,6 +1,12 @@
 -- Laws of the definitions, for the crates above.
 use Rattle.std.proofs.Common.{◌≡◌, ℕ, ◌<◌, ◌≤◌, ◌↔◌, ◌⊎◌, inl, inr, List, [], ◌∷◌, length, sym, subst, arith}
+use Rattle.hpr_terms.specs.declared.tag.Tag.{Tag}
+use Rattle.hpr_syntax.specs.declared.rows.Content.{Content}
+use Rattle.hpr_syntax.specs.Initial.{UsedBy}
+use Rattle.hpr_syntax.specs.Skeleton.{Point}
+use Rattle.hpr_syntax.specs.Tree.{Tree}
 use Rattle.hpr_graph.specs.declared.vertex.Vertex.{Vertex}
+use Rattle.hpr_graph.specs.declared.vertex.Vertex.TheVariants.{Entry, Init, Part, Final}
 use Rattle.hpr_graph.specs.declared.edge.Kind.{Kind}
 use Rattle.hpr_graph.specs.declared.edge.Kind.TheVariants as kind
 use Rattle.hpr_graph.specs.declared.edge.Edge.{Edge}
@@ -11,6 +17,7 @@ use Rattle.hpr_graph.specs.Graphs.{Graph, IsWithin, Same, OnThird, HasVertices, 
 use Rattle.hpr_graph.specs.Numbered.{Numbered, HasVertex, HasLink, IsKindAt, IsEdgeAt, HasEdge, IsNumbered, IsGrown, graph_in}
 use Rattle.hpr_graph.specs.Slices.{LeadsTo, ReachesOne, slice_of, slice_at}
 use Rattle.hpr_graph.specs.Points.{IsShared, IsAffected, IsPreserved, merged}
+use Rattle.hpr_graph.specs.ProgramGraph.{Reads}
 use Rattle.hpr_graph.proofs.Lists.{contains_at, no_longer}
 use Rattle.hpr_graph.proofs.Numbers.{edge_longer}
 use Rattle.hpr_graph.proofs.EdgeList.{edge_one}
@@ -86,7 +93,7 @@ slice_at_same g h v a = slice_same g h (λ s. s ≡ v) (λ s. s ≡ v) a (λ s. 
 abbrev pub IsClosed : Graph → Type 0
 IsClosed g = (e : Edge) → g.edge e → HasVertices g.vertex e
 
-third_map_on : (V P Q : Vertex → Type 0) → ((v : Vertex) → V v → P v → Q v) → (k : Kind) → OnThird V k → OnThird P k → OnThird Q k
+pub third_map_on : (V P Q : Vertex → Type 0) → ((v : Vertex) → V v → P v → Q v) → (k : Kind) → OnThird V k → OnThird P k → OnThird Q k
 third_map_on V P Q f (kind.Control label) v h = tt
 third_map_on V P Q f (kind.Independent x) v h = tt
 third_map_on V P Q f (kind.Carried x w) v h = f w v h
@@ -206,3 +213,14 @@ pub no_more_edges : (g h : Graph) (m n : ℕ) → ((e : Edge) → h.edge e → g
 no_more_edges g h m n all (fs, (once', all'), len) few (es, once, in_h, more) =
     let short : length es ≤ length fs = no_longer es fs once (λ e x. (all' e).1 (all e (in_h e x))) in
     omega (arith, more, few, len, short)
+
+-- a part tells its tag
+pub part_tag : (t u : Tag) (c d : Content) → Part t c ≡ Part u d → t ≡ u
+part_tag t u c d e = cc
+
+-- a vertex that reads a name is at a point that uses it
+pub used_by_reads : (t : Tree) (x : List ℕ) (v : Vertex) (z : Point) → Reads t x v z → UsedBy t x z
+used_by_reads t x Entry z h = absurd h
+used_by_reads t x (Init y) z h = absurd h
+used_by_reads t x (Part u c) z (uses, says, e) = subst (UsedBy t x) (sym e) (c, says, uses)
+used_by_reads t x (Final y) z (e, there, f) = subst (UsedBy t x) (sym f) there

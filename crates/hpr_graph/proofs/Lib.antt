@@ -18,3 +18,4 @@ pub mod EdgeOrder
 pub mod InOrder
 mod Reordered
 pub mod PutInOrder
+pub mod NameOrder

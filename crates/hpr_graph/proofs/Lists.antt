@@ -93,6 +93,10 @@ module _ {X : Type 0} where
       get_or_same (y ∷ ys) zero e k = refl
       get_or_same (y ∷ ys) (suc j) e k = get_or_same ys j e (omega (arith, k))
 
+  -- where nothing stands twice, an item isn't among those before it
+  pub not_before : (xs : List X) (i : ℕ) (x : X) → IsOnce xs → i < length xs → x ≡ get_or xs i x → ¬ Contains (take i xs) x
+  not_before xs i x once l is h = not_taken xs i x once l (subst (λ (z : X). Contains (take i xs) z) is h)
+
   pub split : (xs : List X) (x : X) → Contains xs x → (l r : List X) × (xs ≡ l ++ x ∷ r)
   split [] x h = absurd (in_none x h)
   split (y ∷ xs) x h = elim (in_cons y x xs h) [

@@ -2,6 +2,7 @@
 use Rattle.std.proofs.Common.{◌≡◌, ℕ, zero, suc, ◌+◌, ◌<◌, ◌≤◌, ◌↔◌, ◌⊎◌, inl, inr, Bool, Option, Some, None, IsSome, IfSome, List, [], ◌∷◌, ◌++◌, length, slice_get, refl, sym, ap, ◌∙◌, subst, arith, length-append, below_more}
 use Rattle.std.proofs.lemmas.List.{get_or_append_left}
 use Rattle.hpr_search.specs.Marks.{IsMarked}
+use Rattle.hpr_search.proofs.Rows.{marked_within}
 use Rattle.hpr_graph.specs.declared.vertex.Vertex.{Vertex}
 use Rattle.hpr_graph.specs.declared.edge.Edge.{Edge}
 use Rattle.hpr_graph.specs.Graphs.{IsOnce}
@@ -30,12 +31,6 @@ number_within [] zero h = absurd cc
 number_within [] (suc i) h = absurd cc
 number_within (n ∷ ns) zero h = omega arith
 number_within (n ∷ ns) (suc i) h = let l = number_within ns i h in omega (arith, l)
-
-mark_within : (keep : List Bool) (i : ℕ) → IsMarked keep i → i < length keep
-mark_within [] zero h = absurd cc
-mark_within [] (suc i) h = absurd cc
-mark_within (n ∷ ns) zero h = omega arith
-mark_within (n ∷ ns) (suc i) h = let l = mark_within ns i h in omega (arith, l)
 
 -- one more number, or none, for the next vertex
 placed_more : (vs us us' : List Vertex) (ns : List (Option ℕ)) (o : Option ℕ) (n : ℕ) (v : Vertex) → ArePlaced vs ns us → length ns ≡ n → slice_get vs n ≡ Some v → ((i : ℕ) (x : Vertex) → slice_get us i ≡ Some x → slice_get us' i ≡ Some x) → IfSome o (λ j. slice_get us' j ≡ Some v)
@@ -123,7 +118,7 @@ marked_more source keep old new next ns ns' at o v s here grown edges number the
 pub marked_all : (source : Numbered) (keep : List Bool) (old new : Numbered) (ns : List (Option ℕ)) (at : ℕ) → MarkedPlaced source keep old new ns at → length keep ≤ at → (i : ℕ) → HasNumber ns i ↔ IsMarked keep i
 marked_all source keep old new ns at s past i = (
   λ h. (let l = number_within ns i h in (s.marked i (omega (arith, l, s.len))).0 h),
-  λ h. (let l = mark_within keep i h in (s.marked i (omega (arith, l, past))).1 h),
+  λ h. (let l = marked_within keep i h in (s.marked i (omega (arith, l, past))).1 h),
 )
 
 pub marked_only : (source : Numbered) (keep : List Bool) (old new : Numbered) (ns : List (Option ℕ)) (at : ℕ) → MarkedPlaced source keep old new ns at → (v : Vertex) → HasVertex new v → IsMarkedVertex source keep v

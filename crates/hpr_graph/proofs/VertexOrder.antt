@@ -85,7 +85,7 @@ then_equal Greater b e = absurd cc
 pub name_tied : (x y : List ℕ) → name_cmp x y ≡ Equal → x ≡ y
 name_tied = slice_cmp-IsAntisymmetric nat_cmp-IsAntisymmetric
 
-tag_tied : (s t : Tag) → tag_cmp s t ≡ Equal → s ≡ t
+pub tag_tied : (s t : Tag) → tag_cmp s t ≡ Equal → s ≡ t
 tag_tied s t e =
     let (author, serial) = then_equal (nat_cmp s.author t.author) (nat_cmp s.serial t.serial) e in
     let a : s.author ≡ t.author = nat_cmp-IsAntisymmetric s.author t.author author in
@@ -113,7 +113,7 @@ vertex_tied (Final x) (Final y) h = ap (λ (z : List ℕ). Final z) (name_tied x
 vertex_tied _ _ h = absurd cc
 
 -- what `==` answers at vertices
-equal_by : (o : Ordering) → is_eq o ≡ true → o ≡ Equal
+pub equal_by : (o : Ordering) → is_eq o ≡ true → o ≡ Equal
 equal_by Equal e = refl
 equal_by Less e = absurd cc
 equal_by Greater e = absurd cc

@@ -1,5 +1,5 @@
 -- The number of loops around two parts, by their nests and by the structure of blocks.
-use Rattle.std.proofs.Common.{◌≡◌, ℕ, zero, suc, ◌+◌, Bool, true, false, List, [], ◌∷◌, ◌++◌, ◌⊎◌, Some, length, refl, ap, subst, ◌∙◌, inl, inr, arith, append_assoc, append-nil, eqb-true, ◌==◌}
+use Rattle.std.proofs.Common.{◌≡◌, ℕ, zero, suc, ◌+◌, Bool, true, false, List, [], ◌∷◌, ◌++◌, ◌⊎◌, Some, length, refl, ap, subst, ◌∙◌, inl, inr, arith, append_assoc, append-nil}
 use Rattle.hpr_terms.specs.declared.tag.Tag.{Tag}
 use Rattle.hpr_syntax.specs.Parts.{same_tag}
 use Rattle.hpr_syntax.specs.Action.{assigns}
@@ -7,10 +7,10 @@ use Rattle.hpr_syntax.specs.Body.{Body, done, action, branch, loop}
 use Rattle.hpr_syntax.specs.Skeleton.{Skeleton, round, at, StandsIn, Distinct, skeleton}
 use Rattle.hpr_syntax.specs.Nests.{Standing, StandsAs}
 use Rattle.hpr_meaning.specs.OrderLaw.{common_loops}
-use Rattle.hpr_paths.proofs.Different.{same_tag-itself}
 use Rattle.hpr_paths.proofs.Says.{standing_in}
 use Rattle.hpr_paths.proofs.TimeOrder.{HaveCommon}
 use Rattle.hpr_syntax.specs.Rows.{Parent}
+use Rattle.hpr_syntax.proofs.TagLemmas.{same_tag_itself, same_tag_is}
 
 -- the nest of a part of a block is the block's, and then, if there is more, a loop of the kind I
 abbrev pub BeginsWith : (Tag → Type 0) → List Tag → List Tag → Type 0
@@ -37,27 +37,15 @@ nest_begins (loop t e b rest) nest up v r (inl h) = inr (t, [], ap (λ (q : Stan
 nest_begins (loop t e b rest) nest up v r (inr (inl h)) = below (λ w. StandsIn (skeleton b) (at w)) (λ w. StandsIn (round t (skeleton b) (skeleton rest)) (at w)) nest r.nest t (inl refl) (nest_begins b (nest ++ (t ∷ [])) (Some (t, true)) v r h)
 nest_begins (loop t e b rest) nest up v r (inr (inr h)) = wider _ _ nest r.nest (λ w i. inr (inr i)) (nest_begins rest nest up v r h)
 
-same_tag_equal : (v w : Tag) → same_tag v w ≡ true → v ≡ w
-same_tag_equal v w e = go (v.author == w.author) refl
-  where
-    both : (v.author == w.author) ≡ true → v ≡ w
-    both a = let b : (v.serial == w.serial) ≡ true = rw a at e in
-        let p = eqb-true v.author w.author a in let q = eqb-true v.serial w.serial b in
-        λ i. record { author = p i; serial = q i }
-
-    go : (y : Bool) → (v.author == w.author) ≡ y → v ≡ w
-    go true p = both p
-    go false p = let f : false ≡ true = rw p at e in absurd cc
-
 pub common_after : (nest xs ys : List Tag) → common_loops (nest ++ xs) (nest ++ ys) ≡ length nest + common_loops xs ys
 common_after [] xs ys = omega arith
-common_after (t ∷ nest) xs ys = let a = same_tag-itself t in let e = common_after nest xs ys in rw a (omega (arith, e))
+common_after (t ∷ nest) xs ys = let a = same_tag_itself t in let e = common_after nest xs ys in rw a (omega (arith, e))
 
 common_differ : (v w : Tag) (vs ws : List Tag) → (v ≡ w → ⊥) → common_loops (v ∷ vs) (w ∷ ws) ≡ zero
 common_differ v w vs ws n = go (same_tag v w) refl
   where
     go : (y : Bool) → same_tag v w ≡ y → common_loops (v ∷ vs) (w ∷ ws) ≡ zero
-    go true p = absurd (n (same_tag_equal v w p))
+    go true p = absurd (n (same_tag_is v w p))
     go false p = rw p refl
 
 -- nests that part at once

@@ -14,7 +14,7 @@ use Rattle.hpr_graph.specs.declared.vertex.Vertex.{Vertex}
 use Rattle.hpr_graph.specs.ProgramGraph.{HasFlow, Defines, Reads}
 use Rattle.hpr_paths.proofs.Among.{Among, here, there, among_cons, among_none, contains_among}
 use Rattle.hpr_paths.proofs.SkeletonTags.{tag_discrete}
-use Rattle.hpr_paths.proofs.Ahead.{stands_in?}
+use Rattle.hpr_paths.proofs.Ahead.{stands_in?, or?}
 use Rattle.hpr_paths.proofs.Programs.{at_end, avoids_common, path_outside}
 use Rattle.hpr_graph.specs.declared.vertex.Vertex.TheVariants.{Part}
 
@@ -23,15 +23,6 @@ three? (yes a) (yes b) (yes c) = yes (a, b, c)
 three? (no n) d e = no (λ h. n h.0)
 three? (yes a) (no n) e = no (λ h. n h.1)
 three? (yes a) (yes b) (no n) = no (λ h. n h.2)
-
-either? : {A B : Type 0} → Dec A → Dec B → Dec (A ⊎ B)
-either? (yes a) d = yes (inl a)
-either? (no n) (yes b) = yes (inr b)
-either? {A = A} {B = B} (no n) (no m) = no go
-  where
-    go : A ⊎ B → ⊥
-    go (inl a) = n a
-    go (inr b) = m b
 
 inside? : (t : Tag) (b : Skeleton) (d : Point) → Dec (StandsIn (round t b nil) d) → Dec ((d ≡ at t) ⊎ StandsIn b d)
 inside? t b d (yes h) = yes (go h)
@@ -49,9 +40,9 @@ inside? t b d (no n) = no go
 encloses? : (B : Skeleton) (d u : Point) (w : Tag) → Dec (EnclosesBoth B d u w)
 encloses? nil d u w = no (λ h. h)
 encloses? (act t k) d u w = encloses? k d u w
-encloses? (fork t b c k) d u w = either? (encloses? b d u w) (either? (encloses? c d u w) (encloses? k d u w))
+encloses? (fork t b c k) d u w = or? (encloses? b d u w) (or? (encloses? c d u w) (encloses? k d u w))
 encloses? (round t b k) d u w =
-    either? (three? (tag_discrete w t) (inside? t b d (stands_in? (round t b nil) d)) (inside? t b u (stands_in? (round t b nil) u))) (either? (encloses? b d u w) (encloses? k d u w))
+    or? (three? (tag_discrete w t) (inside? t b d (stands_in? (round t b nil) d)) (inside? t b u (stands_in? (round t b nil) u))) (or? (encloses? b d u w) (encloses? k d u w))
 
 -- a loop around two points says something
 pub encloser_says : (B : Body) (d u : Point) (w : Tag) → EnclosesBoth (skeleton B) d u w → (c : Content) × Says B w c

@@ -2,7 +2,7 @@
 use Rattle.std.proofs.Common.{◌≡◌, ℕ, List, [], ◌∷◌, ◌⊎◌, inl, inr, ◌↔◌, Contains, refl, sym, ap, subst, ◌∙◌, if◌then◌else◌, Result, Ok, Err, IfOk}
 use Rattle.std.specs.declared.cmp.Ordering.{Ordering}
 use Rattle.std.specs.declared.cmp.Ordering.TheVariants.{Less, Equal, Greater}
-use Rattle.std.specs.Ordering.{is_lt, is_eq, ordering_reverse}
+use Rattle.std.specs.Ordering.{is_lt, is_eq}
 use Rattle.std.specs.List.{AllByRecursion}
 use Rattle.std.specs.List.Sorted.{IsStrictlySortedBy}
 use Rattle.std.proofs.lemmas.Cmp.{nat_list_cmp_total}
@@ -14,6 +14,7 @@ use Rattle.hpr_terms.specs.Uses.{Uses, names_in}
 use Rattle.hpr_terms.proofs.NamesUsed.{terms_used}
 use Rattle.hpr_graph.specs.Order.{name_cmp}
 use Rattle.hpr_graph.proofs.Lists.{in_none, in_cons, in_here, in_later}
+use Rattle.hpr_graph.proofs.NameOrder.{never_both, never_less, turned}
 use Rattle.hpr_meaning.specs.Instances.{put_name, put_names, names_of}
 
 abbrev Names : Type 0
@@ -34,9 +35,6 @@ above_each x y names h c = All-contains (λ z. name_cmp x z ≡ Less) names y (A
 abbrev met : Ordering → List ℕ → List ℕ → Names → Names
 met o x y names = if is_lt o then x ∷ y ∷ names else (if is_eq o then y ∷ names else y ∷ put_name x names)
 
-after : (x y : List ℕ) → name_cmp x y ≡ Greater → name_cmp y x ≡ Less
-after x y e = nat_list_cmp_total.antisymm y x ∙ ap ordering_reverse e
-
 put_above : (z x : List ℕ) (names : Names) → name_cmp z x ≡ Less → IsAbove z names → IsAbove z (put_name x names)
 put_above z x [] l h = (l, tt)
 put_above z x (y ∷ names) l h = at (name_cmp x y) (put_above z x names l h.1)
@@ -54,7 +52,7 @@ put_up x (y ∷ names) h = at (name_cmp x y) refl (put_up x names h.1)
     at : (o : Ordering) → name_cmp x y ≡ o → IsStrictlySortedBy name_cmp (put_name x names) → IsStrictlySortedBy name_cmp (met o x y names)
     at Less e k = ((e, above_all x y names e h.0), h)
     at Equal e k = h
-    at Greater e k = (put_above y x names (after x y e) h.0, k)
+    at Greater e k = (put_above y x names (turned x y e) h.0, k)
 
 put_old : (x y : List ℕ) (names : Names) → Contains names y → Contains (put_name x names) y
 put_old x y [] h = absurd (in_none y h)
@@ -119,25 +117,19 @@ names_used e x = (
 )
 
 -- lists in order with the same names are the same
-not_both : (x y : List ℕ) → name_cmp x y ≡ Less → name_cmp y x ≡ Less → ⊥
-not_both x y h k = let e : name_cmp x y ≡ Greater = nat_list_cmp_total.antisymm x y ∙ ap ordering_reverse k in absurd cc
-
-not_itself : (x : List ℕ) → name_cmp x x ≡ Less → ⊥
-not_itself x h = not_both x x h h
-
 same_head : (x y : List ℕ) (xs ys : Names) → IsAbove x xs → IsAbove y ys → Contains (y ∷ ys) x → Contains (x ∷ xs) y → x ≡ y
 same_head x y xs ys h k c d = elim (in_cons y x ys c) [
   | inl e ↦ sym e
   | inr c' ↦ elim (in_cons x y xs d) [
     | inl e ↦ e
-    | inr d' ↦ absurd (not_both x y (above_each x y xs h d') (above_each y x ys k c'))
+    | inr d' ↦ absurd (never_both x y (above_each x y xs h d') (above_each y x ys k c'))
   ]
 ]
 
 -- what stands behind a head that is the same stands behind the other
 behind : (x y : List ℕ) (xs ys : Names) → x ≡ y → IsAbove x xs → (z : List ℕ) → Contains xs z → Contains (y ∷ ys) z → Contains ys z
 behind x y xs ys e h z c d = elim (in_cons y z ys d) [
-  | inl f ↦ absurd (not_itself x (subst (λ w. name_cmp x w ≡ Less) (sym f ∙ sym e) (above_each x z xs h c)))
+  | inl f ↦ absurd (never_less x (subst (λ w. name_cmp x w ≡ Less) (sym f ∙ sym e) (above_each x z xs h c)))
   | inr d' ↦ d'
 ]
 

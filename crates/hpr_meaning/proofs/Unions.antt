@@ -6,7 +6,7 @@ use Rattle.hpr_syntax.specs.Tree.{Tree}
 use Rattle.hpr_syntax.specs.Skeleton.{Point}
 use Rattle.hpr_syntax.specs.Shape.{IsProgram}
 use Rattle.hpr_syntax.specs.Paths.{IsUndisturbed}
-use Rattle.hpr_syntax.specs.Initial.{IsInitial, UsedBy}
+use Rattle.hpr_syntax.specs.Initial.{IsInitial}
 use Rattle.hpr_graph.specs.declared.conflict.Side.{Side}
 use Rattle.hpr_graph.specs.declared.conflict.Side.TheVariants.{A, B}
 use Rattle.hpr_graph.specs.declared.vertex.Vertex.{Vertex}
@@ -20,7 +20,7 @@ use Rattle.hpr_graph.specs.Conflicts.{graph_on}
 use Rattle.hpr_graph.specs.Answer.{merged_of}
 use Rattle.hpr_graph.specs.ProgramGraph.{Defines, Reads, IsVertexOf, IsEdgeBy, HasFlow, graph_of}
 use Rattle.hpr_graph.specs.Slices.{Leads, LeadsTo, ReachesOne, slice_of, slice_at}
-use Rattle.hpr_graph.proofs.Laws.{same_turned, same_from_within, vertices_map}
+use Rattle.hpr_graph.proofs.Laws.{same_turned, same_from_within, vertices_map, used_by_reads}
 use Rattle.hpr_merge.specs.Loops.{HasLoops}
 use Rattle.hpr_merge.proofs.EdgeStands.{edge_inside, merged_loops, on_either, point_within}
 use Rattle.hpr_merge.proofs.ProgramLoops.{program_loops}
@@ -166,16 +166,10 @@ program_uses t e u has is =
     let (x, a, b, d, d', f, f', left, whole) = subst (λ k. IsEdgeBy t k e.from e.to) is has in (flow_right t x e.from u f, flow_right t x e.to u f')
 
 -- and the sources of control and flow edges are vertices
-used_at : (t : Tree) (x : List ℕ) (v : Vertex) (z : Point) → Reads t x v z → UsedBy t x z
-used_at t x Entry z h = absurd h
-used_at t x (Init y) z h = absurd h
-used_at t x (Part v c) z (uses, says, is) = subst (UsedBy t x) (sym is) (c, says, uses)
-used_at t x (Final y) z (same, named, is) = subst (UsedBy t x) (sym is) named
-
 source_is : (t : Tree) (x : List ℕ) (v to : Vertex) (a z : Point) (ms : List (Option Tag)) → Defines t x v a → Reads t x to z → IsUndisturbed t.body x a z ms → IsVertexOf t v
 source_is t x Entry to a z ms d r q = absurd d
 source_is t x (Init y) to a z ms (same, is) r q =
-    subst (λ n. IsInitial t n) (sym same) (z, ms, subst (λ p. IsUndisturbed t.body x p z ms) is q, used_at t x to z r)
+    subst (λ n. IsInitial t n) (sym same) (z, ms, subst (λ p. IsUndisturbed t.body x p z ms) is q, used_by_reads t x to z r)
 source_is t x (Part v c) to a z ms (is, says, here) r q = says
 source_is t x (Final y) to a z ms d r q = absurd d
 

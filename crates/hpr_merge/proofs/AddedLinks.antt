@@ -3,6 +3,7 @@ use Rattle.std.proofs.Common.{◌≡◌, ℕ, zero, suc, ◌+◌, ◌<◌, ◌�
 use Rattle.std.specs.Ordering.{ordering_then}
 use Rattle.std.specs.declared.cmp.Ordering.TheVariants.{Less}
 use Rattle.std.proofs.lemmas.Bool.{cases_lt}
+use Rattle.hpr_terms.proofs.Facts.{get_in_map}
 use Rattle.hpr_graph.specs.declared.vertex.Vertex.{Vertex}
 use Rattle.hpr_graph.specs.declared.edge.Edge.{Edge}
 use Rattle.hpr_graph.specs.declared.link.Link.{Link}
@@ -23,12 +24,6 @@ use Rattle.hpr_merge.specs.Beside.{Pair, AreBeside, IsBeside, IsLeastAdded}
 use Rattle.hpr_graph.proofs.VertexOrder.{edge_never}
 
 -- the places of edges in the list of all edges row by row
-module _ {X Y : Type 0} (f : X → Y) where
-  at_map : (xs : List X) (i : ℕ) (x : X) → slice_get xs i ≡ Some x → slice_get (map f xs) i ≡ Some (f x)
-  at_map [] i x h = absurd cc
-  at_map (y ∷ xs) zero x h = ap (λ (z : X). Some (f z)) (some_inj y x h)
-  at_map (y ∷ xs) (suc i) x h = at_map xs i x h
-
 module _ {X : Type 0} where
   at_back : (xs ys : List X) (i : ℕ) (y : X) → slice_get ys i ≡ Some y → slice_get (xs ++ ys) (length xs + i) ≡ Some y
   at_back [] ys i y h = let same : i ≡ 0 + i = omega arith in subst (λ (n : ℕ). slice_get ys n ≡ Some y) same h
@@ -43,7 +38,7 @@ row_place vs n (row ∷ rows) zero = (
       let none : n ≡ n + 0 = omega arith in
       subst (λ (k : ℕ). slice_get (map (edge_of vs n) row ++ edges_from vs (n + 1) rows) k ≡ Some (edge_of vs (n + 0) l)) same
       (subst (λ (k : ℕ). slice_get (map (edge_of vs n) row ++ edges_from vs (n + 1) rows) i ≡ Some (edge_of vs k l)) none
-      (get_longer (map (edge_of vs n) row) (edges_from vs (n + 1) rows) i (edge_of vs n l) (at_map (edge_of vs n) row i l h)))),
+      (get_longer (map (edge_of vs n) row) (edges_from vs (n + 1) rows) i (edge_of vs n l) (get_in_map (edge_of vs n) row i l h)))),
 )
 row_place vs n (row ∷ rows) (suc r) =
     let (o, place) = row_place vs (n + 1) rows r in

@@ -10,6 +10,7 @@ use Rattle.hpr_syntax.specs.Tree.{Tree}
 use Rattle.hpr_syntax.specs.Skeleton.{Point, at, exit, StandsIn, skeleton}
 use Rattle.hpr_syntax.specs.Nests.{Standing, StandsAs, StandsAsIn, Says}
 use Rattle.hpr_syntax.specs.Places.{EnclosesBoth}
+use Rattle.hpr_syntax.proofs.TagLemmas.{point_tag}
 use Rattle.hpr_graph.specs.declared.vertex.Vertex.{Vertex}
 use Rattle.hpr_graph.specs.declared.vertex.Vertex.TheVariants.{Entry, Init, Part, Final}
 use Rattle.hpr_graph.specs.declared.edge.Kind.{Kind}
@@ -21,9 +22,6 @@ use Rattle.hpr_paths.proofs.DirectWays.{encloses_in}
 use Rattle.hpr_paths.proofs.Programs.{end_outside}
 use Rattle.hpr_paths.proofs.Says.{says_of_standing}
 use Rattle.hpr_merge.specs.Loops.{HasLoops, SaysOnce}
-
-tag_of : (v w : Tag) → at v ≡ at w → v ≡ w
-tag_of v w e = cc
 
 module _ (t : Tree) where
   -- what stands so in a block stands so in the program
@@ -54,9 +52,9 @@ module _ (t : Tree) where
   -- a part leads to each part in its blocks
   under : (b : Body) (nest : List Tag) (p : Tag) (label : Bool) (c : Content) → Says t.body p c → Inside nest (Some (p, label)) b → (w : Tag) → StandsIn (skeleton b) (at w) → Leads p c w
   under done nest p label c says inside w h = absurd h
-  under (action v d rest) nest p label c says inside w (inl is) = here p c label v w (content_by d) nest says (inside v (standing (content_by d) nest (Some (p, label))) (inl (refl, refl))) (tag_of w v is)
+  under (action v d rest) nest p label c says inside w (inl is) = here p c label v w (content_by d) nest says (inside v (standing (content_by d) nest (Some (p, label))) (inl (refl, refl))) (point_tag w v is)
   under (action v d rest) nest p label c says inside w (inr h) = under rest nest p label c says (λ u s g. inside u s (inr g)) w h
-  under (branch v e a b rest) nest p label c says inside w (inl is) = here p c label v w (If e) nest says (inside v (standing (If e) nest (Some (p, label))) (inl (refl, refl))) (tag_of w v is)
+  under (branch v e a b rest) nest p label c says inside w (inl is) = here p c label v w (If e) nest says (inside v (standing (If e) nest (Some (p, label))) (inl (refl, refl))) (point_tag w v is)
   under (branch v e a b rest) nest p label c says inside w (inr (inl h)) =
       let stands = inside v (standing (If e) nest (Some (p, label))) (inl (refl, refl)) in
       below p c label v (If e) nest w says stands (under a nest v true (If e) (says_of_standing t.body [] None v (standing (If e) nest (Some (p, label))) stands) (λ u s g. inside u s (inr (inl g))) w h)
@@ -65,7 +63,7 @@ module _ (t : Tree) where
       below p c label v (If e) nest w says stands (under b nest v false (If e) (says_of_standing t.body [] None v (standing (If e) nest (Some (p, label))) stands) (λ u s g. inside u s (inr (inr (inl g)))) w h)
   under (branch v e a b rest) nest p label c says inside w (inr (inr (inr h))) = under rest nest p label c says (λ u s g. inside u s (inr (inr (inr g)))) w h
   under (loop v e b rest) nest p label c says inside w (inl is) =
-      here p c label v w (While e) (nest ++ (v ∷ [])) says (inside v (standing (While e) (nest ++ (v ∷ [])) (Some (p, label))) (inl (refl, refl))) (tag_of w v is)
+      here p c label v w (While e) (nest ++ (v ∷ [])) says (inside v (standing (While e) (nest ++ (v ∷ [])) (Some (p, label))) (inl (refl, refl))) (point_tag w v is)
   under (loop v e b rest) nest p label c says inside w (inr (inl h)) =
       let stands = inside v (standing (While e) (nest ++ (v ∷ [])) (Some (p, label))) (inl (refl, refl)) in
       below p c label v (While e) (nest ++ (v ∷ [])) w says stands
@@ -89,7 +87,7 @@ module _ (t : Tree) where
         While e,
         says,
         elim last [
-          | inl itself ↦ subst (Leads v (While e)) (sym (tag_of w v itself)) (While e, says, [], refl)
+          | inl itself ↦ subst (Leads v (While e)) (sym (point_tag w v itself)) (While e, says, [], refl)
           | inr within ↦ under b (nest ++ (v ∷ [])) v true (While e) says (λ u s g. inside u s (inr (inl g))) w within
         ],
       )

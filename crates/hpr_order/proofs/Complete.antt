@@ -1,9 +1,7 @@
 -- Each arrangement is that of an allowed tree of items.
-use Rattle.std.proofs.Common.{◌≡◌, ℕ, zero, suc, ◌<◌, ◌⊎◌, inl, inr, Bool, true, ◌==◌, ◌&&◌, Some, None, List, [], ◌∷◌, length, map, Contains, slice_get, refl, sym, ap, ap₂, ◌∙◌, subst, arith}
+use Rattle.std.proofs.Common.{◌≡◌, ℕ, zero, suc, ◌<◌, ◌⊎◌, inl, inr, Bool, true, Some, None, List, [], ◌∷◌, length, map, Contains, slice_get, refl, sym, ap, ◌∙◌, subst, arith}
 use Rattle.std.specs.declared.cmp.Ordering.TheVariants.{Less}
-use Rattle.std.specs.Cmp.{tied_itself}
 use Rattle.std.specs.Cmp.Lexicographic.{nat_list_cmp_total}
-use Rattle.std.proofs.lemmas.Bool.Decides.{nat_tests}
 use Rattle.std.proofs.lemmas.List.{append-nil}
 use Rattle.hpr_terms.specs.declared.limits.TheConstants.{MAX_LEVELS}
 use Rattle.hpr_terms.specs.declared.tag.Tag.{Tag}
@@ -32,6 +30,9 @@ use Rattle.hpr_forest.specs.Forest.{IsDistinct}
 use Rattle.hpr_forest.specs.Lifted.{IsLeft}
 use Rattle.hpr_forest.specs.Trees.{Tree as ItemTree, empty, node, Slot, StandsIn, preorder}
 use Rattle.hpr_forest.proofs.Members.{no_longer, below, below_has, length-below}
+use Rattle.hpr_syntax.proofs.TagLemmas.{same_tag_itself}
+use Rattle.hpr_graph.proofs.NameOrder.{never_less}
+use Rattle.hpr_graph.proofs.Laws.{part_tag}
 use Rattle.hpr_order.specs.declared.item.Item.{Item}
 use Rattle.hpr_order.specs.Items.{IsItem, IsSource, Asks, slot_at, block_at, program_of}
 use Rattle.hpr_order.specs.Limits.{IsAllowedTree}
@@ -57,12 +58,6 @@ all_length : (n : ℕ) (l : List ℕ) → IsDistinct l → ((k : ℕ) → Contai
 all_length n l once within all =
     omega (arith, length-below n, no_longer l (below n) once (λ k h. below_has n k (within k h)), no_longer (below n) l (below_once n) (λ k h. all k (below_less n k h)))
 
-itself : (n : ℕ) → (n == n) ≡ true
-itself n = grind (arith, nat_tests)
-
-pub same_tag_itself : (t : Tag) → same_tag t t ≡ true
-same_tag_itself t = ap₂ (λ (a b : Bool). a && b) (itself t.author) (itself t.serial)
-
 -- what differs under a function differs
 once_by : {X : Type 0} (f : ℕ → X) (l : List ℕ) → ((i j : ℕ) (x : X) → slice_get (map f l) i ≡ Some x → slice_get (map f l) j ≡ Some x → i ≡ j) → IsDistinct l
 once_by f [] one = tt
@@ -77,9 +72,6 @@ names_before (x ∷ xs) up = (
   λ y a. (let (j, e) = place_of xs y a in up 0 (suc j) x y (omega arith) refl e),
   names_before xs (λ i j x' y' lt a b. up (suc i) (suc j) x' y' (omega (arith, lt)) a b),
 )
-
-never_less : (x : List ℕ) → name_cmp x x ≡ Less → ⊥
-never_less x e = let t = tied_itself nat_list_cmp_total x in absurd cc
 
 same_names : (xs ys : List (List ℕ)) → Ascends name_cmp xs → Ascends name_cmp ys → ((x : List ℕ) → Contains xs x → Contains ys x) → ((x : List ℕ) → Contains ys x → Contains xs x) → xs ≡ ys
 same_names xs ys a b to from =
@@ -135,13 +127,10 @@ module _ (items : List Item) (once : (k j : ℕ) (t : Tag) (c d : Content) → I
   entry_part : (t : Tag) (c : Content) → Part t c ≡ Entry → ⊥
   entry_part t c e = absurd cc
 
-  part_tags : (t u : Tag) (c d : Content) → Part t c ≡ Part u d → t ≡ u
-  part_tags t u c d e = cc
-
   source_slot : (v : Slot) (j : ℕ) (b : Bool) (t : Tag) (c : Content) → IsItem items j t c → IsSource items v (Part t c) b → v ≡ Some (j, b)
   source_slot None j b t c i (e, l) = absurd (entry_part t c e)
   source_slot (Some (k, b')) j b t c i (e, (t', c', f, i')) =
-      let same : t' ≡ t = sym (part_tags t t' c c' f) in
+      let same : t' ≡ t = sym (part_tag t t' c c' f) in
       let one : k ≡ j = once k j t c' c (subst (λ z. IsItem items k z c') same i') i in
       ap (λ z. Some (z, b')) one ∙ ap (λ z. Some (j, z)) (sym e)
 

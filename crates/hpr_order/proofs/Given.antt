@@ -23,12 +23,13 @@ use Rattle.hpr_graph.specs.Numbered.{Numbered, IsNumbered, graph_in}
 use Rattle.hpr_graph.specs.Rank.{parts_of}
 use Rattle.hpr_forest.proofs.Unique.{in_first, in_later}
 use Rattle.hpr_forest.specs.Trees.{Tree as ItemTree, preorder}
+use Rattle.hpr_syntax.proofs.TagLemmas.{same_tag_itself}
 use Rattle.hpr_order.specs.declared.item.Item.{Item}
 use Rattle.hpr_order.specs.Arranging.{AreFirstNumbers, IsPreorderOf}
 use Rattle.hpr_order.specs.Items.{program_of}
 use Rattle.hpr_order.specs.Numbers.{ArePartsOf, AreItemsAt, AreItemsOf}
 use Rattle.hpr_order.specs.Ordered.{IsListedProgram}
-use Rattle.hpr_order.proofs.Complete.{arranged_tree, same_tag_itself}
+use Rattle.hpr_order.proofs.Complete.{arranged_tree}
 use Rattle.hpr_order.proofs.ListFacts.{map_append, one_get}
 use Rattle.hpr_order.proofs.Shapes.{tag_of, vertex_of, vertex_is, parts_in}
 use Rattle.hpr_order.proofs.Sound.{IsKnown, item_at, part_same}

@@ -1,8 +1,7 @@
 -- The least of what has a property, with one more that may have it.
 use Rattle.std.proofs.Common.{◌≡◌, ℕ, ◌+◌, ◌<◌, ◌↔◌, ◌⊎◌, inl, inr, Bool, true, false, not, cond, if◌then◌else◌, Option, Some, None, List, length, take, get_or, Contains, refl, sym, ap, ◌∙◌, subst}
 use Rattle.std.specs.Cmp.{IsTotalOrder, tied_itself}
-use Rattle.std.specs.FinMap.{nat_cmp-IsAntisymmetric}
-use Rattle.std.specs.Ordering.{is_eq, nat_cmp}
+use Rattle.std.specs.Ordering.{is_eq}
 use Rattle.std.specs.declared.cmp.Ordering.{Ordering}
 use Rattle.std.specs.declared.cmp.Ordering.TheVariants.{Less, Equal, Greater}
 use Rattle.hpr_terms.specs.declared.tag.Tag.{Tag}
@@ -13,17 +12,16 @@ use Rattle.hpr_graph.specs.declared.vertex.Vertex.{Vertex}
 use Rattle.hpr_graph.specs.declared.vertex.Vertex.TheVariants.{Entry, Init, Part, Final}
 use Rattle.hpr_graph.specs.Graphs.{IsOnce}
 use Rattle.hpr_graph.specs.Order.{tag_cmp}
+use Rattle.hpr_graph.proofs.VertexOrder.{tag_tied, equal_by}
+use Rattle.hpr_graph.proofs.Searches.{less_equal}
+use Rattle.hpr_graph.proofs.Laws.{part_tag}
+use Rattle.hpr_graph.proofs.Lists.{not_before}
 use Rattle.hpr_order.specs.Regions.{IsLeastOf}
 use Rattle.hpr_order.specs.Least.{HasTag, HasTwoIn, IsLeastIn, before_or, lesser, noted}
-use Rattle.hpr_graph.proofs.VertexOrder.{then_equal}
-use Rattle.hpr_order.proofs.Lists.{not_before}
 
 -- the order of tags is total
 pub tag_total : IsTotalOrder tag_cmp
 tag_total = tag_laws.total-law
-
-less_equal : Less ≡ Equal → ⊥
-less_equal e = cc
 
 module _ {X : Type 0} (cmp : X → X → Ordering) where
   -- only what has the property matters
@@ -63,9 +61,6 @@ module _ {X : Type 0} (cmp : X → X → Ordering) where
 -- the tags of the first vertices
 abbrev pub HasTagIn : List Vertex → Tag → Type 0
 HasTagIn vs t = (c : Content) × Contains vs (Part t c)
-
-part_tag : (s t : Tag) (c d : Content) → Part s c ≡ Part t d → s ≡ t
-part_tag s t c d e = cc
 
 part_content : (s t : Tag) (c d : Content) → Part s c ≡ Part t d → c ≡ d
 part_content s t c d e = cc
@@ -160,18 +155,6 @@ module _ (vs : List Vertex) (i : ℕ) (v : Vertex) (once : IsOnce vs) (l : i < l
       → IsLeastIn tag_cmp (HasTwoIn (take i vs)) least → IsLeastIn tag_cmp (HasTwoIn (take (i + 1) vs)) (noted seen least v)
   two_more = by_vertex v refl
 
-tag_tied : (s t : Tag) → tag_cmp s t ≡ Equal → s ≡ t
-tag_tied s t e =
-    let (author, serial) = then_equal (nat_cmp s.author t.author) (nat_cmp s.serial t.serial) e in
-    let a : s.author ≡ t.author = nat_cmp-IsAntisymmetric s.author t.author author in
-    let b : s.serial ≡ t.serial = nat_cmp-IsAntisymmetric s.serial t.serial serial in
-    (λ i. record { author = a i; serial = b i })
-
-equal_is : (r : Ordering) → is_eq r ≡ true → r ≡ Equal
-equal_is Equal e = refl
-equal_is Less e = absurd cc
-equal_is Greater e = absurd cc
-
 -- a tag put among those seen
 module _ (v : Vertex) (t : Tag) (c : Content) (is : v ≡ Part t c) where
   has_tag : (u : Tag) → HasTag v u → t ≡ u
@@ -179,7 +162,7 @@ module _ (v : Vertex) (t : Tag) (c : Content) (is : v ≡ Part t c) where
 
   seen_by : (u : Tag) (b had has : Bool) → is_eq (tag_cmp t u) ≡ b → has ≡ cond b true had → (has ≡ true) ↔ ((had ≡ true) ⊎ HasTag v u)
   seen_by u true had has equal now = (
-    λ h. inr (c, is ∙ ap (λ (s : Tag). Part s c) (tag_tied t u (equal_is (tag_cmp t u) equal))),
+    λ h. inr (c, is ∙ ap (λ (s : Tag). Part s c) (tag_tied t u (equal_by (tag_cmp t u) equal))),
     λ h. now,
   )
   seen_by u false had has equal now = (

@@ -13,6 +13,7 @@ use Rattle.hpr_forest.specs.Forest.{IsDistinct}
 use Rattle.hpr_forest.specs.Lifted.{IsLeft}
 use Rattle.hpr_forest.specs.Trees.{Tree, empty, node, preorder}
 use Rattle.hpr_forest.proofs.Members.{split}
+use Rattle.hpr_syntax.proofs.TagLemmas.{point_tag}
 use Rattle.hpr_order.specs.declared.item.Item.{Item}
 use Rattle.hpr_order.specs.Items.{IsItem}
 use Rattle.hpr_order.proofs.BlockOf.{IsBlockOf, HasTag, same_part, in_one, in_two, in_three, in_which, none_of}
@@ -89,12 +90,9 @@ left_once (x ∷ xs) s t once (inl h) (inr k) = once.0 (subst (Contains xs) (sym
 left_once (x ∷ xs) s t once (inr h) (inl k) = once.0 (subst (Contains xs) (sym k.0) (left_in xs s t h).1)
 left_once (x ∷ xs) s t once (inr h) (inr k) = left_once xs s t once.1 h k
 
-same_point : (t u : Tag) → at t ≡ at u → t ≡ u
-same_point t u e = cc
-
 module _ (items : List Item) where
   tag_at : (k : ℕ) (t u : Tag) (c : Content) → IsItem items k t c → at u ≡ at t → HasTag items k u
-  tag_at k t u c i e = subst (HasTag items k) (sym (same_point u t e)) (c, i)
+  tag_at k t u c i e = subst (HasTag items k) (sym (point_tag u t e)) (c, i)
 
   tag_of : (k k' : ℕ) (t u : Tag) (c : Content) → k ≡ k' → IsItem items k t c → HasTag items k' u → at u ≡ at t
   tag_of k k' t u c e i (d, j) = ap at (sym (same_part items k t u c d i (subst (λ z. IsItem items z u d) (sym e) j)).0)

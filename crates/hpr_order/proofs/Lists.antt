@@ -1,19 +1,15 @@
 -- Places of lists: what one splits off, what one more puts in, and what is taken before it.
-use Rattle.std.proofs.Common.{◌≡◌, ℕ, zero, suc, ◌+◌, ◌<◌, ◌↔◌, ◌⊎◌, inl, inr, Some, List, [], ◌∷◌, ◌++◌, length, take, drop, get_or, Contains, slice_get, sym, ap, subst}
+use Rattle.std.proofs.Common.{◌≡◌, ℕ, zero, suc, ◌+◌, ◌↔◌, ◌⊎◌, inl, inr, Some, List, [], ◌∷◌, ◌++◌, take, drop, Contains, slice_get, sym, ap, subst}
 use Rattle.std.proofs.lemmas.Option.{get_or_from_slice_get, slice_get_within}
 use Rattle.std.proofs.lemmas.List.Elements.{Contains-append_left, Contains-append_right, Contains-append_cases}
 use Rattle.hpr_terms.proofs.Facts.{taken_item}
 use Rattle.hpr_graph.specs.Graphs.{IsOnce}
-use Rattle.hpr_graph.proofs.Lists.{some_inj, in_cons, in_here, in_later, once_tail, once_head, once_cons, not_taken}
+use Rattle.hpr_graph.proofs.Lists.{some_inj, in_cons, in_here, in_later, once_tail, once_head, once_cons}
 
 module _ {X : Type 0} where
 
   pub taken_at : (xs : List X) (i : ℕ) (x y : X) → slice_get xs i ≡ Some x → Contains (take (i + 1) xs) y ↔ (Contains (take i xs) y ⊎ (x ≡ y))
   taken_at xs i x y at = taken_item xs i x y (slice_get_within xs i x at) (sym (get_or_from_slice_get xs i x x at))
-
-  -- where nothing stands twice, an item isn't among those before it
-  pub not_before : (xs : List X) (i : ℕ) (x : X) → IsOnce xs → i < length xs → x ≡ get_or xs i x → ¬ Contains (take i xs) x
-  not_before xs i x once l is h = not_taken xs i x once l (subst (λ (z : X). Contains (take i xs) z) is h)
 
   -- a place splits a list
   pub split_at : (xs : List X) (i : ℕ) (x : X) → slice_get xs i ≡ Some x → (xs ≡ take i xs ++ x ∷ drop (suc i) xs) × (drop i xs ≡ x ∷ drop (suc i) xs)

@@ -7,8 +7,7 @@ use Rattle.hpr_graph.specs.declared.link.Link.{Link}
 use Rattle.hpr_graph.specs.Graphs.{IsOnce}
 use Rattle.hpr_order.specs.Regions.{control_link}
 use Rattle.hpr_order.specs.Controls.{IsOnlyControl, label_of}
-use Rattle.hpr_graph.proofs.Lists.{some_inj}
-use Rattle.hpr_order.proofs.Lists.{not_before}
+use Rattle.hpr_graph.proofs.Lists.{some_inj, not_before}
 use Rattle.hpr_order.proofs.Rows.{control_of, label_is, get_or_same}
 
 -- none, or the one control edge

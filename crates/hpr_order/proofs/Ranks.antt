@@ -1,5 +1,5 @@
 -- What the rank of three programs has: each of their parts, once.
-use Rattle.std.proofs.Common.{◌≡◌, ℕ, zero, suc, ◌+◌, ◌-◌, ◌<◌, Bool, true, false, ◌↔◌, ◌⊎◌, inl, inr, Option, Some, None, IfSome, IsNone, Bor, List, [], ◌∷◌, ◌++◌, map, length, take, drop, get_or, Contains, slice_get, refl, sym, ap, ap₂, ◌∙◌, subst, append_assoc, arith, rules}
+use Rattle.std.proofs.Common.{◌≡◌, ℕ, zero, suc, ◌+◌, ◌-◌, ◌<◌, Bool, true, false, ◌↔◌, ◌⊎◌, inl, inr, Option, Some, None, IfSome, IsNone, Bor, List, [], ◌∷◌, ◌++◌, map, length, take, drop, get_or, Contains, slice_get, refl, sym, ap, ap₂, ◌∙◌, subst, append_assoc, arith}
 use Rattle.std.specs.List.{insert}
 use Rattle.std.proofs.lemmas.List.{append-nil, map-append, take_more}
 use Rattle.std.specs.Option.{is_some, option_copied}
@@ -16,6 +16,7 @@ use Rattle.hpr_syntax.specs.Tree.{Tree}
 use Rattle.hpr_syntax.proofs.NoRefusal.{no_refusal}
 use Rattle.hpr_syntax.proofs.Repeats.{places_once}
 use Rattle.hpr_syntax.proofs.ShapeLemmas.{tags_append}
+use Rattle.hpr_syntax.proofs.TagLemmas.{same_tag_itself}
 use Rattle.hpr_graph.specs.declared.vertex.Vertex.{Vertex}
 use Rattle.hpr_graph.specs.declared.vertex.Vertex.TheVariants.{Entry, Init, Part, Final}
 use Rattle.hpr_graph.specs.Graphs.{IsOnce}
@@ -56,9 +57,6 @@ tag_there [] i v h = absurd cc
 tag_there (row ∷ rows) zero v h = (row.tag, refl, ap vertex_tag (sym (some_inj (Part row.tag row.content) v h)))
 tag_there (row ∷ rows) (suc i) v h = tag_there rows i v h
 
-tag_itself : (t : Tag) → same_tag t t ≡ true
-tag_itself t = search rules
-
 -- nothing stands twice among a program's parts
 pub parts_once : (t : Tree) → IsProgram t → IsOnce (parts_of t)
 parts_once t prog i j v a b =
@@ -67,7 +65,7 @@ parts_once t prog i j v a b =
     let (u, at_j, is_j) = tag_there rows j v b in
     let same : s ≡ u = some_inj s u (sym is_i ∙ is_j) in
     let tags : map (λ (row : Row). row.tag) rows ≡ tags_of t.body [] = row_tags None 0 t.body in
-    places_once same_tag tag_itself [] (tags_of t.body []) i j u (no_refusal t prog.shape).tags
+    places_once same_tag same_tag_itself [] (tags_of t.body []) i j u (no_refusal t prog.shape).tags
     (subst (λ (ts : List Tag). slice_get ts i ≡ Some u) tags (at_i ∙ ap (λ (w : Tag). Some w) same))
     (subst (λ (ts : List Tag). slice_get ts j ≡ Some u) tags at_j)
 

@@ -4,7 +4,7 @@ use Rattle.std.proofs.lemmas.List.{append-nil}
 use Rattle.std.proofs.lemmas.List.Elements.{Contains-append_left, Contains-append_right, Contains-append_cases}
 use Rattle.std.proofs.lemmas.Bool.{eqb-true, eq-eqb}
 use Rattle.hpr_terms.specs.declared.tag.Tag.{Tag}
-use Rattle.hpr_terms.proofs.Facts.{get_below}
+use Rattle.hpr_terms.proofs.Facts.{get_below, some_inj}
 use Rattle.hpr_syntax.specs.declared.rows.Content.{Content}
 use Rattle.hpr_syntax.specs.declared.rows.Content.TheVariants.{Assign, If, While}
 use Rattle.hpr_syntax.specs.Action.{assigns}
@@ -51,9 +51,6 @@ branch_of (Some (k, b)) = b
 
 pub first_second : (u : Slot) (c d : ℕ) → u ≡ Some (c, true) → u ≡ Some (d, false) → ⊥
 first_second u c d e f = let g : true ≡ false = sym (ap branch_of e) ∙ ap branch_of f in absurd cc
-
-some_one : (a b : ℕ) → Some a ≡ Some b → a ≡ b
-some_one a b e = cc
 
 module _ (items : List Item) where
 
@@ -147,16 +144,16 @@ module _ (items : List Item) where
       λ u xs o sub apart z a. elim (inside r v z st.3 a) [
         | inl is ↦ ((λ e. not_v u o (sym e ∙ is)), (λ w p d. out_all xs sub w (sym (ap owner is) ∙ p) d))
         | inr (w', is, k) ↦ (
-          (λ e. once.0 (in_rs c (subst (Contains rs) (some_one w' c (sym is ∙ ap owner e ∙ o)) k))),
-          (λ w p d. apart w d (subst (Contains rs) (some_one w' w (sym is ∙ p)) k)),
+          (λ e. once.0 (in_rs c (subst (Contains rs) (some_inj w' c (sym is ∙ ap owner e ∙ o)) k))),
+          (λ w p d. apart w d (subst (Contains rs) (some_inj w' w (sym is ∙ p)) k)),
         )
       ] in
       let n_clear : Clear (Some (c, true)) ys ns =
       λ z a. elim (inside n (Some (c, false)) z st.2 a) [
-        | inl is ↦ ((λ e. first_second (slot_at items z) c c e is), (λ w p d. once.0 (in_ys c (subst (Contains ys) (some_one w c (sym p ∙ ap owner is)) d))))
+        | inl is ↦ ((λ e. first_second (slot_at items z) c c e is), (λ w p d. once.0 (in_ys c (subst (Contains ys) (some_inj w c (sym p ∙ ap owner is)) d))))
         | inr (w', is, k) ↦ (
-          (λ e. once.0 (in_ns c (subst (Contains ns) (some_one w' c (sym is ∙ ap owner e)) k))),
-          (λ w p d. apart_y w d (Contains-append_left ns rs w (subst (Contains ns) (some_one w' w (sym is ∙ p)) k))),
+          (λ e. once.0 (in_ns c (subst (Contains ns) (some_inj w' c (sym is ∙ ap owner e)) k))),
+          (λ w p d. apart_y w d (Contains-append_left ns rs w (subst (Contains ns) (some_inj w' w (sym is ∙ p)) k))),
         )
       ] in
       let y_none : (u : Slot) → (u ≡ Some (c, true) → ⊥) → Outside ys u → NoneIn u ys =
@@ -170,7 +167,7 @@ module _ (items : List Item) where
         | inr (w, o, k) ↦ out_all ns in_ns w (sym (ap owner is) ∙ o) k
       ] in
       let c_out : (xs : List ℕ) → ((z : ℕ) → Contains xs z → Contains (ys ++ (ns ++ rs)) z) → (b : Bool) → Outside xs (Some (c, b)) =
-      λ xs sub b w o d. once.0 (sub c (subst (Contains xs) (sym (some_one c w o)) d)) in
+      λ xs sub b w o d. once.0 (sub c (subst (Contains xs) (sym (some_inj c w o)) d)) in
       let read_y : (p : Body) → IsBlockOf items y p → block_at items (ys ++ (ns ++ (rs ++ s))) (Some (c, true)) ≡ p =
       λ p hp. read_back y p (Some (c, true)) (ns ++ (rs ++ s)) st.1 hp (once_left ys (ns ++ rs) once.1) (c_out ys in_ys true)
       (clear_append (Some (c, true)) ys ns (rs ++ s) n_clear (clear_append (Some (c, true)) ys rs s

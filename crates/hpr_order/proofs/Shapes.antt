@@ -1,12 +1,12 @@
 -- What the block of a tree of items is: its parts, tags and levels, and that it has no refusal.
-use Rattle.std.proofs.Common.{◌≡◌, ℕ, zero, suc, ◌+◌, ◌-◌, ◌≤◌, inl, inr, Bool, true, false, ◌==◌, ◌||◌, if◌then◌else◌, IsSome, Option, Some, None, List, [], ◌∷◌, ◌++◌, All, length, map, Contains, slice_get, refl, sym, ap, ap₂, ◌∙◌, subst, arith, append_assoc, length-append}
+use Rattle.std.proofs.Common.{◌≡◌, ℕ, zero, suc, ◌+◌, ◌-◌, ◌≤◌, inl, inr, Bool, true, false, ◌||◌, if◌then◌else◌, IsSome, Option, Some, None, List, [], ◌∷◌, ◌++◌, All, length, map, Contains, slice_get, refl, sym, ap, ap₂, ◌∙◌, subst, arith, append_assoc, length-append}
 use Rattle.std.specs.List.{list_any}
 use Rattle.std.specs.Option.{option_or}
 use Rattle.std.proofs.lemmas.Bool.Decides.{nat_tests}
 use Rattle.std.proofs.lemmas.List.Elements.{All-contains}
 use Rattle.hpr_terms.specs.declared.limits.TheConstants.{MAX_LEVELS}
 use Rattle.hpr_terms.specs.declared.tag.Tag.{Tag}
-use Rattle.hpr_terms.proofs.Facts.{and_both, if_none, unless, contains_at}
+use Rattle.hpr_terms.proofs.Facts.{if_none, unless, contains_at}
 use Rattle.hpr_syntax.specs.declared.rows.Row.{Row}
 use Rattle.hpr_syntax.specs.declared.rows.Content.{Content}
 use Rattle.hpr_syntax.specs.declared.rows.Content.TheVariants.{Assign, If, While}
@@ -14,7 +14,7 @@ use Rattle.hpr_syntax.specs.Action.{assigns}
 use Rattle.hpr_syntax.specs.Rows.{content_by}
 use Rattle.hpr_syntax.specs.Body.{Body, done, action, branch, loop, part_count}
 use Rattle.hpr_syntax.specs.Issued.{Issued, issued_to}
-use Rattle.hpr_syntax.specs.Parts.{same_tag, tags_of}
+use Rattle.hpr_syntax.specs.Parts.{tags_of}
 use Rattle.hpr_syntax.specs.Proper.{IsProperBody, IsProperTag}
 use Rattle.hpr_syntax.specs.Rows.{Parent, rows_of, expr_in}
 use Rattle.hpr_syntax.specs.Shape.{first_repeated, first_unissued, is_unissued, first_deep, first_large, is_large}
@@ -158,6 +158,7 @@ module _ (items : List Item) where
   proper_in (node c y n r) (loop t e p rest) all h =
       (let i = proper_item c t (While e) all h.0 in (i.0, i.1, proper_in y p all h.1, proper_in r rest all h.3))
 
+  -- no expression is large exactly where none of an item is
   none_or : {X : Type 0} (a b : Option X) → a ≡ None → b ≡ None → option_or a b ≡ None
   none_or None b x y = y
   none_or (Some z) b x y = absurd cc
@@ -377,13 +378,3 @@ all_issued issued (t ∷ ts) h =
     go : (b : Bool) → b ≡ false → first_unissued issued ts ≡ None → (if b then Some t else first_unissued issued ts) ≡ None
     go true is rest = absurd cc
     go false is rest = rest
-
-same_number : (a b : ℕ) → (a == b) ≡ true → a ≡ b
-same_number a b e = grind (arith, nat_tests)
-
-pub same_tag_true : (t u : Tag) → same_tag t u ≡ true → t ≡ u
-same_tag_true t u e =
-    let (a, b) = and_both (t.author == u.author) (t.serial == u.serial) e in
-    let p = same_number t.author u.author a in
-    let q = same_number t.serial u.serial b in
-    (λ i. record { author = p i; serial = q i })

@@ -37,6 +37,7 @@ use Rattle.hpr_graph.specs.ProgramGraph.{IsControl}
 use Rattle.hpr_forest.proofs.Unique.{in_none, in_first, in_later}
 use Rattle.hpr_forest.specs.Forest.{IsDistinct}
 use Rattle.hpr_forest.specs.Trees.{Tree as ItemTree, Slot, preorder}
+use Rattle.hpr_syntax.proofs.TagLemmas.{same_tag_is}
 use Rattle.hpr_order.specs.declared.item.Item.{Item}
 use Rattle.hpr_order.specs.Arranging.{AreIssued, IsProperItem}
 use Rattle.hpr_order.specs.Items.{AreItems, IsItem, IsSource, slot_at, block_at, program_of}
@@ -44,7 +45,7 @@ use Rattle.hpr_order.specs.Limits.{IsAllowedTree}
 use Rattle.hpr_order.proofs.BlockOf.{IsBlockOf, IsParent, same_part, says_in, in_says, stands_so, so_stands, slot_of_place, in_place}
 use Rattle.hpr_order.proofs.Lefts.{LeftIn, is_left, left_once, stands_left}
 use Rattle.hpr_order.proofs.ReadBack.{read_whole, block_there}
-use Rattle.hpr_order.proofs.Shapes.{no_tag, tag_in, tag_of, tags_in, count_in, proper_in, small_in, shallow_in, IsApart, none_repeated, all_issued, same_tag_true}
+use Rattle.hpr_order.proofs.Shapes.{no_tag, tag_in, tag_of, tags_in, count_in, proper_in, small_in, shallow_in, IsApart, none_repeated, all_issued}
 
 few_parts : (n : ℕ) → n ≤ MAX_PARTS → too_many n ≡ None
 few_parts n le = grind (arith, nat_tests)
@@ -131,7 +132,7 @@ module _ (g : Graph) (items : List Item) (issued : Issued) (finals : List (List 
           | inl tie ↦ absurd (
               let (c, ic) = item_at items k (within k (in_first k l)) in
               let (d, jd) = item_at items j (within j (in_later k j l b)) in
-              let same : tag_of items j ≡ tag_of items k = e ∙ same_tag_true y (tag_of items k) tie in
+              let same : tag_of items j ≡ tag_of items k = e ∙ same_tag_is y (tag_of items k) tie in
               let jd' : IsItem items j (tag_of items k) d = subst (λ z. IsItem items j z d) same jd in
               once.0 (subst (Contains l) (is.items.once j k (tag_of items k) d c jd' ic) b))
         ]),

@@ -2,17 +2,11 @@
 use Rattle.std.proofs.Common.{◌≡◌, ℕ, zero, suc, ◌+◌, ◌-◌, ◌<◌, ◌≤◌, ◌⊎◌, ◌↔◌, inl, inr, Bool, true, false, Option, Some, None, IsSome, List, [], ◌∷◌, ◌++◌, length, get_or, take, Contains, slice_get, refl, sym, ap, ◌∙◌, subst, arith}
 use Rattle.std.proofs.lemmas.Bool.{cases_eq}
 use Rattle.std.proofs.lemmas.List.{take_more}
-use Rattle.std.specs.declared.cmp.Ordering.TheVariants.{Less}
-use Rattle.std.specs.Cmp.Lexicographic.{slice_cmp}
-use Rattle.std.specs.Ordering.{nat_cmp}
-use Rattle.std.specs.List.Sorted.{IsStrictlySortedBy}
 use Rattle.hpr_terms.specs.declared.limits.TheConstants.{MAX_LEVELS, MAX_PARTS}
-use Rattle.hpr_graph.specs.InOrder.{Ascends}
-use Rattle.hpr_graph.specs.Order.{name_cmp}
-use Rattle.std.proofs.lemmas.List.Elements.{All-contains, All-from_recursion, Contains-append_left, Contains-append_right, Contains-append_cases}
+use Rattle.std.proofs.lemmas.List.Elements.{Contains-append_left, Contains-append_right, Contains-append_cases}
 use Rattle.std.proofs.lemmas.Option.{slice_get_within, slice_get_read, get_or_from_slice_get}
 use Rattle.hpr_terms.specs.declared.tag.Tag.{Tag}
-use Rattle.hpr_terms.proofs.Facts.{some_inj, is_some_at, contains_at, get_below, at_end}
+use Rattle.hpr_terms.proofs.Facts.{is_some_at, get_below, at_end}
 use Rattle.hpr_syntax.specs.declared.rows.Content.{Content}
 use Rattle.hpr_syntax.specs.Rows.{expr_in}
 use Rattle.hpr_syntax.specs.Shape.{is_large}
@@ -194,12 +188,3 @@ take_step xs index x y e =
         | inr same ↦ Contains-append_right (take index xs) (x ∷ []) y (subst (λ z. Contains (x ∷ []) z) same (in_first x []))
       ])),
     )
-
--- names in order
-pub names_up : (xs : List (List ℕ)) → IsStrictlySortedBy (slice_cmp nat_cmp) xs → Ascends name_cmp xs
-unfolding IsStrictlySortedBy
-names_up [] h i j x y lt a b = absurd cc
-names_up (z ∷ xs) h i zero x y lt a b = absurd (omega (arith, lt))
-names_up (z ∷ xs) h zero (suc j) x y lt a b =
-    subst (λ w. name_cmp w y ≡ Less) (some_inj z x a) (All-contains (λ w. name_cmp z w ≡ Less) xs y (All-from_recursion (λ w. name_cmp z w ≡ Less) xs h.0) (contains_at xs j y b))
-names_up (z ∷ xs) h (suc i) (suc j) x y lt a b = names_up xs h.1 i j x y (omega (arith, lt)) a b

@@ -137,7 +137,7 @@ is_at? (at s) t = go (tag_discrete s t)
 is_at? enter t = no (λ e. subst IsPart (sym e) tt)
 is_at? exit t = no (λ e. subst IsPart (sym e) tt)
 
-or? : {A B : Type 0} → Dec A → Dec B → Dec (A ⊎ B)
+pub or? : {A B : Type 0} → Dec A → Dec B → Dec (A ⊎ B)
 or? (yes a) _ = yes (inl a)
 or? (no a) (yes b) = yes (inr b)
 or? {A = A} {B = B} (no a) (no b) = no go

@@ -1,5 +1,5 @@
 -- The points of a block, statement by statement.
-use Rattle.std.proofs.Common.{◌≡◌, ℕ, suc, ◌+◌, ◌<◌, ◌≤◌, Bool, true, false, cond, List, [], ◌∷◌, ◌++◌, length, get_or, drop, drop-cons, add-one, length-drop, inl, inr, refl, sym, ap, ◌∙◌, arith, append_assoc}
+use Rattle.std.proofs.Common.{◌≡◌, ℕ, ◌+◌, ◌<◌, ◌≤◌, Bool, true, false, cond, List, [], ◌∷◌, ◌++◌, length, get_or, drop, length-drop, inl, inr, refl, sym, ap, ◌∙◌, arith, append_assoc}
 use Rattle.std.proofs.lemmas.List.{append-nil, drop_all}
 use Rattle.std.proofs.lemmas.Bool.{cases_lt}
 use Rattle.hpr_syntax.specs.declared.tree.Stmt.{Stmt}
@@ -7,6 +7,7 @@ use Rattle.hpr_syntax.specs.declared.tree.Stmt.TheVariants.{Assign, If, While}
 use Rattle.hpr_syntax.specs.declared.rows.Content.TheVariants as content
 use Rattle.hpr_syntax.specs.Body.{Body, done, part_count}
 use Rattle.hpr_syntax.specs.BodyOf.{before, body_of}
+use Rattle.hpr_syntax.proofs.RowLemmas.{drop_turn}
 use Rattle.hpr_paths.specs.declared.spot.Step.{Step}
 use Rattle.hpr_paths.specs.Spots.{Spot, part}
 use Rattle.hpr_paths.specs.Successors.{first_step, step_to, spot_of, spots_of}
@@ -57,11 +58,8 @@ after_is xs i n f more p q = elim (cases_lt i (length xs)) [
       ∙ ap (λ (ys : List Stmt). first_step (body_of ys) n f) (sym (drop_all i xs past))
 ]
 
-take_apart : (xs : List Stmt) (i : ℕ) (s : Stmt) → i < length xs → s ≡ get_or xs i s → body_of (drop i xs) ≡ before s (body_of (drop (i + 1) xs))
-take_apart xs i s l is = let e : drop i xs ≡ s ∷ drop (i + 1) xs = rw add-one (drop-cons xs i s l ∙ ap (λ (t : Stmt). t ∷ drop (suc i) xs) (sym is)) in ap body_of e
-
 pub count_step : (xs : List Stmt) (i : ℕ) (s : Stmt) → i < length xs → s ≡ get_or xs i s → part_count (body_of (drop i xs)) ≡ part_count (before s done) + part_count (body_of (drop (i + 1) xs))
-count_step xs i s l is = ap part_count (take_apart xs i s l is) ∙ count_cons s (body_of (drop (i + 1) xs))
+count_step xs i s l is = ap part_count (drop_turn xs i s l is) ∙ count_cons s (body_of (drop (i + 1) xs))
 
 -- the points after one more statement
 pub spots_step : (rows rows' full : Rows) (xs : List Stmt) (i n n' : ℕ) (s : Stmt) (f after : Step) (w : List ℕ) → i < length xs → s ≡ get_or xs i s → rows ++ spots_of (body_of (drop i xs)) n f w ≡ full → rows' ≡ rows ++ spots_of (before s done) n after w → after ≡ first_step (body_of (drop (i + 1) xs)) n' f → n' ≡ n + part_count (before s done) → rows' ++ spots_of (body_of (drop (i + 1) xs)) n' f w ≡ full
@@ -69,7 +67,7 @@ spots_step rows rows' full xs i n n' s f after w l is so_far grown after_is n'_i
     let rest : Body = body_of (drop (i + 1) xs) in
     ap (λ (r : Rows). r ++ spots_of rest n' f w) (grown ∙ ap (λ (a : Step). rows ++ spots_of (before s done) n a w) after_is)
     ∙ append_assoc rows (spots_of (before s done) n (first_step rest n' f) w) (spots_of rest n' f w)
-    ∙ ap (λ (r : Rows). rows ++ r) (sym (ap (λ (b : Body). spots_of b n f w) (take_apart xs i s l is) ∙ spots_cons s rest n n' f w n'_is))
+    ∙ ap (λ (r : Rows). rows ++ r) (sym (ap (λ (b : Body). spots_of b n f w) (drop_turn xs i s l is) ∙ spots_cons s rest n n' f w n'_is))
     ∙ so_far
 
 pub spots_done : (rows full : Rows) (xs : List Stmt) (i n : ℕ) (f : Step) (w : List ℕ) → length xs ≤ i → rows ++ spots_of (body_of (drop i xs)) n f w ≡ full → rows ≡ full

@@ -1,5 +1,5 @@
 -- No tag stands twice in a program.
-use Rattle.std.proofs.Common.{◌≡◌, Bool, true, false, List, [], ◌∷◌, Option, Some, None, refl, sym, subst, inl, inr, eq-eqb}
+use Rattle.std.proofs.Common.{◌≡◌, Bool, true, false, List, [], ◌∷◌, Option, Some, None, refl, sym, subst, inl, inr}
 use Rattle.hpr_terms.specs.declared.tag.Tag.{Tag}
 use Rattle.hpr_syntax.specs.Body.{Body, done, action, branch, loop}
 use Rattle.hpr_syntax.specs.Parts.{same_tag, tags_of}
@@ -9,11 +9,9 @@ use Rattle.hpr_syntax.specs.Tree.{Tree}
 use Rattle.hpr_syntax.specs.Shape.{IsProgram, shape, first_repeated}
 use Rattle.hpr_syntax.specs.Skeleton.{Skeleton, nil, act, fork, round, Point, at, StandsIn, Apart, Distinct, skeleton}
 use Rattle.hpr_syntax.proofs.NoRefusal.{no_refusal}
+use Rattle.hpr_syntax.proofs.TagLemmas.{same_tag_itself}
 use Rattle.hpr_paths.proofs.SkeletonTags.{same_at}
 use Rattle.hpr_paths.proofs.Among.{no_both}
-
-pub same_tag-itself : (t : Tag) → same_tag t t ≡ true
-same_tag-itself t = let a = eq-eqb t.author t.author refl in let b = eq-eqb t.serial t.serial refl in rw (a, b) refl
 
 -- a tag that stands earlier
 abbrev pub is_seen : Tag → List Tag → Bool
@@ -32,7 +30,7 @@ stays_out : (B : Skeleton) (seen : List Tag) (t : Tag) → ((u : Tag) → Stands
 stays_out B seen t f s i = no_both s (f t i)
 
 seen_itself : (t : Tag) (seen : List Tag) → IsSeen (t ∷ seen) t
-seen_itself t seen = or_left (same_tag t t) (is_seen t seen) (same_tag-itself t)
+seen_itself t seen = or_left (same_tag t t) (is_seen t seen) (same_tag_itself t)
 
 seen_before : (t u : Tag) (seen : List Tag) → IsSeen seen u → IsSeen (t ∷ seen) u
 seen_before t u seen s = or_right (same_tag u t) (is_seen u seen) s

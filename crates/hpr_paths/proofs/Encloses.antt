@@ -38,7 +38,7 @@ widen w l lo hi lo' hi' a b (inr c) = inr (omega (arith, c.0), omega (arith, c.1
 in_inside : (w : List ℕ) (n l : ℕ) → Contains (w ++ n ∷ []) l → Contains w l ⊎ (l ≡ n)
 in_inside w n l c = elim (Contains-append_cases w (n ∷ []) l c) [ inl a ↦ inl a | inr b ↦ inr (contains_one n l b) ]
 
-nest_to : (s q : Spot) (l : ℕ) → s ≡ q → Contains s.nest l → Contains q.nest l
+pub nest_to : (s q : Spot) (l : ℕ) → s ≡ q → Contains s.nest l → Contains q.nest l
 nest_to s q l is c = let P : Spot → Type 0 = λ x. Contains x.nest l in subst P is c
 
 inside_range : (w : List ℕ) (n l hi hi' : ℕ) → n < hi' → hi ≤ hi' → Range (w ++ n ∷ []) l (n + 1) hi → Range w l n hi'
@@ -190,7 +190,7 @@ encloses_of_nests S (loop t e b rest) n f w p q s u l v holds out (inr h) (inr k
 abbrev Share : List Spot → Tag → ℕ → Spot → ℕ → Spot → Type 0
 Share S v _ s _ o = (l : ℕ) × Contains s.nest l × Contains o.nest l × (tag_at S l ≡ Some v)
 
-outer_in : (b : Body) (n : ℕ) (f : Step) (w : List ℕ) (p : ℕ) (s : Spot) (l : ℕ) → SpotIn b n f w p s → Contains w l → Contains s.nest l
+pub outer_in : (b : Body) (n : ℕ) (f : Step) (w : List ℕ) (p : ℕ) (s : Spot) (l : ℕ) → SpotIn b n f w p s → Contains w l → Contains s.nest l
 outer_in done n f w p s l h c = absurd h
 outer_in (action t d rest) n f w p s l (inl h) c = nest_to _ s l (sym h.1) c
 outer_in (action t d rest) n f w p s l (inr h) c = outer_in rest (n + 1) f w p s l h c

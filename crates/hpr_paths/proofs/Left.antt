@@ -19,7 +19,7 @@ use Rattle.hpr_paths.proofs.Sound.{has_high}
 use Rattle.hpr_paths.proofs.Tags.{number_once}
 use Rattle.hpr_paths.proofs.Encloses.{Again, head_point, stands, spot_standing}
 
-spot_range : (b : Body) (n : ℕ) (f : Step) (w : List ℕ) (p : ℕ) (s : Spot) → SpotIn b n f w p s → (n ≤ p) × (p < n + part_count b)
+pub spot_range : (b : Body) (n : ℕ) (f : Step) (w : List ℕ) (p : ℕ) (s : Spot) → SpotIn b n f w p s → (n ≤ p) × (p < n + part_count b)
 spot_range b n f w p s h =
     let has = has_of_in b n f w p s h in
     (has_low (spots_of b n f w) n p s has, omega (arith, has_high (spots_of b n f w) n p s has, count_spots b n f w))

@@ -1,5 +1,5 @@
 -- The tags of the points, and that none stands twice in a program.
-use Rattle.std.proofs.Common.{◌≡◌, ◌<◌, ◌+◌, ℕ, zero, suc, true, inl, inr, Option, Some, None, List, [], ◌∷◌, ◌++◌, map, length, refl, sym, ap, ◌∙◌, rules}
+use Rattle.std.proofs.Common.{◌≡◌, ◌<◌, ◌+◌, ℕ, zero, suc, true, inl, inr, Option, Some, None, List, [], ◌∷◌, ◌++◌, map, length, refl, sym, ap, ◌∙◌}
 use Rattle.std.specs.List.{slice_get}
 use Rattle.std.specs.Option.{option_map, option_and_then}
 use Rattle.std.proofs.lemmas.Option.{same_Some, slice_get-map}
@@ -13,6 +13,7 @@ use Rattle.hpr_syntax.specs.Skeleton.{Point}
 use Rattle.hpr_syntax.proofs.NoRefusal.{no_refusal}
 use Rattle.hpr_syntax.proofs.Repeats.{places_once}
 use Rattle.hpr_syntax.proofs.ShapeLemmas.{tags_append}
+use Rattle.hpr_syntax.proofs.TagLemmas.{same_tag_itself}
 use Rattle.hpr_paths.specs.declared.spot.Step.{Step}
 use Rattle.hpr_paths.specs.Spots.{Role, enter, part, exit, Spot, point_of, tag_of, role_at, tag_at}
 use Rattle.hpr_paths.specs.Successors.{first_step, spot_of, spots_of, spots}
@@ -67,9 +68,6 @@ tags_of_whole t =
     let last : List Spot = spot_of [] [] (exit t.finals) ∷ [] in
     ap (λ (r : Tags). None ∷ r) (map-append (λ (s : Spot). tag_of s.role) rows last ∙ ap (λ (r : Tags). r ++ None ∷ []) (tags_of_spots t.body 1 (end_of t) []))
 
-tag_same : (h : Tag) → same_tag h h ≡ true
-tag_same h = search rules
-
 tag_within : (ts : List Tag) (k : ℕ) (t : Tag) → slice_get (some_tags ts ++ None ∷ []) k ≡ Some (Some t) → slice_get ts k ≡ Some t
 tag_within [] zero t h = absurd cc
 tag_within [] (suc k) t h = absurd cc
@@ -114,7 +112,7 @@ part_once t p q v prog a b =
     let x = tag_place (spots t) tags p v (tags_of_whole t) a in
     let y = tag_place (spots t) tags q v (tags_of_whole t) b in
     let none : first_repeated same_tag [] tags ≡ None = (no_refusal t prog.shape).tags in
-    x.1 ∙ ap (λ (k : ℕ). suc k) (places_once same_tag tag_same [] tags x.0 y.0 v none x.2 y.2) ∙ sym y.1
+    x.1 ∙ ap (λ (k : ℕ). suc k) (places_once same_tag same_tag_itself [] tags x.0 y.0 v none x.2 y.2) ∙ sym y.1
 
 once_at : (t : Tree) (p q : ℕ) (r r' : Role) → IsProgram t → role_at (spots t) p ≡ Some r → role_at (spots t) q ≡ Some r' → point_of r ≡ point_of r' → p ≡ q
 once_at t p q enter enter prog a b is = enter_at t p a ∙ sym (enter_at t q b)

@@ -1,12 +1,12 @@
 -- The texts of one more level, and of one part before others.
-use Rattle.std.proofs.Common.{◌≡◌, ℕ, ◌+◌, ◌*◌, ◌≤◌, List, [], ◌∷◌, ◌++◌, refl, sym, ap, ◌∙◌, arith, max, append_assoc, replicate, suc, ◌<◌, ◌==◌, length, get_or, drop, add-one, false, codes, drop_of_length-le}
-use Rattle.std.proofs.Math.Seq.{drop-cons}
+use Rattle.std.proofs.Common.{◌≡◌, ℕ, ◌+◌, ◌*◌, ◌≤◌, List, [], ◌∷◌, ◌++◌, refl, sym, ap, ◌∙◌, arith, max, append_assoc, replicate, ◌<◌, ◌==◌, length, get_or, drop, false, codes, drop_of_length-le}
 use Rattle.std.proofs.lemmas.List.{replicate-append-replicate, append-nil}
 use Rattle.hpr_syntax.specs.declared.tree.Stmt.{Stmt}
 use Rattle.hpr_syntax.specs.declared.tree.Stmt.TheVariants.{Assign, If, While}
 use Rattle.hpr_syntax.specs.Body.{Body, done, action, branch, loop, depth}
 use Rattle.hpr_syntax.specs.BodyOf.{before, body_of}
 use Rattle.hpr_syntax.specs.Print.{indent, body_text, is_done, else_text, line}
+use Rattle.hpr_syntax.proofs.RowLemmas.{drop_turn}
 
 pub more_indent : (n : ℕ) → indent (n + 1) ≡ indent n ++ (32 ∷ 32 ∷ [])
 more_indent n =
@@ -35,19 +35,12 @@ parts_depth (Assign t x e) rest = let h = depth_positive rest in omega arith
 parts_depth (If t e a b) rest = let h = depth_positive rest in omega arith
 parts_depth (While t e b) rest = let h = depth_positive rest in omega arith
 
--- a part in its place, before the parts after it
-pub part_here : (stmts : List Stmt) (i : ℕ) (s : Stmt) → i < length stmts → s ≡ get_or stmts i s → body_of (drop i stmts) ≡ before s (body_of (drop (i + 1) stmts))
-part_here stmts i s below here =
-    let e : drop i stmts ≡ get_or stmts i s ∷ drop (suc i) stmts = drop-cons stmts i s below in
-    let f : drop i stmts ≡ s ∷ drop (i + 1) stmts = rw add-one (cc) in
-    ap body_of f
-
 -- a part's own depth
 pub part_fits : (stmts : List Stmt) (i : ℕ) (s : Stmt) (most : ℕ) → i < length stmts → s ≡ get_or stmts i s → depth (body_of (drop i stmts)) ≤ most
     → (depth (before s done) ≤ most) × (depth (body_of (drop (i + 1) stmts)) ≤ most)
 part_fits stmts i s most below here deep =
     let rest : Body = body_of (drop (i + 1) stmts) in
-    let e : depth (body_of (drop i stmts)) ≡ depth (before s rest) = ap depth (part_here stmts i s below here) in
+    let e : depth (body_of (drop i stmts)) ≡ depth (before s rest) = ap depth (drop_turn stmts i s below here) in
     let d : depth (before s rest) ≡ max (depth (before s done)) (depth rest) = parts_depth s rest in
     (omega arith, omega arith)
 

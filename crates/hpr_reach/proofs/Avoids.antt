@@ -21,7 +21,7 @@ same_any q (x ∷ xs) h = elim (in_cons x q xs h) [
   | inr later ↦ or_right (x == q) (list_any (λ w. w == q) xs) (same_any q xs later)
 ]
 
-step_back : (s : Step) → s.back ≡ true → back_to s.to ≡ s
+pub step_back : (s : Step) → s.back ≡ true → back_to s.to ≡ s
 step_back s e = ap (λ (b : Bool). record { to = s.to; back = b }) (sym e)
 
 pub avoids_none : (loops : List ℕ) → AvoidsLoops loops []

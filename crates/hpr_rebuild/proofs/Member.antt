@@ -15,6 +15,7 @@ use Rattle.hpr_syntax.specs.Shape.{IsProgram, first_repeated_tag, first_unissued
 use Rattle.hpr_syntax.specs.Skeleton.{skeleton, at}
 use Rattle.hpr_syntax.specs.Tree.{Tree}
 use Rattle.hpr_syntax.proofs.NoRefusal.{no_refusal, shaped}
+use Rattle.hpr_syntax.proofs.IssuedLemmas.{bounds_issued}
 use Rattle.hpr_paths.specs.Spots.{part}
 use Rattle.hpr_paths.proofs.Left.{number_left}
 use Rattle.hpr_paths.proofs.Nested.{number_of_says}
@@ -32,7 +33,7 @@ use Rattle.hpr_build.proofs.BridgeLeft.{independent_to_right, order_to_right}
 use Rattle.hpr_order.specs.Arranging.{AreIssued}
 use Rattle.hpr_rebuild.specs.Settled.{AreProperIssued, IsSettled}
 use Rattle.hpr_rebuild.proofs.Names.{in_order, ascending_once, unrepeated}
-use Rattle.hpr_rebuild.proofs.Parts.{issued_all, was_issued}
+use Rattle.hpr_rebuild.proofs.Parts.{issued_all}
 use Rattle.hpr_rebuild.proofs.Alike.{settled_same}
 
 -- each program can be settled
@@ -47,7 +48,7 @@ pub settled_program : (issued : Issued) (p q : Tree) → IsProgram p → AreProp
 settled_program issued p q prog (ascending, ranges) allowed s =
     let n = no_refusal p prog.shape in
     let issued_in : first_unissued issued (tags_of p.body []) ≡ None =
-    issued_all issued p.body [] (λ t c h. was_issued issued t (allowed t c h).0 (allowed t c h).1) refl in
+    issued_all issued p.body [] (λ t c h. bounds_issued issued t (allowed t c h).0 (allowed t c h).1) refl in
     record {
       proper = record {
         ascending = subst IsIssued (sym s.numbers) ascending;

@@ -1,14 +1,12 @@
 -- Names in ascending order: put one by one, each at its place.
-use Rattle.std.proofs.Common.{◌≡◌, ℕ, zero, suc, Bool, true, false, None, List, [], ◌∷◌, Contains, inl, inr, refl, sym, ap, ◌∙◌, subst, arith}
+use Rattle.std.proofs.Common.{◌≡◌, ℕ, zero, suc, Bool, true, false, None, List, [], ◌∷◌, Contains, inl, inr, refl, sym, subst, arith}
 use Rattle.std.specs.declared.cmp.Ordering.{Ordering}
 use Rattle.std.specs.declared.cmp.Ordering.TheVariants.{Less, Equal, Greater}
 use Rattle.std.specs.Cmp.Lexicographic.{nat_list_cmp_total, same_text}
 use Rattle.std.specs.List.{list_any}
 use Rattle.std.specs.List.Sorted.{IsPermutation}
-use Rattle.std.specs.Ordering.{ordering_reverse}
 use Rattle.std.specs.Str.{bytes_eq}
 use Rattle.std.proofs.lemmas.Bool.{cases_lt}
-use Rattle.std.proofs.lemmas.Cmp.{tied_itself}
 use Rattle.std.proofs.lemmas.List.Sorted.{IsPermutation-refl, IsPermutation-sym, IsPermutation-trans, IsPermutation-cons, IsPermutation-append_left, IsPermutation-append_comm, Contains-permutation}
 use Rattle.hpr_terms.proofs.Facts.{neither, unless}
 use Rattle.hpr_syntax.specs.Shape.{first_repeated}
@@ -17,15 +15,10 @@ use Rattle.hpr_graph.specs.Order.{name_cmp}
 use Rattle.hpr_graph.specs.InOrder.{Ascends}
 use Rattle.hpr_graph.proofs.Lists.{contains_at, in_none, in_cons, in_here, in_later, once_tail, once_head}
 use Rattle.hpr_graph.proofs.VertexOrder.{name_tied}
+use Rattle.hpr_graph.proofs.NameOrder.{never_less, turned}
 
 abbrev Names : Type 0
 Names = List (List ℕ)
-
-never_below_itself : (x : List ℕ) → name_cmp x x ≡ Less → ⊥
-never_below_itself x e = let same : Equal ≡ Less = sym (tied_itself nat_list_cmp_total x) ∙ e in cc
-
-turned : (x y : List ℕ) → name_cmp x y ≡ Greater → name_cmp y x ≡ Less
-turned x y e = nat_list_cmp_total.antisymm y x ∙ ap ordering_reverse e
 
 -- each name comes before those behind it
 abbrev Rises : Names → Type 0
@@ -88,9 +81,9 @@ in_order xs once = let (ys, moved, rise) = rising xs once in (ys, moved, ascends
 -- names in order differ
 pub ascending_once : (xs : Names) → Ascends name_cmp xs → IsOnce xs
 ascending_once xs up i j x p q = elim (cases_lt i j) [
-  | inl l ↦ absurd (never_below_itself x (up i j x x l p q))
+  | inl l ↦ absurd (never_less x (up i j x x l p q))
   | inr g ↦ (elim (cases_lt j i) [
-    | inl l ↦ absurd (never_below_itself x (up j i x x l q p))
+    | inl l ↦ absurd (never_less x (up j i x x l q p))
     | inr h ↦ omega (arith, g, h)
   ])
 ]

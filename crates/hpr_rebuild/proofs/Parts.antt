@@ -1,5 +1,5 @@
 -- The parts of a program as vertices: they are what its parts say, each once.
-use Rattle.std.proofs.Common.{◌≡◌, ◌≤◌, ℕ, ◌+◌, ◌==◌, ◌||◌, true, false, nat_lt, inl, inr, Option, Some, None, List, [], ◌∷◌, ◌++◌, map, length, rules, Contains, slice_get, refl, sym, ap, ap₂, ◌∙◌, subst, arith, append_assoc}
+use Rattle.std.proofs.Common.{◌≡◌, ℕ, ◌+◌, true, false, inl, inr, Option, Some, None, List, [], ◌∷◌, ◌++◌, map, length, Contains, slice_get, refl, sym, ap, ap₂, ◌∙◌, subst, append_assoc}
 use Rattle.std.proofs.lemmas.List.{map-append, length-map}
 use Rattle.std.proofs.lemmas.List.Elements.{Contains-append_left, Contains-append_right, Contains-append_cases}
 use Rattle.hpr_terms.specs.declared.tag.Tag.{Tag}
@@ -9,7 +9,7 @@ use Rattle.hpr_syntax.specs.declared.rows.Content.{Content}
 use Rattle.hpr_syntax.specs.declared.rows.Content.TheVariants.{Assign, If, While}
 use Rattle.hpr_syntax.specs.Rows.{content_by}
 use Rattle.hpr_syntax.specs.Body.{Body, done, action, branch, loop, part_count}
-use Rattle.hpr_syntax.specs.Issued.{Issued, issued_to}
+use Rattle.hpr_syntax.specs.Issued.{Issued}
 use Rattle.hpr_syntax.specs.Nests.{Says}
 use Rattle.hpr_syntax.specs.Parts.{tags_of, same_tag}
 use Rattle.hpr_syntax.specs.Rows.{Parent, rows_of}
@@ -18,6 +18,7 @@ use Rattle.hpr_syntax.specs.Tree.{Tree}
 use Rattle.hpr_syntax.proofs.NoRefusal.{no_refusal}
 use Rattle.hpr_syntax.proofs.Repeats.{places_once}
 use Rattle.hpr_syntax.proofs.ShapeLemmas.{count_tags, tags_append}
+use Rattle.hpr_syntax.proofs.TagLemmas.{same_tag_itself}
 use Rattle.hpr_graph.specs.declared.vertex.Vertex.{Vertex}
 use Rattle.hpr_graph.specs.declared.vertex.Vertex.TheVariants.{Entry, Init, Part, Final}
 use Rattle.hpr_graph.specs.Rank.{parts_of}
@@ -144,16 +145,13 @@ tag_place b i t c h =
     let (u, there, is) = get_map (λ (t : Tag). Some t) (tags_of b []) i (Some t) at in
     there ∙ is
 
-tag_same : (t : Tag) → same_tag t t ≡ true
-tag_same t = search rules
-
 -- a part says one thing
 pub says_once : (p : Tree) → IsProgram p → (t : Tag) (c d : Content) → Says p.body t c → Says p.body t d → c ≡ d
 says_once p prog t c d h k =
     let (i, at_i) = place_of (parts_in p.body) (Part t c) (of_says p.body t c h) in
     let (j, at_j) = place_of (parts_in p.body) (Part t d) (of_says p.body t d k) in
     let none : first_repeated same_tag [] (tags_of p.body []) ≡ None = (no_refusal p prog.shape).tags in
-    let same : i ≡ j = places_once same_tag tag_same [] (tags_of p.body []) i j t none (tag_place p.body i t c at_i) (tag_place p.body j t d at_j) in
+    let same : i ≡ j = places_once same_tag same_tag_itself [] (tags_of p.body []) i j t none (tag_place p.body i t c at_i) (tag_place p.body j t d at_j) in
     let vertex : Some (Part t c) ≡ Some (Part t d) = sym at_i ∙ ap (λ (n : ℕ). slice_get (parts_in p.body) n) same ∙ at_j in
     cc
 
@@ -179,9 +177,3 @@ issued_all issued (loop t e b rest) after all none =
     unless (is_unissued issued t) t (first_unissued issued (tags_of b (tags_of rest after))) (all t (While e) (inl (refl, refl)))
     (issued_all issued b (tags_of rest after) (λ u c h. all u c (inr (inl h)))
     (issued_all issued rest after (λ u c h. all u c (inr (inr h))) none))
-
-pub was_issued : (issued : Issued) (t : Tag) → 1 ≤ t.serial → t.serial ≤ issued_to t.author issued → is_unissued issued t ≡ false
-was_issued issued t low high = at t.serial (issued_to t.author issued) low high
-  where
-    at : (s n : ℕ) → 1 ≤ s → s ≤ n → ((s == 0) || nat_lt n s) ≡ false
-    at s n l h = grind arith

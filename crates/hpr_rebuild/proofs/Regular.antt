@@ -25,6 +25,7 @@ use Rattle.hpr_graph.specs.ProgramGraph.{IsTop, IsVertexOf, graph_of}
 use Rattle.hpr_graph.specs.Arrangements.{edge_into}
 use Rattle.hpr_graph.specs.Answer.{IsPart, Fits, HasNoProgram}
 use Rattle.hpr_paths.proofs.Says.{says_of_standing}
+use Rattle.hpr_graph.proofs.Laws.{part_tag}
 use Rattle.hpr_build.specs.Places.{Place, places, place_at, IsParentOf}
 use Rattle.hpr_build.proofs.PlaceIn.{place_of_part}
 use Rattle.hpr_build.proofs.PlaceLaws.{number_of_part, part_of_standing}
@@ -102,9 +103,6 @@ module _ (t : Tree) (prog : IsProgram t) where
   controlled None from label v s (is, mark) stands up = inl (is, mark, (s, stands, refl, up))
   controlled (Some (p, b)) from label v s (is, (c, from_is, says)) stands up =
       inr (p, c, from_is, says, (v, s, stands, refl, up ∙ ap (λ (l : Bool). Some (p, l)) (sym is)))
-
-  part_tag : (v w : Tag) (c d : Content) → Part v c ≡ Part w d → v ≡ w
-  part_tag v w c d e = cc
 
   holder_of : (other : Vertex) (mark : Bool) (v : Tag) (s : Standing) → StandsAsIn t.body v s → Controls G other mark (Part v s.content) → IsHolder s.parent other mark
   holder_of other mark v s stands (inl (is, true_is, (r, stands', content, none))) =

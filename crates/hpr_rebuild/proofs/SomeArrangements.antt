@@ -1,9 +1,7 @@
 -- A graph has a list of all arrangements in the order of a rank.
 use Rattle.std.proofs.Common.{◌≡◌, ℕ, zero, suc, ◌≤◌, Bool, true, inl, inr, ◌⊎◌, Some, None, List, [], ◌∷◌, ◌++◌, length, map, Contains, slice_get, refl, sym, ap, ◌∙◌, subst, arith}
-use Rattle.std.specs.Cmp.Lexicographic.{nat_list_cmp_total}
 use Rattle.std.specs.declared.cmp.Ordering.TheVariants.{Less}
 use Rattle.std.proofs.lemmas.Bool.{cases_order}
-use Rattle.std.proofs.lemmas.Cmp.{tied_itself}
 use Rattle.hpr_terms.specs.declared.tag.Tag.{Tag}
 use Rattle.hpr_terms.proofs.Facts.{by_both}
 use Rattle.hpr_syntax.specs.declared.rows.Content.{Content}
@@ -25,11 +23,9 @@ use Rattle.hpr_order.proofs.Ranks.{parts_once}
 use Rattle.hpr_rebuild.proofs.Parts.{part_says, says_part}
 use Rattle.hpr_order.proofs.OneBody.{Placed, vertex, placed, parts_placed, stands_so, one_body}
 use Rattle.hpr_graph.proofs.PutInOrder.{in_order, one_list}
+use Rattle.hpr_graph.proofs.NameOrder.{never_both}
 
 -- ---- what the parts in preorder say of an arrangement
-
-never_names : (x y : List ℕ) → name_cmp x y ≡ Less → ¬ (name_cmp y x ≡ Less)
-never_names x y p q = let itself = tied_itself nat_list_cmp_total x in let less = nat_list_cmp_total.trans x y x p q in absurd cc
 
 -- parts that are listed alike, each under one parent, are placed alike
 same_placed : (xs ys : List Placed) → map vertex xs ≡ map vertex ys
@@ -85,7 +81,7 @@ module _ (g : Graph) (issued : Issued) where
 
     same_finals : p.finals ≡ q.finals
     same_finals =
-        one_list (λ x y. name_cmp x y ≡ Less) never_names p.finals q.finals is_p.ascending is_q.ascending
+        one_list (λ x y. name_cmp x y ≡ Less) never_both p.finals q.finals is_p.ascending is_q.ascending
         (λ x. (λ h. (is_q.finals x).1 ((is_p.finals x).0 h), λ h. (is_p.finals x).1 ((is_q.finals x).0 h)))
 
     -- two arrangements with the same parts in preorder are the same

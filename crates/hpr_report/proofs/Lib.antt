@@ -2,7 +2,6 @@ mod Rows
 mod Places
 mod Whole
 mod Marked
-mod NameOrder
 mod TableRows
 pub mod OneText
 pub mod OneTable

@@ -7,7 +7,7 @@ use Rattle.hpr_syntax.specs.Meaning.{IsKept}
 use Rattle.hpr_graph.proofs.Lists.{in_none, in_cons}
 use Rattle.hpr_report.specs.GraphTexts.{on_lines}
 use Rattle.hpr_report.specs.TableText.{IsSingleValued, Row, IsValueIn, IsRow, names_of, AreRows, table_line, IsTableText, IsKeptIn}
-use Rattle.hpr_report.proofs.NameOrder.{one_order}
+use Rattle.hpr_graph.proofs.NameOrder.{one_order}
 
 -- a name has one cell in a list
 same_cell : (values : FinalValues) (x : List ℕ) (c d : Option ℤ) → IsValueIn values x c → IsValueIn values x d → c ≡ d

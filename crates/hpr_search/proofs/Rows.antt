@@ -16,7 +16,7 @@ mark_count-set (false ∷ marks) zero l e = refl
 mark_count-set (true ∷ marks) (suc p) l e = ap suc (mark_count-set marks p (omega arith) e)
 mark_count-set (false ∷ marks) (suc p) l e = mark_count-set marks p (omega arith) e
 
-no_marks : (n p : ℕ) → ¬ IsMarked (replicate n false) p
+pub no_marks : (n p : ℕ) → ¬ IsMarked (replicate n false) p
 no_marks zero zero h = absurd cc
 no_marks zero (suc p) h = absurd cc
 no_marks (suc n) zero h = absurd cc

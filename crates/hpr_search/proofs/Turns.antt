@@ -7,7 +7,7 @@ use Rattle.hpr_search.specs.Marks.{IsMarked, IsRowOf, Visited}
 use Rattle.hpr_search.proofs.Rows.{mark_count-le-length, marked_within, same_or_other}
 
 -- a walk may have one more step at its end
-walk_more : (steps : ℕ → List ℕ) (a : ℕ) (via : List ℕ) (b c : ℕ) → Walk steps a via b → Contains (steps b) c → Walk steps a (via ++ c ∷ []) c
+pub walk_more : (steps : ℕ → List ℕ) (a : ℕ) (via : List ℕ) (b c : ℕ) → Walk steps a via b → Contains (steps b) c → Walk steps a (via ++ c ∷ []) c
 walk_more steps a [] b c e h = (subst (λ x. Contains (steps x) c) (sym e) h, refl)
 walk_more steps a (d ∷ via) b c (h, w) k = (h, walk_more steps d via b c w k)
 

@@ -1,6 +1,7 @@
 -- Walks by numbers are lists of control and flow edges.
 use Rattle.std.proofs.Common.{◌≡◌, ℕ, Some, List, [], ◌∷◌, ◌++◌, Contains, slice_get, refl, sym, ap, ◌∙◌, subst}
 use Rattle.hpr_search.specs.Walks.{Walk}
+use Rattle.hpr_search.proofs.Turns.{walk_more}
 use Rattle.hpr_graph.specs.declared.vertex.Vertex.{Vertex}
 use Rattle.hpr_graph.specs.declared.edge.Kind.{Kind}
 use Rattle.hpr_graph.specs.declared.edge.Edge.{Edge}
@@ -27,10 +28,6 @@ leads_kind vs (Order u) v e (y, at, is) t = subst Leads is t
 leads_more : (g : Graph) (a : Vertex) (es : List Edge) (e : Edge) → LeadsTo g a es e.from → g.edge e → Leads e.kind → LeadsTo g a (es ++ e ∷ []) e.to
 leads_more g a [] e w h k = (h, k, sym w, refl)
 leads_more g a (f ∷ es) e w h k = (w.0, w.1, w.2, leads_more g f.to es e w.3 h k)
-
-walk_more : (steps : ℕ → List ℕ) (a : ℕ) (via : List ℕ) (b c : ℕ) → Walk steps a via b → Contains (steps b) c → Walk steps a (via ++ c ∷ []) c
-walk_more steps a [] b c e h = (subst (λ (x : ℕ). Contains (steps x) c) (sym e) h, refl)
-walk_more steps a (d ∷ via) b c (h, w) k = (h, walk_more steps d via b c w k)
 
 module _ (g : Numbered) (k : IsNumbered g) (rows : List (List ℕ)) (sources : AreSources g rows) where
   -- a source is where an edge comes from

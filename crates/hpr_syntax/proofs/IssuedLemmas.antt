@@ -4,7 +4,9 @@ use Rattle.std.proofs.Math.ListN.{set}
 use Rattle.std.specs.List.{insert}
 use Rattle.std.proofs.lemmas.Bool.{eqb-true, eqb-false, eq-eqb, ne_eqb, ltb-true, ltb-false, lt-ltb, le-ltb, leb-true, leb-false, le-leb, lt-leb}
 use Rattle.std.proofs.lemmas.List.{set-get_or}
+use Rattle.hpr_terms.specs.declared.tag.Tag.{Tag}
 use Rattle.hpr_syntax.specs.Issued.{Issued, AscendsFrom, IsIssued, issued_to, raised, place_of}
+use Rattle.hpr_syntax.specs.Shape.{is_unissued}
 
 abbrev pub author_at : Issued → ℕ → ℕ
 author_at rows i = (get_or rows i (0, 0)).0
@@ -158,3 +160,7 @@ others_if false false a n other p ps e f ne ih = rw (e, f) (ap (λ r. cond (eqb 
 pub raised_others : (a n : ℕ) (rows : Issued) (other : ℕ) → (other ≡ a → ⊥) → issued_to other (raised a n rows) ≡ issued_to other rows
 raised_others a n [] other ne = rw (ne_eqb a other (λ q. ne (sym q))) refl
 raised_others a n (p ∷ ps) other ne = others_if (ltb a p.0) (eqb p.0 a) a n other p ps refl refl ne (raised_others a n ps other ne)
+
+-- what lies within the issued numbers was issued
+pub bounds_issued : (issued : Issued) (t : Tag) → 1 ≤ t.serial → t.serial ≤ issued_to t.author issued → is_unissued issued t ≡ false
+bounds_issued issued t h k = rw (ne_eqb t.serial 0 (λ e. omega (arith, h, e)), le-ltb (issued_to t.author issued) t.serial k) refl

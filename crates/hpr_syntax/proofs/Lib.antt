@@ -12,6 +12,7 @@ pub mod ShapeLemmas
 pub mod RowLemmas
 pub mod SetLemmas
 pub mod Same
+pub mod TagLemmas
 pub mod ProperLemmas
 pub mod Shown
 pub mod Printed

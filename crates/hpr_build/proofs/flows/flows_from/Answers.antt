@@ -5,7 +5,8 @@ use Rattle.hpr_reach.specs.Flows.{PartsAt}
 use Rattle.hpr_build.specs.declared.flows.Flow.{Flow}
 use Rattle.hpr_build.specs.Flows.{IsFlowAt, IsFlowBelow}
 use Rattle.hpr_graph.specs.Graphs.{IsOnce}
-use Rattle.hpr_build.proofs.Once.{nest_once, not_yet}
+use Rattle.hpr_graph.proofs.Lists.{not_before}
+use Rattle.hpr_build.proofs.Once.{nest_once}
 use Rattle.hpr_build.proofs.UserFlows.{flows_more}
 use Rattle.hpr_build.proofs.flows.flows_from.Goals as goal
 
@@ -30,7 +31,7 @@ loop-user-preserved c =
     record {
       exact = flows_more s c.args.name.now d u n c.nest-nest.ensures.sound parts row carries (vec_len c.in_ok-carries.carries) (omega (arith, low, c.in_ok-carries.ensures.count)) (c.in_ok-cuts.ensures.exact n (omega (arith, low, c.in_ok-cuts.ensures.count))).1 c.in_ok-carries.ensures.exact users k c.loop-user.flows.items _ c.loop-user-test.true (get_or_default users k 0 u c.loop-user-test.true) c.loop-user.invariant.exact new;
       once = λ once. c.in_ok-push_flows.ensures.once (c.loop-user.invariant.once once) (subst (λ (xs : List ℕ). IsOnce xs) (sym c.nest-nest.ensures.nest) (nest_once s d c.nest-nest.ensures.sound))
-          (λ f h e. not_yet users k u once c.loop-user-test.true (get_or_default users k 0 u c.loop-user-test.true) (subst (λ (v : ℕ). Contains (take k users) v) e ((c.loop-user.invariant.exact f).0 h).0));
+          (λ f h e. not_before users k u once c.loop-user-test.true (get_or_default users k 0 u c.loop-user-test.true) (subst (λ (v : ℕ). Contains (take k users) v) e ((c.loop-user.invariant.exact f).0 h).0));
     }
 
 pub returns-clause-exact : goal.returns-clause-exact

@@ -1,7 +1,7 @@
 use Rattle.std.proofs.Common.{◌↔◌, ℕ, List, Contains, get_or, take, subst, arith}
 use Rattle.std.proofs.lemmas.List.{take_all, get_or_default}
+use Rattle.hpr_graph.proofs.Lists.{not_before}
 use Rattle.hpr_build.specs.Orders.{IsBefore}
-use Rattle.hpr_build.proofs.Once.{not_yet}
 use Rattle.hpr_build.proofs.Pairs.{order_more}
 use Rattle.hpr_build.proofs.orders.order_of.Goals as goal
 
@@ -13,7 +13,7 @@ loop-left-preserved c =
     record {
       exact = order_more (IsBefore c.args.places.now) xs k left c.loop-left.pairs.items _ c.loop-left-test.true (get_or_default xs k 0 left c.loop-left-test.true) c.loop-left.invariant.exact c.in_ok-push_after.ensures.exact;
       once = λ once. c.in_ok-push_after.ensures.once (c.loop-left.invariant.once once) once
-          (λ o h e. not_yet xs k left once c.loop-left-test.true (get_or_default xs k 0 left c.loop-left-test.true) (subst (Contains (take k xs)) e ((c.loop-left.invariant.exact o).0 h).0));
+          (λ o h e. not_before xs k left once c.loop-left-test.true (get_or_default xs k 0 left c.loop-left-test.true) (subst (Contains (take k xs)) e ((c.loop-left.invariant.exact o).0 h).0));
     }
 
 pub returns-clause-exact : goal.returns-clause-exact

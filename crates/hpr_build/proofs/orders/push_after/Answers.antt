@@ -1,7 +1,7 @@
 use Rattle.std.proofs.Common.{◌⊎◌, ◌↔◌, ℕ, List, Contains, get_or, inl, inr, refl, subst, arith}
 use Rattle.std.proofs.lemmas.List.{take_all, get_or_default}
+use Rattle.hpr_graph.proofs.Lists.{not_before}
 use Rattle.hpr_build.specs.Orders.{IsBefore}
-use Rattle.hpr_build.proofs.Once.{not_yet}
 use Rattle.hpr_build.proofs.Pairs.{After, after_more}
 use Rattle.hpr_build.proofs.orders.push_after.Goals as goal
 
@@ -14,7 +14,7 @@ loop-right-preserved c =
       exact = after_more (IsBefore c.args.places.now c.args.left) c.args.left right xs k c.args.into.now.items c.loop-right.into.items _ c.is_before.result c.loop-right-test.true (get_or_default xs k 0 right c.loop-right-test.true)
           c.loop-right.invariant.exact c.in_ok-push_if.ensures.exact c.is_before.ensures;
       once = λ once all fresh. c.in_ok-push_if.ensures.once (c.loop-right.invariant.once once all fresh)
-          (λ h. elim ((c.loop-right.invariant.exact _).0 h) [ inl was ↦ fresh _ was refl | inr a ↦ not_yet xs k right all c.loop-right-test.true (get_or_default xs k 0 right c.loop-right-test.true) a.1 ]);
+          (λ h. elim ((c.loop-right.invariant.exact _).0 h) [ inl was ↦ fresh _ was refl | inr a ↦ not_before xs k right all c.loop-right-test.true (get_or_default xs k 0 right c.loop-right-test.true) a.1 ]);
     }
 
 pub returns-clause-exact : goal.returns-clause-exact

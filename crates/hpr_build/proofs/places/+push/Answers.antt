@@ -1,5 +1,6 @@
 use Rattle.std.proofs.Common.{◌+◌, ◌∙◌, vec_len, arith}
-use Rattle.hpr_build.proofs.PlaceTurns.{turn_places, turn_parts, drop_turn, stmt_assign, stmt_while, stmt_if, count_assign, count_while, count_if}
+use Rattle.hpr_syntax.proofs.RowLemmas.{drop_turn}
+use Rattle.hpr_build.proofs.PlaceTurns.{turn_places, turn_parts, stmt_assign, stmt_while, stmt_if, count_assign, count_while, count_if}
 use Rattle.hpr_build.proofs.StageTurns.{on_ok}
 use Rattle.hpr_build.proofs.places.+push.Goals as goal
 

@@ -1,8 +1,8 @@
 use Rattle.std.proofs.Common.{◌≡◌, ◌⊎◌, ◌↔◌, ℕ, List, Contains, inl, inr, sym, subst, arith}
 use Rattle.std.proofs.lemmas.List.{take_all}
+use Rattle.hpr_graph.proofs.Lists.{not_before}
 use Rattle.hpr_build.specs.Variables.{points_at}
 use Rattle.hpr_build.proofs.InOrder.{names_once}
-use Rattle.hpr_build.proofs.Once.{not_yet}
 use Rattle.hpr_build.proofs.NameRows.{turn_used}
 use Rattle.hpr_build.proofs.variables.push_all.Goals as goal
 
@@ -17,7 +17,7 @@ loop-name-preserved c =
       once = λ i x get once fresh. c.in_ok-push_for.ensures.once i x get (c.loop-name.invariant.once i x get once fresh)
           (λ e h. elim ((c.loop-name.invariant.rows i x get c.args.point).0 h) [
             | inl was ↦ fresh was
-            | inr t ↦ not_yet used k name (names_once used c.requires.used) c.loop-name-test.true c.name-item.is (subst (Contains _) (sym e) t.0)
+            | inr t ↦ not_before used k name (names_once used c.requires.used) c.loop-name-test.true c.name-item.is (subst (Contains _) (sym e) t.0)
           ]);
     }
 

@@ -3,8 +3,9 @@ use Rattle.std.proofs.lemmas.List.{take_all}
 use Rattle.std.proofs.lemmas.Result.{IfOk-weaker}
 use Rattle.hpr_graph.specs.declared.vertex.Vertex.{Vertex}
 use Rattle.hpr_graph.specs.declared.vertex.Vertex.TheVariants.{Final}
+use Rattle.hpr_graph.proofs.NameOrder.{names_up}
 use Rattle.hpr_order.proofs.Linking.{names_skip, names_push}
-use Rattle.hpr_order.proofs.Steps.{read_of, names_up}
+use Rattle.hpr_order.proofs.Steps.{read_of}
 use Rattle.hpr_order.proofs.numbers.finals_in_order.Goals as goal
 
 pub loop-vertex-preserved-in_default : goal.loop-vertex-preserved-in_default

@@ -3,7 +3,8 @@ use Rattle.std.proofs.lemmas.Grind.{common_steps}
 use Rattle.hpr_syntax.specs.Body.{done, depth}
 use Rattle.hpr_syntax.specs.BodyOf.{before, body_of}
 use Rattle.hpr_syntax.specs.Print.{body_text, line}
-use Rattle.hpr_print.proofs.Texts.{part_fits, part_here, first_part, else_shown, no_text}
+use Rattle.hpr_syntax.proofs.RowLemmas.{drop_turn}
+use Rattle.hpr_print.proofs.Texts.{part_fits, first_part, else_shown, no_text}
 use Rattle.hpr_print.proofs.blocks.+put_block.Goals as goal
 
 pub put_block-put_stmt-requires : goal.put_block-put_stmt-requires
@@ -14,7 +15,7 @@ put_block-put_stmt-requires t c =
 pub put_block-loop-stmt-preserved : goal.put_block-loop-stmt-preserved
 put_block-loop-stmt-preserved t c =
     let fits = part_fits c.deref-stmt-items.result.now c.loop-stmt.stmt-index c.stmt-item.result (depth c.args.block.now) c.loop-stmt-test.true c.stmt-item.is c.loop-stmt.invariant.1 in
-    let here = part_here c.deref-stmt-items.result.now c.loop-stmt.stmt-index c.stmt-item.result c.loop-stmt-test.true c.stmt-item.is in
+    let here = drop_turn c.deref-stmt-items.result.now c.loop-stmt.stmt-index c.stmt-item.result c.loop-stmt-test.true c.stmt-item.is in
     let first = first_part c.args.level c.stmt-item.result (body_of (drop (c.loop-stmt.stmt-index + 1) c.deref-stmt-items.result.now)) in
     (c.loop-stmt.invariant.0, fits.1, cc (c.in_ok-put_stmt.ensures, append_assoc c.loop-stmt.out.items (body_text c.args.level (before c.stmt-item.result done)) (body_text c.args.level (body_of (drop (c.loop-stmt.stmt-index + 1) c.deref-stmt-items.result.now)))))
 

@@ -1,7 +1,7 @@
 use Rattle.std.proofs.Common.{rules, ◌≡◌, ◌++◌, ◌↔◌, ℕ, List, Contains, subst}
 use Rattle.std.proofs.lemmas.Result.{IfOk-weaker}
 use Rattle.hpr_report.specs.TableText.{names_in}
-use Rattle.hpr_report.proofs.NameOrder.{names_up}
+use Rattle.hpr_graph.proofs.NameOrder.{names_up}
 use Rattle.hpr_report.proofs.table.names_in_order.Goals as goal
 
 pub returns-clause-names : goal.returns-clause-names
