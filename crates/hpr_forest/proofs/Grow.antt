@@ -6,7 +6,7 @@ use Rattle.std.proofs.lemmas.Bool.{eqb-true, eq-eqb, both_ways}
 use Rattle.hpr_forest.specs.Choices.{Follows, IsWhole}
 use Rattle.hpr_forest.proofs.Unique.{in_none, in_cons, in_first, in_later}
 use Rattle.hpr_forest.specs.Forest.{Forest, IsForest, behind, can}
-use Rattle.hpr_forest.specs.Trees.{Tree, empty, node, preorder, Slot, above, StandsIn, HasSlots}
+use Rattle.hpr_forest.specs.Trees.{Tree, empty, node, preorder, Slot, above, StandsIn, HasSlots, same_slot}
 use Rattle.hpr_forest.proofs.Members.{IsDistinct, is_in-true, split, first_where}
 use Rattle.hpr_forest.proofs.May.{IsFull, IsUnder, May, may-from, follows_once, follows_at, behind_split, behind_has}
 use Rattle.hpr_forest.proofs.Lift.{once_parts}
@@ -19,38 +19,29 @@ behind_more x (y ∷ q) s xs e = at (eqb y x) refl (behind_more x q s xs) e
     at true is rest e' = let same : q ≡ xs = cc in ap (λ w. Some (w ++ s)) same
     at false is rest e' = rest e'
 
-abbrev same_slot : Slot → Slot → Bool
-same_slot None None = true
-same_slot None (Some b) = false
-same_slot (Some a) None = false
-same_slot (Some (a, true)) (Some (b, true)) = eqb a b
-same_slot (Some (a, false)) (Some (b, false)) = eqb a b
-same_slot (Some (a, true)) (Some (b, false)) = false
-same_slot (Some (a, false)) (Some (b, true)) = false
+pub same_slot_true : (u v : Slot) → same_slot u v ≡ true → u ≡ v
+same_slot_true None None e = refl
+same_slot_true None (Some b) e = absurd cc
+same_slot_true (Some a) None e = absurd cc
+same_slot_true (Some (a, true)) (Some (b, true)) e = ap (λ x. Some (x, true)) (eqb-true a b e)
+same_slot_true (Some (a, false)) (Some (b, false)) e = ap (λ x. Some (x, false)) (eqb-true a b e)
+same_slot_true (Some (a, true)) (Some (b, false)) e = absurd cc
+same_slot_true (Some (a, false)) (Some (b, true)) e = absurd cc
 
-same-true : (u v : Slot) → same_slot u v ≡ true → u ≡ v
-same-true None None e = refl
-same-true None (Some b) e = absurd cc
-same-true (Some a) None e = absurd cc
-same-true (Some (a, true)) (Some (b, true)) e = ap (λ x. Some (x, true)) (eqb-true a b e)
-same-true (Some (a, false)) (Some (b, false)) e = ap (λ x. Some (x, false)) (eqb-true a b e)
-same-true (Some (a, true)) (Some (b, false)) e = absurd cc
-same-true (Some (a, false)) (Some (b, true)) e = absurd cc
-
-true_same : (u : Slot) → same_slot u u ≡ true
-true_same None = refl
-true_same (Some (a, true)) = eq-eqb a a refl
-true_same (Some (a, false)) = eq-eqb a a refl
+pub same_slot_itself : (u : Slot) → same_slot u u ≡ true
+same_slot_itself None = refl
+same_slot_itself (Some (a, true)) = eq-eqb a a refl
+same_slot_itself (Some (a, false)) = eq-eqb a a refl
 
 not_same : (u v : Slot) → same_slot u v ≡ false → u ≡ v → ⊥
-not_same u v e is = both_ways (same_slot u v) e (ap (λ w. same_slot w v) is ∙ true_same v)
+not_same u v e is = both_ways (same_slot u v) e (ap (λ w. same_slot w v) is ∙ same_slot_itself v)
 
 -- a list up to its first item of a slot
 cut : (slot : ℕ → Slot) (v : Slot) (l : List ℕ) → (s r : List ℕ) × (l ≡ s ++ r) × ((z : ℕ) → Contains s z → slot z ≡ v → ⊥)
     × ((r ≡ []) ⊎ ((e : ℕ) × (r' : List ℕ) × (r ≡ e ∷ r') × (slot e ≡ v)))
 cut slot v l = elim (first_where (λ z. same_slot (slot z) v) l) [
   | inl none ↦ (l, [], sym (append-nil l), λ z h. not_same (slot z) v (none z h), inl refl)
-  | inr (l1, l2, c, e, is, none) ↦ (l1, c ∷ l2, e, λ z h. not_same (slot z) v (none z h), inr (c, l2, refl, same-true (slot c) v is))
+  | inr (l1, l2, c, e, is, none) ↦ (l1, c ∷ l2, e, λ z h. not_same (slot z) v (none z h), inr (c, l2, refl, same_slot_true (slot c) v is))
 ]
 
 module _ (f : Forest) (it : IsForest f) (slot : ℕ → Slot) (has : HasSlots f slot) where

@@ -3,10 +3,11 @@
 -- Tree                == a block: empty, or an item with its first block, its second block, and what stands behind it in the block
 -- preorder t          == the items from front to back, each before those of its blocks
 -- Slot                == where an item stands: at the top, or in the first (true) or the second (false) block of an item
+-- same_slot u v       == whether both are the same slot
 -- above v             == the item that has the slot
 -- StandsIn slot v t   == t is a block in the slot v, where each item stands in its own slot
 -- HasSlots f slot     == each item stands under the item of its slot, and those of a first block must come before those of the second
-use Rattle.std.specs.Prelude.{◌≡◌, ℕ, Bool, true, false, Option, Some, None, List, [], ◌∷◌, ◌++◌, Contains}
+use Rattle.std.specs.Prelude.{◌≡◌, ℕ, Bool, true, false, eqb, Option, Some, None, List, [], ◌∷◌, ◌++◌, Contains}
 use Rattle.hpr_forest.specs.Forest.{Forest}
 
 pub data Tree : Type 0 where
@@ -19,6 +20,15 @@ preorder (node c y n r) = c ∷ (preorder y ++ (preorder n ++ preorder r))
 
 abbrev pub Slot : Type 0
 Slot = Option (ℕ × Bool)
+
+abbrev pub same_slot : Slot → Slot → Bool
+same_slot None None = true
+same_slot None (Some b) = false
+same_slot (Some a) None = false
+same_slot (Some (a, true)) (Some (b, true)) = eqb a b
+same_slot (Some (a, false)) (Some (b, false)) = eqb a b
+same_slot (Some (a, true)) (Some (b, false)) = false
+same_slot (Some (a, false)) (Some (b, true)) = false
 
 abbrev pub above : Slot → Option ℕ
 above None = None

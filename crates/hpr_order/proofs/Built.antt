@@ -14,12 +14,13 @@ use Rattle.hpr_syntax.specs.BodyOf.{body_of, before}
 use Rattle.hpr_syntax.specs.Rows.{made}
 use Rattle.hpr_forest.proofs.Unique.{in_first, in_later}
 use Rattle.hpr_forest.specs.Forest.{IsDistinct}
-use Rattle.hpr_forest.specs.Trees.{Slot}
+use Rattle.hpr_forest.specs.Trees.{Slot, same_slot}
+use Rattle.hpr_forest.proofs.Grow.{same_slot_true, same_slot_itself}
 use Rattle.hpr_order.specs.declared.item.Item.{Item}
 use Rattle.hpr_order.specs.declared.building.Pending.{Pending}
 use Rattle.hpr_order.specs.Building.{AreBlocks, IsFree, row_at, body_at}
-use Rattle.hpr_order.specs.Items.{block_at, said, same_slot, with_part}
-use Rattle.hpr_order.proofs.ReadBack.{first_second, same_slot_true, same_itself}
+use Rattle.hpr_order.specs.Items.{block_at, said, with_part}
+use Rattle.hpr_order.proofs.ReadBack.{first_second}
 
 reversed : (xs : List Stmt) (s : Stmt) → reverse (xs ++ s ∷ []) ≡ s ∷ reverse xs
 reversed xs s = reverse-append xs (s ∷ [])
@@ -84,14 +85,14 @@ put_blocks items p q item i s order at lt is are out v slot free =
           ∙ ap (λ z. said i.tag i.content (block_at items order (Some (item, true))) z (block_at items order v)) (are (Some (item, false)) lt out)
           ∙ sym (its e))
       | inr differ ↦ (
-          let ne : ¬ (v ≡ i.slot) = λ e. (let yes' : same_slot i.slot v ≡ true = subst (λ z. same_slot i.slot z ≡ true) (sym e) (same_itself i.slot) in let both : true ≡ false = sym yes' ∙ differ in absurd cc) in
+          let ne : ¬ (v ≡ i.slot) = λ e. (let yes' : same_slot i.slot v ≡ true = subst (λ z. same_slot i.slot z ≡ true) (sym e) (same_slot_itself i.slot) in let both : true ≡ false = sym yes' ∙ differ in absurd cc) in
           ap (λ z. body_of (reverse z)) (is.rest v ne (not_its order item true v free) (not_its order item false v free))
           ∙ are v slot (free_less order item v free)
           ∙ sym (other differ))
     ]
   where
     its : i.slot ≡ v → block_at items (item ∷ order) v ≡ said i.tag i.content (block_at items order (Some (item, true))) (block_at items order (Some (item, false))) (block_at items order v)
-    its e = ap (λ z. with_part z item (block_at items order) v) at ∙ go (same_slot i.slot v) (subst (λ z. same_slot i.slot z ≡ true) e (same_itself i.slot))
+    its e = ap (λ z. with_part z item (block_at items order) v) at ∙ go (same_slot i.slot v) (subst (λ z. same_slot i.slot z ≡ true) e (same_slot_itself i.slot))
       where
         go : (b : Bool) → b ≡ true → (if b then said i.tag i.content (block_at items order (Some (item, true))) (block_at items order (Some (item, false))) (block_at items order v) else block_at items order v)
             ≡ said i.tag i.content (block_at items order (Some (item, true))) (block_at items order (Some (item, false))) (block_at items order v)

@@ -2,7 +2,6 @@
 use Rattle.std.proofs.Common.{◌≡◌, ℕ, ◌<◌, ◌⊎◌, inl, inr, Bool, true, false, if◌then◌else◌, Option, Some, None, List, [], ◌∷◌, ◌++◌, length, Contains, slice_get, refl, sym, ap, ap₂, ◌∙◌, subst, append_assoc}
 use Rattle.std.proofs.lemmas.List.{append-nil}
 use Rattle.std.proofs.lemmas.List.Elements.{Contains-append_left, Contains-append_right, Contains-append_cases}
-use Rattle.std.proofs.lemmas.Bool.{eqb-true, eq-eqb}
 use Rattle.hpr_terms.specs.declared.tag.Tag.{Tag}
 use Rattle.hpr_terms.proofs.Facts.{get_below, some_inj}
 use Rattle.hpr_syntax.specs.declared.rows.Content.{Content}
@@ -11,27 +10,14 @@ use Rattle.hpr_syntax.specs.Action.{assigns}
 use Rattle.hpr_syntax.specs.Body.{Body, done, action, branch, loop}
 use Rattle.hpr_forest.proofs.Unique.{in_none, in_first, in_later}
 use Rattle.hpr_forest.specs.Forest.{IsDistinct}
-use Rattle.hpr_forest.specs.Trees.{Tree, empty, node, preorder, Slot, StandsIn}
+use Rattle.hpr_forest.specs.Trees.{Tree, empty, node, preorder, Slot, StandsIn, same_slot}
 use Rattle.hpr_forest.proofs.Lift.{once_parts}
 use Rattle.hpr_forest.proofs.Flat.{once_left, once_right}
+use Rattle.hpr_forest.proofs.Grow.{same_slot_true, same_slot_itself}
 use Rattle.hpr_order.specs.declared.item.Item.{Item}
-use Rattle.hpr_order.specs.Items.{IsItem, slot_at, slot_in, said, same_slot, with_part, block_at}
+use Rattle.hpr_order.specs.Items.{IsItem, slot_at, slot_in, said, with_part, block_at}
 use Rattle.hpr_order.specs.Regions.{AllowsIn}
 use Rattle.hpr_order.proofs.BlockOf.{IsBlockOf, in_one, in_two, in_three, in_which}
-
-pub same_slot_true : (u v : Slot) → same_slot u v ≡ true → u ≡ v
-same_slot_true None None e = refl
-same_slot_true None (Some b) e = absurd cc
-same_slot_true (Some a) None e = absurd cc
-same_slot_true (Some (a, true)) (Some (b, true)) e = ap (λ x. Some (x, true)) (eqb-true a b e)
-same_slot_true (Some (a, false)) (Some (b, false)) e = ap (λ x. Some (x, false)) (eqb-true a b e)
-same_slot_true (Some (a, true)) (Some (b, false)) e = absurd cc
-same_slot_true (Some (a, false)) (Some (b, true)) e = absurd cc
-
-pub same_itself : (u : Slot) → same_slot u u ≡ true
-same_itself None = refl
-same_itself (Some (a, true)) = eq-eqb a a refl
-same_itself (Some (a, false)) = eq-eqb a a refl
 
 pub differ_false : (u v : Slot) → (u ≡ v → ⊥) → same_slot u v ≡ false
 differ_false u v ne = go (same_slot u v) refl
@@ -95,7 +81,7 @@ module _ (items : List Item) where
   with_its None i c f v e is = absurd cc
   with_its (Some j) i c f v e is =
       (let same : j ≡ i = cc in
-      go (same_slot j.slot v) (subst (λ z. same_slot j.slot z ≡ true) is (same_itself j.slot)) ∙ ap (λ (k : Item). said k.tag k.content (f (Some (c, true))) (f (Some (c, false))) (f v)) same)
+      go (same_slot j.slot v) (subst (λ z. same_slot j.slot z ≡ true) is (same_slot_itself j.slot)) ∙ ap (λ (k : Item). said k.tag k.content (f (Some (c, true))) (f (Some (c, false))) (f v)) same)
     where
       go : (b : Bool) → b ≡ true → (if b then said j.tag j.content (f (Some (c, true))) (f (Some (c, false))) (f v) else f v)
           ≡ said j.tag j.content (f (Some (c, true))) (f (Some (c, false))) (f v)

@@ -8,11 +8,10 @@
 -- AreSlots items            == each slot is at the top or of one of the items
 -- Asks g items s t          == an edge of g that directs goes from the item s to the item t
 -- said t c first second rest == the block that begins with the part t, which says c
--- same_slot u v             == whether both are the same slot
 -- with_part item c blocks v == the block in the slot v, where this item, which has the number c, stands before these blocks
 -- block_at items order v    == the block in the slot v, where the items stand in this order
 -- program_of items issued finals order == the program of the items in this order
-use Rattle.std.specs.Prelude.{◌≡◌, ℕ, ◌<◌, ◌↔◌, Bool, true, false, eqb, if◌then◌else◌, Option, Some, None, List, [], ◌∷◌, length, slice_get}
+use Rattle.std.specs.Prelude.{◌≡◌, ℕ, ◌<◌, ◌↔◌, Bool, true, false, if◌then◌else◌, Option, Some, None, List, [], ◌∷◌, length, slice_get}
 use Rattle.hpr_terms.specs.declared.tag.Tag.{Tag}
 use Rattle.hpr_syntax.specs.declared.rows.Content.{Content}
 use Rattle.hpr_syntax.specs.declared.rows.Content.TheVariants.{Assign, If, While}
@@ -26,7 +25,7 @@ use Rattle.hpr_graph.specs.declared.edge.Kind.{Kind}
 use Rattle.hpr_graph.specs.declared.edge.Kind.TheVariants.{Control}
 use Rattle.hpr_graph.specs.Graphs.{Graph}
 use Rattle.hpr_graph.specs.Arrangements.{Directs, edge_into}
-use Rattle.hpr_forest.specs.Trees.{Slot}
+use Rattle.hpr_forest.specs.Trees.{Slot, same_slot}
 use Rattle.hpr_order.specs.declared.item.Item.{Item}
 use Rattle.hpr_order.specs.Regions.{AllowsIn}
 
@@ -62,15 +61,6 @@ abbrev pub said : Tag → Content → Body → Body → Body → Body
 said t (Assign x e) first second rest = action t (assigns x e) rest
 said t (If e) first second rest = branch t e first second rest
 said t (While e) first second rest = loop t e first rest
-
-abbrev pub same_slot : Slot → Slot → Bool
-same_slot None None = true
-same_slot None (Some b) = false
-same_slot (Some a) None = false
-same_slot (Some (a, true)) (Some (b, true)) = eqb a b
-same_slot (Some (a, false)) (Some (b, false)) = eqb a b
-same_slot (Some (a, true)) (Some (b, false)) = false
-same_slot (Some (a, false)) (Some (b, true)) = false
 
 abbrev pub with_part : Option Item → ℕ → (Slot → Body) → Slot → Body
 with_part None c blocks v = blocks v
