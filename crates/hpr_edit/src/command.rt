@@ -22,9 +22,15 @@ pub struct Place {
 }
 
 /// The names of `end` in their order. A contract sees their list.
-#[derive(Drop)]
 pub struct FinalNames {
     names: Vec<Name>,
+}
+
+/// All of it is dropped in one call.
+impl Drop for FinalNames {
+    fn drop(self) {
+        let FinalNames { names: _ } = self;
+    }
 }
 
 impl Model for FinalNames {
@@ -82,7 +88,6 @@ impl Eq for FinalNames {
 }
 
 /// One change of a program. A new part gets the next serial of the editor's author.
-#[derive(Drop)]
 pub enum Command {
     /// A new part with this content stands at the place. A conditional or a loop has empty blocks.
     Insert(Place, Content),
@@ -103,8 +108,22 @@ pub enum Command {
     Finals(FinalNames),
 }
 
+/// All of it is dropped in one call.
+impl Drop for Command {
+    fn drop(self) {
+        match self {
+            Command::Insert(_, _) => {}
+            Command::Delete(_) => {}
+            Command::Move(_, _) => {}
+            Command::Set(_, _) => {}
+            Command::Wrap(_, _) => {}
+            Command::Unwrap(_) => {}
+            Command::Finals(_) => {}
+        }
+    }
+}
+
 /// What takes one command back.
-#[derive(Drop)]
 pub enum Inverse {
     /// Of an insert: the new part goes.
     Remove(Tag),
@@ -121,6 +140,21 @@ pub enum Inverse {
     Rewrap(Place, Tag, Content, usize, usize),
     /// Of a change of finals: `end` names what it named.
     FinalsBack(FinalNames),
+}
+
+/// All of it is dropped in one call.
+impl Drop for Inverse {
+    fn drop(self) {
+        match self {
+            Inverse::Remove(_) => {}
+            Inverse::PutBack(_, _) => {}
+            Inverse::MoveBack(_, _) => {}
+            Inverse::SetBack(_, _) => {}
+            Inverse::Lift(_) => {}
+            Inverse::Rewrap(_, _, _, _, _) => {}
+            Inverse::FinalsBack(_) => {}
+        }
+    }
 }
 
 /// Why a command is refused: the first of these that holds.

@@ -16,9 +16,15 @@ use std::alloc::Global;
 use std::marker::Model;
 
 /// What waits outside of each open bracket. A contract sees the list, the innermost one first.
-#[derive(Drop)]
 pub struct Brackets {
     outside: Vec<Pending>,
+}
+
+/// All of it is dropped in one call.
+impl Drop for Brackets {
+    fn drop(self) {
+        let Brackets { outside: _ } = self;
+    }
 }
 
 impl Model for Brackets {
@@ -70,11 +76,21 @@ impl Brackets {
 
 /// What stands before an operand: the brackets around it, what waits in the innermost one, and how
 /// many operators there are.
-#[derive(Drop)]
 pub struct Context {
     outer: Brackets,
     here: Pending,
     count: usize,
+}
+
+/// All of it is dropped in one call.
+impl Drop for Context {
+    fn drop(self) {
+        let Context {
+            outer: _,
+            here: _,
+            count: _,
+        } = self;
+    }
 }
 
 /// How far an expression was read: a machine of its tokens.
@@ -83,13 +99,22 @@ pub struct Context {
 /// literals up to 9,223,372,036,854,775,807 and brackets, at most 256 of these in one another;
 /// there are at most 256 operators; and at most one comparison stands between two brackets, `and`s
 /// or `or`s.
-#[derive(Drop)]
 pub enum Reading {
     /// An operand, a prefix or an opening bracket must stand next.
     Before(Context),
     /// An operand was read: an operator or a closing bracket may stand next, or the expression may
     /// end.
     After(Context, Expr),
+}
+
+/// All of it is dropped in one call.
+impl Drop for Reading {
+    fn drop(self) {
+        match self {
+            Reading::Before(_) => {}
+            Reading::After(_, _) => {}
+        }
+    }
 }
 
 // The reading in a context: an operand with this value was read, or one must stand next.
