@@ -1,8 +1,6 @@
 pub mod NamesInOrder
-pub mod Walks
 pub mod TraceRun
 pub mod TraceWalk
-pub mod Told
 pub mod Executed
 pub mod DueCauses
 pub mod RunFacts

@@ -1,13 +1,13 @@
--- A walk is the trace: its notes are those of the log.
+-- A traced run is an observed one: the notes of the observer are those of the log.
 --
 -- numbers_of log == the numbers of the steps of a log, newest first, that last defined the names
--- notes_of s log == what is kept after the log, from the state s
--- way_of s course == the course with its notes
-use Rattle.std.proofs.Common.{◌≡◌, ℕ, zero, suc, ◌+◌, ℤ, Bool, true, false, List, [], ◌∷◌, ◌++◌, map, length, reverse, Option, Some, None, refl, sym, ap, ◌∙◌, if◌then◌else◌, cond, Ok, Err}
+-- notes_of log   == what is kept after the log
+-- way_of s course == the course from the state s with its notes
+use Rattle.std.proofs.Common.{◌≡◌, ℕ, zero, suc, ◌+◌, ◌-◌, ℤ, Bool, true, false, List, [], ◌∷◌, ◌++◌, map, length, reverse, Option, Some, None, refl, sym, ap, ◌∙◌, arith, if◌then◌else◌, cond, Ok, Err}
 use Rattle.hpr_syntax.specs.Action.{assigns}
 use Rattle.hpr_syntax.specs.Contents.{answer_of}
 use mathlib.Core.List.{reverse_aux, reverse-cons}
-use Rattle.std.proofs.lemmas.List.{reverse-reverse, length-reverse}
+use Rattle.std.proofs.lemmas.List.{reverse-reverse, length-reverse, length-append}
 use Rattle.std.specs.FinMap.{empty, get, insert, get-insert, get-empty}
 use Rattle.std.specs.Ordering.{is_eq}
 use Rattle.std.specs.Cmp.Lexicographic.{nat_list_cmp_total}
@@ -19,20 +19,17 @@ use Rattle.hpr_syntax.specs.Body.{Body, done, action, branch, loop}
 use Rattle.hpr_syntax.specs.Rows.{assigned}
 use Rattle.hpr_syntax.specs.Tree.{Tree}
 use Rattle.hpr_syntax.specs.Values.{Values, value_at}
-use Rattle.hpr_syntax.specs.Value.{Answer, value, is_true}
-use Rattle.hpr_syntax.specs.Run.{After, run_body}
-use Rattle.hpr_syntax.specs.Run as after
+use Rattle.hpr_syntax.specs.Value.{Answer, is_true}
 use Rattle.hpr_graph.specs.Order.{name_cmp}
+use Rattle.hpr_run.specs.Observed.{Way, step_way, then_way, walk_turns, walk, known_in}
+use Rattle.hpr_run.specs.Observed as way
 use Rattle.hpr_paths.specs.Times.{Place}
 use Rattle.hpr_meaning.specs.declared.traced.Origin.{Origin}
 use Rattle.hpr_meaning.specs.declared.traced.Read.{Read}
-use Rattle.hpr_meaning.specs.Instances.{Instance, state_after, names_of, read_of, reads_of, logged, Course, goes, stops, step_at, then_go, turns_from, trace, log_of, after_of, course_of, instances}
+use Rattle.hpr_meaning.specs.Instances.{Instance, state_after, names_of, read_of, reads_of, logged, Course, goes, stops, step_at, then_go, turns_from, trace, log_of, course_of, instances}
 use Rattle.hpr_meaning.specs.Items.{Item, with_number, origin_in, read_after, item_after, items_after, items_of}
 use Rattle.hpr_meaning.specs.Numbers.{Numbers}
-use Rattle.hpr_meaning.specs.Notes.{Notes, origin_by, origin_at, first_notes, read_at, item_at, noted, defined}
-use Rattle.hpr_meaning.specs.Walk.{Way, step_way, then_way, walk_turns, walk}
-use Rattle.hpr_meaning.specs.Walk as way
-use Rattle.hpr_meaning.proofs.TraceRun.{trace_run}
+use Rattle.hpr_meaning.specs.Notes.{Notes, origin_by, origin_at, no_notes, read_at, item_at, noted, defined, tracing}
 
 abbrev pub with_insert : Option (List ℕ) → ℕ → Numbers → Numbers
 with_insert None n ns = ns
@@ -42,13 +39,13 @@ abbrev pub numbers_of : List Instance → Numbers
 numbers_of [] = empty
 numbers_of (i ∷ log) = with_insert (assigned i.1.content) (length log) (numbers_of log)
 
-abbrev pub notes_of : Values → List Instance → Notes
-notes_of s log = record { state = state_after s log; definers = numbers_of log; items = items_of (reverse log) }
+abbrev pub notes_of : List Instance → Notes
+notes_of log = record { definers = numbers_of log; items = items_of (reverse log) }
 
-abbrev pub way_of : Values → Course → Way
-way_of s (goes log left) = way.goes (notes_of s log) left
-way_of s (stops a None log left) = way.spent (notes_of s log)
-way_of s (stops a (Some f) log left) = way.faulted a.0 f (notes_of s log) left
+abbrev pub way_of : Values → Course → Way Notes
+way_of s (goes log left) = way.goes (notes_of log) (state_after s log) left
+way_of s (stops a None log left) = way.spent (notes_of log)
+way_of s (stops a (Some f) log left) = way.stops a.0 f (notes_of log) left
 
 -- the origins by the map and by the log
 cond_origin : (b : Bool) (n : ℕ) (o : Option ℕ) → origin_by (cond b (Some n) o) ≡ (if b then origin_by (Some n) else origin_by o)
@@ -65,15 +62,18 @@ origins (i ∷ log) x =
     insert_origin (assigned i.1.content) (length log) (numbers_of log) x ∙ ap (with_number (assigned i.1.content) (length log) x) (origins log x)
 
 -- the reads by the notes and by the log
-one_read : (s : Values) (log : List Instance) (x : List ℕ) → read_at (notes_of s log) x ≡ read_after log (read_of s log x)
+one_read : (s : Values) (log : List Instance) (x : List ℕ) → read_at (state_after s log) (notes_of log) x ≡ read_after log (read_of s log x)
 one_read s log x = ap (λ (o : Origin). record { name = x; value = value_at (state_after s log) x; origin = o }) (origins log x)
 
-all_reads : (s : Values) (log : List Instance) (names : List (List ℕ)) → map (read_at (notes_of s log)) names ≡ map (read_after log) (map (read_of s log) names)
+all_reads : (s : Values) (log : List Instance) (names : List (List ℕ))
+    → map (read_at (state_after s log) (notes_of log)) names ≡ map (read_after log) (map (read_of s log) names)
 all_reads s log [] = refl
-all_reads s log (x ∷ names) = ap (λ (r : Read). r ∷ map (read_at (notes_of s log)) names) (one_read s log x) ∙ ap (λ (l : List Read). read_after log (read_of s log x) ∷ l) (all_reads s log names)
+all_reads s log (x ∷ names) =
+    ap (λ (r : Read). r ∷ map (read_at (state_after s log) (notes_of log)) names) (one_read s log x)
+    ∙ ap (λ (l : List Read). read_after log (read_of s log x) ∷ l) (all_reads s log names)
 
 one_item : (s : Values) (a : Place) (c : Content) (e : Expr) (v : ℤ) (log : List Instance)
-    → item_at a e v (notes_of s log) ≡ item_after log (a, record { content = c; reads = reads_of e s log; gave = v })
+    → item_at a e v (state_after s log) (notes_of log) ≡ item_after log (a, record { content = c; reads = reads_of e s log; gave = v })
 one_item s a c e v log = ap (λ (l : List Read). record { tag = a.0; turns = a.1; reads = l; value = v }) (all_reads s log (names_of e))
 
 -- the items, one by one
@@ -95,98 +95,86 @@ items_count : (log : List Instance) → length (items_of (reverse log)) ≡ leng
 items_count log = items_length [] (reverse log) ∙ length-reverse log
 
 logged_items : (s : Values) (a : Place) (c : Content) (e : Expr) (v : ℤ) (log : List Instance)
-    → items_of (reverse (logged a c e v s log)) ≡ items_of (reverse log) ++ item_at a e v (notes_of s log) ∷ []
+    → items_of (reverse (logged a c e v s log)) ≡ items_of (reverse log) ++ item_at a e v (state_after s log) (notes_of log) ∷ []
 logged_items s a c e v log =
     items_more log (a, record { content = c; reads = reads_of e s log; gave = v })
     ∙ ap (λ (i : Item). items_of (reverse log) ++ i ∷ []) (sym (one_item s a c e v log))
 
 -- one step
-if_noted : (s : Values) (a : Place) (e : Expr) (v : ℤ) (log : List Instance) → notes_of s (logged a (If e) e v s log) ≡ noted a e v (notes_of s log)
-if_noted s a e v log = ap (λ (l : List Item). record { state = state_after s log; definers = numbers_of log; items = l }) (logged_items s a (If e) e v log)
+if_noted : (s : Values) (t : Tag) (around : List ℕ) (e : Expr) (v : ℤ) (log : List Instance)
+    → notes_of (logged (t, around) (If e) e v s log) ≡ noted around t e v (state_after s log) (notes_of log)
+if_noted s t around e v log = ap (λ (l : List Item). record { definers = numbers_of log; items = l }) (logged_items s (t, around) (If e) e v log)
 
-while_noted : (s : Values) (a : Place) (e : Expr) (v : ℤ) (log : List Instance) → notes_of s (logged a (While e) e v s log) ≡ noted a e v (notes_of s log)
-while_noted s a e v log = ap (λ (l : List Item). record { state = state_after s log; definers = numbers_of log; items = l }) (logged_items s a (While e) e v log)
+while_noted : (s : Values) (t : Tag) (around : List ℕ) (e : Expr) (v : ℤ) (log : List Instance)
+    → notes_of (logged (t, around) (While e) e v s log) ≡ noted around t e v (state_after s log) (notes_of log)
+while_noted s t around e v log = ap (λ (l : List Item). record { definers = numbers_of log; items = l }) (logged_items s (t, around) (While e) e v log)
 
-assign_noted : (s : Values) (a : Place) (x : List ℕ) (e : Expr) (v : ℤ) (log : List Instance)
-    → notes_of s (logged a (Assign x e) e v s log) ≡ defined x v (length (items_of (reverse log))) (noted a e v (notes_of s log))
-assign_noted s a x e v log =
-    ap (λ (l : List Item). record { state = insert (state_after s log) x v; definers = insert (numbers_of log) x (length log); items = l }) (logged_items s a (Assign x e) e v log)
-    ∙ ap (λ (n : ℕ). record { state = insert (state_after s log) x v; definers = insert (numbers_of log) x n; items = items_of (reverse log) ++ item_at a e v (notes_of s log) ∷ [] })
-    (sym (items_count log))
+assign_noted : (s : Values) (t : Tag) (around : List ℕ) (x : List ℕ) (e : Expr) (v : ℤ) (log : List Instance)
+    → notes_of (logged (t, around) (Assign x e) e v s log) ≡ defined x (noted around t e v (state_after s log) (notes_of log))
+assign_noted s t around x e v log =
+    let before = items_of (reverse log) in
+    let new = item_at (t, around) e v (state_after s log) (notes_of log) in
+    let count : length log ≡ length (before ++ new ∷ []) - 1 = omega (arith, items_count log, length-append before (new ∷ [])) in
+    ap (λ (l : List Item). record { definers = insert (numbers_of log) x (length log); items = l }) (logged_items s (t, around) (Assign x e) e v log)
+    ∙ ap (λ (n : ℕ). record { definers = insert (numbers_of log) x n; items = before ++ new ∷ [] }) count
 
 -- the whole
-step_walk : (s : Values) (a : Place) (answer : Answer) (log : List Instance) (left : ℕ) (go : ℤ → ℕ → Course) (go' : ℤ → ℕ → Way)
-    → ((v : ℤ) (l : ℕ) → way_of s (go v l) ≡ go' v l) → way_of s (step_at a answer log left go) ≡ step_way a.0 answer (notes_of s log) left go'
+step_walk : (s : Values) (a : Place) (answer : Answer) (log : List Instance) (left : ℕ) (go : ℤ → ℕ → Course) (go' : ℤ → ℕ → Way Notes)
+    → ((v : ℤ) (l : ℕ) → way_of s (go v l) ≡ go' v l) → way_of s (step_at a answer log left go) ≡ step_way a.0 answer (notes_of log) left go'
 step_walk s a answer log zero go go' h = refl
 step_walk s a (Ok v) log (suc left) go go' h = h v left
 step_walk s a (Err f) log (suc left) go go' h = refl
 
-then_walk : (s : Values) (x : Course) (y : Way) (go : List Instance → ℕ → Course) (go' : Notes → ℕ → Way)
-    → way_of s x ≡ y → ((log : List Instance) (l : ℕ) → way_of s (go log l) ≡ go' (notes_of s log) l) → way_of s (then_go x go) ≡ then_way y go'
+then_walk : (s : Values) (x : Course) (y : Way Notes) (go : List Instance → ℕ → Course) (go' : Notes → Values → ℕ → Way Notes)
+    → way_of s x ≡ y → ((log : List Instance) (l : ℕ) → way_of s (go log l) ≡ go' (notes_of log) (state_after s log) l)
+    → way_of s (then_go x go) ≡ then_way y go'
 then_walk s (goes log left) y go go' e h = h log left ∙ ap (λ z. then_way z go') e
 then_walk s (stops a None log left) y go go' e h = ap (λ z. then_way z go') e
 then_walk s (stops a (Some f) log left) y go go' e h = ap (λ z. then_way z go') e
 
-if_walk : (s : Values) (b : Bool) (x y : Course) (x' y' : Way) → way_of s x ≡ x' → way_of s y ≡ y' → way_of s (if b then x else y) ≡ (if b then x' else y')
+if_walk : (s : Values) (b : Bool) (x y : Course) (x' y' : Way Notes) → way_of s x ≡ x' → way_of s y ≡ y' → way_of s (if b then x else y) ≡ (if b then x' else y')
 if_walk s true x y x' y' p q = p
 if_walk s false x y x' y' p q = q
 
-turns_walk : (s : Values) (k n : ℕ) (t : Tag) (e : Expr) (body : List ℕ → List Instance → ℕ → Course) (body' : List ℕ → Notes → ℕ → Way)
-    → ((around : List ℕ) (log : List Instance) (l : ℕ) → way_of s (body around log l) ≡ body' around (notes_of s log) l)
+turns_walk : (s : Values) (k n : ℕ) (t : Tag) (e : Expr) (body : List ℕ → List Instance → ℕ → Course) (body' : List ℕ → Notes → Values → ℕ → Way Notes)
+    → ((around : List ℕ) (log : List Instance) (l : ℕ) → way_of s (body around log l) ≡ body' around (notes_of log) (state_after s log) l)
     → (around : List ℕ) (log : List Instance) (left : ℕ)
-    → way_of s (turns_from k n t e body s around log left) ≡ walk_turns k n t e body' around (notes_of s log) left
+    → way_of s (turns_from k n t e body s around log left) ≡ walk_turns tracing k n t e body' around (notes_of log) (state_after s log) left
 turns_walk s k zero t e body body' h around log left = refl
 turns_walk s k (suc n) t e body body' h around log left =
     step_walk s (t, around ++ k ∷ []) (answer_of (While e) (state_after s log)) log left _ _ (λ v l.
-    let seen = while_noted s (t, around ++ k ∷ []) e v log in
+    let seen = while_noted s t (around ++ k ∷ []) e v log in
     if_walk s (is_true v) _ _ _ _
     (then_walk s (body (around ++ k ∷ []) (logged (t, around ++ k ∷ []) (While e) e v s log) l) _ _ _
-    (h _ _ l ∙ ap (λ (m : Notes). body' (around ++ k ∷ []) m l) seen)
+    (h (around ++ k ∷ []) (logged (t, around ++ k ∷ []) (While e) e v s log) l ∙ ap (λ (m : Notes). body' (around ++ k ∷ []) m (state_after s log) l) seen)
     (λ log' l'. turns_walk s (suc k) n t e body body' h around log' l'))
-    (ap (λ (m : Notes). way.goes m l) seen))
+    (ap (λ (m : Notes). way.goes m (state_after s log) l) seen))
 
-pub trace_walk : (s : Values) (b : Body) (around : List ℕ) (log : List Instance) (left : ℕ)
-    → way_of s (trace s b around log left) ≡ walk b around (notes_of s log) left
+trace_walk : (s : Values) (b : Body) (around : List ℕ) (log : List Instance) (left : ℕ)
+    → way_of s (trace s b around log left) ≡ walk tracing b around (notes_of log) (state_after s log) left
 trace_walk s done around log left = refl
 trace_walk s (action t (assigns x e) rest) around log left =
     step_walk s (t, around) (answer_of (Assign x e) (state_after s log)) log left _ _ (λ v l.
-    trace_walk s rest around (logged (t, around) (Assign x e) e v s log) l ∙ ap (λ (m : Notes). walk rest around m l) (assign_noted s (t, around) x e v log))
+    trace_walk s rest around (logged (t, around) (Assign x e) e v s log) l
+    ∙ ap (λ (m : Notes). walk tracing rest around m (insert (state_after s log) x v) l) (assign_noted s t around x e v log))
 trace_walk s (branch t e a b rest) around log left =
     step_walk s (t, around) (answer_of (If e) (state_after s log)) log left _ _ (λ v l.
-    let seen = if_noted s (t, around) e v log in
+    let seen = if_noted s t around e v log in
     then_walk s (if is_true v then trace s a around (logged (t, around) (If e) e v s log) l else trace s b around (logged (t, around) (If e) e v s log) l) _ _ _
     (if_walk s (is_true v) _ _ _ _
-    (trace_walk s a around (logged (t, around) (If e) e v s log) l ∙ ap (λ (m : Notes). walk a around m l) seen)
-    (trace_walk s b around (logged (t, around) (If e) e v s log) l ∙ ap (λ (m : Notes). walk b around m l) seen))
+    (trace_walk s a around (logged (t, around) (If e) e v s log) l ∙ ap (λ (m : Notes). walk tracing a around m (state_after s log) l) seen)
+    (trace_walk s b around (logged (t, around) (If e) e v s log) l ∙ ap (λ (m : Notes). walk tracing b around m (state_after s log) l) seen))
     (λ log' l'. trace_walk s rest around log' l'))
 trace_walk s (loop t e b rest) around log left =
     then_walk s (turns_from 0 (left + 1) t e (trace s b) s around log left) _ _ _
-    (turns_walk s 0 (left + 1) t e (trace s b) (walk b) (trace_walk s b) around log left) (λ log' l'. trace_walk s rest around log' l')
+    (turns_walk s 0 (left + 1) t e (trace s b) (walk tracing b) (trace_walk s b) around log left) (λ log' l'. trace_walk s rest around log' l')
 
--- what a way tells of the whole run
-abbrev pub notes_in : Way → Notes
-notes_in (way.goes m left) = m
-notes_in (way.faulted t f m left) = m
-notes_in (way.spent m) = m
-
-abbrev pub after_way : Way → After
-after_way (way.goes m left) = after.goes m.state left
-after_way (way.faulted t f m left) = after.stops t f left
-after_way (way.spent m) = after.spent
-
-same_notes : (s : Values) (c : Course) → notes_in (way_of s c) ≡ notes_of s (log_of c)
+-- what the observer of a whole run knows
+same_notes : (s : Values) (c : Course) → known_in (way_of s c) ≡ notes_of (log_of c)
 same_notes s (goes log left) = refl
 same_notes s (stops a None log left) = refl
 same_notes s (stops a (Some f) log left) = refl
 
-same_after : (s : Values) (c : Course) → after_of s c ≡ after_way (way_of s c)
-same_after s (goes log left) = refl
-same_after s (stops a None log left) = refl
-same_after s (stops a (Some f) log left) = refl
-
-pub items_told : (p : Tree) (s : Values) (n : ℕ) (w : Way) → walk p.body [] (first_notes s) n ≡ w → (notes_in w).items ≡ items_of (instances p s n)
-items_told p s n w is =
-    ap (λ (x : Way). (notes_in x).items) (sym (trace_walk s p.body [] [] n ∙ is)) ∙ ap (λ (m : Notes). m.items) (same_notes s (course_of p s n))
-
-pub after_told : (p : Tree) (s : Values) (n : ℕ) (w : Way) → walk p.body [] (first_notes s) n ≡ w → run_body p.body s n ≡ after_way w
-after_told p s n w is = sym (trace_run s p.body [] [] n) ∙ same_after s (course_of p s n) ∙ ap after_way (trace_walk s p.body [] [] n ∙ is)
+pub items_told : (p : Tree) (s : Values) (n : ℕ) → (known_in (walk tracing p.body [] no_notes s n)).items ≡ items_of (instances p s n)
+items_told p s n =
+    ap (λ (x : Way Notes). (known_in x).items) (sym (trace_walk s p.body [] [] n)) ∙ ap (λ (m : Notes). m.items) (same_notes s (course_of p s n))

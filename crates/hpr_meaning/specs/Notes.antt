@@ -1,16 +1,19 @@
 -- What a traced run keeps.
 --
--- Notes             == the state, the items that last defined its names, and all items so far
--- origin_at ns x    == where the value of the name x comes from
--- first_notes s     == before the first step, from the state s
--- read_at m x       == the read of the name x
--- item_at a e v m   == the item of a step at the place a whose expression e gave v
--- noted a e v m     == with that item
--- defined x v n m   == where the item n gave the name x the value v
-use Rattle.std.specs.Prelude.{ℕ, ℤ, List, [], ◌∷◌, ◌++◌, map, Option, Some, None}
+-- Notes               == the items that last defined the names, and all items so far
+-- origin_at ns x      == where the value of the name x comes from
+-- no_notes            == before the first step
+-- read_at s m x       == the read of the name x in the state s
+-- item_at a e v s m   == the item of a step at the place a whose expression e gave v in s
+-- noted turns t e v s m == with that item of the part t, under these turns
+-- defined x m         == where the last item defined the name x
+-- tracing             == the observer that keeps this, with the turns of the loops around a part, the outermost loop first
+use Rattle.std.specs.Prelude.{ℕ, ◌-◌, ℤ, List, [], ◌∷◌, ◌++◌, map, length, Option, Some, None}
 use Rattle.std.specs.FinMap.{empty, get, insert}
+use Rattle.hpr_terms.specs.declared.tag.Tag.{Tag}
 use Rattle.hpr_terms.specs.declared.expr.Expr.{Expr}
 use Rattle.hpr_syntax.specs.Values.{Values, value_at}
+use Rattle.hpr_run.specs.Observed.{Observing, observing}
 use Rattle.hpr_paths.specs.Times.{Place}
 use Rattle.hpr_meaning.specs.declared.traced.Origin.{Origin}
 use Rattle.hpr_meaning.specs.declared.traced.Origin.TheVariants.{Initial, Instance}
@@ -20,7 +23,6 @@ use Rattle.hpr_meaning.specs.Items.{Item}
 use Rattle.hpr_meaning.specs.Numbers.{Numbers}
 
 pub record Notes : Type 0 where
-  pub state : Values
   pub definers : Numbers
   pub items : List Item
 
@@ -31,17 +33,20 @@ origin_by (Some n) = Instance n
 abbrev pub origin_at : Numbers → List ℕ → Origin
 origin_at ns x = origin_by (get ns x)
 
-abbrev pub first_notes : Values → Notes
-first_notes s = record { state = s; definers = empty; items = [] }
+abbrev pub no_notes : Notes
+no_notes = record { definers = empty; items = [] }
 
-abbrev pub read_at : Notes → List ℕ → Read
-read_at m x = record { name = x; value = value_at m.state x; origin = origin_at m.definers x }
+abbrev pub read_at : Values → Notes → List ℕ → Read
+read_at s m x = record { name = x; value = value_at s x; origin = origin_at m.definers x }
 
-abbrev pub item_at : Place → Expr → ℤ → Notes → Item
-item_at a e v m = record { tag = a.0; turns = a.1; reads = map (read_at m) (names_of e); value = v }
+abbrev pub item_at : Place → Expr → ℤ → Values → Notes → Item
+item_at a e v s m = record { tag = a.0; turns = a.1; reads = map (read_at s m) (names_of e); value = v }
 
-abbrev pub noted : Place → Expr → ℤ → Notes → Notes
-noted a e v m = record { state = m.state; definers = m.definers; items = m.items ++ item_at a e v m ∷ [] }
+abbrev pub noted : List ℕ → Tag → Expr → ℤ → Values → Notes → Notes
+noted turns t e v s m = record { definers = m.definers; items = m.items ++ item_at (t, turns) e v s m ∷ [] }
 
-abbrev pub defined : List ℕ → ℤ → ℕ → Notes → Notes
-defined x v n m = record { state = insert m.state x v; definers = insert m.definers x n; items = m.items }
+abbrev pub defined : List ℕ → Notes → Notes
+defined x m = record { definers = insert m.definers x (length m.items - 1); items = m.items }
+
+abbrev pub tracing : Observing Notes (List ℕ)
+tracing = observing (λ turns k. turns ++ k ∷ []) noted defined

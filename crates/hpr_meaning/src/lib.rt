@@ -7,6 +7,7 @@ mod memo;
 mod names;
 mod traced;
 mod tracing;
+mod turns;
 
 pub use traced::{Instance, Origin, Read, Traced};
 pub use tracing::trace;

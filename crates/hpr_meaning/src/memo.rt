@@ -1,23 +1,21 @@
 //! What a traced run keeps.
-ghost use Rattle.std.specs.Prelude.{◌≡◌, IfOk, OnOk, map, length};
-ghost use Rattle.hpr_syntax.specs.Value.{value};
-ghost use Rattle.hpr_run.specs.Outcomes.{answer_of};
+ghost use Rattle.std.specs.Prelude.{◌≡◌, [], map, IfOk};
 ghost use Rattle.hpr_meaning.specs.Instances.{names_of};
 ghost use Rattle.hpr_meaning.specs.Items.{item_in};
-ghost use Rattle.hpr_meaning.specs.Notes.{first_notes, noted, defined, read_at};
+ghost use Rattle.hpr_meaning.specs.Notes.{no_notes, read_at};
 
 use crate::definers::Definers;
 use crate::names::names_of;
 use crate::traced::{Instance, Read};
-use hpr_run::{Fault, State, eval};
+use crate::turns::Turns;
+use hpr_run::{Observer, State};
 use hpr_syntax::{Expr, Name, NoMemory, Tag};
 use std::alloc::Global;
 use std::marker::Model;
 
-/// The state, the items that last defined its names, and all items so far.
+/// The items that last defined names, and all items so far.
 #[derive(Drop)]
 pub(crate) struct Memo {
-    state: State,
     definers: Definers,
     items: Vec<Instance>,
 }
@@ -30,38 +28,22 @@ impl Model for Memo {
     ghost Value = { Notes };
 
     ghost use Rattle.std.specs.Coded.{codes};
-    ghost use Rattle.hpr_run.specs.States.{values_coded};
     ghost use Rattle.hpr_meaning.specs.Numbers.{numbers_coded};
 
-    ghost coded = { Prim.hlevel (codes, values_coded, numbers_coded) };
+    ghost coded = { Prim.hlevel (codes, numbers_coded) };
 
-    ghost view = { λ m. record { state = m.state; definers = m.definers; items = map item_in m.items.items } };
+    ghost view = { λ m. record { definers = m.definers; items = map item_in m.items.items } };
 }
 
 impl Memo {
     /// Before the first step.
-    pub(crate) fn new(alloc: Global, state: &State) -> Result<Memo, NoMemory>
-        ensures { IfOk result (λ m. m ≡ first_notes state.now) }
+    pub(crate) fn new(alloc: Global) -> Memo
+        ensures { result ≡ no_notes }
     {
-        Ok(Memo {
-            state: state.copy(alloc)?,
+        Memo {
             definers: Definers::new(alloc),
             items: Vec::new(alloc),
-        })
-    }
-
-    /// The state.
-    pub(crate) fn state(&self) -> &State
-        ensures { result.now ≡ self.now.state }
-    {
-        &self.state
-    }
-
-    /// How many items there are.
-    pub(crate) fn item_count(&self) -> usize
-        ensures { result ≡ length self.now.items }
-    {
-        self.items.len()
+        }
     }
 
     /// The items.
@@ -72,20 +54,13 @@ impl Memo {
         items
     }
 
-    /// The number of the expression, or its fault.
-    pub(crate) fn value(&self, expr: &Expr) -> Result<i64, Fault>
-        ensures { answer_of result ≡ value expr.now self.now.state }
-    {
-        eval(expr, &self.state)
-    }
-
-    /// The names that the expression reads now.
-    fn reads(&self, alloc: Global, expr: &Expr) -> Result<Vec<Read>, NoMemory>
-        ensures { IfOk result (λ reads. reads.items ≡ map (read_at self.now) (names_of expr.now)) }
+    /// The names that the expression reads in the state.
+    fn reads(&self, alloc: Global, expr: &Expr, state: &State) -> Result<Vec<Read>, NoMemory>
+        ensures { IfOk result (λ reads. reads.items ≡ map (read_at state.now self.now) (names_of expr.now)) }
     {
         let mut reads = Vec::new(alloc);
         for name in names_of(alloc, expr)? {
-            let value = self.state.get(&name);
+            let value = state.get(&name);
             let origin = self.definers.origin(&name);
             reads.push(Read {
                 name,
@@ -95,20 +70,35 @@ impl Memo {
         }
         Ok(reads)
     }
+}
 
-    /// Puts an item behind the others: the expression of the part gave the number.
-    pub(crate) fn note(
+impl Observer for Memo {
+    ghost use Rattle.std.specs.Prelude.{◌++◌, ◌∷◌, []};
+    ghost use Rattle.hpr_meaning.specs.Notes.{noted, defined};
+
+    type Turns = Turns;
+
+    ghost in_turn = { λ around turn. around ++ turn ∷ [] };
+
+    ghost told = { noted };
+
+    ghost assigned = { defined };
+
+    fn enter(&self, alloc: Global, around: &Turns, turn: u64) -> Result<Turns, NoMemory> {
+        around.with_turn(alloc, turn)
+    }
+
+    fn tell(
         &mut self,
         alloc: Global,
+        around: &Turns,
         tag: Tag,
-        turns: &[u64],
         expr: &Expr,
         value: i64,
-    ) -> Result<(), NoMemory>
-        ensures { OnOk result (self.new ≡ noted (tag, turns.now) expr.now value self.old) }
-    {
-        let reads = self.reads(alloc, expr)?;
-        let turns = Vec::from_slice(alloc, turns)?;
+        state: &State,
+    ) -> Result<(), NoMemory> {
+        let reads = self.reads(alloc, expr, state)?;
+        let turns = around.copied(alloc)?;
         self.items.push(Instance {
             tag,
             turns,
@@ -118,18 +108,8 @@ impl Memo {
         Ok(())
     }
 
-    /// The item with this number gave the name the value.
-    pub(crate) fn define(
-        &mut self,
-        alloc: Global,
-        name: &Name,
-        value: i64,
-        number: usize,
-    ) -> Result<(), NoMemory>
-        ensures { OnOk result (self.new ≡ defined name.now value number self.old) }
-    {
-        self.definers.set(alloc, name, number)?;
-        self.state.set(name.copy(alloc)?, value)?;
-        Ok(())
+    fn assign(&mut self, alloc: Global, name: &Name) -> Result<(), NoMemory> {
+        let last = self.items.len().saturating_sub(1);
+        self.definers.set(alloc, name, last)
     }
 }

@@ -1,11 +1,13 @@
 //! Runs of programs.
-ghost use Rattle.std.specs.Prelude.{◌≡◌, ◌≤◌, ◌+◌, IfOk};
+ghost use Rattle.std.specs.Prelude.{◌≡◌, ◌≤◌, ◌+◌, IfOk, OnOk};
 ghost use Rattle.hpr_syntax.specs.Body.{done};
 ghost use Rattle.hpr_syntax.specs.BodyOf.{before};
 ghost use Rattle.hpr_syntax.specs.Value.{value, is_true};
-ghost use Rattle.hpr_syntax.specs.Run.{run, run_body, turns, final_values};
+ghost use Rattle.hpr_syntax.specs.Run.{run, final_values};
+ghost use Rattle.hpr_run.specs.Observed.{observing, walk, walk_turns, known_in};
 ghost use Rattle.hpr_run.specs.Outcomes.{outcome_of, Stepped, Did};
 
+use crate::observer::{Nobody, Observer};
 use crate::state::State;
 use crate::values::{Fault, eval};
 use hpr_syntax::{Block, Expr, Name, NoMemory, Program, Stmt, Tag};
@@ -76,9 +78,26 @@ impl From<NoMemory> for Stop {
 pub fn run(alloc: Global, program: &Program, state: &State, most: u64) -> Result<Outcome, NoMemory>
     ensures { IfOk result (λ o. outcome_of o ≡ run program.now state.now most) }
 {
+    let mut nobody = Nobody;
+    run_observed(alloc, program, state, most, &(), &mut nobody)
+}
+
+/// The same run, with an observer that is told each finished step, and the turns under which the
+/// program stands. What the observer allocates may fail for want of memory too.
+pub fn run_observed<O: Observer>(
+    alloc: Global,
+    program: &Program,
+    state: &State,
+    most: u64,
+    around: &O::Turns,
+    observer: &mut O,
+) -> Result<Outcome, NoMemory>
+    ensures outcome { IfOk result (λ o. outcome_of o ≡ run program.now state.now most) }
+    ensures known { OnOk result (observer.new ≡ known_in (walk (observing O.in_turn O.told O.assigned) program.now.body around.now observer.old state.now most)) }
+{
     let mut state = state.copy(alloc)?;
     let mut left = most;
-    match run_block(alloc, program.body(), &mut state, &mut left) {
+    match walk_block(alloc, program.body(), around, &mut state, &mut left, observer) {
         Ok(()) => Ok(Outcome::Ends {
             finals: final_values(alloc, program.finals(), &state)?,
             steps: most - left,
@@ -104,55 +123,79 @@ pub fn final_values(alloc: Global, names: &[Name], state: &State) -> Result<Fina
     Ok(FinalValues { list })
 }
 
-#[cycle(run)]
-fn run_block(alloc: Global, block: &Block, state: &mut State, left: &mut u64) -> Result<(), Stop>
-    ensures did { Did result (run_body block.now state.old left.old) state.new left.new }
+#[cycle(walk)]
+fn walk_block<O: Observer>(
+    alloc: Global,
+    block: &Block,
+    around: &O::Turns,
+    state: &mut State,
+    left: &mut u64,
+    observer: &mut O,
+) -> Result<(), Stop>
+    ensures did { Did result (walk (observing O.in_turn O.told O.assigned) block.now around.now observer.old state.old left.old) observer.new state.new left.new }
     ensures fewer { left.new ≤ left.old }
 {
     for stmt in &block.stmts {
-        run_stmt(alloc, stmt, state, left)?;
+        walk_stmt(alloc, stmt, around, state, left, observer)?;
     }
     Ok(())
 }
 
-#[cycle(run)]
-fn run_stmt(alloc: Global, stmt: &Stmt, state: &mut State, left: &mut u64) -> Result<(), Stop>
-    ensures did { Did result (run_body (before stmt.now done) state.old left.old) state.new left.new }
+#[cycle(walk)]
+fn walk_stmt<O: Observer>(
+    alloc: Global,
+    stmt: &Stmt,
+    around: &O::Turns,
+    state: &mut State,
+    left: &mut u64,
+    observer: &mut O,
+) -> Result<(), Stop>
+    ensures did { Did result (walk (observing O.in_turn O.told O.assigned) (before stmt.now done) around.now observer.old state.old left.old) observer.new state.new left.new }
     ensures fewer { left.new ≤ left.old }
 {
     match stmt {
         Stmt::Assign(tag, name, expr) => {
-            let value = take_step(*tag, expr, state, left)?;
+            let value = take_step(alloc, *tag, expr, around, state, left, observer)?;
+            observer.assign(alloc, name)?;
             state.assign(alloc, name, value)?;
             Ok(())
         }
         Stmt::If(tag, test, yes, no) => {
-            if is_true(take_step(*tag, test, state, left)?) {
-                run_block(alloc, yes, state, left)
+            if is_true(take_step(alloc, *tag, test, around, state, left, observer)?) {
+                walk_block(alloc, yes, around, state, left, observer)
             } else {
-                run_block(alloc, no, state, left)
+                walk_block(alloc, no, around, state, left, observer)
             }
         }
-        Stmt::While(tag, test, body) => run_loop(alloc, *tag, body, test, state, left),
+        Stmt::While(tag, test, body) => {
+            walk_loop(alloc, *tag, body, test, around, state, left, observer)
+        }
     }
 }
 
-#[cycle(run)]
-fn run_loop(
+// A loop makes no more turns than it has steps, and one to see that none is left.
+#[cycle(walk)]
+fn walk_loop<O: Observer>(
     alloc: Global,
     tag: Tag,
     body: &Block,
     test: &Expr,
+    around: &O::Turns,
     state: &mut State,
     left: &mut u64,
+    observer: &mut O,
 ) -> Result<(), Stop>
-    ensures did { Did result (turns (left.old + 1) tag test.now (run_body body.now) state.old left.old) state.new left.new }
+    ensures did { Did result (walk_turns (observing O.in_turn O.told O.assigned) 0 (left.old + 1) tag test.now (walk (observing O.in_turn O.told O.assigned) body.now) around.now observer.old state.old left.old) observer.new state.new left.new }
     ensures fewer { left.new ≤ left.old }
 {
-    'turns: while is_true(take_step(tag, test, state, left)?) {
-        run_block(alloc, body, state, left)?;
+    for turn in 0..=*left {
+        let turns = observer.enter(alloc, around, turn)?;
+        if !is_true(take_step(alloc, tag, test, &turns, state, left, observer)?) {
+            return Ok(());
+        }
+        walk_block(alloc, body, &turns, state, left, observer)?;
     }
-    Ok(())
+    Err(Stop::Spent)
 }
 
 fn is_true(value: i64) -> bool
@@ -162,8 +205,16 @@ fn is_true(value: i64) -> bool
 }
 
 // One step: the number of an expression, if a step is left.
-fn take_step(tag: Tag, expr: &Expr, state: &State, left: &mut u64) -> Result<i64, Stop>
-    ensures stepped { Stepped result tag (value expr.now state.now) left.old left.new }
+fn take_step<O: Observer>(
+    alloc: Global,
+    tag: Tag,
+    expr: &Expr,
+    around: &O::Turns,
+    state: &State,
+    left: &mut u64,
+    observer: &mut O,
+) -> Result<i64, Stop>
+    ensures stepped { Stepped result tag (value expr.now state.now) (λ v. O.told around.now tag expr.now v state.now observer.old) observer.old left.old observer.new left.new }
     ensures fewer { left.new ≤ left.old }
 {
     if *left == 0 {
@@ -171,7 +222,10 @@ fn take_step(tag: Tag, expr: &Expr, state: &State, left: &mut u64) -> Result<i64
     }
     *left -= 1;
     match eval(expr, state) {
-        Ok(value) => Ok(value),
+        Ok(value) => {
+            observer.tell(alloc, around, tag, expr, value, state)?;
+            Ok(value)
+        }
         Err(fault) => Err(Stop::Faulty(tag, fault)),
     }
 }

@@ -3,9 +3,11 @@
 
 mod interpreter;
 pub mod laws;
+mod observer;
 mod state;
 mod values;
 
-pub use interpreter::{FinalValues, Outcome, final_values, run};
+pub use interpreter::{FinalValues, Outcome, final_values, run, run_observed};
+pub use observer::Observer;
 pub use state::State;
 pub use values::{Fault, eval};

@@ -1,0 +1,165 @@
+-- Laws of observed runs: an observer changes nothing, and what the code does with a block and a loop, part by part and turn by turn.
+use Rattle.std.proofs.Common.{subst, sym, ◌≡◌, ℕ, zero, suc, ◌+◌, ◌-◌, ◌≤◌, ◌<◌, ◌∷◌, List, length, get_or, drop, drop-cons, ℤ, Bool, true, false, refl, ap, ◌∙◌, arith, add-one, if◌then◌else◌, Ok, Err}
+use Rattle.std.specs.FinMap.{insert}
+use Rattle.hpr_terms.specs.declared.tag.Tag.{Tag}
+use Rattle.hpr_terms.specs.declared.expr.Expr.{Expr}
+use Rattle.hpr_syntax.specs.declared.tree.Stmt.{Stmt}
+use Rattle.hpr_syntax.specs.declared.tree.Stmt.TheVariants.{Assign, If, While}
+use Rattle.hpr_syntax.specs.BodyOf.{before, body_of}
+use Rattle.hpr_syntax.specs.Action.{assigns}
+use Rattle.hpr_syntax.specs.Body.{Body, done, action, branch, loop}
+use Rattle.hpr_syntax.specs.Tree.{Tree}
+use Rattle.hpr_syntax.specs.Values.{Values}
+use Rattle.hpr_syntax.specs.Value.{Answer, value, is_true}
+use Rattle.hpr_syntax.specs.Run.{After, step, then_go, turns, run_body, outcome, run}
+use Rattle.hpr_run.specs.declared.interpreter.Stop.{Stop}
+use Rattle.hpr_run.specs.declared.interpreter.Stop.TheVariants.{Faulty, Spent, Memory}
+use Rattle.hpr_run.specs.Outcomes.{fault_of, Stepped, Did}
+use Rattle.hpr_run.specs.Observed.{Observing, Way, goes, stops, spent, step_way, then_way, walk_turns, walk, after_in}
+
+-- without its observer, an observed run is the run
+step_after : {O : Type 0} (t : Tag) (a : Answer) (o : O) (left : ℕ) (f : ℤ → ℕ → Way O) (g : ℤ → ℕ → After)
+    → ((v : ℤ) (l : ℕ) → after_in (f v l) ≡ g v l) → after_in (step_way t a o left f) ≡ step t a left g
+step_after t a o zero f g h = refl
+step_after t (Ok v) o (suc l) f g h = h v l
+step_after t (Err e) o (suc l) f g h = refl
+
+then_after : {O : Type 0} (x : Way O) (y : After) (f : O → Values → ℕ → Way O) (g : Values → ℕ → After)
+    → after_in x ≡ y → ((o : O) (s : Values) (l : ℕ) → after_in (f o s l) ≡ g s l) → after_in (then_way x f) ≡ then_go y g
+then_after (goes o s l) y f g e h = h o s l ∙ ap (λ z. then_go z g) e
+then_after (stops t fault o l) y f g e h = ap (λ z. then_go z g) e
+then_after (spent o) y f g e h = ap (λ z. then_go z g) e
+
+if_after : {O : Type 0} (b : Bool) (x y : Way O) (x' y' : After) → after_in x ≡ x' → after_in y ≡ y' → after_in (if b then x else y) ≡ (if b then x' else y')
+if_after true x y x' y' p q = p
+if_after false x y x' y' p q = q
+
+module _ {O A : Type 0} (w : Observing O A) where
+  turns_after : (k n : ℕ) (t : Tag) (e : Expr) (body : A → O → Values → ℕ → Way O) (body' : Values → ℕ → After)
+      → ((a : A) (o : O) (s : Values) (l : ℕ) → after_in (body a o s l) ≡ body' s l)
+      → (a : A) (o : O) (s : Values) (left : ℕ) → after_in (walk_turns w k n t e body a o s left) ≡ turns n t e body' s left
+  turns_after k zero t e body body' h a o s left = refl
+  turns_after k (suc n) t e body body' h a o s left = step_after t (value e s) o left _ _ (λ v l.
+      let told = w.told (w.in_turn a k) t e v s o in
+      if_after (is_true v) _ _ _ _
+      (then_after (body (w.in_turn a k) told s l) _ _ _ (h (w.in_turn a k) told s l) (λ o' s' l'. turns_after (suc k) n t e body body' h a o' s' l'))
+      refl)
+
+  pub walk_after : (b : Body) (a : A) (o : O) (s : Values) (left : ℕ) → after_in (walk w b a o s left) ≡ run_body b s left
+  walk_after done a o s left = refl
+  walk_after (action t (assigns x e) rest) a o s left = step_after t (value e s) o left _ _ (λ v l.
+      walk_after rest a (w.assigned x (w.told a t e v s o)) (insert s x v) l)
+  walk_after (branch t e b c rest) a o s left = step_after t (value e s) o left _ _ (λ v l.
+      let told = w.told a t e v s o in
+      then_after (if is_true v then walk w b a told s l else walk w c a told s l) _ _ _
+      (if_after (is_true v) _ _ _ _ (walk_after b a told s l) (walk_after c a told s l))
+      (λ o' s' l'. walk_after rest a o' s' l'))
+  walk_after (loop t e b rest) a o s left =
+      then_after (walk_turns w 0 (left + 1) t e (walk w b) a o s left) _ _ _
+      (turns_after 0 (left + 1) t e (walk w b) (run_body b) (walk_after b) a o s left) (λ o' s' l'. walk_after rest a o' s' l')
+
+  -- the outcome of a run, by the way that its body went
+  pub outcome_at : (p : Tree) (b : Body) (a : A) (o : O) (s s' : Values) (n : ℕ) → b ≡ p.body → s ≡ s' → (way : Way O) → walk w b a o s n ≡ way
+      → outcome p.finals n (after_in way) ≡ run p s' n
+  outcome_at p b a o s s' n body same way is =
+      ap (outcome p.finals n) (sym (ap after_in is) ∙ walk_after b a o s n ∙ ap (λ c. run_body c s n) body ∙ ap (λ x. run_body p.body x n) same)
+
+-- what follows a part that stopped is not reached
+step_ends : {O : Type 0} (t : Tag) (a : Answer) (o : O) (left : ℕ) (f : ℤ → ℕ → Way O) (go : O → Values → ℕ → Way O)
+    → step_way t a o left (λ v l. then_way (f v l) go) ≡ then_way (step_way t a o left f) go
+step_ends t a o zero f go = refl
+step_ends t (Ok v) o (suc l) f go = refl
+step_ends t (Err e) o (suc l) f go = refl
+
+step_same : {O : Type 0} (t : Tag) (a : Answer) (o : O) (left : ℕ) (f g : ℤ → ℕ → Way O) → ((v : ℤ) (l : ℕ) → f v l ≡ g v l) → step_way t a o left f ≡ step_way t a o left g
+step_same t a o zero f g h = refl
+step_same t (Ok v) o (suc l) f g h = h v l
+step_same t (Err e) o (suc l) f g h = refl
+
+then_then : {O : Type 0} (x : Way O) (f g : O → Values → ℕ → Way O) → then_way x (λ o s l. then_way (f o s l) g) ≡ then_way (then_way x f) g
+then_then (goes o s l) f g = refl
+then_then (stops t fault o l) f g = refl
+then_then (spent o) f g = refl
+
+module _ {O A : Type 0} (w : Observing O A) where
+  walk_before : (x : Stmt) (rest : Body) (a : A) (o : O) (s : Values) (left : ℕ)
+      → walk w (before x rest) a o s left ≡ then_way (walk w (before x done) a o s left) (walk w rest a)
+  walk_before (Assign t x e) rest a o s left =
+      step_ends t (value e s) o left (λ v l. goes (w.assigned x (w.told a t e v s o)) (insert s x v) l) (walk w rest a)
+  walk_before (If t e b c) rest a o s left =
+      step_same t (value e s) o left _ _ (λ v l. then_then (if is_true v then walk w b a (w.told a t e v s o) s l else walk w c a (w.told a t e v s o) s l) goes (walk w rest a))
+      ∙ step_ends t (value e s) o left (λ v l. then_way (if is_true v then walk w b a (w.told a t e v s o) s l else walk w c a (w.told a t e v s o) s l) goes) (walk w rest a)
+  walk_before (While t e b) rest a o s left = then_then (walk_turns w 0 (left + 1) t e (walk w b) a o s left) goes (walk w rest a)
+
+  -- what a part's failure says of the block that begins with it
+  stopped_before : (stop : Stop) (x : Stmt) (rest : Body) (a : A) (o : O) (s : Values) (left : ℕ) (o' : O) (s' : Values) (left' : ℕ)
+      → Did (Err stop) (walk w (before x done) a o s left) o' s' left' → Did (Err stop) (walk w (before x rest) a o s left) o' s' left'
+  stopped_before Memory x rest a o s left o' s' left' d = tt
+  stopped_before Spent x rest a o s left o' s' left' d = walk_before x rest a o s left ∙ ap (λ y. then_way y (walk w rest a)) d
+  stopped_before (Faulty t f) x rest a o s left o' s' left' d = walk_before x rest a o s left ∙ ap (λ y. then_way y (walk w rest a)) d
+
+  module _ (xs : List Stmt) (i : ℕ) (x : Stmt) (lt : i < length xs) (is : x ≡ get_or xs i x) (whole : Way O) (a : A) (o : O) (s : Values) (left : ℕ)
+      (so_far : whole ≡ walk w (body_of (drop i xs)) a o s left) where
+    whole_before : whole ≡ walk w (before x (body_of (drop (i + 1) xs))) a o s left
+    whole_before =
+        let first : drop i xs ≡ x ∷ drop (i + 1) xs = rw add-one (drop-cons xs i x lt ∙ ap (λ (y : Stmt). y ∷ drop (suc i) xs) (sym is)) in
+        let apart : body_of (drop i xs) ≡ before x (body_of (drop (i + 1) xs)) = ap body_of first in
+        so_far ∙ ap (λ (b : Body). walk w b a o s left) apart
+
+    -- a statement of a block that stopped the run
+    pub failed_in : (stop : Stop) (o' : O) (s' : Values) (left' : ℕ) → Did (Err stop) (walk w (before x done) a o s left) o' s' left' → Did (Err stop) whole o' s' left'
+    failed_in stop o' s' left' did =
+        subst (λ (y : Way O). Did (Err stop) y o' s' left') (sym whole_before) (stopped_before stop x (body_of (drop (i + 1) xs)) a o s left o' s' left' did)
+
+    -- and one behind which it goes on
+    pub went_in : (o' : O) (s' : Values) (left' : ℕ) → walk w (before x done) a o s left ≡ goes o' s' left' → whole ≡ walk w (body_of (drop (i + 1) xs)) a o' s' left'
+    went_in o' s' left' did =
+        whole_before ∙ walk_before x (body_of (drop (i + 1) xs)) a o s left ∙ ap (λ y. then_way y (walk w (body_of (drop (i + 1) xs)) a)) did
+
+  -- the turn k of a loop that may make `most` of them
+  module _ (t : Tag) (e : Expr) (b : Body) (a : A) (most k : ℕ) (lt : k < most) (whole : Way O) (o : O) (s : Values) (l : ℕ)
+      (so_far : whole ≡ walk_turns w k (most - k) t e (walk w b) a o s l) (inside : A) (at : inside ≡ w.in_turn a k) where
+    one_more : whole ≡ walk_turns w k (suc (most - (k + 1))) t e (walk w b) a o s l
+    one_more = let n : most - k ≡ suc (most - (k + 1)) = omega arith in so_far ∙ ap (λ (m : ℕ). walk_turns w k m t e (walk w b) a o s l) n
+
+    -- its step is not done
+    pub step_failed : (stop : Stop) (o' : O) (l' : ℕ) → Stepped (Err stop) t (value e s) (λ v. w.told inside t e v s o) o l o' l' → Did (Err stop) whole o' s l'
+    step_failed Memory o' l' d = tt
+    step_failed Spent o' l' d =
+        one_more ∙ ap (λ (n : ℕ). walk_turns w k (suc (most - (k + 1))) t e (walk w b) a o s n) d.0 ∙ ap (λ (x : O). spent x) (sym d.1)
+    step_failed (Faulty u f) o' l' d =
+        let first : walk_turns w k (suc (most - (k + 1))) t e (walk w b) a o s l ≡ stops t (fault_of f) o l' = rw (d.0, d.2) refl in
+        one_more ∙ first ∙ ap (λ (z : Tag). stops z (fault_of f) o l') d.1 ∙ ap (λ (x : O). stops u (fault_of f) x l') (sym d.3)
+
+    module _ (v : ℤ) (o' : O) (l' : ℕ) (one : l ≡ suc l') (is : value e s ≡ Ok v) (new : o' ≡ w.told inside t e v s o) where
+      seen : o' ≡ w.told (w.in_turn a k) t e v s o
+      seen = new ∙ ap (λ (x : A). w.told x t e v s o) at
+
+      -- the predicate is false
+      pub last_turn : is_true v ≡ false → whole ≡ goes o' s l'
+      last_turn fails =
+          let first : walk_turns w k (suc (most - (k + 1))) t e (walk w b) a o s l ≡ goes (w.told (w.in_turn a k) t e v s o) s l' = rw (one, is, fails) refl in
+          one_more ∙ first ∙ ap (λ (x : O). goes x s l') (sym seen)
+
+      turn : is_true v ≡ true → whole ≡ then_way (walk w b inside o' s l') (walk_turns w (k + 1) (most - (k + 1)) t e (walk w b) a)
+      turn holds =
+          let m = most - (k + 1) in
+          let next : k + 1 ≡ suc k = omega arith in
+          let first : walk_turns w k (suc m) t e (walk w b) a o s l
+              ≡ then_way (walk w b (w.in_turn a k) (w.told (w.in_turn a k) t e v s o) s l') (walk_turns w (suc k) m t e (walk w b) a) = rw (one, is, holds) refl in
+          one_more
+          ∙ first
+          ∙ ap (λ (x : O). then_way (walk w b (w.in_turn a k) x s l') (walk_turns w (suc k) m t e (walk w b) a)) (sym seen)
+          ∙ ap (λ (x : A). then_way (walk w b x o' s l') (walk_turns w (suc k) m t e (walk w b) a)) (sym at)
+          ∙ ap (λ (n : ℕ). then_way (walk w b inside o' s l') (walk_turns w n m t e (walk w b) a)) (sym next)
+
+      -- its block stops the run
+      pub turn_failed : is_true v ≡ true → (stop : Stop) (o'' : O) (s'' : Values) (l'' : ℕ) → Did (Err stop) (walk w b inside o' s l') o'' s'' l'' → Did (Err stop) whole o'' s'' l''
+      turn_failed holds Memory o'' s'' l'' d = tt
+      turn_failed holds Spent o'' s'' l'' d = turn holds ∙ ap (λ y. then_way y (walk_turns w (k + 1) (most - (k + 1)) t e (walk w b) a)) d
+      turn_failed holds (Faulty u f) o'' s'' l'' d = turn holds ∙ ap (λ y. then_way y (walk_turns w (k + 1) (most - (k + 1)) t e (walk w b) a)) d
+
+      -- and one behind which it goes on
+      pub turn_done : is_true v ≡ true → (o'' : O) (s'' : Values) (l'' : ℕ) → walk w b inside o' s l' ≡ goes o'' s'' l''
+          → whole ≡ walk_turns w (k + 1) (most - (k + 1)) t e (walk w b) a o'' s'' l''
+      turn_done holds o'' s'' l'' d = turn holds ∙ ap (λ y. then_way y (walk_turns w (k + 1) (most - (k + 1)) t e (walk w b) a)) d
