@@ -1,5 +1,5 @@
 -- How the commands end: with the program that is settled, or with its refusal.
-use Rattle.std.proofs.Common.{◌≡◌, ℕ, ◌≤◌, Bool, true, false, cond, if◌then◌else◌, Option, Some, None, Result, Err, refl, ap, sym, subst, arith}
+use Rattle.std.proofs.Common.{◌≡◌, ◌≢◌, ℕ, ◌≤◌, Bool, true, false, cond, if◌then◌else◌, Option, Some, None, Result, Err, refl, ap, sym, subst, arith}
 use Rattle.std.proofs.lemmas.Option.{same_Some}
 use Rattle.hpr_terms.specs.declared.tag.Tag.{Tag}
 use Rattle.hpr_syntax.specs.declared.tree.Stmt.{Stmt}
@@ -13,7 +13,7 @@ use Rattle.hpr_edit.specs.declared.command.Inverse.{Inverse}
 use Rattle.hpr_edit.specs.declared.command.EditError.{EditError}
 use Rattle.hpr_edit.specs.declared.command.EditError.TheVariants.{NoTag, IntoItself, NoPlace, KindDiffers, SerialsSpent, Shape, Memory}
 use Rattle.hpr_edit.specs.Changes.{at_part, gone}
-use Rattle.hpr_edit.specs.Edited.{Edited, becomes, refuse, found, settled}
+use Rattle.hpr_edit.specs.Edited.{Edited, becomes, refused, refuse, found, settled}
 use Rattle.hpr_edit.specs.InPlace.{times, Settles, Answers}
 use Rattle.hpr_edit.proofs.Tags.{once}
 
@@ -67,3 +67,13 @@ settled_err t inverse (IntoItself x) h = absurd h
 settled_err t inverse NoPlace h = absurd h
 settled_err t inverse (KindDiffers x) h = absurd h
 settled_err t inverse SerialsSpent h = absurd h
+
+-- a refusal that isn't for want of memory
+pub refused_by : (edited : Edited) (why : EditError) → Answers edited (Err why) → why ≢ Memory → edited ≡ refused why
+refused_by edited Memory h other = absurd (other refl)
+refused_by edited (Shape why) h other = h
+refused_by edited (NoTag t) h other = h
+refused_by edited (IntoItself t) h other = h
+refused_by edited NoPlace h other = h
+refused_by edited (KindDiffers t) h other = h
+refused_by edited SerialsSpent h other = h

@@ -9,8 +9,9 @@
 -- same_kind c d           == both contents are of assignments, or of conditionals, or of loops
 -- next_tag author issued  == the tag of the author's next part
 -- is_spent author issued  == the author has no next serial
+-- new_tag author issued   == the tag of the author's next part, if it has a next serial
 -- edited p command author == what the command makes of p, with this author of new parts
-use Rattle.std.specs.Prelude.{ℕ, ◌+◌, Bool, true, false, not, nat_le, Option, Some, None, is_some}
+use Rattle.std.specs.Prelude.{ℕ, ◌+◌, Bool, true, false, not, nat_le, Option, Some, None, is_some, if◌then◌else◌}
 use Rattle.hpr_terms.specs.declared.tag.Tag.{Tag}
 use Rattle.hpr_syntax.specs.declared.tree.Stmt.{Stmt}
 use Rattle.hpr_syntax.specs.declared.rows.Content.{Content}
@@ -80,6 +81,9 @@ next_tag author issued = record { author = author; serial = issued_to author iss
 
 abbrev pub is_spent : ℕ → Issued → Bool
 is_spent author issued = nat_le max_serial (issued_to author issued)
+
+abbrev pub new_tag : ℕ → Issued → Option Tag
+new_tag author issued = if is_spent author issued then None else Some (next_tag author issued)
 
 -- the program with another body, in which the author has a new part
 abbrev pub with_new : ℕ → Body → Tree → Tree

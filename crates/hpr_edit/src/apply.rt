@@ -1,5 +1,5 @@
 //! Commands, each carried out on a copy of the program that is edited.
-ghost use Rattle.std.specs.Prelude.{◌≡◌, ◌≤◌, None, Some, IfOk, OnOk, if◌then◌else◌};
+ghost use Rattle.std.specs.Prelude.{◌≡◌, ℕ, ◌≤◌, IfSome, IfOk, OnOk};
 ghost use Rattle.hpr_syntax.specs.Body.{done};
 ghost use Rattle.hpr_syntax.specs.BodyOf.{before};
 ghost use Rattle.hpr_syntax.specs.Issued.{raised};
@@ -10,7 +10,7 @@ ghost use Rattle.hpr_edit.specs.declared.command.Command.TheVariants.{Insert, De
 ghost use Rattle.hpr_edit.specs.declared.command.Inverse.TheVariants.{Rewrap};
 ghost use Rattle.hpr_edit.specs.Places.{width};
 ghost use Rattle.hpr_edit.specs.Changes.{at_part, at_place, first_block, second_block};
-ghost use Rattle.hpr_edit.specs.Edited.{edited, settled, next_tag, is_spent, is_assignment, same_kind};
+ghost use Rattle.hpr_edit.specs.Edited.{edited, settled, new_tag, is_assignment, same_kind};
 ghost use Rattle.hpr_edit.specs.InPlace.{done_by, times, Located, Settles, Answers};
 
 use crate::change::{Change, Put, change_body, put_at_place};
@@ -20,23 +20,25 @@ use hpr_syntax::{Block, Content, Issued, NoMemory, Program, ShapeError, Stmt, co
 use hpr_terms::{Name, Tag, copy_names};
 use std::alloc::Global;
 
-/// What a command makes of a program, with its inverse.
+/// What a command makes of a program, with its inverse. A new part has this tag; there is none where the
+/// author's serials are spent.
 pub(crate) fn edited(
     alloc: Global,
     program: &Program,
     command: &Command,
-    author: u32,
+    new: Option<Tag>,
 ) -> Result<(Program, Inverse), EditError>
-    ensures { Answers (edited program.now command.now author) result }
+    requires { IfSome new (λ tag. 1 ≤ tag.serial) }
+    ensures { (author : ℕ) → new ≡ new_tag author program.now.issued → Answers (edited program.now command.now author) result }
 {
     match command {
-        Command::Insert(place, content) => insert(alloc, program, *place, content, author),
-        Command::Delete(tag) => delete(alloc, program, *tag, author),
-        Command::Move(tag, place) => relocate(alloc, program, *tag, *place, author),
-        Command::Set(tag, content) => set(alloc, program, *tag, content, author),
-        Command::Wrap(tag, content) => wrap(alloc, program, *tag, content, author),
-        Command::Unwrap(tag) => unwrap(alloc, program, *tag, author),
-        Command::Finals(names) => name_finals(alloc, program, names, author),
+        Command::Insert(place, content) => insert(alloc, program, *place, content, new),
+        Command::Delete(tag) => delete(alloc, program, *tag),
+        Command::Move(tag, place) => relocate(alloc, program, *tag, *place),
+        Command::Set(tag, content) => set(alloc, program, *tag, content),
+        Command::Wrap(tag, content) => wrap(alloc, program, *tag, content, new),
+        Command::Unwrap(tag) => unwrap(alloc, program, *tag),
+        Command::Finals(names) => name_finals(alloc, program, names),
     }
 }
 
@@ -46,14 +48,15 @@ fn insert(
     program: &Program,
     place: Place,
     content: &Content,
-    author: u32,
+    new: Option<Tag>,
 ) -> Result<(Program, Inverse), EditError>
-    ensures { Answers (edited program.now (Insert place content.now) author) result }
+    requires { IfSome new (λ tag. 1 ≤ tag.serial) }
+    ensures { (author : ℕ) → new ≡ new_tag author program.now.issued → Answers (edited program.now (Insert place content.now) author) result }
 {
     if !is_place(program.body(), place) {
         return Err(EditError::NoPlace);
     }
-    let Some(tag) = next_tag(program.issued(), author) else {
+    let Some(tag) = new else {
         return Err(EditError::SerialsSpent);
     };
     let body = with_part(alloc, program, place, tag, content)?;
@@ -81,9 +84,8 @@ fn delete(
     alloc: Global,
     program: &Program,
     tag: Tag,
-    author: u32,
 ) -> Result<(Program, Inverse), EditError>
-    ensures { Answers (edited program.now (Delete tag) author) result }
+    ensures { (author : ℕ) → Answers (edited program.now (Delete tag) author) result }
 {
     let Some((part, old)) = located(program, tag) else {
         return Err(EditError::NoTag(tag));
@@ -99,9 +101,8 @@ fn relocate(
     program: &Program,
     tag: Tag,
     place: Place,
-    author: u32,
 ) -> Result<(Program, Inverse), EditError>
-    ensures { Answers (edited program.now (Move tag place) author) result }
+    ensures { (author : ℕ) → Answers (edited program.now (Move tag place) author) result }
 {
     let Some((part, old)) = located(program, tag) else {
         return Err(EditError::NoTag(tag));
@@ -123,9 +124,8 @@ fn set(
     program: &Program,
     tag: Tag,
     content: &Content,
-    author: u32,
 ) -> Result<(Program, Inverse), EditError>
-    ensures { Answers (edited program.now (Set tag content.now) author) result }
+    ensures { (author : ℕ) → Answers (edited program.now (Set tag content.now) author) result }
 {
     let Some((part, _)) = located(program, tag) else {
         return Err(EditError::NoTag(tag));
@@ -144,9 +144,10 @@ fn wrap(
     program: &Program,
     tag: Tag,
     content: &Content,
-    author: u32,
+    new: Option<Tag>,
 ) -> Result<(Program, Inverse), EditError>
-    ensures { Answers (edited program.now (Wrap tag content.now) author) result }
+    requires { IfSome new (λ tag. 1 ≤ tag.serial) }
+    ensures { (author : ℕ) → new ≡ new_tag author program.now.issued → Answers (edited program.now (Wrap tag content.now) author) result }
 {
     let Some((_, _)) = located(program, tag) else {
         return Err(EditError::NoTag(tag));
@@ -154,7 +155,7 @@ fn wrap(
     if is_assignment(content) {
         return Err(EditError::KindDiffers(tag));
     }
-    let Some(new) = next_tag(program.issued(), author) else {
+    let Some(new) = new else {
         return Err(EditError::SerialsSpent);
     };
     let body = changed(alloc, program, tag, Change::Wrap(new, content))?;
@@ -166,9 +167,8 @@ fn unwrap(
     alloc: Global,
     program: &Program,
     tag: Tag,
-    author: u32,
 ) -> Result<(Program, Inverse), EditError>
-    ensures { Answers (edited program.now (Unwrap tag) author) result }
+    ensures { (author : ℕ) → Answers (edited program.now (Unwrap tag) author) result }
 {
     let Some((part, place)) = located(program, tag) else {
         return Err(EditError::NoTag(tag));
@@ -195,9 +195,8 @@ fn name_finals(
     alloc: Global,
     program: &Program,
     names: &FinalNames,
-    author: u32,
 ) -> Result<(Program, Inverse), EditError>
-    ensures { Answers (edited program.now (Finals names.now) author) result }
+    ensures { (author : ℕ) → Answers (edited program.now (Finals names.now) author) result }
 {
     let old = copy_names(alloc, program.finals())?;
     answer(
@@ -249,8 +248,9 @@ fn located(program: &Program, tag: Tag) -> Option<(&Stmt, Place)>
 }
 
 /// The tag of the author's next part, or none where its serials are spent.
-fn next_tag(issued: &Issued, author: u32) -> Option<Tag>
-    ensures { result ≡ (if is_spent author issued.now then None else Some (next_tag author issued.now)) }
+pub(crate) fn next_tag(issued: &Issued, author: u32) -> Option<Tag>
+    ensures tag { result ≡ new_tag author issued.now }
+    ensures serial { IfSome result (λ tag. 1 ≤ tag.serial) }
 {
     let serial = issued.get(author);
     if serial == u32::MAX {

@@ -1,11 +1,10 @@
 //! The editor.
 ghost use Rattle.std.specs.Prelude.{◌≡◌, ◌≢◌, ◌≤◌, IfOk, IfErr, OnOk, OnErr};
 ghost use Rattle.hpr_syntax.specs.Tree.{Tree};
-ghost use Rattle.hpr_syntax.specs.Shape.{IsProgram};
 ghost use Rattle.hpr_edit.specs.Edited.{edited, becomes, refused};
 ghost use Rattle.hpr_edit.specs.Reverted.{reverted, Undoes, IsPutBackIssued};
 
-use crate::apply::edited;
+use crate::apply::{edited, next_tag};
 use crate::command::{Command, EditError, Inverse};
 use crate::revert::reverted;
 use hpr_syntax::{NoMemory, Program};
@@ -66,8 +65,8 @@ impl Editor {
         ensures unchanged { OnErr result (self.new ≡ self.old) }
         ensures author { self.new.author ≡ self.old.author }
     {
-        read(&self.program);
-        match edited(alloc, &self.program, command, self.author) {
+        let new = next_tag(self.program.issued(), self.author);
+        match edited(alloc, &self.program, command, new) {
             Ok((program, inverse)) => {
                 self.program = program;
                 Ok(inverse)
@@ -110,7 +109,6 @@ impl Editor {
         ensures unchanged { OnErr result (self.new ≡ self.old) }
         ensures author { self.new.author ≡ self.old.author }
     {
-        read(&self.program);
         self.program = reverted(alloc, &self.program, inverse)?;
         Ok(())
     }
@@ -122,11 +120,4 @@ impl Editor {
         let Editor { program, .. } = self;
         program
     }
-}
-
-/// Reads a program, and so shows that its tree is one.
-fn read(program: &Program)
-    ensures { IsProgram program.now }
-{
-    let _body = program.body();
 }

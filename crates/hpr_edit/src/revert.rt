@@ -1,10 +1,10 @@
 //! Inverses, each carried out on a copy of the program that is edited.
 ghost use Rattle.std.specs.Prelude.{◌≡◌, ◌≤◌, IfOk, OnOk};
-ghost use Rattle.hpr_syntax.specs.Shape.{IsProgram};
 ghost use Rattle.hpr_syntax.specs.BodyOf.{before};
 ghost use Rattle.hpr_syntax.specs.Parts.{find_stmt};
+ghost use Rattle.hpr_syntax.specs.Tree.{Tree};
 ghost use Rattle.hpr_edit.specs.Changes.{at_part, at_place, gone};
-ghost use Rattle.hpr_edit.specs.Reverted.{reverted, body_back, finals_back, moved};
+ghost use Rattle.hpr_edit.specs.Reverted.{reverted, body_back, finals_back, moved, Undoes, IsPutBackIssued};
 ghost use Rattle.hpr_edit.specs.InPlace.{times};
 
 use crate::change::{Change, Put, change_body, put_at_place};
@@ -19,7 +19,8 @@ pub(crate) fn reverted(
     program: &Program,
     inverse: &Inverse,
 ) -> Result<Program, NoMemory>
-    requires { IsProgram (reverted inverse.now program.now) }
+    requires undoes { (old : Tree) × Undoes old inverse.now program.now }
+    requires issued { IsPutBackIssued inverse.now program.now }
     ensures { IfOk result (λ p. p ≡ reverted inverse.now program.now) }
 {
     let issued = program.issued().copy(alloc)?;

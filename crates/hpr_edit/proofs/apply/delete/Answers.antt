@@ -8,7 +8,7 @@ use Rattle.hpr_edit.proofs.Ends.{passed_found, ended}
 use Rattle.hpr_edit.proofs.apply.delete.Goals as goal
 
 pub returns : goal.returns
-returns c =
+returns c = λ author.
     let p = c.args.program.now in
     let t = c.args.tag in
     passed_found t (find_stmt t p.body) (place_of t p.body) (λ part old. settled (record p { body = at_part t gone p.body }) (PutBack old part))

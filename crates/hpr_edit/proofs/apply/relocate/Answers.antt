@@ -16,7 +16,7 @@ put_at_place-requires c = record {
 }
 
 pub returns : goal.returns
-returns c =
+returns c = λ author.
     let p = c.args.program.now in
     let t = c.args.tag in
     let place = c.args.place in

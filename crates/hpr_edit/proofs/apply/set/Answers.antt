@@ -10,7 +10,7 @@ use Rattle.hpr_edit.proofs.Ends.{passed, passed_found, ended}
 use Rattle.hpr_edit.proofs.apply.set.Goals as goal
 
 pub returns : goal.returns
-returns c =
+returns c = λ author.
     let p = c.args.program.now in
     let t = c.args.tag in
     let content = c.args.content.now in

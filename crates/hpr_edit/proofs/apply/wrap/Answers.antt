@@ -1,4 +1,4 @@
-use Rattle.std.proofs.Common.{◌∙◌, sym, ap, if◌then◌else◌, None, Some}
+use Rattle.std.proofs.Common.{◌∙◌, sym, ap}
 use Rattle.hpr_terms.specs.declared.tag.Tag.{Tag}
 use Rattle.hpr_syntax.specs.Parts.{find_stmt}
 use Rattle.hpr_syntax.specs.Issued.{raised}
@@ -11,15 +11,15 @@ use Rattle.hpr_edit.proofs.Ends.{spare, passed, passed_found, ended}
 use Rattle.hpr_edit.proofs.apply.wrap.Goals as goal
 
 pub returns : goal.returns
-returns c =
+returns c = λ author is.
     let p = c.args.program.now in
     let t = c.args.tag in
     let content = c.args.content.now in
-    let spent = is_spent c.args.author p.issued in
-    let new = c.in-Some-next_tag.new in
-    let next = next_tag c.args.author p.issued in
-    let s = spare spent new next (sym c.in-Some-next_tag.is ∙ c.next_tag.ensures ∙ ap (λ l. if is_spent c.args.author l then None else Some (next_tag c.args.author l)) c.issued.ensures.issued) in
-    let after = with_new c.args.author (at_part t (wrapped next content) p.body) p in
+    let spent = is_spent author p.issued in
+    let new = c.in-Some-new.new in
+    let next = next_tag author p.issued in
+    let s = spare spent new next (sym c.in-Some-new.is ∙ is) in
+    let after = with_new author (at_part t (wrapped next content) p.body) p in
     let end = settled after (Lift next) in
     passed_found t (find_stmt t p.body) (place_of t p.body) (λ part old. refuse (KindDiffers t) (is_assignment content) (refuse SerialsSpent spent end))
     c.in-Some.field-0-0.now c.in-Some.field-0-1 c.answer.result c.in-Some.ensures.found.0 c.in-Some.ensures.found.1
@@ -28,5 +28,5 @@ returns c =
     (ended (record { issued = raised new.author new.serial p.issued; body = c.in_ok-body.body; finals = p.finals }) after (Lift new) (Lift next) c.settle_new.result c.answer.result
     c.answer.ensures
     (ap (λ (x : Tag). record { issued = raised x.author x.serial p.issued; body = c.in_ok-body.body; finals = p.finals }) s.1
-    ∙ ap (λ y. with_new c.args.author y p) (c.in_ok-body.ensures ∙ ap (λ x. at_part t (wrapped x content) p.body) s.1))
+    ∙ ap (λ y. with_new author y p) (c.in_ok-body.ensures ∙ ap (λ x. at_part t (wrapped x content) p.body) s.1))
     (ap Lift s.1) c.settle_new.ensures)))
