@@ -93,7 +93,8 @@ pub fn run_observed<O: Observer>(
     observer: &mut O,
 ) -> Result<Outcome, NoMemory>
     ensures outcome { IfOk result (λ o. outcome_of o ≡ run program.now state.now most) }
-    ensures known { OnOk result (observer.new ≡ known_in (walk (observing O.in_turn O.told O.assigned) program.now.body around.now observer.old state.now most)) }
+    ensures known { OnOk result (observer.new
+        ≡ known_in (walk (observing O.in_turn O.told O.assigned) program.now.body around.now observer.old state.now most)) }
 {
     let mut state = state.copy(alloc)?;
     let mut left = most;
@@ -132,7 +133,8 @@ fn walk_block<O: Observer>(
     left: &mut u64,
     observer: &mut O,
 ) -> Result<(), Stop>
-    ensures did { Did result (walk (observing O.in_turn O.told O.assigned) block.now around.now observer.old state.old left.old) observer.new state.new left.new }
+    ensures did { let w = observing O.in_turn O.told O.assigned in
+        Did result (walk w block.now around.now observer.old state.old left.old) observer.new state.new left.new }
     ensures fewer { left.new ≤ left.old }
 {
     for stmt in &block.stmts {
@@ -150,7 +152,8 @@ fn walk_stmt<O: Observer>(
     left: &mut u64,
     observer: &mut O,
 ) -> Result<(), Stop>
-    ensures did { Did result (walk (observing O.in_turn O.told O.assigned) (before stmt.now done) around.now observer.old state.old left.old) observer.new state.new left.new }
+    ensures did { let w = observing O.in_turn O.told O.assigned in
+        Did result (walk w (before stmt.now done) around.now observer.old state.old left.old) observer.new state.new left.new }
     ensures fewer { left.new ≤ left.old }
 {
     match stmt {
@@ -185,7 +188,9 @@ fn walk_loop<O: Observer>(
     left: &mut u64,
     observer: &mut O,
 ) -> Result<(), Stop>
-    ensures did { Did result (walk_turns (observing O.in_turn O.told O.assigned) 0 (left.old + 1) tag test.now (walk (observing O.in_turn O.told O.assigned) body.now) around.now observer.old state.old left.old) observer.new state.new left.new }
+    ensures did { let w = observing O.in_turn O.told O.assigned in
+        Did result (walk_turns w 0 (left.old + 1) tag test.now (walk w body.now) around.now observer.old state.old left.old)
+        observer.new state.new left.new }
     ensures fewer { left.new ≤ left.old }
 {
     for turn in 0..=*left {
@@ -214,7 +219,8 @@ fn take_step<O: Observer>(
     left: &mut u64,
     observer: &mut O,
 ) -> Result<i64, Stop>
-    ensures stepped { Stepped result tag (value expr.now state.now) (λ v. O.told around.now tag expr.now v state.now observer.old) observer.old left.old observer.new left.new }
+    ensures stepped { Stepped result tag (value expr.now state.now)
+        (λ v. O.told around.now tag expr.now v state.now observer.old) observer.old left.old observer.new left.new }
     ensures fewer { left.new ≤ left.old }
 {
     if *left == 0 {

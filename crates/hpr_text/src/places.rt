@@ -3,7 +3,6 @@ ghost use Rattle.std.specs.Prelude.{◌≡◌, ◌^◌, nat_lt, nat_le, ◌&&◌
 ghost use Rattle.hpr_text.specs.Machine as machine;
 ghost use Rattle.hpr_expressions.specs.Expression as expression;
 ghost use Rattle.hpr_text.specs.Private.InPlace.{InPlace};
-ghost use Rattle.hpr_text.specs.declared.state.Purpose.TheVariants.{Assign, Test, Guard};
 ghost use Rattle.hpr_terms.specs.declared.token.Token.TheVariants as tokens;
 
 use crate::blocks::Kind;
@@ -323,61 +322,28 @@ impl Found {
         Ok(Place::InExpression(purpose, reading))
     }
 
-    fn value_next(
+    fn expression_ends(
         &mut self,
         alloc: Global,
-        tag: Tag,
-        name: Name,
+        purpose: Purpose,
         reading: Reading,
-        token: Token,
     ) -> Result<Place, Fault>
-        ensures { InPlace (machine.state_at self.new) (machine.expression_next machine.limit self.old (Assign tag name) reading token) result }
+        ensures { InPlace (machine.state_at self.new) (machine.ends_here machine.limit self.old purpose (expression.ended reading)) result }
     {
-        match token {
-            Token::Mark(Sign::Semicolon) => {
-                let value = reading.ended(alloc)?;
+        let value = reading.ended(alloc)?;
+        match purpose {
+            Purpose::Assign(tag, name) => {
                 self.add_part(tag, name, value)?;
                 Ok(Place::AtPart)
             }
-            _ => self.expression_goes_on(alloc, Purpose::Assign(tag, name), reading, token),
-        }
-    }
-
-    fn test_next(
-        &mut self,
-        alloc: Global,
-        tag: Tag,
-        reading: Reading,
-        token: Token,
-    ) -> Result<Place, Fault>
-        ensures { InPlace (machine.state_at self.new) (machine.expression_next machine.limit self.old (Test tag) reading token) result }
-    {
-        match token {
-            Token::Word(Keyword::Then) => {
-                let test = reading.ended(alloc)?;
-                self.begin_then(alloc, tag, test)?;
+            Purpose::Test(tag) => {
+                self.begin_then(alloc, tag, value)?;
                 Ok(Place::AtPart)
             }
-            _ => self.expression_goes_on(alloc, Purpose::Test(tag), reading, token),
-        }
-    }
-
-    fn guard_next(
-        &mut self,
-        alloc: Global,
-        tag: Tag,
-        reading: Reading,
-        token: Token,
-    ) -> Result<Place, Fault>
-        ensures { InPlace (machine.state_at self.new) (machine.expression_next machine.limit self.old (Guard tag) reading token) result }
-    {
-        match token {
-            Token::Word(Keyword::Do) => {
-                let test = reading.ended(alloc)?;
-                self.begin_loop(alloc, tag, test)?;
+            Purpose::Guard(tag) => {
+                self.begin_loop(alloc, tag, value)?;
                 Ok(Place::AtPart)
             }
-            _ => self.expression_goes_on(alloc, Purpose::Guard(tag), reading, token),
         }
     }
 
@@ -390,10 +356,17 @@ impl Found {
     ) -> Result<Place, Fault>
         ensures { InPlace (machine.state_at self.new) (machine.expression_next machine.limit self.old purpose reading token) result }
     {
-        match purpose {
-            Purpose::Assign(tag, name) => self.value_next(alloc, tag, name, reading, token),
-            Purpose::Test(tag) => self.test_next(alloc, tag, reading, token),
-            Purpose::Guard(tag) => self.guard_next(alloc, tag, reading, token),
+        match (&purpose, &token) {
+            (Purpose::Assign(_, _), Token::Mark(Sign::Semicolon)) => {
+                self.expression_ends(alloc, purpose, reading)
+            }
+            (Purpose::Test(_), Token::Word(Keyword::Then)) => {
+                self.expression_ends(alloc, purpose, reading)
+            }
+            (Purpose::Guard(_), Token::Word(Keyword::Do)) => {
+                self.expression_ends(alloc, purpose, reading)
+            }
+            _ => self.expression_goes_on(alloc, purpose, reading, token),
         }
     }
 
