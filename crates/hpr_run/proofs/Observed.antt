@@ -11,7 +11,8 @@ use Rattle.hpr_syntax.specs.Body.{Body, done, action, branch, loop}
 use Rattle.hpr_syntax.specs.Tree.{Tree}
 use Rattle.hpr_syntax.specs.Values.{Values}
 use Rattle.hpr_syntax.specs.Value.{Answer, value, is_true}
-use Rattle.hpr_syntax.specs.Run.{After, step, then_go, turns, run_body, outcome, run}
+use Rattle.hpr_syntax.specs.Run.{After, step, then_go, turns, run_body, faults, more, outcome, run}
+use Rattle.hpr_run.specs.declared.values.Fault.{Fault}
 use Rattle.hpr_run.specs.declared.interpreter.Stop.{Stop}
 use Rattle.hpr_run.specs.declared.interpreter.Stop.TheVariants.{Faulty, Spent, Memory}
 use Rattle.hpr_run.specs.Outcomes.{fault_of, Stepped, Did}
@@ -63,6 +64,18 @@ module _ {O A : Type 0} (w : Observing O A) where
       → outcome p.finals n (after_in way) ≡ run p s' n
   outcome_at p b a o s s' n body same way is =
       ap (outcome p.finals n) (sym (ap after_in is) ∙ walk_after b a o s n ∙ ap (λ c. run_body c s n) body ∙ ap (λ x. run_body p.body x n) same)
+
+  pub spent_at : (p : Tree) (b : Body) (a : A) (o : O) (s s' : Values) (n : ℕ) → b ≡ p.body → s ≡ s' → (stop : Stop) → stop ≡ Spent
+      → (o' : O) (s'' : Values) (left : ℕ) → Did (Err stop) (walk w b a o s n) o' s'' left → more n ≡ run p s' n
+  spent_at p b a o s s' n body same stop is o' s'' left did =
+      outcome_at p b a o s s' n body same (spent o') (subst (λ (x : Stop). Did (Err x) (walk w b a o s n) o' s'' left) is did)
+
+  pub faulted_at : (p : Tree) (b : Body) (a : A) (o : O) (s s' : Values) (n : ℕ) → b ≡ p.body → s ≡ s' → (stop : Stop) (t t' : Tag) (f f' : Fault) → stop ≡ Faulty t f
+      → t' ≡ t → f' ≡ f → (o' : O) (s'' : Values) (left : ℕ) → Did (Err stop) (walk w b a o s n) o' s'' left → faults t' (fault_of f') (n - left) ≡ run p s' n
+  faulted_at p b a o s s' n body same stop t t' f f' is tag fault o' s'' left did =
+      ap (λ (u : Tag). faults u (fault_of f') (n - left)) tag
+      ∙ ap (λ (g : Fault). faults t (fault_of g) (n - left)) fault
+      ∙ outcome_at p b a o s s' n body same (stops t (fault_of f) o' left) (subst (λ (x : Stop). Did (Err x) (walk w b a o s n) o' s'' left) is did)
 
 -- what follows a part that stopped is not reached
 step_ends : {O : Type 0} (t : Tag) (a : Answer) (o : O) (left : ℕ) (f : ℤ → ℕ → Way O) (go : O → Values → ℕ → Way O)

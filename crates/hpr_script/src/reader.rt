@@ -1,7 +1,8 @@
 //! Reads edit scripts.
-ghost use Rattle.std.specs.Prelude.{◌≡◌, ◌<◌, ◌≤◌, true, length, slice_range, Some, IfOk, IsTrue};
+ghost use Rattle.std.specs.Prelude.{◌≡◌, ◌<◌, ◌≤◌, true, length, slice_range, Option, Some, IfOk, IsTrue};
 ghost use Rattle.hpr_scan.specs.Place.{IsPlace, BeginsWith};
 ghost use Rattle.hpr_scan.specs.Scanner.{feeds};
+ghost use Rattle.hpr_scan.specs.Steps.{Steps};
 ghost use Rattle.hpr_scan.specs.declared.scanner.Lex.TheVariants.{Gap};
 ghost use Rattle.hpr_text.specs.Contents.{HasContent, IsPlaceFrom};
 ghost use Rattle.hpr_text.specs.declared.content.ContentState.TheVariants.{Start};
@@ -44,6 +45,17 @@ impl From<NoMemory> for ScriptError {
     }
 }
 
+/// The answer of a step, with the place where it is refused.
+fn step_at<A>(step: Result<A, Fault>, place: usize) -> Result<A, ScriptError>
+    ensures { (next : Option A) → Steps next step → StepsAt next place result }
+{
+    match step {
+        Ok(next) => Ok(next),
+        Err(Fault::Refused) => Err(ScriptError::Syntax { place }),
+        Err(Fault::Memory) => Err(ScriptError::Memory),
+    }
+}
+
 fn step(
     alloc: Global,
     begun: Begun,
@@ -55,11 +67,7 @@ fn step(
     requires { reading.IsInner begun byte }
     ensures { StepsAt (reading.inner begun found stage byte) place result }
 {
-    match feed_inner(alloc, begun, found, stage, byte) {
-        Ok(reader) => Ok(reader),
-        Err(Fault::Refused) => Err(ScriptError::Syntax { place }),
-        Err(Fault::Memory) => Err(ScriptError::Memory),
-    }
+    step_at(feed_inner(alloc, begun, found, stage, byte), place)
 }
 
 fn step_gap(
@@ -71,11 +79,7 @@ fn step_gap(
 ) -> Result<Reader, ScriptError>
     ensures { StepsAt (reading.gap_next found stage byte) place result }
 {
-    match feed_gap(alloc, found, stage, byte) {
-        Ok(reader) => Ok(reader),
-        Err(Fault::Refused) => Err(ScriptError::Syntax { place }),
-        Err(Fault::Memory) => Err(ScriptError::Memory),
-    }
+    step_at(feed_gap(alloc, found, stage, byte), place)
 }
 
 fn step_word(
@@ -87,11 +91,7 @@ fn step_word(
 ) -> Result<(Found, Turn), ScriptError>
     ensures { StepsAt (reading.finished found stage letters.now) place result }
 {
-    match finish(alloc, found, stage, letters) {
-        Ok(next) => Ok(next),
-        Err(Fault::Refused) => Err(ScriptError::Syntax { place }),
-        Err(Fault::Memory) => Err(ScriptError::Memory),
-    }
+    step_at(finish(alloc, found, stage, letters), place)
 }
 
 /// Reads a content and its `;`, and answers the place behind them.
