@@ -21,7 +21,7 @@ use Rattle.hpr_syntax.specs.Run as means
 use Rattle.hpr_syntax.specs.Tree.{Tree}
 use Rattle.hpr_syntax.specs.Values.{Values}
 use Rattle.hpr_syntax.specs.Print.{text}
-use Rattle.hpr_graph.specs.Answer.{Answer, IsAnswer, IsFirstFit, IsWithoutConflict, issued_of, merged_of}
+use Rattle.hpr_graph.specs.Answer.{Answer, IsAnswer, IsFirstFit, IsWithoutConflict, searched_graph, searched_issued}
 use Rattle.hpr_graph.specs.Points.{IsAffected}
 use Rattle.hpr_graph.specs.ProgramGraph.{graph_of}
 use Rattle.hpr_graph.specs.Slices.{slice_of}
@@ -51,11 +51,12 @@ DonePrinting P old new s = (s ≡ Done) × (bytes : List ℕ) × P bytes × (new
 
 pub record Completes (base a b : Tree) (tries : ℕ) (old new : Option (List ℕ)) (s : Status) : Type 0 where
   pub answered : (x : Answer) × IsAnswer base a b tries x × (s ≡ status_of (report tries x)) × (new ≡ taken_then old (text_of (report tries x)))
-  pub first : IsWithoutConflict base a b → (ps : List Tree) (m : Tree) → AreTried base a b ps → IsFirstFit (merged_of base a b) (take tries ps) m → DonePrinting (λ bytes. bytes ≡ text m) old new s
+  pub first : IsWithoutConflict base a b → (ps : List Tree) (m : Tree) → AreTried base a b ps → IsFirstFit (searched_graph base a b) (take tries ps) m
+      → DonePrinting (λ bytes. bytes ≡ text m) old new s
   pub enough : IsWithoutConflict base a b → (ps : List Tree) → AreTried base a b ps → length ps ≤ tries → s ≢ Spent
 
 abbrev pub IsOtherText : Tree → Tree → Tree → Tree → List ℕ → Type 0
-IsOtherText base a b other bytes = (m : Tree) × IsSettled (issued_of base a b) other m × (bytes ≡ text m)
+IsOtherText base a b other bytes = (m : Tree) × IsSettled (searched_issued base a b) other m × (bytes ≡ text m)
 
 abbrev pub Runs : Tree → Values → ℕ → Bool → Option (List ℕ) → Option (List ℕ) → Status → Type 0
 Runs p state steps trace old new s =

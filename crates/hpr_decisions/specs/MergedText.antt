@@ -9,7 +9,7 @@ use Rattle.hpr_syntax.specs.Tree.{Tree}
 use Rattle.hpr_syntax.specs.Shape.{IsProgram}
 use Rattle.hpr_syntax.specs.Grammar.{tagged}
 use Rattle.hpr_syntax.specs.Spelling.{Spells}
-use Rattle.hpr_graph.specs.Answer.{Fits, merged_of}
+use Rattle.hpr_graph.specs.Answer.{Fits, searched_graph}
 use Rattle.hpr_refusals.specs.Refusals.{IsFileOf}
 use Rattle.hpr_words.specs.Request.{Request, integrate}
 
@@ -23,7 +23,7 @@ pub record HasMergedGraph (base a b bytes : List ℕ) : Type 0 where
   pub printed : Tree
   pub program : IsProgram printed
   pub spelled : Spells tagged bytes printed
-  pub fits : Fits (merged_of base_program a_program b_program) printed
+  pub fits : Fits (searched_graph base_program a_program b_program) printed
 
 abbrev pub PrintsMerged : Request → Files → List ℕ → Type 0
 PrintsMerged (integrate base a b tries) files bytes = HasMergedGraph (bytes_of files base) (bytes_of files a) (bytes_of files b) bytes

@@ -7,9 +7,9 @@ use Rattle.hpr_graph.proofs.VertexOrder.{vertex_never}
 use Rattle.hpr_graph.proofs.PutInOrder.{one_list}
 
 never : (c d : Conflict) → ComesBefore c d → ComesBefore d c → ⊥
-never c d (inl (at_a, at_b)) (inl (at_a', at_b')) = absurd cc
-never c d (inl (at_a, at_b)) (inr (same, above)) = absurd cc
-never c d (inr (same, below)) (inl (at_a, at_b)) = absurd cc
+never c d (inl less) (inl more) = omega (arith, less, more)
+never c d (inl less) (inr (same, above)) = omega (arith, less, same)
+never c d (inr (same, below)) (inl less) = omega (arith, less, same)
 never c d (inr (same, below)) (inr (same', above)) = vertex_never c.point d.point below above
 
 pub one_conflicts : (base a b : Graph) (cs ds : List Conflict) → AreConflicts base a b cs → AreConflicts base a b ds → cs ≡ ds

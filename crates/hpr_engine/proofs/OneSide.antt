@@ -98,13 +98,13 @@ module _ (base other : Tree) (is : IsProgram base) (is_too : IsProgram other) wh
   b_within =
       union_within (union_of (slice_of H (IsAffected H G)) (slice_of G (IsAffected G G))) (slice_of G (IsPreserved G H G)) H
       (union_within (slice_of H (IsAffected H G)) (slice_of G (IsAffected G G)) H (slice_within H (IsAffected H G)) (none_within G H))
-      (shared_within G H loops_of (program_uses base) (IsPreserved G H G) (λ v p. p.2))
+      (shared_within G H loops_of (program_uses base) (IsPreserved G H G) (λ v p. p.2.0))
 
   pub a_within : IsWithin (merged G G H) H
   a_within =
       union_within (union_of (slice_of G (IsAffected G G)) (slice_of H (IsAffected H G))) (slice_of G (IsPreserved G G H)) H
       (union_within (slice_of G (IsAffected G G)) (slice_of H (IsAffected H G)) H (none_within G H) (slice_within H (IsAffected H G)))
-      (shared_within G H loops_of (program_uses base) (IsPreserved G G H) (λ v p. p.3))
+      (shared_within G H loops_of (program_uses base) (IsPreserved G G H) (λ v p. p.2.1))
 
   pub b_is_base : KeepsSides base other base
   b_is_base A v affected = within_keeps G H (merged G H G) other_loops b_within (λ w h. inl (inl h), λ e h. inl (inl h)) v affected

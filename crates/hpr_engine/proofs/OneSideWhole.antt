@@ -119,12 +119,12 @@ module _ (base other : Tree) (is : IsProgram base) (is_too : IsProgram other) wh
   whole_b n =
       whole other (other_loops base other is is_too) G (merged G (graph_of other) G) (λ v h. inl (inl h), λ e h. inl (inl h))
       (λ v (init, there, same). within_then (slice_at G v) (slice_of G (IsPreserved G (graph_of other) G)) (merged G (graph_of other) G)
-      (one_of G (IsPreserved G (graph_of other) G) v (init, there, same, (there, same_itself (slice_at G v)))) (λ w h. inr h, λ e h. inr h))
+      (one_of G (IsPreserved G (graph_of other) G) v (init, there, (same, (there, same_itself (slice_at G v))))) (λ w h. inr h, λ e h. inr h))
       (λ within. n (same_from_within (graph_of other) (merged G (graph_of other) G) within (b_within base other is is_too)))
 
   pub whole_a : ¬ (¬ Same (graph_of other) (merged G G (graph_of other)))
   whole_a n =
       whole other (other_loops base other is is_too) G (merged G G (graph_of other)) (λ v h. inl (inr h), λ e h. inl (inr h))
       (λ v (init, there, same). within_then (slice_at G v) (slice_of G (IsPreserved G G (graph_of other))) (merged G G (graph_of other))
-      (one_of G (IsPreserved G G (graph_of other)) v (init, there, (there, same_itself (slice_at G v)), same)) (λ w h. inr h, λ e h. inr h))
+      (one_of G (IsPreserved G G (graph_of other)) v (init, there, ((there, same_itself (slice_at G v)), same))) (λ w h. inr h, λ e h. inr h))
       (λ within. n (same_from_within (graph_of other) (merged G G (graph_of other)) within (a_within base other is is_too)))

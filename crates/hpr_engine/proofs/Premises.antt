@@ -68,7 +68,7 @@ module _ (base a b : Tree) where
   pub of_variant : (v : Vertex) → (merged_of base a b).vertex v → (graph_of a).vertex v ⊎ (graph_of b).vertex v
   of_variant v (inl (inl h)) = inl h.0
   of_variant v (inl (inr h)) = inr h.0
-  of_variant v (inr (has, (s, es, p, leads))) = inl (((p.2.1.0 v).0 (has, (s, es, refl, leads))).0)
+  of_variant v (inr (has, (s, es, p, leads))) = inl (((p.2.0.1.0 v).0 (has, (s, es, refl, leads))).0)
 
   pub ranking : (r : List Vertex) → IsRank a b base r → IsProgram a → IsProgram b → IsRanking (merged_of base a b) r
   ranking r is ha hb = record {

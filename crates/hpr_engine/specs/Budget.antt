@@ -1,17 +1,18 @@
 -- The budget of tries: where answers may differ, and which arrangements are tried. The 1989 paper has no budget.
 --
--- AreTried base a b ps == the list has the arrangements of the merged graph, each once, in the order of the rank
+-- AreTried base a b ps == the list has the arrangements of what is searched, each once, in the order of the rank
 -- HasSearched r        == the answer is a program, or that no program has the merged graph
 -- Agree r s            == the answers are the same; or one is that the budget is spent, and the other comes of a search that went on
 use Rattle.std.specs.Prelude.{◌≡◌, ◌⊎◌, List}
 use Rattle.hpr_syntax.specs.Tree.{Tree}
 use Rattle.hpr_graph.specs.declared.vertex.Vertex.{Vertex}
-use Rattle.hpr_graph.specs.Answer.{Answer, interference, printed, no_program, spent, merged_of, issued_of}
+use Rattle.hpr_graph.specs.Answer.{Answer, interference, printed, no_program, spent, searched_graph, IsSearchedRank, searched_issued}
 use Rattle.hpr_graph.specs.Arrangements.{AreArrangements}
-use Rattle.hpr_graph.specs.Rank.{IsRank}
 
 abbrev pub AreTried : Tree → Tree → Tree → List Tree → Type 0
-AreTried base a b ps = (rank : List Vertex) × IsRank a b base rank × AreArrangements (merged_of base a b) rank (issued_of base a b) ps
+AreTried base a b ps =
+    (rank : List Vertex) × IsSearchedRank base a b rank
+    × AreArrangements (searched_graph base a b) rank (searched_issued base a b) ps
 
 abbrev pub HasSearched : Answer → Type 0
 HasSearched (interference cs) = ⊥

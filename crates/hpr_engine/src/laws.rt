@@ -4,7 +4,7 @@ ghost use Rattle.hpr_syntax.specs.Tree.{Tree};
 ghost use Rattle.hpr_syntax.specs.Meaning.{Keeps};
 ghost use Rattle.hpr_syntax.specs.Shape.{IsProgram};
 ghost use Rattle.hpr_graph.specs.declared.conflict.Conflict.{Conflict};
-ghost use Rattle.hpr_graph.specs.Answer.{Answer, printed, spent, issued_of, merged_of, IsAnswer, Fits, IsFirstFit, IsWithoutConflict};
+ghost use Rattle.hpr_graph.specs.Answer.{Answer, printed, spent, merged_of, searched_graph, searched_issued, IsAnswer, Fits, IsFirstFit, IsWithoutConflict};
 ghost use Rattle.hpr_graph.specs.Conflicts.{AreConflicts};
 ghost use Rattle.hpr_graph.specs.ProgramGraph.{graph_of};
 ghost use Rattle.hpr_merge.specs.Loops.{SaysOnce};
@@ -34,9 +34,9 @@ pub fn one_side_is_free()
 /// in ascending order, and each author's issued number the greatest of the three programs.
 pub fn one_side_unchanged()
     ensures b { (base a : Tree) (tries : ℕ) (r : Answer) → IsProgram base → IsProgram a → 1 ≤ tries → IsAnswer base a base tries r
-        → (m : Tree) × (r ≡ printed m) × IsSettled (issued_of base a base) a m }
+        → (m : Tree) × (r ≡ printed m) × IsSettled (searched_issued base a base) a m }
     ensures a { (base b : Tree) (tries : ℕ) (r : Answer) → IsProgram base → IsProgram b → 1 ≤ tries → IsAnswer base base b tries r
-        → (m : Tree) × (r ≡ printed m) × IsSettled (issued_of base base b) b m }
+        → (m : Tree) × (r ≡ printed m) × IsSettled (searched_issued base base b) b m }
 {}
 
 /// Three programs have one answer, but that a search may go on past its budget or not. Where one of the
@@ -45,7 +45,7 @@ pub fn one_side_unchanged()
 pub fn one_answer()
     ensures agree { (base a b : Tree) (tries : ℕ) (r s : Answer) → IsProgram a → IsProgram b → IsAnswer base a b tries r → IsAnswer base a b tries s → Agree r s }
     ensures first { (base a b : Tree) (tries : ℕ) (ps : List Tree) (m : Tree) (r : Answer) → IsProgram a → IsProgram b → IsWithoutConflict base a b → AreTried base a b ps
-        → IsFirstFit (merged_of base a b) (take tries ps) m → IsAnswer base a b tries r → r ≡ printed m }
+        → IsFirstFit (searched_graph base a b) (take tries ps) m → IsAnswer base a b tries r → r ≡ printed m }
     ensures enough { (base a b : Tree) (tries : ℕ) (ps : List Tree) (r : Answer) → IsProgram a → IsProgram b → IsWithoutConflict base a b → AreTried base a b ps
         → length ps ≤ tries → IsAnswer base a b tries r → r ≢ spent }
 {}
@@ -59,7 +59,8 @@ pub fn merged_keeps()
 
 /// What is printed is a program, and its graph is the merged graph.
 pub fn printed_is_merged()
-    ensures { (base a b : Tree) (tries : ℕ) (m : Tree) → IsAnswer base a b tries (printed m) → IsProgram m × Fits (merged_of base a b) m }
+    ensures { (base a b : Tree) (tries : ℕ) (m : Tree) → IsAnswer base a b tries (printed m)
+        → IsProgram m × Fits (searched_graph base a b) m }
 {}
 
 /// The integration theorem, over programs (Horwitz, Prins and Reps 1989; Reps and Yang 1988): what is

@@ -1,5 +1,5 @@
 -- Laws of the definitions, for the crates above.
-use Rattle.std.proofs.Common.{◌≡◌, ℕ, ◌<◌, ◌≤◌, ◌↔◌, ◌⊎◌, inl, inr, List, [], ◌∷◌, length, sym, subst, arith}
+use Rattle.std.proofs.Common.{◌≡◌, ℕ, ◌<◌, ◌≤◌, ◌↔◌, ◌⊎◌, inl, inr, List, [], ◌∷◌, length, sym, subst, arith, zero, suc}
 use Rattle.hpr_terms.specs.declared.tag.Tag.{Tag}
 use Rattle.hpr_syntax.specs.declared.rows.Content.{Content}
 use Rattle.hpr_syntax.specs.Initial.{UsedBy}
@@ -13,12 +13,13 @@ use Rattle.hpr_graph.specs.declared.edge.Edge.{Edge}
 use Rattle.hpr_graph.specs.declared.link.LinkKind.{LinkKind}
 use Rattle.hpr_graph.specs.declared.link.LinkKind.TheVariants.{Control, Independent, Carried, Order}
 use Rattle.hpr_graph.specs.declared.link.Link.{Link}
-use Rattle.hpr_graph.specs.Graphs.{Graph, IsWithin, Same, OnThird, HasVertices, union_of, restrict_to, HasEdges, HasMoreEdges}
+use Rattle.hpr_graph.specs.Graphs.{Graph, IsWithin, Same, OnThird, HasVertices, union_of, restrict_to, HasEdges, HasMoreEdges, nothing}
 use Rattle.hpr_graph.specs.Numbered.{Numbered, HasVertex, HasLink, IsKindAt, IsEdgeAt, HasEdge, IsNumbered, IsGrown, graph_in}
 use Rattle.hpr_graph.specs.Slices.{LeadsTo, ReachesOne, slice_of, slice_at}
-use Rattle.hpr_graph.specs.Points.{IsShared, IsAffected, IsPreserved, merged}
+use Rattle.hpr_graph.specs.Points.{IsShared, IsAffected, merged, AllShare, IsPreservedBy, changed, merged_all}
 use Rattle.hpr_graph.specs.ProgramGraph.{Reads}
 use Rattle.hpr_graph.proofs.Lists.{contains_at, no_longer}
+use Rattle.hpr_graph.specs.Conflicts.{graph_at}
 use Rattle.hpr_graph.proofs.Numbers.{edge_longer}
 use Rattle.hpr_graph.proofs.EdgeList.{edge_one}
 
@@ -148,22 +149,65 @@ pub affected_same : (g g' base base' : Graph) → Same g g' → Same base base' 
 affected_same g g' base base' a b v (there, differs) =
     ((a.0 v).0 there, λ shared. differs (shared_same g' g base' base (same_turned g g' a) (same_turned base base' b) v shared))
 
-pub preserved_same : (base base' a a' b b' : Graph) → Same base base' → Same a a' → Same b b' → (v : Vertex) → IsPreserved base a b v → IsPreserved base' a' b' v
-preserved_same base base' a a' b b' s sa sb v (init, there, in_a, in_b) =
-    (init, (s.0 v).0 there, shared_same base base' a a' s sa v in_a, shared_same base base' b b' s sb v in_b)
+-- two lists of graphs that are the same one by one
+abbrev pub AllSame : List Graph → List Graph → Type 0
+AllSame [] [] = Unit {0}
+AllSame [] (h ∷ hs) = ⊥
+AllSame (g ∷ gs) [] = ⊥
+AllSame (g ∷ gs) (h ∷ hs) = Same g h × AllSame gs hs
+
+pub all_turned : (gs hs : List Graph) → AllSame gs hs → AllSame hs gs
+all_turned [] [] all = tt
+all_turned [] (h ∷ hs) all = absurd all
+all_turned (g ∷ gs) [] all = absurd all
+all_turned (g ∷ gs) (h ∷ hs) all = (same_turned g h all.0, all_turned gs hs all.1)
+
+pub graph_at_same : (gs hs : List Graph) → AllSame gs hs → (i : ℕ) → Same (graph_at gs i) (graph_at hs i)
+graph_at_same [] [] all i = same_itself nothing
+graph_at_same [] (h ∷ hs) all i = absurd all
+graph_at_same (g ∷ gs) [] all i = absurd all
+graph_at_same (g ∷ gs) (h ∷ hs) all zero = all.0
+graph_at_same (g ∷ gs) (h ∷ hs) all (suc i) = graph_at_same gs hs all.1 i
+
+module _ (base base' : Graph) (s : Same base base') where
+  all_share_same : (v : Vertex) (gs hs : List Graph) → AllSame gs hs → AllShare base gs v → AllShare base' hs v
+  all_share_same v [] [] all share = tt
+  all_share_same v [] (h ∷ hs) all share = absurd all
+  all_share_same v (g ∷ gs) [] all share = absurd all
+  all_share_same v (g ∷ []) (h ∷ []) all share = shared_same base base' g h s all.0 v share
+  all_share_same v (g ∷ []) (h ∷ k ∷ hs) all share = absurd all.1
+  all_share_same v (g ∷ f ∷ gs) (h ∷ []) all share = absurd all.1
+  all_share_same v (g ∷ f ∷ gs) (h ∷ k ∷ hs) all share =
+      (shared_same base base' g h s all.0 v share.0, all_share_same v (f ∷ gs) (k ∷ hs) all.1 share.1)
+
+  preserved_same : (gs hs : List Graph) → AllSame gs hs → (v : Vertex) → IsPreservedBy base gs v → IsPreservedBy base' hs v
+  preserved_same gs hs all v (init, there, share) = (init, (s.0 v).0 there, all_share_same v gs hs all share)
+
+  own_same : (g h : Graph) → Same g h → Same (slice_of g (IsAffected g base)) (slice_of h (IsAffected h base'))
+  own_same g h one =
+      slice_same g h (IsAffected g base) (IsAffected h base') one
+      (λ v. (affected_same g h base base' one s v, affected_same h g base' base (same_turned g h one) (same_turned base base' s) v))
+
+  changed_same : (gs hs : List Graph) → AllSame gs hs → Same (changed base gs) (changed base' hs)
+  changed_same [] [] all = same_itself nothing
+  changed_same [] (h ∷ hs) all = absurd all
+  changed_same (g ∷ gs) [] all = absurd all
+  changed_same (g ∷ []) (h ∷ []) all = own_same g h all.0
+  changed_same (g ∷ []) (h ∷ k ∷ hs) all = absurd all.1
+  changed_same (g ∷ f ∷ gs) (h ∷ []) all = absurd all.1
+  changed_same (g ∷ f ∷ gs) (h ∷ k ∷ hs) all =
+      union_same (slice_of g (IsAffected g base)) (slice_of h (IsAffected h base')) (changed base (f ∷ gs)) (changed base' (k ∷ hs))
+      (own_same g h all.0) (changed_same (f ∷ gs) (k ∷ hs) all.1)
+
+pub merged_all_same : (base base' : Graph) (gs hs : List Graph) → Same base base' → AllSame gs hs → Same (merged_all base gs) (merged_all base' hs)
+merged_all_same base base' gs hs s all =
+    union_same (changed base gs) (changed base' hs) (slice_of base (IsPreservedBy base gs)) (slice_of base' (IsPreservedBy base' hs))
+    (changed_same base base' s gs hs all)
+    (slice_same base base' (IsPreservedBy base gs) (IsPreservedBy base' hs) s
+    (λ v. (preserved_same base base' s gs hs all v, preserved_same base' base (same_turned base base' s) hs gs (all_turned gs hs all) v)))
 
 pub merged_same : (base base' a a' b b' : Graph) → Same base base' → Same a a' → Same b b' → Same (merged base a b) (merged base' a' b')
-merged_same base base' a a' b b' s sa sb =
-    let s' = same_turned base base' s in
-    let sa' = same_turned a a' sa in
-    let sb' = same_turned b b' sb in
-    union_same (union_of (slice_of a (IsAffected a base)) (slice_of b (IsAffected b base))) (union_of (slice_of a' (IsAffected a' base')) (slice_of b' (IsAffected b' base')))
-    (slice_of base (IsPreserved base a b)) (slice_of base' (IsPreserved base' a' b'))
-    (union_same (slice_of a (IsAffected a base)) (slice_of a' (IsAffected a' base')) (slice_of b (IsAffected b base)) (slice_of b' (IsAffected b' base'))
-    (slice_same a a' (IsAffected a base) (IsAffected a' base') sa (λ v. (affected_same a a' base base' sa s v, affected_same a' a base' base sa' s' v)))
-    (slice_same b b' (IsAffected b base) (IsAffected b' base') sb (λ v. (affected_same b b' base base' sb s v, affected_same b' b base' base sb' s' v))))
-    (slice_same base base' (IsPreserved base a b) (IsPreserved base' a' b') s
-    (λ v. (preserved_same base base' a a' b b' s sa sb v, preserved_same base' base a' a b' b s' sa' sb' v)))
+merged_same base base' a a' b b' s sa sb = merged_all_same base base' (a ∷ b ∷ []) (a' ∷ b' ∷ []) s (sa, (sb, tt))
 
 -- a graph by numbers is closed
 third_there : (g : Numbered) (k : LinkKind) (from : Vertex) (e : Kind) → IsKindAt g.vertices k from e → OnThird (HasVertex g) e

@@ -7,6 +7,7 @@
 -- OnThird P k       == the loop of a carried edge has P, and so has the shared use of an order edge
 -- HasVertices P e   == all vertices of the edge have P: its target, its source, and its loop or shared use
 -- union_of g h      == what g has or h has
+-- nothing           == the graph that has no vertex and no edge
 -- restrict_to g P   == the vertices that have P, and the edges all of whose vertices have P
 -- IsOnce xs         == nothing stands twice in the list
 -- IsEdgeList g es   == the list has exactly the edges of g, each once
@@ -47,6 +48,9 @@ HasVertices P e = P e.to × P e.from × OnThird P e.kind
 
 abbrev pub union_of : Graph → Graph → Graph
 union_of g h = record { vertex = λ v. g.vertex v ⊎ h.vertex v; edge = λ e. g.edge e ⊎ h.edge e }
+
+abbrev pub nothing : Graph
+nothing = record { vertex = λ v. ⊥; edge = λ e. ⊥ }
 
 abbrev pub restrict_to : Graph → (Vertex → Type 0) → Graph
 restrict_to g P = record { vertex = λ v. g.vertex v × P v; edge = λ e. g.edge e × HasVertices P e }

@@ -1,9 +1,10 @@
--- The rank of the parts of three programs: the order in which arrangements are tried. The 1989 paper leaves it open.
+-- The rank of the parts of programs: the order in which arrangements are tried. The 1989 paper leaves it open.
 --
 -- parts_of tree      == the parts of a program as vertices, in preorder
 -- IsPutIn v next xs ys == ys is xs with v immediately before `next`, or at the end where there is no next; a vertex that is listed stays
 --                       where it is
 -- IsJoined vs xs ys  == ys is xs with each of vs put in, from the last to the first, before the one that follows it in vs
+-- AreJoined ls xs ys == ys is xs with the vertices of each of the lists put in so, one list after the other
 -- IsRankOf a b base r == a's parts in preorder, then b's put in, then base's
 -- IsRank a b base r  == that; where a is the base, a and b change places
 -- StandsBefore r v w == v stands before w in the list
@@ -27,8 +28,13 @@ abbrev pub IsJoined : List Vertex → List Vertex → List Vertex → Type 0
 IsJoined [] xs ys = ys ≡ xs
 IsJoined (v ∷ vs) xs ys = (zs : List Vertex) × IsJoined vs xs zs × IsPutIn v (slice_get vs 0) zs ys
 
+abbrev pub AreJoined : List (List Vertex) → List Vertex → List Vertex → Type 0
+AreJoined [] xs ys = ys ≡ xs
+AreJoined (vs ∷ []) xs ys = IsJoined vs xs ys
+AreJoined (vs ∷ ws ∷ ls) xs ys = (zs : List Vertex) × IsJoined vs xs zs × AreJoined (ws ∷ ls) zs ys
+
 abbrev pub IsRankOf : Tree → Tree → Tree → List Vertex → Type 0
-IsRankOf a b base r = (xs : List Vertex) × IsJoined (parts_of b) (parts_of a) xs × IsJoined (parts_of base) xs r
+IsRankOf a b base r = AreJoined (parts_of b ∷ parts_of base ∷ []) (parts_of a) r
 
 abbrev pub IsRank : Tree → Tree → Tree → List Vertex → Type 0
 IsRank a b base r = ((a ≡ base) × IsRankOf b a base r) ⊎ ((¬ (a ≡ base)) × IsRankOf a b base r)

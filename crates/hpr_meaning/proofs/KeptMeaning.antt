@@ -99,7 +99,7 @@ module _ (base a b m : Tree) (i0 : IsProgram base) (i1 : IsProgram a) (i2 : IsPr
           go (yes h) = h
           go (no n) = absurd (by_a (λ sa. by_b (λ sb. n (carried_over base (distinct_program base i0) s n0 N f0 f' e0 em x v
               (in_program (graph_of base) (Final x) (keeps_preserved base a b i0 i1 i2 (Final x)
-              (no_init x, v0, (va, sa), (vb, sb)))) c0))))
+              (no_init x, v0, ((va, sa), (vb, sb))))) c0))))
             where
               v0 : (graph_of base).vertex (Final x)
               v0 = final_name base s n0 (distinct_program base i0) f0 e0.0 e0.1 x v c0

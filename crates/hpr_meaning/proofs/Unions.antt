@@ -189,9 +189,9 @@ loops_of t prog = program_loops t (says_one t.body (distinct_program t prog))
 -- a preserved point of three programs keeps its slice
 pub keeps_preserved : (base a b : Tree) → IsProgram base → IsProgram a → IsProgram b → (v : Vertex) → IsPreserved (graph_of base) (graph_of a) (graph_of b) v
     → Same (slice_at (merged_of base a b) v) (slice_at (graph_of base) v)
-keeps_preserved base a b is is_a is_b v (other, there, (in_a, same_a), (in_b, same_b)) =
+keeps_preserved base a b is is_a is_b v (other, there, ((in_a, same_a), (in_b, same_b))) =
     preserved_kept (graph_of base) (graph_of a) (graph_of b) (loops_of base is) (loops_of a is_a) (loops_of b is_b) (program_sources base) v there same_a same_b
-    (other, there, (in_a, same_a), (in_b, same_b))
+    (other, there, ((in_a, same_a), (in_b, same_b)))
 
 pub union_is_kept : (base a b : Tree) → IsProgram base → IsProgram a → IsProgram b → IsUnionKept base a b
 union_is_kept base a b is is_a is_b = record {

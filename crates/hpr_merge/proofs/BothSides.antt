@@ -1,5 +1,5 @@
 -- The merged graph of its parts, and the conflicts of both sides.
-use Rattle.std.proofs.Common.{◌≡◌, ℕ, ◌+◌, ◌<◌, ◌↔◌, inl, inr, Some, List, ◌++◌, All, length, Contains, slice_get, refl, sym, ◌∙◌, subst, arith}
+use Rattle.std.proofs.Common.{◌≡◌, ℕ, ◌+◌, ◌<◌, ◌↔◌, inl, inr, Some, List, ◌++◌, All, length, Contains, slice_get, refl, sym, ◌∙◌, subst, arith, zero, suc, ◌⊎◌, [], ◌∷◌, ap}
 use Rattle.std.specs.Ordering.{nat_cmp}
 use Rattle.std.proofs.lemmas.Option.{slice_get_within}
 use Rattle.std.proofs.lemmas.List.Elements.{Contains-append_left, Contains-append_right, Contains-append_cases}
@@ -14,7 +14,7 @@ use Rattle.hpr_graph.specs.Numbered.{Numbered, graph_in}
 use Rattle.hpr_graph.specs.Slices.{slice_of, slice_at}
 use Rattle.hpr_graph.specs.InOrder.{Ascends}
 use Rattle.hpr_graph.specs.Points.{IsAffected, IsPreserved, merged}
-use Rattle.hpr_graph.specs.Conflicts.{graph_on, IsAdded, IsLeast, IsConflictAt, ComesBefore, AreConflicts}
+use Rattle.hpr_graph.specs.Conflicts.{number_of, graph_on, IsAdded, IsLeast, IsConflictAt, ComesBefore, AreConflicts}
 use Rattle.hpr_graph.proofs.Laws.{closed_by_numbers, same_then, same_turned, slice_at_same, slice_same_on, union_same}
 use Rattle.hpr_slice.specs.Vertices.{IsOneOf}
 use Rattle.hpr_graph.proofs.Lists.{contains_at}
@@ -47,6 +47,12 @@ added_same m m' g v e same (in_m, new, there) = (((slice_at_same m m' v same).1 
 least_same : (m m' g : Graph) (v : Vertex) (e : Edge) → Same m m' → IsLeast (IsAdded m g v) e → IsLeast (IsAdded m' g v) e
 least_same m m' g v e same (adds, least) = (added_same m m' g v e same adds, λ f added. least f (added_same m' m g v f (same_turned m m' same) added))
 
+-- A's number is less than B's
+a_first : (s t : Side) → s ≡ A → t ≡ B → number_of s < number_of t
+a_first A A on_a on_b = absurd cc
+a_first A B on_a on_b = omega arith
+a_first B t on_a on_b = absurd cc
+
 -- the conflicts of A and those of B behind them
 module _ (base ga gb m : Graph) (same : Same m (merged base ga gb)) (Pa Pb : Vertex → Type 0) (is_a : (v : Vertex) → Pa v ↔ IsAffected ga base v) (is_b : (v : Vertex) → Pb v ↔ IsAffected gb base v) (cs ds : List Conflict) (a : AreSideConflicts m ga Pa A cs) (b : AreSideConflicts m gb Pb B ds) where
   abbrev Holds : Conflict → Side → Type 0
@@ -76,12 +82,12 @@ module _ (base ga gb m : Graph) (same : Same m (merged base ga gb)) (Pa Pb : Ver
   in_order : (i j : ℕ) (c d : Conflict) → i < j → slice_get (cs ++ ds) i ≡ Some c → slice_get (cs ++ ds) j ≡ Some d → ComesBefore c d
   in_order i j c d l at_i at_j = elim (at_append cs ds i c at_i) [
     | inl a_i ↦ elim (at_append cs ds j d at_j) [
-      | inl a_j ↦ inr (((a.exact c).0 (contains_at cs i c a_i)).0 ∙ sym ((a.exact d).0 (contains_at cs j d a_j)).0, a.ascend i j c d l a_i a_j)
-      | inr (n, e, b_j) ↦ inl (((a.exact c).0 (contains_at cs i c a_i)).0, ((b.exact d).0 (contains_at ds n d b_j)).0)
+      | inl a_j ↦ inr (ap number_of (((a.exact c).0 (contains_at cs i c a_i)).0 ∙ sym ((a.exact d).0 (contains_at cs j d a_j)).0), a.ascend i j c d l a_i a_j)
+      | inr (n, e, b_j) ↦ inl (a_first c.side d.side ((a.exact c).0 (contains_at cs i c a_i)).0 ((b.exact d).0 (contains_at ds n d b_j)).0)
     ]
     | inr (k, e, b_i) ↦ elim (at_append cs ds j d at_j) [
       | inl a_j ↦ absurd (let w = slice_get_within cs j d a_j in omega (arith, l, w, e))
-      | inr (n, e', b_j) ↦ inr (((b.exact c).0 (contains_at ds k c b_i)).0 ∙ sym ((b.exact d).0 (contains_at ds n d b_j)).0, b.ascend k n c d (omega (arith, l, e, e')) b_i b_j)
+      | inr (n, e', b_j) ↦ inr (ap number_of (((b.exact c).0 (contains_at ds k c b_i)).0 ∙ sym ((b.exact d).0 (contains_at ds n d b_j)).0), b.ascend k n c d (omega (arith, l, e, e')) b_i b_j)
     ]
   ]
 

@@ -1,5 +1,5 @@
 -- Three programs have a list of all conflicts.
-use Rattle.std.proofs.Common.{◌≡◌, ◌⊎◌, inl, inr, List, refl, sym, ◌∙◌, subst}
+use Rattle.std.proofs.Common.{◌≡◌, ◌<◌, ◌⊎◌, inl, inr, List, refl, sym, ap, ◌∙◌, subst, arith}
 use Rattle.hpr_syntax.specs.Tree.{Tree}
 use Rattle.hpr_graph.specs.declared.conflict.Conflict.{Conflict}
 use Rattle.hpr_graph.specs.declared.conflict.Side.{Side}
@@ -7,7 +7,7 @@ use Rattle.hpr_graph.specs.declared.conflict.Side.TheVariants.{A, B}
 use Rattle.hpr_graph.specs.declared.edge.Edge.{Edge}
 use Rattle.hpr_graph.specs.declared.vertex.Vertex.{Vertex}
 use Rattle.hpr_graph.specs.Answer.{merged_of}
-use Rattle.hpr_graph.specs.Conflicts.{graph_on, IsAdded, IsLeast, IsConflict, ComesBefore, AreConflicts}
+use Rattle.hpr_graph.specs.Conflicts.{number_of, graph_on, IsAdded, IsLeast, IsConflict, ComesBefore, AreConflicts}
 use Rattle.hpr_graph.specs.Graphs.{Graph}
 use Rattle.hpr_graph.specs.Order.{vertex_cmp, edge_cmp}
 use Rattle.hpr_graph.specs.ProgramGraph.{graph_of, IsVertexOf}
@@ -21,17 +21,17 @@ use Rattle.hpr_merge.proofs.ProgramRegular.{merged_listed}
 abbrev conflict : Side → Vertex → Edge → Conflict
 conflict s v e = record { side = s; point = v; edge = e }
 
--- one side is A and the other B, or they are the same
-sides : (s t : Side) → (s ≡ t) ⊎ (((s ≡ A) × (t ≡ B)) ⊎ ((t ≡ A) × (s ≡ B)))
+-- one side comes first, or they are the same
+sides : (s t : Side) → (s ≡ t) ⊎ ((number_of s < number_of t) ⊎ (number_of t < number_of s))
 sides A A = inl refl
-sides A B = inr (inl (refl, refl))
-sides B A = inr (inr (refl, refl))
+sides A B = inr (inl (omega arith))
+sides B A = inr (inr (omega arith))
 sides B B = inl refl
 
 through : (c d e : Conflict) → ComesBefore c d → ComesBefore d e → ComesBefore c e
-through c d e (inl (at_a, at_b)) (inl (at_a', at_b')) = absurd cc
-through c d e (inl (at_a, at_b)) (inr (same, below)) = inl (at_a, sym same ∙ at_b)
-through c d e (inr (same, below)) (inl (at_a, at_b)) = inl (same ∙ at_a, at_b)
+through c d e (inl less) (inl less') = inl (omega (arith, less, less'))
+through c d e (inl less) (inr (same, below)) = inl (omega (arith, less, same))
+through c d e (inr (same, below)) (inl less) = inl (omega (arith, less, same))
 through c d e (inr (same, below)) (inr (same', below')) = inr (same ∙ same', vertex_total.trans c.point d.point e.point below below')
 
 module _ (base a b : Tree) where
@@ -99,7 +99,7 @@ module _ (base a b : Tree) where
   which c d is_c is_d = elim (sides c.side d.side) [
     | inl same ↦ elim (compared vertex_cmp vertex_total vertex_tied c.point d.point) [
       | inl point ↦ inl (one_conflict c d is_c is_d same point)
-      | inr apart ↦ elim apart [ inl before ↦ inr (inl (inr (same, before))) | inr after ↦ inr (inr (inr (sym same, after))) ]
+      | inr apart ↦ elim apart [ inl before ↦ inr (inl (inr (ap number_of same, before))) | inr after ↦ inr (inr (inr (ap number_of (sym same), after))) ]
     ]
     | inr apart ↦ elim apart [ inl first ↦ inr (inl (inl first)) | inr second ↦ inr (inr (inl second)) ]
   ]
