@@ -5,7 +5,7 @@ use Rattle.hpr_syntax.specs.Issued.{Issued}
 use Rattle.hpr_syntax.specs.Tree.{Tree}
 use Rattle.hpr_graph.specs.declared.vertex.Vertex.{Vertex}
 use Rattle.hpr_graph.specs.Graphs.{Graph, IsOnce}
-use Rattle.hpr_graph.specs.Rank.{parts_of, StandsBefore, IsAddedAt, IsPutIn, IsJoined, IsRankOf, IsRank}
+use Rattle.hpr_graph.specs.Rank.{parts_of, StandsBefore, IsAddedAt, IsPutIn, IsJoined, AreJoined, IsRankOf, IsRank}
 use Rattle.hpr_graph.specs.Arrangements.{IsArrangement, IsEarlier, AreArrangements}
 use Rattle.hpr_graph.proofs.Lists.{contains_at, place_of, get_longer}
 use Rattle.hpr_order.proofs.Ranks.{parts_once}
@@ -46,8 +46,13 @@ joined_keeps : (vs xs ys : List Vertex) → IsJoined vs xs ys → KeepsOrder xs 
 joined_keeps [] xs ys is a b before = subst (λ (l : List Vertex). StandsBefore l a b) (sym is) before
 joined_keeps (v ∷ vs) xs ys (zs, joined, put) a b before = put_in_keeps v (slice_get vs 0) zs ys put a b (joined_keeps vs xs zs joined a b before)
 
+all_joined_keeps : (ls : List (List Vertex)) (xs ys : List Vertex) → AreJoined ls xs ys → KeepsOrder xs ys
+all_joined_keeps [] xs ys is v w before = subst (λ (l : List Vertex). StandsBefore l v w) (sym is) before
+all_joined_keeps (vs ∷ []) xs ys joined v w before = joined_keeps vs xs ys joined v w before
+all_joined_keeps (vs ∷ us ∷ ls) xs ys (zs, first, rest) v w before = all_joined_keeps (us ∷ ls) zs ys rest v w (joined_keeps vs xs zs first v w before)
+
 rank_of_keeps : (a b base : Tree) (r : List Vertex) → IsRankOf a b base r → KeepsOrder (parts_of a) r
-rank_of_keeps a b base r (xs, first, second) v w before = joined_keeps (parts_of base) xs r second v w (joined_keeps (parts_of b) (parts_of a) xs first v w before)
+rank_of_keeps a b base r is v w before = all_joined_keeps (parts_of b ∷ parts_of base ∷ []) (parts_of a) r is v w before
 
 -- A's parts stand in the rank as in A, and B's as in B where A is the base
 pub rank_keeps_a : (a base : Tree) (r : List Vertex) → IsRank a base base r → KeepsOrder (parts_of a) r

@@ -1,27 +1,22 @@
 -- The graphs that were made are those of the programs.
-use Rattle.std.proofs.Common.{◌≡◌, inl, inr, List, [], subst}
+use Rattle.std.proofs.Common.{◌≡◌, List, [], ◌∷◌, subst}
 use Rattle.hpr_syntax.specs.Shape.{IsProgram}
 use Rattle.hpr_syntax.specs.Tree.{Tree}
 use Rattle.hpr_graph.specs.declared.conflict.Conflict.{Conflict}
-use Rattle.hpr_graph.specs.declared.conflict.Side.{Side}
-use Rattle.hpr_graph.specs.declared.vertex.Vertex.{Vertex}
-use Rattle.hpr_graph.specs.declared.edge.Edge.{Edge}
 use Rattle.hpr_graph.specs.Graphs.{Graph, Same}
 use Rattle.hpr_graph.specs.Numbered.{Numbered, IsNumbered, graph_in}
-use Rattle.hpr_graph.specs.Points.{IsAffected, merged}
+use Rattle.hpr_graph.specs.Points.{merged, merged_all}
 use Rattle.hpr_graph.specs.ProgramGraph.{graph_of}
-use Rattle.hpr_graph.specs.Slices.{slice_at}
-use Rattle.hpr_graph.specs.Answer.{merged_of}
-use Rattle.hpr_graph.specs.Conflicts.{graph_on, IsAdded, IsLeast, AreConflicts}
+use Rattle.hpr_graph.specs.Answer.{graphs_of, merged_of, merged_of_all}
+use Rattle.hpr_graph.specs.Conflicts.{told_as, AreConflicts, HasNoConflict}
 use Rattle.hpr_graph.proofs.EdgeList.{edges_counted}
-use Rattle.hpr_graph.proofs.Lists.{in_none}
-use Rattle.hpr_graph.proofs.Laws.{affected_same, leads_within, merged_same, same_turned, same_then, within_from_same}
-use Rattle.hpr_merge.specs.Loops.{HasLoops, IsListed, IsRegular}
-use Rattle.hpr_merge.proofs.EdgeStands.{kept_or_added, regular_by_numbers}
+use Rattle.hpr_graph.proofs.Laws.{AllSame, leads_within, merged_all_same, merged_same, same_turned, same_then, within_from_same}
+use Rattle.hpr_merge.specs.Loops.{HasLoops, IsListed, IsRegular, AreAll, graphs_in}
+use Rattle.hpr_merge.proofs.EdgeStands.{kept_without, none_of_two, regular_by_numbers}
 use Rattle.hpr_merge.proofs.ProgramLoops.{program_loops}
-use Rattle.hpr_meaning.specs.UnionLaw.{KeepsSides}
+use Rattle.hpr_meaning.specs.UnionLaw.{KeepsEach, KeepsSides}
 use Rattle.hpr_merge.proofs.OneContent.{says_once}
-use Rattle.hpr_engine.proofs.SameConflicts.{conflicts_same, side_same, slices_same}
+use Rattle.hpr_engine.proofs.SameConflicts.{conflicts_same, keeps_same}
 
 -- the graph of a program, by numbers, is regular
 loops_same : (g h : Graph) → Same g h → HasLoops h → HasLoops g
@@ -40,6 +35,42 @@ listed m g numbered same =
 pub none_listed : (base a b : Graph) (cs : List Conflict) → cs ≡ [] → AreConflicts base a b cs → AreConflicts base a b []
 none_listed base a b cs e h = subst (AreConflicts base a b) e h
 
+-- the variants' graphs by numbers are those of programs
+abbrev AreOf : List (Tree × Numbered) → Type 0
+AreOf [] = Unit {0}
+AreOf (x ∷ xs) = (IsProgram x.0 × IsNumbered x.1 × Same (graph_in x.1) (graph_of x.0)) × AreOf xs
+
+abbrev trees : List (Tree × Numbered) → List Tree
+trees [] = []
+trees (x ∷ xs) = x.0 ∷ trees xs
+
+abbrev numbers : List (Tree × Numbered) → List Numbered
+numbers [] = []
+numbers (x ∷ xs) = x.1 ∷ numbers xs
+
+each_regular : (xs : List (Tree × Numbered)) → AreOf xs → AreAll IsRegular (graphs_in (numbers xs))
+each_regular [] are = tt
+each_regular (x ∷ xs) are = (regular x.0 x.1 are.0.0 are.0.1 are.0.2, each_regular xs are.1)
+
+all_same : (xs : List (Tree × Numbered)) → AreOf xs → AllSame (graphs_in (numbers xs)) (graphs_of (trees xs))
+all_same [] are = tt
+all_same (x ∷ xs) are = (are.0.2, all_same xs are.1)
+
+module _ (p : Tree) (base : Numbered) (xs : List (Tree × Numbered)) (base_is : Same (graph_in base) (graph_of p)) (are : AreOf xs) where
+  abbrev M : Graph
+  M = merged_all (graph_in base) (graphs_in (numbers xs))
+
+  same_merged : Same M (merged_of_all p (trees xs))
+  same_merged = merged_all_same (graph_in base) (graph_of p) (graphs_in (numbers xs)) (graphs_of (trees xs)) base_is (all_same xs are)
+
+  -- where there is no conflict, each affected point keeps its slice
+  each_kept : (m : Numbered) → IsProgram p → IsNumbered base → IsNumbered m → Same (graph_in m) M → HasNoConflict (graph_in base) (graphs_in (numbers xs)) → KeepsEach p (trees xs)
+  each_kept m p_is nb nm merges free =
+      keeps_same M (merged_of_all p (trees xs)) (graph_in base) (graph_of p) (graphs_in (numbers xs)) (graphs_of (trees xs)) same_merged base_is (all_same xs are)
+      (kept_without (graph_in base) (graphs_in (numbers xs))
+      (record { base_is = regular p base p_is nb base_is; each_is = each_regular xs are; merged_is = listed M m nm merges }) free)
+
+-- the same of two variants
 module _ (p q r : Tree) (base a b m : Numbered) (base_is : Same (graph_in base) (graph_of p)) (a_is : Same (graph_in a) (graph_of q)) (b_is : Same (graph_in b) (graph_of r)) where
   pub graph_merged : Same (graph_in m) (merged (graph_in base) (graph_in a) (graph_in b)) → Same (graph_in m) (merged_of p q r)
   graph_merged same =
@@ -47,34 +78,11 @@ module _ (p q r : Tree) (base a b m : Numbered) (base_is : Same (graph_in base) 
       (merged_same (graph_in base) (graph_of p) (graph_in a) (graph_of q) (graph_in b) (graph_of r) base_is a_is b_is)
 
   pub conflicts_of : (cs : List Conflict) → AreConflicts (graph_in base) (graph_in a) (graph_in b) cs → AreConflicts (graph_of p) (graph_of q) (graph_of r) cs
-  conflicts_of cs h = conflicts_same (graph_in base) (graph_of p) (graph_in a) (graph_of q) (graph_in b) (graph_of r) base_is a_is b_is cs h
+  conflicts_of cs h =
+      conflicts_same told_as (graph_in base) (graph_of p) (graph_in a ∷ graph_in b ∷ []) (graph_of q ∷ graph_of r ∷ []) base_is (a_is, (b_is, tt)) cs h
 
-  -- where no conflict is listed, each affected point keeps its slice
-  module _ (p_is : IsProgram p) (q_is : IsProgram q) (r_is : IsProgram r) (nb : IsNumbered base) (na : IsNumbered a) (nbb : IsNumbered b) (nm : IsNumbered m)
-      (merges : Same (graph_in m) (merged (graph_in base) (graph_in a) (graph_in b))) (none : AreConflicts (graph_in base) (graph_in a) (graph_in b) []) where
-    abbrev M : Graph
-    M = merged (graph_in base) (graph_in a) (graph_in b)
-
-    abbrev Own : Side → Graph
-    Own side = graph_on side (graph_in a) (graph_in b)
-
-    -- an added edge would be that of a conflict
-    unlisted : (side : Side) (v : Vertex) (e : Edge) → IsAffected (Own side) (graph_in base) v → IsLeast (IsAdded M (Own side) v) e → ⊥
-    unlisted side v e affected least =
-        let differs : ¬ Same (slice_at M v) (slice_at (Own side) v) = λ same. least.0.1 ((same.1 e).0 least.0.0) in
-        in_none (record { side = side; point = v; edge = e }) ((none.0 (record { side = side; point = v; edge = e })).1 ((affected, differs), least))
-
-    own_kept : (side : Side) (v : Vertex) → IsAffected (Own side) (graph_in base) v → Same (slice_at M v) (slice_at (Own side) v)
-    own_kept side v affected =
-        elim (kept_or_added (graph_in base) (graph_in a) (graph_in b) (regular p base p_is nb base_is) (regular q a q_is na a_is) (regular r b r_is nbb b_is) (listed M m nm merges) side v affected) [
-          | inl same ↦ same
-          | inr (e, least) ↦ absurd (unlisted side v e affected least)
-        ]
-
-    pub kept : KeepsSides p q r
-    kept side v affected =
-        let sm = merged_same (graph_in base) (graph_of p) (graph_in a) (graph_of q) (graph_in b) (graph_of r) base_is a_is b_is in
-        let sg = side_same (graph_in a) (graph_of q) (graph_in b) (graph_of r) a_is b_is side in
-        let Side' = graph_on side (graph_of q) (graph_of r) in
-        let was = affected_same Side' (Own side) (graph_of p) (graph_in base) (same_turned (Own side) Side' sg) (same_turned (graph_in base) (graph_of p) base_is) v affected in
-        slices_same M (merged_of p q r) (Own side) Side' sm sg v (own_kept side v was)
+  pub kept : IsProgram p → IsProgram q → IsProgram r → IsNumbered base → IsNumbered a → IsNumbered b → IsNumbered m
+      → Same (graph_in m) (merged (graph_in base) (graph_in a) (graph_in b)) → AreConflicts (graph_in base) (graph_in a) (graph_in b) [] → KeepsSides p q r
+  kept p_is q_is r_is nb na nbb nm merges none =
+      each_kept p base ((q, a) ∷ (r, b) ∷ []) base_is ((q_is, na, a_is), ((r_is, nbb, b_is), tt)) m p_is nb nm merges
+      (none_of_two (graph_in base) (graph_in a) (graph_in b) none)

@@ -8,7 +8,7 @@ use Rattle.hpr_syntax.specs.Tree.{Tree}
 use Rattle.hpr_graph.specs.declared.vertex.Vertex.{Vertex}
 use Rattle.hpr_graph.specs.Answer.{merged_of, issued_of}
 use Rattle.hpr_graph.specs.Graphs.{Graph, IsOnce}
-use Rattle.hpr_graph.specs.Rank.{parts_of, StandsBefore, IsAddedAt, IsPutIn, IsJoined, IsRankOf, IsRank}
+use Rattle.hpr_graph.specs.Rank.{parts_of, StandsBefore, IsAddedAt, IsPutIn, IsJoined, AreJoined, IsRankOf, IsRank}
 use Rattle.hpr_graph.specs.Arrangements.{IsEarlier, AreArrangements}
 use Rattle.hpr_graph.proofs.Lists.{contains_at, once_tail, once_head, some_inj}
 use Rattle.hpr_graph.proofs.PutInOrder.{one_list}
@@ -82,11 +82,21 @@ once_before_joined : (vs xs ys : List Vertex) → IsJoined vs xs ys → IsOnce y
 once_before_joined [] xs ys is once = subst (λ (l : List Vertex). IsOnce l) is once
 once_before_joined (v ∷ vs) xs ys (before, joined, put) once = once_before_joined vs xs before joined (once_before_put v (slice_get vs 0) before ys put once)
 
+once_before_all : (ls : List (List Vertex)) (xs ys : List Vertex) → AreJoined ls xs ys → IsOnce ys → IsOnce xs
+once_before_all [] xs ys is once = subst (λ (l : List Vertex). IsOnce l) is once
+once_before_all (vs ∷ []) xs ys joined once = once_before_joined vs xs ys joined once
+once_before_all (vs ∷ us ∷ ls) xs ys (zs, first, rest) once = once_before_joined vs xs zs first (once_before_all (us ∷ ls) zs ys rest once)
+
+one_all_joined : (ls : List (List Vertex)) (xs ys zs : List Vertex) → IsOnce ys → IsOnce zs → AreJoined ls xs ys → AreJoined ls xs zs → ys ≡ zs
+one_all_joined [] xs ys zs once once' is so = is ∙ sym so
+one_all_joined (vs ∷ []) xs ys zs once once' joined joined' = one_joined vs xs ys zs once once' joined joined'
+one_all_joined (vs ∷ us ∷ ls) xs ys zs once once' (before, first, rest) (before', first', rest') =
+    let same : before ≡ before' = one_joined vs xs before before' (once_before_all (us ∷ ls) before ys rest once)
+    (once_before_all (us ∷ ls) before' zs rest' once') first first' in
+    one_all_joined (us ∷ ls) before ys zs once once' rest (subst (λ (l : List Vertex). AreJoined (us ∷ ls) l zs) (sym same) rest')
+
 one_rank_of : (a b base : Tree) (r s : List Vertex) → IsOnce r → IsOnce s → IsRankOf a b base r → IsRankOf a b base s → r ≡ s
-one_rank_of a b base r s once once' (xs, first, second) (ys, first', second') =
-    let same : xs ≡ ys = one_joined (parts_of b) (parts_of a) xs ys (once_before_joined (parts_of base) xs r second once)
-    (once_before_joined (parts_of base) ys s second' once') first first' in
-    one_joined (parts_of base) xs r s once once' second (subst (λ (l : List Vertex). IsJoined (parts_of base) l s) (sym same) second')
+one_rank_of a b base r s once once' is so = one_all_joined (parts_of b ∷ parts_of base ∷ []) (parts_of a) r s once once' is so
 
 pub one_rank : (a b base : Tree) (r s : List Vertex) → IsProgram a → IsProgram b → IsRank a b base r → IsRank a b base s → r ≡ s
 one_rank a b base r s is_a is_b h k =

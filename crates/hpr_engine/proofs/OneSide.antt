@@ -1,8 +1,7 @@
 -- A variant that is the base interferes with no other.
-use Rattle.std.proofs.Common.{◌≡◌, inl, inr, List, ◌∷◌, refl, sym, subst}
+use Rattle.std.proofs.Common.{◌≡◌, zero, suc, inl, inr, List, ◌∷◌, refl, sym, subst}
 use Rattle.hpr_syntax.specs.Shape.{IsProgram}
 use Rattle.hpr_syntax.specs.Tree.{Tree}
-use Rattle.hpr_graph.specs.declared.conflict.Side.TheVariants.{A, B}
 use Rattle.hpr_graph.specs.declared.vertex.Vertex.{Vertex}
 use Rattle.hpr_graph.specs.declared.edge.Kind.{Kind}
 use Rattle.hpr_graph.specs.declared.edge.Kind.TheVariants as kind
@@ -12,6 +11,7 @@ use Rattle.hpr_graph.specs.Points.{IsShared, IsAffected, IsPreserved, merged}
 use Rattle.hpr_graph.specs.ProgramGraph.{graph_of}
 use Rattle.hpr_graph.specs.Slices.{Leads, LeadsTo, ReachesOne, slice_of, slice_at}
 use Rattle.hpr_graph.specs.Answer.{IsWithoutConflict}
+use Rattle.hpr_graph.specs.Conflicts.{number_of}
 use Rattle.hpr_graph.proofs.Laws.{same_itself, same_from_within, reaches_within, slice_within, vertices_map}
 use Rattle.hpr_graph.proofs.Lists.{in_none}
 use Rattle.hpr_merge.specs.Loops.{HasLoops}
@@ -107,16 +107,18 @@ module _ (base other : Tree) (is : IsProgram base) (is_too : IsProgram other) wh
       (shared_within G H loops_of (program_uses base) (IsPreserved G G H) (λ v p. p.2.1))
 
   pub b_is_base : KeepsSides base other base
-  b_is_base A v affected = within_keeps G H (merged G H G) other_loops b_within (λ w h. inl (inl h), λ e h. inl (inl h)) v affected
-  b_is_base B v affected = absurd (unaffected G v affected)
+  b_is_base zero v affected = within_keeps G H (merged G H G) other_loops b_within (λ w h. inl (inl h), λ e h. inl (inl h)) v affected
+  b_is_base (suc zero) v affected = absurd (unaffected G v affected)
+  b_is_base (suc (suc i)) v affected = absurd affected.0
 
   pub a_is_base : KeepsSides base base other
-  a_is_base A v affected = absurd (unaffected G v affected)
-  a_is_base B v affected = within_keeps G H (merged G G H) other_loops a_within (λ w h. inl (inr h), λ e h. inl (inr h)) v affected
+  a_is_base zero v affected = absurd (unaffected G v affected)
+  a_is_base (suc zero) v affected = within_keeps G H (merged G G H) other_loops a_within (λ w h. inl (inr h), λ e h. inl (inr h)) v affected
+  a_is_base (suc (suc i)) v affected = absurd affected.0
 
 -- where each affected point keeps its slice, there is no conflict
 pub free_when_kept : (base a b : Tree) → KeepsSides base a b → IsWithoutConflict base a b
 free_when_kept base a b kept = (
-  λ c. (λ h. absurd (in_none c h), λ ((affected, differs), least). absurd (differs (kept c.side c.point affected))),
+  λ c. (λ h. absurd (in_none c h), λ ((affected, differs), least). absurd (differs (kept (number_of c.side) c.point affected))),
   λ i j c d less at at_too. absurd cc,
 )

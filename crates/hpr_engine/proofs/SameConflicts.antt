@@ -1,19 +1,13 @@
 -- Graphs that are the same have the same conflicts.
-use Rattle.std.proofs.Common.{List}
-use Rattle.hpr_graph.specs.declared.conflict.Conflict.{Conflict}
-use Rattle.hpr_graph.specs.declared.conflict.Side.{Side}
-use Rattle.hpr_graph.specs.declared.conflict.Side.TheVariants.{A, B}
+use Rattle.std.proofs.Common.{ℕ, List}
 use Rattle.hpr_graph.specs.declared.vertex.Vertex.{Vertex}
 use Rattle.hpr_graph.specs.declared.edge.Edge.{Edge}
 use Rattle.hpr_graph.specs.Graphs.{Graph, Same}
-use Rattle.hpr_graph.specs.Points.{merged}
+use Rattle.hpr_graph.specs.Points.{IsAffected, merged_all}
 use Rattle.hpr_graph.specs.Slices.{slice_at}
-use Rattle.hpr_graph.specs.Conflicts.{graph_on, IsAdded, IsLeast, IsConflictAt, IsConflict, AreConflicts}
-use Rattle.hpr_graph.proofs.Laws.{same_turned, same_then, slice_at_same, affected_same, merged_same}
-
-pub side_same : (a a' b b' : Graph) → Same a a' → Same b b' → (side : Side) → Same (graph_on side a b) (graph_on side a' b')
-side_same a a' b b' sa sb A = sa
-side_same a a' b b' sa sb B = sb
+use Rattle.hpr_graph.specs.Conflicts.{graph_at, IsAdded, IsLeast, IsConflictAt, IsConflictOf, AreConflictsBy}
+use Rattle.hpr_graph.proofs.Laws.{AllSame, all_turned, same_turned, same_then, slice_at_same, affected_same, graph_at_same, merged_all_same}
+use Rattle.hpr_meaning.specs.UnionLaw.{KeepsIn}
 
 -- the same slices in the same graphs
 pub slices_same : (m m' g g' : Graph) → Same m m' → Same g g' → (v : Vertex) → Same (slice_at m v) (slice_at g v) → Same (slice_at m' v) (slice_at g' v)
@@ -35,22 +29,32 @@ conflict_at_same : (m m' g g' base base' : Graph) → Same m m' → Same g g' �
 conflict_at_same m m' g g' base base' sm sg s v (affected, differs) =
     (affected_same g g' base base' sg s v affected, λ same. differs (slices_same m' m g' g (same_turned m m' sm) (same_turned g g' sg) v same))
 
-module _ (base base' a a' b b' : Graph) (s : Same base base') (sa : Same a a') (sb : Same b b') where
-  conflict_same : (c : Conflict) → IsConflict base a b c → IsConflict base' a' b' c
-  conflict_same c (stands, least) =
-      let sm = merged_same base base' a a' b b' s sa sb in
-      let sg = side_same a a' b b' sa sb c.side in
-      let m = merged base a b in
-      let m' = merged base' a' b' in
-      let g = graph_on c.side a b in
-      let g' = graph_on c.side a' b' in
-      (conflict_at_same m m' g g' base base' sm sg s c.point stands, least_same m m' g g' sm sg c.point c.edge least)
+-- what base and its variants have as conflicts, the same graphs have
+module _ (base base' : Graph) (gs hs : List Graph) (s : Same base base') (all : AllSame gs hs) where
+  conflict_of_same : (i : ℕ) (v : Vertex) (e : Edge) → IsConflictOf base gs i v e → IsConflictOf base' hs i v e
+  conflict_of_same i v e (stands, least) =
+      let sm = merged_all_same base base' gs hs s all in
+      let sg = graph_at_same gs hs all i in
+      let m = merged_all base gs in
+      let m' = merged_all base' hs in
+      let g = graph_at gs i in
+      let g' = graph_at hs i in
+      (conflict_at_same m m' g g' base base' sm sg s v stands, least_same m m' g g' sm sg v e least)
 
-pub conflicts_same : (base base' a a' b b' : Graph) → Same base base' → Same a a' → Same b b' → (cs : List Conflict) → AreConflicts base a b cs → AreConflicts base' a' b' cs
-conflicts_same base base' a a' b b' s sa sb cs (exact, order) = (
-  λ c. (
-    λ h. conflict_same base base' a a' b b' s sa sb c ((exact c).0 h),
-    λ h. (exact c).1 (conflict_same base' base a' a b' b (same_turned base base' s) (same_turned a a' sa) (same_turned b b' sb) c h),
+pub conflicts_same : {X : Type 0} (at : X → ℕ × Vertex × Edge) (base base' : Graph) (gs hs : List Graph) → Same base base' → AllSame gs hs → (xs : List X)
+    → AreConflictsBy at base gs xs → AreConflictsBy at base' hs xs
+conflicts_same at base base' gs hs s all xs (exact, order) = (
+  λ x. (
+    λ h. conflict_of_same base base' gs hs s all (at x).0 (at x).1 (at x).2 ((exact x).0 h),
+    λ h. (exact x).1 (conflict_of_same base' base hs gs (same_turned base base' s) (all_turned gs hs all) (at x).0 (at x).1 (at x).2 h),
   ),
   order,
 )
+
+-- where each affected point keeps its slice, it does in the same graphs
+pub keeps_same : (m m' base base' : Graph) (gs hs : List Graph) → Same m m' → Same base base' → AllSame gs hs → KeepsIn m base gs → KeepsIn m' base' hs
+keeps_same m m' base base' gs hs sm s all keeps i v affected =
+    let sg : Same (graph_at gs i) (graph_at hs i) = graph_at_same gs hs all i in
+    let was : IsAffected (graph_at gs i) base v =
+    affected_same (graph_at hs i) (graph_at gs i) base' base (same_turned (graph_at gs i) (graph_at hs i) sg) (same_turned base base' s) v affected in
+    slices_same m m' (graph_at gs i) (graph_at hs i) sm sg v (keeps i v was)

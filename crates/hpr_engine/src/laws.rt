@@ -1,15 +1,17 @@
 //! Laws of integrations: each function's contract is the law, for all values.
 ghost use Rattle.std.specs.Prelude.{◌≡◌, ◌≢◌, ◌≤◌, ℕ, List, length, take};
+ghost use Rattle.std.specs.List.{AllByRecursion};
 ghost use Rattle.hpr_syntax.specs.Tree.{Tree};
 ghost use Rattle.hpr_syntax.specs.Meaning.{Keeps};
 ghost use Rattle.hpr_syntax.specs.Shape.{IsProgram};
 ghost use Rattle.hpr_graph.specs.declared.conflict.Conflict.{Conflict};
-ghost use Rattle.hpr_graph.specs.Answer.{Answer, printed, spent, merged_of, searched_graph, searched_issued, IsAnswer, Fits, IsFirstFit, IsWithoutConflict};
-ghost use Rattle.hpr_graph.specs.Conflicts.{AreConflicts};
+ghost use Rattle.hpr_graph.specs.Answer.{Answer, printed, spent, graphs_of, merged_of, merged_of_all, searched_graph, searched_issued, IsAnswer, Fits, IsFirstFit, IsWithoutConflict};
+ghost use Rattle.hpr_graph.specs.Conflicts.{AreConflicts, HasNoConflict};
 ghost use Rattle.hpr_graph.specs.ProgramGraph.{graph_of};
 ghost use Rattle.hpr_merge.specs.Loops.{SaysOnce};
 ghost use Rattle.hpr_rebuild.specs.Settled.{IsSettled};
 ghost use Rattle.hpr_engine.specs.Budget.{Agree, AreTried};
+ghost use Rattle.hpr_meaning.specs.KeptLaw.{KeepsAll};
 ghost use Rattle.hpr_meaning.specs.UnionLaw.{KeepsSides};
 
 /// In a program each tag says one content.
@@ -50,10 +52,13 @@ pub fn one_answer()
         → length ps ≤ tries → IsAnswer base a b tries r → r ≢ spent }
 {}
 
-/// Where there is no conflict, each program with the merged graph keeps the meaning of both variants,
+/// Where there is no conflict, each program with the merged graph keeps the meaning of all variants,
 /// whoever made it (Horwitz, Prins and Reps 1989; Reps and Yang 1988).
 pub fn merged_keeps()
-    ensures { (base a b m : Tree) → IsProgram base → IsProgram a → IsProgram b → IsProgram m → IsWithoutConflict base a b → Fits (merged_of base a b) m
+    ensures all { (base m : Tree) (vs : List Tree) → IsProgram base → AllByRecursion IsProgram vs → IsProgram m
+        → HasNoConflict (graph_of base) (graphs_of vs) → Fits (merged_of_all base vs) m → KeepsAll base vs m }
+    ensures two { (base a b m : Tree) → IsProgram base → IsProgram a → IsProgram b → IsProgram m
+        → IsWithoutConflict base a b → Fits (merged_of base a b) m
         → Keeps base a b m }
 {}
 

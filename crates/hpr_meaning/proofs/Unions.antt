@@ -1,87 +1,97 @@
 -- The law of the union: a preserved point keeps its slice in the merged graph; and where each affected point of a side keeps its slice,
 -- so do all of them together.
 use Rattle.std.proofs.Common.{◌≡◌, ℕ, inl, inr, Option, List, [], ◌∷◌, refl, sym, subst}
+use Rattle.std.specs.List.{AllByRecursion}
 use Rattle.hpr_terms.specs.declared.tag.Tag.{Tag}
 use Rattle.hpr_syntax.specs.Tree.{Tree}
 use Rattle.hpr_syntax.specs.Skeleton.{Point}
 use Rattle.hpr_syntax.specs.Shape.{IsProgram}
 use Rattle.hpr_syntax.specs.Paths.{IsUndisturbed}
 use Rattle.hpr_syntax.specs.Initial.{IsInitial}
-use Rattle.hpr_graph.specs.declared.conflict.Side.{Side}
-use Rattle.hpr_graph.specs.declared.conflict.Side.TheVariants.{A, B}
 use Rattle.hpr_graph.specs.declared.vertex.Vertex.{Vertex}
 use Rattle.hpr_graph.specs.declared.vertex.Vertex.TheVariants.{Entry, Init, Part, Final}
 use Rattle.hpr_graph.specs.declared.edge.Kind.{Kind}
 use Rattle.hpr_graph.specs.declared.edge.Kind.TheVariants.{Control, Independent, Carried, Order}
 use Rattle.hpr_graph.specs.declared.edge.Edge.{Edge}
-use Rattle.hpr_graph.specs.Graphs.{Graph, IsWithin, Same, OnThird, HasVertices, union_of}
-use Rattle.hpr_graph.specs.Points.{IsAffected, IsPreserved, merged}
-use Rattle.hpr_graph.specs.Conflicts.{graph_on}
-use Rattle.hpr_graph.specs.Answer.{merged_of}
+use Rattle.hpr_graph.specs.Graphs.{Graph, IsWithin, Same, OnThird, HasVertices, union_of, nothing}
+use Rattle.hpr_graph.specs.Points.{IsShared, IsAffected, AllShare, IsPreservedBy, changed, merged_all}
+use Rattle.hpr_graph.specs.Answer.{graphs_of, merged_of_all}
 use Rattle.hpr_graph.specs.ProgramGraph.{Defines, Reads, IsVertexOf, IsEdgeBy, HasFlow, graph_of}
 use Rattle.hpr_graph.specs.Slices.{Leads, LeadsTo, ReachesOne, slice_of, slice_at}
 use Rattle.hpr_graph.proofs.Laws.{same_turned, same_from_within, vertices_map, used_by_reads}
-use Rattle.hpr_merge.specs.Loops.{HasLoops}
-use Rattle.hpr_merge.proofs.EdgeStands.{edge_inside, merged_loops, on_either, point_within}
+use Rattle.hpr_merge.specs.Loops.{HasLoops, AreAll}
+use Rattle.hpr_merge.proofs.EdgeStands.{edge_inside, merged_loops, point_within, at_number, loops_at, changed_by}
 use Rattle.hpr_merge.proofs.ProgramLoops.{program_loops}
 use Rattle.hpr_paths.proofs.Different.{distinct_program}
 use Rattle.hpr_paths.proofs.Says.{says_one}
-use Rattle.hpr_meaning.specs.UnionLaw.{affected_on, KeepsSides, IsUnionKept}
-use Rattle.hpr_meaning.proofs.SidesKept.{sides_kept}
+use Rattle.hpr_meaning.specs.UnionLaw.{variant_at, affected_of, AreKept, KeepsEach, LiesInOne, IsUnionKept}
+use Rattle.hpr_meaning.proofs.SidesKept.{each_kept}
 
 -- the sources of control and flow edges are vertices
 abbrev pub HasSources : Graph → Type 0
 HasSources g = (e : Edge) → g.edge e → Leads e.kind → g.vertex e.from
 
--- a preserved point: base has it, and both variants have its slice
-module _ (base a b : Graph) (loops : HasLoops base) (loops_a : HasLoops a) (loops_b : HasLoops b) (sources : HasSources base) (v : Vertex) (there : base.vertex v) (same_a : Same (slice_at base v) (slice_at a v)) (same_b : Same (slice_at base v) (slice_at b v)) (is : IsPreserved base a b v) where
-  abbrev m : Graph
-  m = merged base a b
-
+-- a preserved point: base has it, and all variants have its slice
+module _ (base : Graph) (loops : HasLoops base) (sources : HasSources base) (v : Vertex) (there : base.vertex v) where
   abbrev Own : Vertex → Type 0
   Own w = ReachesOne base (λ s. s ≡ v) w
-
-  -- an edge of a variant that leads into the slice is base's
-  side_edge : (g : Graph) → HasLoops g → Same (slice_at base v) (slice_at g v) → (e : Edge) → g.edge e → Leads e.kind → base.vertex e.to → Own e.to → base.edge e
-  side_edge g of_g same e h l x r =
-      let reach = ((same.0 e.to).0 (x, r)).1 in ((same.1 e).1 (h, edge_inside g of_g (λ s. s ≡ v) e h l reach)).0
-
-  edge_down : (e : Edge) → m.edge e → Leads e.kind → base.vertex e.to → Own e.to → base.edge e
-  edge_down e (inl (inl h)) l x r = side_edge a loops_a same_a e h.0 l x r
-  edge_down e (inl (inr h)) l x r = side_edge b loops_b same_b e h.0 l x r
-  edge_down e (inr h) l x r = h.0
-
-  leads_down : (w : Vertex) (es : List Edge) → LeadsTo m w es v → LeadsTo base w es v × base.vertex w
-  leads_down w [] at_v = (at_v, subst base.vertex (sym at_v) there)
-  leads_down w (e ∷ es) (h, l, from, rest) =
-      let d = leads_down e.to es rest in
-      let own = edge_down e h l d.1 (v, es, refl, d.0) in
-      ((own, l, from, d.0), subst base.vertex from (sources e own l))
 
   abbrev Down : Vertex → Type 0
   Down w = Own w × base.vertex w
 
-  reach_down : (w : Vertex) → ReachesOne m (λ s. s ≡ v) w → Down w
-  reach_down w (s, es, at_v, leads) = let d = leads_down w es (subst (λ z. LeadsTo m w es z) at_v leads) in ((v, es, refl, d.0), d.1)
+  -- an edge of a variant that leads into the slice is base's
+  side_edge : (g : Graph) → HasLoops g → IsShared base g v → (e : Edge) → g.edge e → Leads e.kind → base.vertex e.to → Own e.to → base.edge e
+  side_edge g of_g share e h l x r =
+      let reach = ((share.1.0 e.to).0 (x, r)).1 in ((share.1.1 e).1 (h, edge_inside g of_g (λ s. s ≡ v) e h l reach)).0
+
+  changed_edge : (gs : List Graph) → AreAll HasLoops gs → AllShare base gs v → (e : Edge) → (changed base gs).edge e → Leads e.kind → base.vertex e.to → Own e.to → base.edge e
+  changed_edge [] all share e h l x r = absurd h
+  changed_edge (g ∷ []) all share e h l x r = side_edge g all.0 share e h.0 l x r
+  changed_edge (g ∷ f ∷ gs) all share e (inl h) l x r = side_edge g all.0 share.0 e h.0 l x r
+  changed_edge (g ∷ f ∷ gs) all share e (inr h) l x r = changed_edge (f ∷ gs) all.1 share.1 e h l x r
 
   -- an edge of a variant between vertices of the slice is base's
-  inner_edge : (g : Graph) → Same (slice_at base v) (slice_at g v) → (e : Edge) → g.edge e → HasVertices Down e → base.edge e
-  inner_edge g same e h inside = ((same.1 e).1 (h, vertices_map Down (ReachesOne g (λ s. s ≡ v)) (λ w d. ((same.0 w).0 (d.1, d.0)).1) e inside)).0
+  inner_edge : (g : Graph) → IsShared base g v → (e : Edge) → g.edge e → HasVertices Down e → base.edge e
+  inner_edge g share e h inside =
+      ((share.1.1 e).1 (h, vertices_map Down (ReachesOne g (λ s. s ≡ v)) (λ w d. ((share.1.0 w).0 (d.1, d.0)).1) e inside)).0
 
-  inner_down : (e : Edge) → m.edge e → HasVertices Down e → base.edge e
-  inner_down e (inl (inl h)) inside = inner_edge a same_a e h.0 inside
-  inner_down e (inl (inr h)) inside = inner_edge b same_b e h.0 inside
-  inner_down e (inr h) inside = h.0
+  inner_changed : (gs : List Graph) → AllShare base gs v → (e : Edge) → (changed base gs).edge e → HasVertices Down e → base.edge e
+  inner_changed [] share e h inside = absurd h
+  inner_changed (g ∷ []) share e h inside = inner_edge g share e h.0 inside
+  inner_changed (g ∷ f ∷ gs) share e (inl h) inside = inner_edge g share.0 e h.0 inside
+  inner_changed (g ∷ f ∷ gs) share e (inr h) inside = inner_changed (f ∷ gs) share.1 e h inside
 
-  slice_down : IsWithin (slice_at m v) (slice_at base v)
-  slice_down = (
-    (λ w (h, r). let d = reach_down w r in (d.1, d.0)),
-    (λ e (h, inside). let down = vertices_map (ReachesOne m (λ s. s ≡ v)) Down reach_down e inside in
-        (inner_down e h down, vertices_map Down Own (λ w d. d.0) e down)),
-  )
+  module _ (gs : List Graph) (all : AreAll HasLoops gs) (is : IsPreservedBy base gs v) where
+    abbrev m : Graph
+    m = merged_all base gs
 
-  pub preserved_kept : Same (slice_at (merged base a b) v) (slice_at base v)
-  preserved_kept = same_from_within (slice_at m v) (slice_at base v) slice_down (point_within base loops (IsPreserved base a b) m ((λ w h. inr h), (λ e h. inr h)) v is)
+    edge_down : (e : Edge) → m.edge e → Leads e.kind → base.vertex e.to → Own e.to → base.edge e
+    edge_down e (inl h) l x r = changed_edge gs all is.2 e h l x r
+    edge_down e (inr h) l x r = h.0
+
+    leads_down : (w : Vertex) (es : List Edge) → LeadsTo m w es v → LeadsTo base w es v × base.vertex w
+    leads_down w [] at_v = (at_v, subst base.vertex (sym at_v) there)
+    leads_down w (e ∷ es) (h, l, from, rest) =
+        let d = leads_down e.to es rest in
+        let own = edge_down e h l d.1 (v, es, refl, d.0) in
+        ((own, l, from, d.0), subst base.vertex from (sources e own l))
+
+    reach_down : (w : Vertex) → ReachesOne m (λ s. s ≡ v) w → Down w
+    reach_down w (s, es, at_v, leads) = let d = leads_down w es (subst (λ z. LeadsTo m w es z) at_v leads) in ((v, es, refl, d.0), d.1)
+
+    inner_down : (e : Edge) → m.edge e → HasVertices Down e → base.edge e
+    inner_down e (inl h) inside = inner_changed gs is.2 e h inside
+    inner_down e (inr h) inside = h.0
+
+    slice_down : IsWithin (slice_at m v) (slice_at base v)
+    slice_down = (
+      (λ w (h, r). let d = reach_down w r in (d.1, d.0)),
+      (λ e (h, inside). let down = vertices_map (ReachesOne m (λ s. s ≡ v)) Down reach_down e inside in
+          (inner_down e h down, vertices_map Down Own (λ w d. d.0) e down)),
+    )
+
+    pub preserved_kept : Same (slice_at (merged_all base gs) v) (slice_at base v)
+    preserved_kept = same_from_within (slice_at m v) (slice_at base v) slice_down (point_within base loops (IsPreservedBy base gs) m ((λ w h. inr h), (λ e h. inr h)) v is)
 
 -- both ends of an order edge lead to its shared use
 abbrev pub LeadsRight : Graph → Vertex → Vertex → Type 0
@@ -148,13 +158,19 @@ union_uses g h ug uh e u (inl has) is =
 union_uses g h ug uh e u (inr has) is =
     let both = uh e u has is in (right_within h (union_of g h) (λ d x. inr x) e.from u both.0, right_within h (union_of g h) (λ d x. inr x) e.to u both.1)
 
-pub merged_uses : (base a b : Graph) → HasLoops base → HasLoops a → HasLoops b → HasUses base → HasUses a → HasUses b → HasUses (merged base a b)
-merged_uses base a b l0 la lb u0 ua ub =
-    let slice_a = slice_of a (IsAffected a base) in
-    let slice_b = slice_of b (IsAffected b base) in
-    let shared = slice_of base (IsPreserved base a b) in
-    union_uses (union_of slice_a slice_b) shared
-    (union_uses slice_a slice_b (slice_uses a la ua (IsAffected a base)) (slice_uses b lb ub (IsAffected b base))) (slice_uses base l0 u0 (IsPreserved base a b))
+nothing_uses : HasUses nothing
+nothing_uses e u has is = absurd has
+
+changed_uses : (base : Graph) (gs : List Graph) → AreAll HasLoops gs → AreAll HasUses gs → HasUses (changed base gs)
+changed_uses base [] loops uses = nothing_uses
+changed_uses base (g ∷ []) loops uses = slice_uses g loops.0 uses.0 (IsAffected g base)
+changed_uses base (g ∷ f ∷ gs) loops uses =
+    union_uses (slice_of g (IsAffected g base)) (changed base (f ∷ gs)) (slice_uses g loops.0 uses.0 (IsAffected g base))
+    (changed_uses base (f ∷ gs) loops.1 uses.1)
+
+pub merged_uses : (base : Graph) (gs : List Graph) → HasLoops base → AreAll HasLoops gs → HasUses base → AreAll HasUses gs → HasUses (merged_all base gs)
+merged_uses base gs own loops own_uses uses =
+    union_uses (changed base gs) (slice_of base (IsPreservedBy base gs)) (changed_uses base gs loops uses) (slice_uses base own own_uses (IsPreservedBy base gs))
 
 -- the graphs of programs: order edges
 flow_right : (t : Tree) (x : List ℕ) (from to : Vertex) → HasFlow t x from to → LeadsRight (graph_of t) from to
@@ -186,29 +202,39 @@ program_sources t e h l = source_by t e.kind e.from e.to h l
 pub loops_of : (t : Tree) → IsProgram t → HasLoops (graph_of t)
 loops_of t prog = program_loops t (says_one t.body (distinct_program t prog))
 
--- a preserved point of three programs keeps its slice
-pub keeps_preserved : (base a b : Tree) → IsProgram base → IsProgram a → IsProgram b → (v : Vertex) → IsPreserved (graph_of base) (graph_of a) (graph_of b) v
-    → Same (slice_at (merged_of base a b) v) (slice_at (graph_of base) v)
-keeps_preserved base a b is is_a is_b v (other, there, ((in_a, same_a), (in_b, same_b))) =
-    preserved_kept (graph_of base) (graph_of a) (graph_of b) (loops_of base is) (loops_of a is_a) (loops_of b is_b) (program_sources base) v there same_a same_b
-    (other, there, ((in_a, same_a), (in_b, same_b)))
+pub all_loops : (vs : List Tree) → AllByRecursion IsProgram vs → AreAll HasLoops (graphs_of vs)
+all_loops [] all = tt
+all_loops (t ∷ ts) all = (loops_of t all.0, all_loops ts all.1)
 
-pub union_is_kept : (base a b : Tree) → IsProgram base → IsProgram a → IsProgram b → IsUnionKept base a b
-union_is_kept base a b is is_a is_b = record {
-  preserved = keeps_preserved base a b is is_a is_b;
+all_uses : (vs : List Tree) → AreAll HasUses (graphs_of vs)
+all_uses [] = tt
+all_uses (t ∷ ts) = (program_uses t, all_uses ts)
+
+-- a preserved point of programs keeps its slice
+pub keeps_preserved : (base : Tree) (vs : List Tree) → IsProgram base → AllByRecursion IsProgram vs → (v : Vertex) → IsPreservedBy (graph_of base) (graphs_of vs) v
+    → Same (slice_at (merged_of_all base vs) v) (slice_at (graph_of base) v)
+keeps_preserved base vs is all v kept =
+    preserved_kept (graph_of base) (loops_of base is) (program_sources base) v kept.1 (graphs_of vs) (all_loops vs all) kept
+
+pub union_is_kept : (base : Tree) (vs : List Tree) → IsProgram base → AllByRecursion IsProgram vs → IsUnionKept base vs
+union_is_kept base vs is all = record {
+  preserved = keeps_preserved base vs is all;
   affected = together;
-  free = λ free side n. sides_kept base a b is is_a is_b free (λ keeps. n (together keeps side));
-  covered = λ v h. h;
+  free = λ free i n. each_kept base vs is all free (λ keeps. n (together keeps i));
+  covered = λ v h. lies v h;
 }
   where
-    loops : HasLoops (merged_of base a b)
-    loops = merged_loops (graph_of base) (graph_of a) (graph_of b) (loops_of base is) (loops_of a is_a) (loops_of b is_b)
+    loops : HasLoops (merged_of_all base vs)
+    loops = merged_loops (graph_of base) (graphs_of vs) (loops_of base is) (all_loops vs all)
 
-    uses : HasUses (merged_of base a b)
-    uses = merged_uses (graph_of base) (graph_of a) (graph_of b) (loops_of base is) (loops_of a is_a) (loops_of b is_b) (program_uses base) (program_uses a) (program_uses b)
+    uses : HasUses (merged_of_all base vs)
+    uses = merged_uses (graph_of base) (graphs_of vs) (loops_of base is) (all_loops vs all) (program_uses base) (all_uses vs)
 
-    together : KeepsSides base a b → (side : Side)
-        → Same (slice_of (merged_of base a b) (affected_on side base a b)) (slice_of (graph_on side (graph_of a) (graph_of b)) (affected_on side base a b))
-    together keeps side =
-        points_same (merged_of base a b) (graph_on side (graph_of a) (graph_of b)) loops (on_either HasLoops (graph_of a) (graph_of b) side (loops_of a is_a) (loops_of b is_b))
-        uses (on_either HasUses (graph_of a) (graph_of b) side (program_uses a) (program_uses b)) (affected_on side base a b) (keeps side)
+    together : KeepsEach base vs → (i : ℕ) → AreKept i base vs
+    together keeps i =
+        points_same (merged_of_all base vs) (variant_at vs i) loops (loops_at (graphs_of vs) i (all_loops vs all))
+        uses (at_number HasUses nothing_uses (graphs_of vs) i (all_uses vs)) (affected_of i base vs) (keeps i)
+
+    lies : (v : Vertex) → (merged_of_all base vs).vertex v → LiesInOne base vs v
+    lies v (inl h) = inl (changed_by (graph_of base) (graphs_of vs) v h)
+    lies v (inr h) = inr h

@@ -1,5 +1,6 @@
 //! The laws of meaning: each function's contract is the law, for all values.
-ghost use Rattle.std.specs.Prelude.{◌≡◌, ℕ, ◌+◌, List, Contains, reverse};
+ghost use Rattle.std.specs.Prelude.{◌≡◌, ℕ, ◌+◌, List, [], ◌∷◌, Contains, reverse};
+ghost use Rattle.std.specs.List.{AllByRecursion};
 ghost use Rattle.hpr_syntax.specs.Tree.{Tree};
 ghost use Rattle.hpr_syntax.specs.Shape.{IsProgram};
 ghost use Rattle.hpr_syntax.specs.Values.{Values};
@@ -9,13 +10,15 @@ ghost use Rattle.hpr_graph.specs.declared.vertex.Vertex.{Vertex};
 ghost use Rattle.hpr_graph.specs.Graphs.{Same};
 ghost use Rattle.hpr_graph.specs.Slices.{slice_of};
 ghost use Rattle.hpr_graph.specs.ProgramGraph.{graph_of};
-ghost use Rattle.hpr_graph.specs.Answer.{Fits, IsWithoutConflict, merged_of};
+ghost use Rattle.hpr_graph.specs.Answer.{Fits, IsWithoutConflict, graphs_of, merged_of, merged_of_all};
+ghost use Rattle.hpr_graph.specs.Conflicts.{HasNoConflict};
 ghost use Rattle.hpr_meaning.specs.Instances.{Instance, after_of, course_of, definer};
 ghost use Rattle.hpr_meaning.specs.Items.{origin_in, IsOriginOf};
 ghost use Rattle.hpr_meaning.specs.TimeLaw.{IsTimely};
 ghost use Rattle.hpr_meaning.specs.OrderLaw.{IsOrdered};
 ghost use Rattle.hpr_meaning.specs.SliceLaw.{SharesSlice};
-ghost use Rattle.hpr_meaning.specs.UnionLaw.{KeepsSides, IsUnionKept};
+ghost use Rattle.hpr_meaning.specs.KeptLaw.{Finished, DoesFinish, KeepsAll, programs_of, steps_in};
+ghost use Rattle.hpr_meaning.specs.UnionLaw.{KeepsEach, KeepsSides, IsUnionKept};
 ghost use Rattle.hpr_meaning.specs.CoverLaw.{Version, IsCovered, DoesEnd, steps_of};
 
 /// A trace is the run: it ends where the run ends, in the same state and with as many steps left; and
@@ -57,12 +60,12 @@ pub fn shared_slices()
         → SharesSlice p q (Contains points) s n m }
 {}
 
-/// The law of the union: each preserved point has in the merged graph of three programs the slice that
-/// it has in base's graph. Where each affected point keeps its side's slice, so do the affected points of
-/// a side together; and where there is no conflict, that they don't can't be. Each vertex of the merged
-/// graph lies in one of the three slices that it is made of.
+/// The law of the union: each preserved point has in the merged graph of a base and its variants the slice
+/// that it has in base's graph. Where each variant's affected points keep its slices, so do they together;
+/// and where there is no conflict, that they don't can't be. Each vertex of the merged graph lies in one of
+/// the slices that it is made of.
 pub fn union_kept()
-    ensures { (base a b : Tree) → IsProgram base → IsProgram a → IsProgram b → IsUnionKept base a b }
+    ensures { (base : Tree) (vs : List Tree) → IsProgram base → AllByRecursion IsProgram vs → IsUnionKept base vs }
 {}
 
 /// The law of the covered end. A program each of whose parts lies in a slice that it has from one of some
@@ -72,19 +75,29 @@ pub fn covered_end()
         → (f : FinalValues) × Ends m s (steps_of versions) f }
 {}
 
-/// The law of the merged end. A program whose graph is the merged graph of a base and two variants, where
-/// there is no conflict, ends on every state on which the three end, within as many steps as they have
+/// The law of the merged end. A program whose graph is the merged graph of a base and its variants, where
+/// there is no conflict, ends on every state on which they all end, within as many steps as they have
 /// together.
 pub fn merged_end()
-    ensures { (base a b m : Tree) → IsProgram base → IsProgram a → IsProgram b → IsProgram m → Fits (merged_of base a b) m → IsWithoutConflict base a b
+    ensures all { (base m : Tree) (vs : List Tree) → IsProgram base → AllByRecursion IsProgram vs → IsProgram m
+        → Fits (merged_of_all base vs) m → HasNoConflict (graph_of base) (graphs_of vs)
+        → (s : Values) (n0 : ℕ) (f0 : FinalValues) (rs : List Finished) → programs_of rs ≡ vs → Ends base s n0 f0
+        → AllByRecursion (DoesFinish s) rs
+        → (f : FinalValues) × Ends m s (n0 + steps_in rs) f }
+    ensures two { (base a b m : Tree) → IsProgram base → IsProgram a → IsProgram b → IsProgram m
+        → Fits (merged_of base a b) m → IsWithoutConflict base a b
         → (s : Values) (n0 n1 n2 : ℕ) (f0 f1 f2 : FinalValues) → Ends base s n0 f0 → Ends a s n1 f1 → Ends b s n2 f2
         → (f : FinalValues) × Ends m s (n0 + n1 + n2) f }
 {}
 
 /// Kept meaning (Reps and Yang 1988; Horwitz, Prins and Reps 1989). A program whose graph is the merged
-/// graph, where each affected point keeps its side's slice, keeps the meaning of both variants: where base and both variants end, it ends with the variant's value for each final
-/// variable that a variant changed, and with the common value where all three agree.
+/// graph, where each affected point keeps its variant's slice, keeps the meaning of all variants: where base
+/// and all variants end, it ends with the variant's value for each final variable that a variant changed, and
+/// with the common value where all agree. Of two variants it keeps the meaning of both, in the words of two.
 pub fn kept_meaning()
-    ensures { (base a b m : Tree) → IsProgram base → IsProgram a → IsProgram b → IsProgram m → Fits (merged_of base a b) m → KeepsSides base a b
-        → Keeps base a b m }
+    ensures all { (base m : Tree) (vs : List Tree) → IsProgram base → AllByRecursion IsProgram vs → IsProgram m
+        → Fits (merged_of_all base vs) m → KeepsEach base vs → KeepsAll base vs m }
+    ensures two { (base a b m : Tree) → IsProgram base → IsProgram a → IsProgram b → IsProgram m
+        → Fits (merged_of base a b) m → KeepsSides base a b → Keeps base a b m }
+    ensures as_two { (base a b m : Tree) → KeepsAll base (a ∷ b ∷ []) m → Keeps base a b m }
 {}

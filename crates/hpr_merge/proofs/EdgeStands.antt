@@ -1,19 +1,19 @@
 -- Where the slice of a point isn't the same in the merged graph as on its side, an added edge stands.
-use Rattle.std.proofs.Common.{◌≡◌, ◌⊎◌, inl, inr, List, [], ◌∷◌, refl, sym, subst}
-use Rattle.hpr_graph.specs.declared.conflict.Side.{Side}
+use Rattle.std.proofs.Common.{◌≡◌, ℕ, zero, suc, ◌⊎◌, inl, inr, List, [], ◌∷◌, refl, sym, subst}
 use Rattle.hpr_graph.specs.declared.conflict.Side.TheVariants.{A, B}
 use Rattle.hpr_graph.specs.declared.vertex.Vertex.{Vertex}
 use Rattle.hpr_graph.specs.declared.edge.Kind.{Kind}
 use Rattle.hpr_graph.specs.declared.edge.Kind.TheVariants as kind
 use Rattle.hpr_graph.specs.declared.edge.Edge.{Edge}
-use Rattle.hpr_graph.specs.Graphs.{Graph, IsWithin, Same, OnThird, HasVertices, union_of}
+use Rattle.hpr_graph.specs.Graphs.{Graph, IsWithin, Same, OnThird, HasVertices, union_of, nothing}
 use Rattle.hpr_graph.specs.Numbered.{Numbered, IsNumbered, graph_in}
 use Rattle.hpr_graph.specs.Slices.{Leads, LeadsTo, ReachesOne, slice_of, slice_at}
-use Rattle.hpr_graph.specs.Points.{IsAffected, IsPreserved, merged}
+use Rattle.hpr_graph.specs.Points.{IsAffected, IsPreservedBy, changed, merged_all}
 use Rattle.hpr_graph.proofs.EdgeList.{edges_counted}
+use Rattle.hpr_graph.proofs.Lists.{in_none}
 use Rattle.hpr_graph.proofs.Laws.{IsClosed, closed_by_numbers, first_within, second_within, leads_within, vertices_map}
-use Rattle.hpr_graph.specs.Conflicts.{graph_on, IsAdded, IsLeast, IsConflictAt}
-use Rattle.hpr_merge.specs.Loops.{HasLoops, IsListed, IsRegular}
+use Rattle.hpr_graph.specs.Conflicts.{graph_at, IsAdded, IsLeast, IsConflictAt, HasNoConflict, AreConflicts}
+use Rattle.hpr_merge.specs.Loops.{HasLoops, IsListed, IsRegular, AreAll, AreRegular}
 use Rattle.hpr_merge.proofs.Decided.{Decided, reach_decided, slice_edge_decided, least_decided}
 
 -- what leads on leads on
@@ -65,15 +65,19 @@ union_loops : (g h : Graph) → HasLoops g → HasLoops h → HasLoops (union_of
 union_loops g h a b e x w (inl has) is = let (es, leads) = a e x w has is in (es, leads_within g (union_of g h) (first_within g h) w es e.to leads)
 union_loops g h a b e x w (inr has) is = let (es, leads) = b e x w has is in (es, leads_within h (union_of g h) (second_within g h) w es e.to leads)
 
+nothing_loops : HasLoops nothing
+nothing_loops e x w has is = absurd has
+
 -- so they do in the merged graph
-pub merged_loops : (base ga gb : Graph) → HasLoops base → HasLoops ga → HasLoops gb → HasLoops (merged base ga gb)
-merged_loops base ga gb l la lb =
-    let slice_a = slice_of ga (IsAffected ga base) in
-    let slice_b = slice_of gb (IsAffected gb base) in
-    let shared = slice_of base (IsPreserved base ga gb) in
-    union_loops (union_of slice_a slice_b) shared
-    (union_loops slice_a slice_b (slice_loops ga la (IsAffected ga base)) (slice_loops gb lb (IsAffected gb base)))
-    (slice_loops base l (IsPreserved base ga gb))
+changed_loops : (base : Graph) (gs : List Graph) → AreAll HasLoops gs → HasLoops (changed base gs)
+changed_loops base [] all = nothing_loops
+changed_loops base (g ∷ []) all = slice_loops g all.0 (IsAffected g base)
+changed_loops base (g ∷ h ∷ gs) all =
+    union_loops (slice_of g (IsAffected g base)) (changed base (h ∷ gs)) (slice_loops g all.0 (IsAffected g base)) (changed_loops base (h ∷ gs) all.1)
+
+pub merged_loops : (base : Graph) (gs : List Graph) → HasLoops base → AreAll HasLoops gs → HasLoops (merged_all base gs)
+merged_loops base gs own all =
+    union_loops (changed base gs) (slice_of base (IsPreservedBy base gs)) (changed_loops base gs all) (slice_loops base own (IsPreservedBy base gs))
 
 -- where each edge of a slice that ends in a smaller one is the smaller one's, the two are the same
 module _ (m g : Graph) (v : Vertex) (loops : HasLoops m) (closed : IsClosed g) (there : g.vertex v) (within : IsWithin (slice_at g v) (slice_at m v)) (all : (e : Edge) → (slice_at m v).edge e → (slice_at g v).vertex e.to → (slice_at g v).edge e) where
@@ -120,28 +124,69 @@ module _ (m g : Graph) (v : Vertex) (loops : HasLoops m) (listed : IsListed m) (
     | inr (e, added, least) ↦ inr (e, (added, λ f f_added. least f ((listed.1 f).1 f_added.0.0) f_added))
   ]
 
--- the merged graph has the slice of each side's affected points
-side_within : (base ga gb : Graph) (side : Side) → IsWithin (slice_of (graph_on side ga gb) (IsAffected (graph_on side ga gb) base)) (merged base ga gb)
-side_within base ga gb A = (λ v h. inl (inl h), λ e h. inl (inl h))
-side_within base ga gb B = (λ v h. inl (inr h), λ e h. inl (inr h))
+-- what each of the graphs has, the one with a number has, if nothing has it
+pub at_number : (P : Graph → Type 0) → P nothing → (gs : List Graph) (i : ℕ) → AreAll P gs → P (graph_at gs i)
+at_number P none [] i all = none
+at_number P none (g ∷ gs) zero all = all.0
+at_number P none (g ∷ gs) (suc i) all = at_number P none gs i all.1
 
-pub on_either : (P : Graph → Type 0) (ga gb : Graph) (side : Side) → P ga → P gb → P (graph_on side ga gb)
-on_either P ga gb A a b = a
-on_either P ga gb B a b = b
+pub loops_at : (gs : List Graph) (i : ℕ) → AreAll HasLoops gs → HasLoops (graph_at gs i)
+loops_at gs i all = at_number HasLoops nothing_loops gs i all
+
+nothing_regular : IsRegular nothing
+nothing_regular = record { loops = nothing_loops; ends = λ e has. absurd has; listed = ([], λ e. (λ h. in_none e h, λ has. absurd has)) }
+
+regular_loops : (gs : List Graph) → AreAll IsRegular gs → AreAll HasLoops gs
+regular_loops [] all = tt
+regular_loops (g ∷ gs) all = (all.0.loops, regular_loops gs all.1)
+
+-- what the variants changed has the slice of each one's affected points, and no more
+pub changed_within : (base : Graph) (gs : List Graph) (i : ℕ) → IsWithin (slice_of (graph_at gs i) (IsAffected (graph_at gs i) base)) (changed base gs)
+changed_within base [] i = (λ v h. absurd h.0, λ e h. absurd h.0)
+changed_within base (g ∷ []) zero = (λ v h. h, λ e h. h)
+changed_within base (g ∷ []) (suc i) = (λ v h. absurd h.0, λ e h. absurd h.0)
+changed_within base (g ∷ h ∷ gs) zero = (λ v x. inl x, λ e x. inl x)
+changed_within base (g ∷ h ∷ gs) (suc i) = let rest = changed_within base (h ∷ gs) i in (λ v x. inr (rest.0 v x), λ e x. inr (rest.1 e x))
+
+abbrev pub OfOne : Graph → List Graph → Vertex → Type 0
+OfOne base gs v = (i : ℕ) × (slice_of (graph_at gs i) (IsAffected (graph_at gs i) base)).vertex v
+
+pub changed_by : (base : Graph) (gs : List Graph) (v : Vertex) → (changed base gs).vertex v → OfOne base gs v
+changed_by base [] v h = absurd h
+changed_by base (g ∷ []) v h = (zero, h)
+changed_by base (g ∷ k ∷ gs) v (inl h) = (zero, h)
+changed_by base (g ∷ k ∷ gs) v (inr h) = let more = changed_by base (k ∷ gs) v h in (suc more.0, more.1)
+
+pub variant_within : (base : Graph) (gs : List Graph) (i : ℕ) → IsWithin (slice_of (graph_at gs i) (IsAffected (graph_at gs i) base)) (merged_all base gs)
+variant_within base gs i = let own = changed_within base gs i in (λ v x. inl (own.0 v x), λ e x. inl (own.1 e x))
 
 -- at an affected point of regular graphs either the slice is kept, or the least added edge stands
-pub kept_or_added : (base ga gb : Graph) → IsRegular base → IsRegular ga → IsRegular gb → IsListed (merged base ga gb) → (side : Side) (v : Vertex) → IsAffected (graph_on side ga gb) base v
-    → Same (slice_at (merged base ga gb) v) (slice_at (graph_on side ga gb) v) ⊎ ((e : Edge) × IsLeast (IsAdded (merged base ga gb) (graph_on side ga gb) v) e)
-kept_or_added base ga gb r ra rb listed side v affected =
-    let g = graph_on side ga gb in
-    let own = on_either IsRegular ga gb side ra rb in
-    same_or_added (merged base ga gb) g v (merged_loops base ga gb r.loops ra.loops rb.loops) listed own affected.0
-    (point_within g own.loops (IsAffected g base) (merged base ga gb) (side_within base ga gb side) v affected)
+pub kept_or_added : (base : Graph) (gs : List Graph) → AreRegular base gs → (i : ℕ) (v : Vertex) → IsAffected (graph_at gs i) base v
+    → Same (slice_at (merged_all base gs) v) (slice_at (graph_at gs i) v) ⊎ ((e : Edge) × IsLeast (IsAdded (merged_all base gs) (graph_at gs i) v) e)
+kept_or_added base gs r i v affected =
+    let g = graph_at gs i in
+    let own : IsRegular (graph_at gs i) = at_number IsRegular nothing_regular gs i r.each_is in
+    same_or_added (merged_all base gs) g v (merged_loops base gs r.base_is.loops (regular_loops gs r.each_is)) r.merged_is own affected.0
+    (point_within g own.loops (IsAffected g base) (merged_all base gs) (variant_within base gs i) v affected)
 
 -- so at each conflict an edge stands
-pub edge_stands : (base ga gb : Graph) → IsRegular base → IsRegular ga → IsRegular gb → IsListed (merged base ga gb) → (side : Side) (v : Vertex) → IsConflictAt (merged base ga gb) (graph_on side ga gb) base v
-    → (e : Edge) × IsLeast (IsAdded (merged base ga gb) (graph_on side ga gb) v) e
-edge_stands base ga gb r ra rb listed side v (affected, differs) = elim (kept_or_added base ga gb r ra rb listed side v affected) [ inl same ↦ absurd (differs same) | inr least ↦ least ]
+pub edge_stands : (base : Graph) (gs : List Graph) → AreRegular base gs → (i : ℕ) (v : Vertex) → IsConflictAt (merged_all base gs) (graph_at gs i) base v
+    → (e : Edge) × IsLeast (IsAdded (merged_all base gs) (graph_at gs i) v) e
+edge_stands base gs r i v (affected, differs) = elim (kept_or_added base gs r i v affected) [ inl same ↦ absurd (differs same) | inr least ↦ least ]
+
+-- and where nothing is a conflict, each affected point keeps its slice
+pub kept_without : (base : Graph) (gs : List Graph) → AreRegular base gs → HasNoConflict base gs → (i : ℕ) (v : Vertex) → IsAffected (graph_at gs i) base v
+    → Same (slice_at (merged_all base gs) v) (slice_at (graph_at gs i) v)
+kept_without base gs r free i v affected = elim (kept_or_added base gs r i v affected) [
+  | inl same ↦ same
+  | inr (e, least) ↦ absurd (free i v e ((affected, λ same. least.0.1 ((same.1 e).0 least.0.0)), least))
+]
+
+-- where the list of the conflicts of two variants is empty, nothing is a conflict
+pub none_of_two : (base a b : Graph) → AreConflicts base a b [] → HasNoConflict base (a ∷ b ∷ [])
+none_of_two base a b free zero v e h = in_none (record { side = A; point = v; edge = e }) ((free.0 (record { side = A; point = v; edge = e })).1 h)
+none_of_two base a b free (suc zero) v e h = in_none (record { side = B; point = v; edge = e }) ((free.0 (record { side = B; point = v; edge = e })).1 h)
+none_of_two base a b free (suc (suc i)) v e h = h.0.0.0
 
 -- graphs by numbers are regular but for their loops
 pub regular_by_numbers : (g : Numbered) → IsNumbered g → HasLoops (graph_in g) → IsRegular (graph_in g)

@@ -1,5 +1,6 @@
 -- The graphs of programs are regular, and that they are listed can't be refuted.
-use Rattle.std.proofs.Common.{ℕ, Bool, inl, inr, ◌⊎◌, Option, List, sym, subst}
+use Rattle.std.proofs.Common.{ℕ, Bool, inl, inr, ◌⊎◌, Option, List, [], ◌∷◌, sym, subst}
+use Rattle.std.specs.List.{AllByRecursion}
 use Rattle.hpr_terms.specs.declared.tag.Tag.{Tag}
 use Rattle.hpr_syntax.specs.Initial.{UsedBy}
 use Rattle.hpr_syntax.specs.Paths.{IsUndisturbed}
@@ -12,11 +13,13 @@ use Rattle.hpr_graph.specs.declared.edge.Kind.{Kind}
 use Rattle.hpr_graph.specs.declared.edge.Kind.TheVariants.{Control, Independent, Carried, Order}
 use Rattle.hpr_graph.specs.declared.edge.Edge.{Edge}
 use Rattle.hpr_graph.specs.Graphs.{Graph, OnThird}
-use Rattle.hpr_graph.specs.Points.{merged}
+use Rattle.hpr_graph.specs.Points.{changed}
+use Rattle.hpr_graph.specs.Answer.{graphs_of, merged_of_all}
 use Rattle.hpr_graph.specs.ProgramGraph.{Defines, Reads, HasFlow, IsVertexOf, IsEdgeBy, IsEdgeOf, graph_of}
-use Rattle.hpr_merge.specs.Loops.{HasEnds, IsListed, IsRegular}
+use Rattle.hpr_merge.specs.Loops.{HasEnds, IsListed, IsRegular, AreAll, AreRegular}
 use Rattle.hpr_merge.proofs.ProgramLoops.{program_loops}
 use Rattle.hpr_graph.proofs.Bounded.{of_within, of_either, listed_of}
+use Rattle.hpr_merge.proofs.Bounded.{Bounded, of_none, of_within, of_either, listed_of}
 use Rattle.hpr_merge.proofs.BoundedGraph.{edges_bounded, read_is, control_to}
 use Rattle.hpr_merge.proofs.OneContent.{says_once}
 
@@ -70,20 +73,38 @@ module _ (t : Tree) where
   pub regular : IsProgram t → IsListed (graph_of t) → IsRegular (graph_of t)
   regular is list = record { loops = program_loops t (says_once t is); ends = program_ends; listed = list }
 
--- the edges of the merged graph are edges of one of the three
-module _ (base a b : Tree) where
+-- the edges of the merged graph are edges of one of the programs
+abbrev OfSome : List Tree → Edge → Type 0
+OfSome [] e = ⊥
+OfSome (t ∷ ts) e = IsEdgeOf t e ⊎ OfSome ts e
+
+some_bounded : (ts : List Tree) → Bounded (OfSome ts)
+some_bounded [] = of_none {X = Edge}
+some_bounded (t ∷ ts) = of_either (IsEdgeOf t) (OfSome ts) (edges_bounded t) (some_bounded ts)
+
+of_changed : (base : Tree) (vs : List Tree) (e : Edge) → (changed (graph_of base) (graphs_of vs)).edge e → OfSome vs e
+of_changed base [] e h = absurd h
+of_changed base (t ∷ []) e h = inl h.0
+of_changed base (t ∷ u ∷ ts) e (inl h) = inl h.0
+of_changed base (t ∷ u ∷ ts) e (inr h) = inr (of_changed base (u ∷ ts) e h)
+
+module _ (base : Tree) (vs : List Tree) where
   abbrev M : Graph
-  M = merged (graph_of base) (graph_of a) (graph_of b)
+  M = merged_of_all base vs
 
-  abbrev OfOne : Edge → Type 0
-  OfOne e = (IsEdgeOf a e ⊎ IsEdgeOf b e) ⊎ IsEdgeOf base e
-
-  of_one : (e : Edge) → M.edge e → OfOne e
-  of_one e (inl (inl h)) = inl (inl h.0)
-  of_one e (inl (inr h)) = inl (inr h.0)
-  of_one e (inr h) = inr h.0
+  of_one : (e : Edge) → M.edge e → OfSome (base ∷ vs) e
+  of_one e (inl h) = inr (of_changed base vs e h)
+  of_one e (inr h) = inl h.0
 
   pub merged_listed : ¬ (¬ IsListed M)
-  merged_listed =
-      listed_of M.edge (of_within M.edge OfOne of_one
-      (of_either (λ e. IsEdgeOf a e ⊎ IsEdgeOf b e) (IsEdgeOf base) (of_either (IsEdgeOf a) (IsEdgeOf b) (edges_bounded a) (edges_bounded b)) (edges_bounded base)))
+  merged_listed = listed_of M.edge (of_within M.edge (OfSome (base ∷ vs)) of_one (some_bounded (base ∷ vs)))
+
+-- so the graphs of a base and its variants are regular, or that can't be refuted
+each_regular : (ts : List Tree) → AllByRecursion IsProgram ts → ¬ (¬ AreAll IsRegular (graphs_of ts))
+each_regular [] all n = n tt
+each_regular (t ∷ ts) all n = listed t (λ list. each_regular ts all.1 (λ rest. n (regular t all.0 list, rest)))
+
+pub all_regular : (base : Tree) (vs : List Tree) → IsProgram base → AllByRecursion IsProgram vs → ¬ (¬ AreRegular (graph_of base) (graphs_of vs))
+all_regular base vs is all n =
+    listed base (λ list. each_regular vs all (λ each. merged_listed base vs (λ merged.
+    n (record { base_is = regular base is list; each_is = each; merged_is = merged }))))

@@ -1,5 +1,5 @@
 -- Three programs have a list of all conflicts.
-use Rattle.std.proofs.Common.{◌≡◌, ◌<◌, ◌⊎◌, inl, inr, List, refl, sym, ap, ◌∙◌, subst, arith}
+use Rattle.std.proofs.Common.{◌≡◌, ◌<◌, ◌⊎◌, inl, inr, List, [], ◌∷◌, refl, sym, ap, ◌∙◌, subst, arith}
 use Rattle.hpr_syntax.specs.Tree.{Tree}
 use Rattle.hpr_graph.specs.declared.conflict.Conflict.{Conflict}
 use Rattle.hpr_graph.specs.declared.conflict.Side.{Side}
@@ -69,7 +69,7 @@ module _ (base a b : Tree) where
   may_be c (stands, least) = (c.point, of_side c.side c.point stands.0.0, (c.edge, least.0.0.0, on_side c.side c.point c.edge))
 
   merged_bounded : Bounded M.edge
-  merged_bounded n = merged_listed base a b (λ list. n (list.0, λ e h. (list.1 e).1 h))
+  merged_bounded n = merged_listed base (a ∷ b ∷ []) (λ list. n (list.0, λ e h. (list.1 e).1 h))
 
   bounded : Bounded Is
   bounded =

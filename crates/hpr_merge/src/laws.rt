@@ -1,32 +1,35 @@
 //! Laws of the merged graph: each function's contract is the law, for all values.
-ghost use Rattle.std.specs.Prelude.{◌≡◌, ◌⊎◌, List, Contains};
+ghost use Rattle.std.specs.Prelude.{◌≡◌, ◌⊎◌, ℕ, List, Contains};
+ghost use Rattle.std.specs.List.{AllByRecursion};
 ghost use Rattle.hpr_syntax.specs.Shape.{IsProgram};
 ghost use Rattle.hpr_syntax.specs.Tree.{Tree};
 ghost use Rattle.hpr_graph.specs.declared.conflict.Conflict.{Conflict};
 ghost use Rattle.hpr_graph.specs.declared.conflict.Side.{Side};
 ghost use Rattle.hpr_graph.specs.declared.vertex.Vertex.{Vertex};
 ghost use Rattle.hpr_graph.specs.declared.edge.Edge.{Edge};
-ghost use Rattle.hpr_graph.specs.Answer.{merged_of};
+ghost use Rattle.hpr_graph.specs.Answer.{graphs_of, merged_of, merged_of_all};
 ghost use Rattle.hpr_graph.specs.Graphs.{Same};
 ghost use Rattle.hpr_graph.specs.Numbered.{Numbered, graph_in};
 ghost use Rattle.hpr_graph.specs.ProgramGraph.{graph_of};
 ghost use Rattle.hpr_graph.specs.Slices.{slice_at};
-ghost use Rattle.hpr_graph.specs.Points.{IsAffected, merged};
-ghost use Rattle.hpr_graph.specs.Conflicts.{graph_on, AreConflicts, IsAdded, IsConflictAt, IsLeast};
-ghost use Rattle.hpr_merge.specs.Loops.{AreRegular, HasLoops, SaysOnce};
+ghost use Rattle.hpr_graph.specs.Points.{IsAffected, merged_all};
+ghost use Rattle.hpr_graph.specs.Conflicts.{graph_at, graph_on, AreConflicts, IsAdded, IsConflictAt, IsLeast};
+ghost use Rattle.hpr_merge.specs.Loops.{AreRegular, HasLoops, SaysOnce, graphs_in};
 
-/// At each conflict of three programs the edge that it names stands: where an affected point has another slice in the
-/// merged graph, that there is no least edge which lies in this slice but not in the one on its side, and ends in a
-/// vertex of the latter, can't be. Nor can it be that the slice isn't kept and there is no such edge. So a list of
-/// exactly the conflicts has each affected point whose slice isn't kept.
+/// At each conflict of programs the edge that it names stands: where an affected point of a variant has another
+/// slice in the merged graph, that there is no least edge which lies in this slice but not in the variant's, and
+/// ends in a vertex of the latter, can't be. Nor can it be that the slice isn't kept and there is no such edge. So a
+/// list of exactly the conflicts of two variants has each affected point whose slice isn't kept.
 pub fn edge_stands()
-    ensures stands { (base a b : Tree) → IsProgram base → IsProgram a → IsProgram b → (side : Side) (v : Vertex)
-        → IsConflictAt (merged_of base a b) (graph_on side (graph_of a) (graph_of b)) (graph_of base) v
-        → ¬ (¬ ((e : Edge) × IsLeast (IsAdded (merged_of base a b) (graph_on side (graph_of a) (graph_of b)) v) e)) }
-    ensures kept_or_added { (base a b : Tree) → IsProgram base → IsProgram a → IsProgram b → (side : Side) (v : Vertex)
-        → IsAffected (graph_on side (graph_of a) (graph_of b)) (graph_of base) v
-        → ¬ (¬ (Same (slice_at (merged_of base a b) v) (slice_at (graph_on side (graph_of a) (graph_of b)) v)
-        ⊎ ((e : Edge) × IsLeast (IsAdded (merged_of base a b) (graph_on side (graph_of a) (graph_of b)) v) e))) }
+    ensures stands { (base : Tree) (vs : List Tree) → IsProgram base → AllByRecursion IsProgram vs
+        → (i : ℕ) (v : Vertex)
+        → IsConflictAt (merged_of_all base vs) (graph_at (graphs_of vs) i) (graph_of base) v
+        → ¬ (¬ ((e : Edge) × IsLeast (IsAdded (merged_of_all base vs) (graph_at (graphs_of vs) i) v) e)) }
+    ensures kept_or_added { (base : Tree) (vs : List Tree) → IsProgram base → AllByRecursion IsProgram vs
+        → (i : ℕ) (v : Vertex)
+        → IsAffected (graph_at (graphs_of vs) i) (graph_of base) v
+        → ¬ (¬ (Same (slice_at (merged_of_all base vs) v) (slice_at (graph_at (graphs_of vs) i) v)
+        ⊎ ((e : Edge) × IsLeast (IsAdded (merged_of_all base vs) (graph_at (graphs_of vs) i) v) e))) }
     ensures told { (base a b : Tree) (cs : List Conflict) → IsProgram base → IsProgram a → IsProgram b
         → AreConflicts (graph_of base) (graph_of a) (graph_of b) cs → (side : Side) (v : Vertex)
         → IsConflictAt (merged_of base a b) (graph_on side (graph_of a) (graph_of b)) (graph_of base) v
@@ -36,13 +39,15 @@ pub fn edge_stands()
 /// The same of graphs that are as those of programs: where the edges of the merged graph can be listed, the edge is
 /// there.
 pub fn edge_stands_in_lists()
-    ensures stands { (base a b : Numbered) → AreRegular base a b → (side : Side) (v : Vertex)
-        → IsConflictAt (merged (graph_in base) (graph_in a) (graph_in b)) (graph_on side (graph_in a) (graph_in b)) (graph_in base) v
-        → (e : Edge) × IsLeast (IsAdded (merged (graph_in base) (graph_in a) (graph_in b)) (graph_on side (graph_in a) (graph_in b)) v) e }
-    ensures kept_or_added { (base a b : Numbered) → AreRegular base a b → (side : Side) (v : Vertex)
-        → IsAffected (graph_on side (graph_in a) (graph_in b)) (graph_in base) v
-        → Same (slice_at (merged (graph_in base) (graph_in a) (graph_in b)) v) (slice_at (graph_on side (graph_in a) (graph_in b)) v)
-        ⊎ ((e : Edge) × IsLeast (IsAdded (merged (graph_in base) (graph_in a) (graph_in b)) (graph_on side (graph_in a) (graph_in b)) v) e) }
+    ensures stands { (base : Numbered) (gs : List Numbered) → AreRegular (graph_in base) (graphs_in gs)
+        → (i : ℕ) (v : Vertex)
+        → IsConflictAt (merged_all (graph_in base) (graphs_in gs)) (graph_at (graphs_in gs) i) (graph_in base) v
+        → (e : Edge) × IsLeast (IsAdded (merged_all (graph_in base) (graphs_in gs)) (graph_at (graphs_in gs) i) v) e }
+    ensures kept_or_added { (base : Numbered) (gs : List Numbered) → AreRegular (graph_in base) (graphs_in gs)
+        → (i : ℕ) (v : Vertex)
+        → IsAffected (graph_at (graphs_in gs) i) (graph_in base) v
+        → Same (slice_at (merged_all (graph_in base) (graphs_in gs)) v) (slice_at (graph_at (graphs_in gs) i) v)
+        ⊎ ((e : Edge) × IsLeast (IsAdded (merged_all (graph_in base) (graphs_in gs)) (graph_at (graphs_in gs) i) v) e) }
 {}
 
 /// In the graph of a program the loop of each carried edge leads to the edge's target.

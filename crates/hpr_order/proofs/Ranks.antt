@@ -21,7 +21,7 @@ use Rattle.hpr_graph.specs.declared.vertex.Vertex.{Vertex}
 use Rattle.hpr_graph.specs.declared.vertex.Vertex.TheVariants.{Entry, Init, Part, Final}
 use Rattle.hpr_graph.specs.Graphs.{IsOnce}
 use Rattle.hpr_graph.proofs.Lists.{some_inj, in_none, in_cons, in_here, in_later}
-use Rattle.hpr_graph.specs.Rank.{parts_of, IsAddedAt, IsPutIn, IsJoined, IsRankOf, IsRank}
+use Rattle.hpr_graph.specs.Rank.{parts_of, IsAddedAt, IsPutIn, IsJoined, AreJoined, IsRankOf, IsRank}
 use Rattle.hpr_order.proofs.Lists.{split_at, put_has, put_once}
 
 -- the tags of the rows are those of the parts
@@ -117,20 +117,39 @@ joined_once : (vs xs ys : List Vertex) → IsJoined vs xs ys → IsOnce xs → I
 joined_once [] xs ys is once = subst (λ (l : List Vertex). IsOnce l) (sym is) once
 joined_once (v ∷ vs) xs ys (zs, joined, put) once = put_in_once v (slice_get vs 0) zs ys put (joined_once vs xs zs joined once)
 
-rank_of_has : (a b base : Tree) (r : List Vertex) → IsRankOf a b base r → (w : Vertex)
-    → Contains r w ↔ (Contains (parts_of a) w ⊎ (Contains (parts_of b) w ⊎ Contains (parts_of base) w))
-rank_of_has a b base r (xs, first, second) w =
-    let one = joined_has (parts_of b) (parts_of a) xs first w in
-    let two = joined_has (parts_of base) xs r second w in (
-      λ h. elim (two.0 h) [
+-- several lists joined
+abbrev pub InOne : List (List Vertex) → Vertex → Type 0
+InOne [] w = ⊥
+InOne (vs ∷ []) w = Contains vs w
+InOne (vs ∷ us ∷ ls) w = Contains vs w ⊎ InOne (us ∷ ls) w
+
+pub all_joined_has : (ls : List (List Vertex)) (xs ys : List Vertex) → AreJoined ls xs ys → (w : Vertex) → Contains ys w ↔ (Contains xs w ⊎ InOne ls w)
+all_joined_has [] xs ys is w = (
+  λ h. inl (subst (λ (l : List Vertex). Contains l w) is h),
+  λ h. elim h [ inl there ↦ subst (λ (l : List Vertex). Contains l w) (sym is) there | inr none ↦ absurd none ],
+)
+all_joined_has (vs ∷ []) xs ys joined w = joined_has vs xs ys joined w
+all_joined_has (vs ∷ us ∷ ls) xs ys (zs, first, rest) w =
+    let one = joined_has vs xs zs first w in
+    let more = all_joined_has (us ∷ ls) zs ys rest w in (
+      λ h. elim (more.0 h) [
         | inl x ↦ elim (one.0 x) [ inl y ↦ inl y | inr z ↦ inr (inl z) ]
         | inr y ↦ inr (inr y)
       ],
       λ h. elim h [
-        | inl x ↦ two.1 (inl (one.1 (inl x)))
-        | inr rest ↦ elim rest [ inl y ↦ two.1 (inl (one.1 (inr y))) | inr z ↦ two.1 (inr z) ]
+        | inl x ↦ more.1 (inl (one.1 (inl x)))
+        | inr behind ↦ elim behind [ inl y ↦ more.1 (inl (one.1 (inr y))) | inr z ↦ more.1 (inr z) ]
       ],
     )
+
+pub all_joined_once : (ls : List (List Vertex)) (xs ys : List Vertex) → AreJoined ls xs ys → IsOnce xs → IsOnce ys
+all_joined_once [] xs ys is once = subst (λ (l : List Vertex). IsOnce l) (sym is) once
+all_joined_once (vs ∷ []) xs ys joined once = joined_once vs xs ys joined once
+all_joined_once (vs ∷ us ∷ ls) xs ys (zs, first, rest) once = all_joined_once (us ∷ ls) zs ys rest (joined_once vs xs zs first once)
+
+rank_of_has : (a b base : Tree) (r : List Vertex) → IsRankOf a b base r → (w : Vertex)
+    → Contains r w ↔ (Contains (parts_of a) w ⊎ (Contains (parts_of b) w ⊎ Contains (parts_of base) w))
+rank_of_has a b base r is w = all_joined_has (parts_of b ∷ parts_of base ∷ []) (parts_of a) r is w
 
 -- the rank has the parts of the three programs, and no others
 pub rank_has : (a b base : Tree) (r : List Vertex) → IsRank a b base r → (w : Vertex)
@@ -143,8 +162,7 @@ rank_has a b base r (inl (same, is)) w =
 rank_has a b base r (inr (other, is)) w = rank_of_has a b base r is w
 
 rank_of_once : (a b base : Tree) (r : List Vertex) → IsRankOf a b base r → IsProgram a → IsOnce r
-rank_of_once a b base r (xs, first, second) prog =
-    joined_once (parts_of base) xs r second (joined_once (parts_of b) (parts_of a) xs first (parts_once a prog))
+rank_of_once a b base r is prog = all_joined_once (parts_of b ∷ parts_of base ∷ []) (parts_of a) r is (parts_once a prog)
 
 -- and each of them once
 pub rank_once : (a b base : Tree) (r : List Vertex) → IsRank a b base r → IsProgram a → IsProgram b → IsOnce r

@@ -1,5 +1,8 @@
-use Rattle.hpr_meaning.proofs.WithoutConflict.{kept_without_conflict}
+use Rattle.hpr_meaning.proofs.WithoutConflict.{all_kept, kept_without_conflict}
 use Rattle.hpr_engine.proofs.laws.merged_keeps.Goals as goal
 
-pub returns : goal.returns
-returns c = kept_without_conflict
+pub returns-clause-all : goal.returns-clause-all
+returns-clause-all c = all_kept
+
+pub returns-clause-two : goal.returns-clause-two
+returns-clause-two c = kept_without_conflict
