@@ -1,3 +1,4 @@
 pub mod Limit
 pub mod Answers
 pub mod Budget
+pub mod Made

@@ -8,6 +8,7 @@ ghost use Rattle.hpr_graph.specs.Numbered.{IsNumbered, graph_in};
 ghost use Rattle.hpr_graph.specs.ProgramGraph.{graph_of};
 ghost use Rattle.hpr_engine.specs.Limit.{AreInLimit, HasTooManyEdges};
 ghost use Rattle.hpr_meaning.specs.UnionLaw.{KeepsSides};
+ghost use Rattle.hpr_engine.specs.Made.{IsGraphOf, IsMergeOf};
 ghost use Rattle.hpr_engine.specs.Answers.{IfInterference, IfJudged, IfTooManyEdges, IsFirstTooLarge, IsUnsearched};
 
 use crate::stop::{Stop, Which};
@@ -40,10 +41,52 @@ pub fn merge_programs(
     ensures interferes { IfInterference result (λ cs. cs ≢ []) }
     ensures unsearched { IfErr result IsUnsearched }
 {
+    let graphs = limited_graphs(alloc, base, a, b)?;
+    merge_graphs(alloc, &graphs.base, &graphs.a, &graphs.b)
+}
+
+/// The graphs of a base and its two variants.
+#[derive(Drop)]
+struct Graphs {
+    base: Graph,
+    a: Graph,
+    b: Graph,
+}
+
+/// The graphs of the three programs, of which the first that has too many edges is named.
+fn limited_graphs(
+    alloc: Global,
+    base: &Program,
+    a: &Program,
+    b: &Program,
+) -> Result<Graphs, Stop>
+    ensures base { IfOk result (λ g. IsGraphOf base.now g.base) }
+    ensures a { IfOk result (λ g. IsGraphOf a.now g.a) }
+    ensures b { IfOk result (λ g. IsGraphOf b.now g.b) }
+    ensures within { IfOk result (λ _. AreInLimit base.now a.now b.now) }
+    ensures too_many { IfTooManyEdges result (λ which. IsFirstTooLarge base.now a.now b.now which) }
+    ensures no_interference { IfInterference result (λ _. ⊥) }
+    ensures unsearched { IfErr result IsUnsearched }
+{
     let base_graph = limited_graph(alloc, base, Which::Base)?;
     let a_graph = limited_graph(alloc, a, Which::A)?;
     let b_graph = limited_graph(alloc, b, Which::B)?;
-    let merged = merge(alloc, &base_graph, &a_graph, &b_graph)?;
+    Ok(Graphs {
+        base: base_graph,
+        a: a_graph,
+        b: b_graph,
+    })
+}
+
+/// The merged graph of these graphs, where there is no conflict.
+fn merge_graphs(alloc: Global, base: &Graph, a: &Graph, b: &Graph) -> Result<Graph, Stop>
+    ensures merged { IfOk result (λ g. IsMergeOf (graph_in base.now) (graph_in a.now) (graph_in b.now) g) }
+    ensures within { IfTooManyEdges result (λ _. ⊥) }
+    ensures conflicts { IfInterference result (λ cs. AreConflicts (graph_in base.now) (graph_in a.now) (graph_in b.now) cs) }
+    ensures interferes { IfInterference result (λ cs. cs ≢ []) }
+    ensures unsearched { IfErr result IsUnsearched }
+{
+    let merged = merge(alloc, base, a, b)?;
     let _vertices = merged.graph.vertices();
     if merged.conflicts.is_empty() {
         Ok(merged.graph)

@@ -1,38 +1,52 @@
-use Rattle.std.proofs.Common.{[], subst, arith}
-use Rattle.std.proofs.lemmas.List.{nil_from_length}
-use Rattle.hpr_graph.specs.Numbered.{IsNumbered, graph_in}
-use Rattle.hpr_engine.proofs.Merge.{graph_merged, conflicts_of, kept, none_listed}
+use Rattle.std.proofs.Common.{[]}
+use Rattle.std.proofs.lemmas.Result.{IfOk-weaker}
+use Rattle.hpr_graph.specs.Answer.{IsWithoutConflict, merged_of}
+use Rattle.hpr_graph.specs.Conflicts.{AreConflicts}
+use Rattle.hpr_graph.specs.Graphs.{Same}
+use Rattle.hpr_graph.specs.Numbered.{Numbered, graph_in}
+use Rattle.hpr_graph.specs.ProgramGraph.{graph_of}
+use Rattle.hpr_meaning.specs.UnionLaw.{KeepsSides}
+use Rattle.hpr_engine.specs.Limit.{AreInLimit}
+use Rattle.hpr_engine.specs.Made.{IsMergeOf}
+use Rattle.hpr_engine.proofs.Merge.{graph_merged, conflicts_of, kept}
+use Rattle.hpr_engine.proofs.Unsearched.{interference_weaker, judged_always, never_too_many}
 use Rattle.hpr_engine.proofs.programs.merge_programs.Goals as goal
 
-pub returns-then-is_empty-clause-graph : goal.returns-then-is_empty-clause-graph
-returns-then-is_empty-clause-graph c =
-    graph_merged c.args.base.now c.args.a.now c.args.b.now c.in_ok-base_graph.base_graph c.in_ok-a_graph.a_graph c.in_ok-b_graph.b_graph c.in_ok-merged.merged.graph
-    c.in_ok-base_graph.ensures.graph c.in_ok-a_graph.ensures.graph c.in_ok-b_graph.ensures.graph c.in_ok-merged.ensures.graph
+pub returns-clause-graph : goal.returns-clause-graph
+returns-clause-graph c =
+    let g = c.in_ok-graphs.graphs in
+    let made = c.in_ok-graphs.ensures in
+    IfOk-weaker c.merge_graphs.result (λ m. IsMergeOf (graph_in g.base) (graph_in g.a) (graph_in g.b) m) (λ m. Same (graph_in m) (merged_of c.args.base.now c.args.a.now c.args.b.now))
+    (λ m is. graph_merged c.args.base.now c.args.a.now c.args.b.now g.base g.a g.b m made.base made.a made.b is.same)
+    c.merge_graphs.ensures.merged
 
-pub returns-then-is_empty-clause-no_conflict : goal.returns-then-is_empty-clause-no_conflict
-returns-then-is_empty-clause-no_conflict c =
-    let base = c.in_ok-base_graph.base_graph in
-    let a = c.in_ok-a_graph.a_graph in
-    let b = c.in_ok-b_graph.b_graph in
-    let cs = c.in_ok-merged.merged.conflicts.items in
-    conflicts_of c.args.base.now c.args.a.now c.args.b.now base a b c.in_ok-merged.merged.graph
-    c.in_ok-base_graph.ensures.graph c.in_ok-a_graph.ensures.graph c.in_ok-b_graph.ensures.graph []
-    (none_listed (graph_in base) (graph_in a) (graph_in b) cs (nil_from_length cs (grind (arith, c.is_empty.ensures, c.if-is_empty.true))) c.in_ok-merged.ensures.conflicts)
+pub returns-clause-no_conflict : goal.returns-clause-no_conflict
+returns-clause-no_conflict c =
+    let g = c.in_ok-graphs.graphs in
+    let made = c.in_ok-graphs.ensures in
+    IfOk-weaker c.merge_graphs.result (λ m. IsMergeOf (graph_in g.base) (graph_in g.a) (graph_in g.b) m) (λ m. IsWithoutConflict c.args.base.now c.args.a.now c.args.b.now)
+    (λ m is. conflicts_of c.args.base.now c.args.a.now c.args.b.now g.base g.a g.b m made.base made.a made.b [] is.free)
+    c.merge_graphs.ensures.merged
 
-pub returns-then-is_empty-clause-kept : goal.returns-then-is_empty-clause-kept
-returns-then-is_empty-clause-kept c =
-    let base = c.in_ok-base_graph.base_graph in
-    let a = c.in_ok-a_graph.a_graph in
-    let b = c.in_ok-b_graph.b_graph in
-    let cs = c.in_ok-merged.merged.conflicts.items in
-    kept c.args.base.now c.args.a.now c.args.b.now base a b c.in_ok-merged.merged.graph
-    c.in_ok-base_graph.ensures.graph c.in_ok-a_graph.ensures.graph c.in_ok-b_graph.ensures.graph
-    c.in_ok-base_graph.ensures.program c.in_ok-a_graph.ensures.program c.in_ok-b_graph.ensures.program
-    c.in_ok-base_graph.ensures.numbered c.in_ok-a_graph.ensures.numbered c.in_ok-b_graph.ensures.numbered
-    c.vertices-vertices.ensures.numbered c.in_ok-merged.ensures.graph
-    (none_listed (graph_in base) (graph_in a) (graph_in b) cs (nil_from_length cs (grind (arith, c.is_empty.ensures, c.if-is_empty.true))) c.in_ok-merged.ensures.conflicts)
+pub returns-clause-kept : goal.returns-clause-kept
+returns-clause-kept c =
+    let g = c.in_ok-graphs.graphs in
+    let made = c.in_ok-graphs.ensures in
+    IfOk-weaker c.merge_graphs.result (λ m. IsMergeOf (graph_in g.base) (graph_in g.a) (graph_in g.b) m) (λ m. KeepsSides c.args.base.now c.args.a.now c.args.b.now)
+    (λ m is. kept c.args.base.now c.args.a.now c.args.b.now g.base g.a g.b m made.base made.a made.b is.numbered is.same is.free)
+    c.merge_graphs.ensures.merged
+
+pub returns-clause-within : goal.returns-clause-within
+returns-clause-within c = judged_always Numbered c.merge_graphs.result (AreInLimit c.args.base.now c.args.a.now c.args.b.now) c.in_ok-graphs.ensures.within
+
+pub returns-clause-too_many : goal.returns-clause-too_many
+returns-clause-too_many c = never_too_many Numbered c.merge_graphs.result _ c.merge_graphs.ensures.within
 
 pub returns-clause-conflicts : goal.returns-clause-conflicts
 returns-clause-conflicts c =
-    conflicts_of c.args.base.now c.args.a.now c.args.b.now c.in_ok-base_graph.base_graph c.in_ok-a_graph.a_graph c.in_ok-b_graph.b_graph c.in_ok-merged.merged.graph
-    c.in_ok-base_graph.ensures.graph c.in_ok-a_graph.ensures.graph c.in_ok-b_graph.ensures.graph c.in_ok-merged.merged.conflicts.items c.in_ok-merged.ensures.conflicts
+    let g = c.in_ok-graphs.graphs in
+    let made = c.in_ok-graphs.ensures in
+    interference_weaker Numbered c.merge_graphs.result (λ cs. AreConflicts (graph_in g.base) (graph_in g.a) (graph_in g.b) cs)
+    (λ cs. AreConflicts (graph_of c.args.base.now) (graph_of c.args.a.now) (graph_of c.args.b.now) cs)
+    (λ cs h. conflicts_of c.args.base.now c.args.a.now c.args.b.now g.base g.a g.b g.base made.base made.a made.b cs h)
+    c.merge_graphs.ensures.conflicts
