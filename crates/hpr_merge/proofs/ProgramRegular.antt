@@ -18,8 +18,7 @@ use Rattle.hpr_graph.specs.Answer.{graphs_of, merged_of_all}
 use Rattle.hpr_graph.specs.ProgramGraph.{Defines, Reads, HasFlow, IsVertexOf, IsEdgeBy, IsEdgeOf, graph_of}
 use Rattle.hpr_merge.specs.Loops.{HasEnds, IsListed, IsRegular, AreAll, AreRegular}
 use Rattle.hpr_merge.proofs.ProgramLoops.{program_loops}
-use Rattle.hpr_graph.proofs.Bounded.{of_within, of_either, listed_of}
-use Rattle.hpr_merge.proofs.Bounded.{Bounded, of_none, of_within, of_either, listed_of}
+use Rattle.hpr_graph.proofs.Bounded.{Bounded, of_none, of_within, of_either, listed_of}
 use Rattle.hpr_merge.proofs.BoundedGraph.{edges_bounded, read_is, control_to}
 use Rattle.hpr_merge.proofs.OneContent.{says_once}
 
