@@ -7,6 +7,7 @@ ghost use Rattle.hpr_app.specs.Private.ItemLine.{item_line};
 
 use hpr_meaning::Instance;
 use hpr_refusals::tag_name;
+use hpr_run::Value;
 use hpr_syntax::NoMemory;
 use std::alloc::{AllocError, Global};
 
@@ -37,7 +38,7 @@ fn item_line(alloc: Global, item: &Instance) -> Result<String, AllocError>
     step_line(alloc, tag.as_str(), turns.as_str(), item.value)
 }
 
-fn step_line(alloc: Global, tag: &str, turns: &str, value: i64) -> Result<String, AllocError>
+fn step_line(alloc: Global, tag: &str, turns: &str, value: Value) -> Result<String, AllocError>
     ensures { IfOk result (λ line. string_bytes line ≡ tag.now ++ codes " [" ++ turns.now ++ codes "] " ++ signed_decimal value ++ codes "\n") }
 {
     format!(in alloc; "{tag} [{turns}] {value}\n")

@@ -14,7 +14,7 @@ use hpr_engine::integrate;
 use hpr_inputs::{Kind, Report, Stop, Versions, read_state, read_versions};
 use hpr_io::Shelf;
 use hpr_report::{outcome_text, table_text};
-use hpr_run::{Outcome, State, run};
+use hpr_run::{Outcome, State, Value, run};
 use hpr_syntax::{Name, NoMemory, Program};
 use hpr_terms::limits::DEFAULT_TRIES;
 use std::alloc::Global;
@@ -154,7 +154,7 @@ fn steps_of(outcome: &Outcome) -> u64
 }
 
 /// The final values; none where the run didn't end.
-fn finals_of(outcome: &Outcome) -> &[(Name, i64)]
+fn finals_of(outcome: &Outcome) -> &[(Name, Value)]
     ensures { result.now ≡ finals_of (outcome_of outcome.now) }
 {
     match outcome {

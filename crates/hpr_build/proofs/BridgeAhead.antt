@@ -5,7 +5,6 @@ use Rattle.std.proofs.lemmas.Bool.{cases_lt}
 use Rattle.std.proofs.lemmas.List.{get_or-take}
 use Rattle.std.proofs.lemmas.List.Elements.{Contains-append_left, Contains-push, Contains-push_cases}
 use Rattle.std.proofs.lemmas.Option.{slice_get-get_or}
-use Rattle.hpr_syntax.specs.Action.{assigns}
 use Rattle.hpr_syntax.specs.Body.{Body, done, action, branch, loop, part_count}
 use Rattle.hpr_syntax.specs.Paths.{Path, one, step}
 use Rattle.hpr_syntax.specs.Tree.{Tree}
@@ -65,11 +64,11 @@ two_follow m w a b st h k c = elim (contains_two a b st c) [ inl e ↦ subst (Fo
 -- each step leads ahead, or back to a loop around its source
 steps_follow : (b : Body) (n : ℕ) (f : Step) (w : List ℕ) (p : ℕ) (s : Spot) → Follows (n + part_count b) w f → SpotIn b n f w p s → AllFollow p s
 steps_follow done n f w p s hf h = absurd h
-steps_follow (action t (assigns x e) rest) n f w p s hf (inl h) =
-    let after : Follows (n + 1 + part_count rest) w f = earlier (n + part_count (action t (assigns x e) rest)) (n + 1 + part_count rest) w f (omega arith) hf in
+steps_follow (action t action_ rest) n f w p s hf (inl h) =
+    let after : Follows (n + 1 + part_count rest) w f = earlier (n + part_count (action t action_ rest)) (n + 1 + part_count rest) w f (omega arith) hf in
     at_head s _ p n h.0 h.1 (λ st c. one_follows (n + 1) w _ st (first_follows rest (n + 1) (n + 1) w f (omega arith) after) c)
-steps_follow (action t (assigns x e) rest) n f w p s hf (inr h) =
-    steps_follow rest (n + 1) f w p s (earlier (n + part_count (action t (assigns x e) rest)) (n + 1 + part_count rest) w f (omega arith) hf) h
+steps_follow (action t action_ rest) n f w p s hf (inr h) =
+    steps_follow rest (n + 1) f w p s (earlier (n + part_count (action t action_ rest)) (n + 1 + part_count rest) w f (omega arith) hf) h
 steps_follow (branch t e a b rest) n f w p s hf h =
     let no : ℕ = n + 1 + part_count a in
     let next : ℕ = no + part_count b in
@@ -136,9 +135,9 @@ across b n f w q u l h c less = elim (nest_low b n f w q u l h c) [ inl x ↦ x 
 -- a loop with a part has each that stands between its predicate and that part
 nest_between : (b : Body) (n : ℕ) (f : Step) (w : List ℕ) (p q : ℕ) (s u : Spot) (l : ℕ) → SpotIn b n f w p s → SpotIn b n f w q u → Contains u.nest l → l ≤ p → p ≤ q → Contains s.nest l
 nest_between done n f w p q s u l h k c le le' = absurd h
-nest_between (action t (assigns x e) rest) n f w p q s u l h (inl k) c le le' = outer_in (action t (assigns x e) rest) n f w p s l h (nest_to u _ l k.1 c)
-nest_between (action t (assigns x e) rest) n f w p q s u l (inl h) (inr k) c le le' =
-    outer_in (action t (assigns x e) rest) n f w p s l (inl h) (across rest (n + 1) f w q u l k c (omega (arith, le, h.0)))
+nest_between (action t action_ rest) n f w p q s u l h (inl k) c le le' = outer_in (action t action_ rest) n f w p s l h (nest_to u _ l k.1 c)
+nest_between (action t action_ rest) n f w p q s u l (inl h) (inr k) c le le' =
+    outer_in (action t action_ rest) n f w p s l (inl h) (across rest (n + 1) f w q u l k c (omega (arith, le, h.0)))
 nest_between (action t d rest) n f w p q s u l (inr h) (inr k) c le le' = nest_between rest (n + 1) f w p q s u l h k c le le'
 nest_between (branch t e a b rest) n f w p q s u l h k c le le' =
     let no : ℕ = n + 1 + part_count a in

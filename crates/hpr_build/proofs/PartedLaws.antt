@@ -2,7 +2,6 @@
 use Rattle.std.proofs.Common.{◌≡◌, ◌<◌, ◌≤◌, ◌+◌, ℕ, true, false, ◌⊎◌, ◌↔◌, inl, inr, Option, Some, None, List, [], ◌∷◌, ◌++◌, Contains, refl, sym, ap, ◌∙◌, subst, arith}
 use Rattle.std.proofs.lemmas.List.Elements.{Contains-append_left, Contains-push, Contains-push_cases}
 use Rattle.hpr_terms.specs.declared.tag.Tag.{Tag}
-use Rattle.hpr_syntax.specs.Action.{assigns}
 use Rattle.hpr_syntax.specs.Body.{Body, done, action, branch, loop, part_count}
 use Rattle.hpr_syntax.specs.Tree.{Tree}
 use Rattle.hpr_syntax.specs.Skeleton.{Point, at, skeleton, StandsIn}
@@ -169,7 +168,7 @@ fork_parting t e a b rest n up os d u i j =
 
 parting_of_parted : (b : Body) (n : ℕ) (up : Up) (os : List Span) (d u : Point) → Parted (skeleton b) d u → Parting (PlaceIn b n up os) d u
 parting_of_parted done n up os d u h = absurd h
-parting_of_parted (action t (assigns y e) rest) n up os d u h = wider at_place Apart (PlaceIn rest (n + 1) up os) (PlaceIn (action t (assigns y e) rest) n up os) d u (λ p x i. inr i) (parting_of_parted rest (n + 1) up os d u h)
+parting_of_parted (action t action_ rest) n up os d u h = wider at_place Apart (PlaceIn rest (n + 1) up os) (PlaceIn (action t action_ rest) n up os) d u (λ p x i. inr i) (parting_of_parted rest (n + 1) up os d u h)
 parting_of_parted (branch t e a b rest) n up os d u (inl (inl h)) = (fork_parting t e a b rest n up os d u h.0 h.1).0
 parting_of_parted (branch t e a b rest) n up os d u (inl (inr h)) = (fork_parting t e a b rest n up os u d h.1 h.0).1
 parting_of_parted (branch t e a b rest) n up os d u (inr h) =

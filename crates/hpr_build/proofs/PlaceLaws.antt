@@ -4,8 +4,7 @@ use Rattle.std.specs.Option.{option_and_then}
 use Rattle.std.proofs.lemmas.Option.{same_Some}
 use Rattle.hpr_terms.specs.declared.tag.Tag.{Tag}
 use Rattle.hpr_syntax.specs.declared.rows.Content.{Content}
-use Rattle.hpr_syntax.specs.declared.rows.Content.TheVariants.{Assign, If, While}
-use Rattle.hpr_syntax.specs.Action.{assigns}
+use Rattle.hpr_syntax.specs.declared.rows.Content.TheVariants.{If, While}
 use Rattle.hpr_syntax.specs.Rows.{content_by}
 use Rattle.hpr_syntax.specs.Body.{Body, done, action, branch, loop, part_count}
 use Rattle.hpr_syntax.specs.Tree.{Tree}
@@ -113,7 +112,7 @@ module _ (S : List Spot) where
 
   stands_of_place : (b : Body) (n : ℕ) (up : Up) (os : List Span) (nest : List Tag) (tup : TagUp) (p : ℕ) (x : Place) → Tagged b n up os → IsParentOf S up tup → PlaceIn b n up os p x → StandsSo nest tup b x
   stands_of_place done n up os nest tup p x tagged parent h = absurd h
-  stands_of_place (action t (assigns y e) rest) n up os nest tup p x tagged parent (inl h) = here nest nest tup (action t (assigns y e) rest) t (Assign y e) up os x h.1 parent (λ is. inl (is, refl))
+  stands_of_place (action t action_ rest) n up os nest tup p x tagged parent (inl h) = here nest nest tup (action t action_ rest) t (content_by action_) up os x h.1 parent (λ is. inl (is, refl))
   stands_of_place (action t d rest) n up os nest tup p x tagged parent (inr h) =
       let k = stands_of_place rest (n + 1) up os nest tup p x (λ p x i. tagged p x (inr i)) parent h in (k.0, inr k.1, k.2, k.3)
   stands_of_place (branch t e a b rest) n up os nest tup p x tagged parent (inl h) = here nest nest tup (branch t e a b rest) t (If e) up os x h.1 parent (λ is. inl (is, refl))
@@ -161,9 +160,9 @@ module _ (S : List Spot) where
 
   place_of_stands : (b : Body) (n : ℕ) (up : Up) (os : List Span) (nest : List Tag) (tup : TagUp) (v : Tag) (s : Standing) → Tagged b n up os → IsParentOf S up tup → StandsAs nest tup b v s → PlaceSo (PlaceIn b n up os) v s
   place_of_stands done n up os nest tup v s tagged parent h = absurd h
-  place_of_stands (action t (assigns y e) rest) n up os nest tup v s tagged parent (inl h) = there (PlaceIn (action t (assigns y e) rest) n up os) n t v (Assign y e) nest up tup os s (inl (refl, refl)) h.0 h.1 parent
-  place_of_stands (action t (assigns y e) rest) n up os nest tup v s tagged parent (inr h) =
-      wider (PlaceIn rest (n + 1) up os) (PlaceIn (action t (assigns y e) rest) n up os) v s (λ p x i. inr i) (place_of_stands rest (n + 1) up os nest tup v s (λ p x i. tagged p x (inr i)) parent h)
+  place_of_stands (action t action_ rest) n up os nest tup v s tagged parent (inl h) = there (PlaceIn (action t action_ rest) n up os) n t v (content_by action_) nest up tup os s (inl (refl, refl)) h.0 h.1 parent
+  place_of_stands (action t action_ rest) n up os nest tup v s tagged parent (inr h) =
+      wider (PlaceIn rest (n + 1) up os) (PlaceIn (action t action_ rest) n up os) v s (λ p x i. inr i) (place_of_stands rest (n + 1) up os nest tup v s (λ p x i. tagged p x (inr i)) parent h)
   place_of_stands (branch t e a b rest) n up os nest tup v s tagged parent (inl h) = there (PlaceIn (branch t e a b rest) n up os) n t v (If e) nest up tup os s (inl (refl, refl)) h.0 h.1 parent
   place_of_stands (branch t e a b rest) n up os nest tup v s tagged parent (inr h) =
       let no : ℕ = n + 1 + part_count a in

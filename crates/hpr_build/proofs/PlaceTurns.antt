@@ -5,7 +5,7 @@ use Rattle.hpr_terms.specs.declared.expr.Expr.{Expr}
 use Rattle.hpr_syntax.specs.Parts.{tag_of}
 use Rattle.hpr_syntax.specs.Rows.{content_of}
 use Rattle.hpr_syntax.specs.declared.tree.Stmt.{Stmt}
-use Rattle.hpr_syntax.specs.declared.tree.Stmt.TheVariants.{Assign, If, While}
+use Rattle.hpr_syntax.specs.declared.tree.Stmt.TheVariants.{If, While}
 use Rattle.hpr_syntax.specs.declared.rows.Content.TheVariants as content
 use Rattle.hpr_syntax.specs.Body.{Body, done, part_count}
 use Rattle.hpr_syntax.specs.BodyOf.{before}
@@ -17,6 +17,10 @@ use Rattle.hpr_build.specs.Places.{Place, place_of, places_of}
 pub turn_parts : (here rest : Body) (s : Stmt) → here ≡ before s rest → part_count here ≡ part_count (before s done) + part_count rest
 turn_parts here rest s is = ap part_count is ∙ count_cons s rest
 
+-- neither a conditional nor a loop
+abbrev pub IsOther : Stmt → Type 0
+IsOther s = ((t : Tag) (e : Expr) (a b : Body) → ¬ (s ≡ If t e a b)) × ((t : Tag) (e : Expr) (b : Body) → ¬ (s ≡ While t e b))
+
 module _ (up : Option Parent) (others : List Span) where
   after_one : (xs zs : List Place) → xs ++ zs ≡ (xs ++ []) ++ zs
   after_one xs zs = sym (append_assoc xs [] zs)
@@ -25,7 +29,6 @@ module _ (up : Option Parent) (others : List Span) where
   after_two xs ys zs = sym (append_assoc xs (ys ++ []) zs ∙ ap (λ (ws : List Place). xs ++ ws) (append_assoc ys [] zs))
 
   places_before : (s : Stmt) (rest : Body) (n : ℕ) → places_of (before s rest) n up others ≡ places_of (before s done) n up others ++ places_of rest (n + part_count (before s done)) up others
-  places_before (Assign t x e) rest n = refl
   places_before (If t e a b) rest n =
       let no = n + 1 + part_count a in
       let next = no + part_count b in
@@ -38,6 +41,7 @@ module _ (up : Option Parent) (others : List Span) where
       let body = places_of b (n + 1) (Some (record { point = n; label = true })) others in
       let same : next ≡ n + part_count (before (While t e b) done) = omega arith in
       ap (λ (ps : List Place). place_of t (content.While e) up others ∷ ps) (after_one body (places_of rest next up others) ∙ ap (λ (k : ℕ). (body ++ []) ++ places_of rest k up others) same)
+  places_before s rest n = refl
 
   -- one statement more
   pub turn_places : (old new target : List Place) (here rest : Body) (s : Stmt) (n m : ℕ) → here ≡ before s rest → new ≡ old ++ places_of (before s done) n up others → m ≡ n + part_count (before s done)
@@ -52,9 +56,11 @@ module _ (up : Option Parent) (others : List Span) where
   abbrev Head : Stmt → Place
   Head s = place_of (tag_of s) (content_of s) up others
 
-  -- one statement with the parts in it: an assignment, a loop, a conditional
-  pub stmt_assign : (s : Stmt) (t : Tag) (x : List ℕ) (e : Expr) → s ≡ Assign t x e → (old one : List Place) (n : ℕ) → one ≡ old ++ Head s ∷ [] → one ≡ old ++ places_of (before s done) n up others
-  stmt_assign s t x e is old one n first = first ∙ ap (λ (r : Stmt). old ++ Head r ∷ []) is ∙ sym (ap (λ (r : Stmt). old ++ places_of (before r done) n up others) is)
+  -- one statement with the parts in it: one without blocks, a loop, a conditional
+  pub stmt_simple : (s : Stmt) → IsOther s → (old one : List Place) (n : ℕ) → one ≡ old ++ Head s ∷ [] → one ≡ old ++ places_of (before s done) n up others
+  stmt_simple (If t e a b) other old one n first = absurd (other.0 t e a b refl)
+  stmt_simple (While t e b) other old one n first = absurd (other.1 t e b refl)
+  stmt_simple s other old one n first = first
 
   pub stmt_while : (s : Stmt) (t : Tag) (e : Expr) (b : Body) → s ≡ While t e b → (old one new : List Place) (n m p : ℕ) (inside : Option Parent)
       → one ≡ old ++ Head s ∷ [] → new ≡ one ++ places_of b m inside others → inside ≡ Some (record { point = p; label = true }) → p ≡ n → m ≡ n + 1 → new ≡ old ++ places_of (before s done) n up others
@@ -101,5 +107,7 @@ count_while s t e b is = ap (λ (r : Stmt). part_count (before r done)) is ∙ o
 pub count_if : (s : Stmt) (t : Tag) (e : Expr) (a b : Body) → s ≡ If t e a b → part_count (before s done) ≡ part_count a + part_count b + 1
 count_if s t e a b is = ap (λ (r : Stmt). part_count (before r done)) is ∙ omega arith
 
-pub count_assign : (s : Stmt) (t : Tag) (x : List ℕ) (e : Expr) → s ≡ Assign t x e → part_count (before s done) ≡ 1
-count_assign s t x e is = ap (λ (r : Stmt). part_count (before r done)) is ∙ omega arith
+pub count_simple : (s : Stmt) → IsOther s → part_count (before s done) ≡ 1
+count_simple (If t e a b) other = absurd (other.0 t e a b refl)
+count_simple (While t e b) other = absurd (other.1 t e b refl)
+count_simple s other = omega arith

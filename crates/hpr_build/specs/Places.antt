@@ -13,7 +13,7 @@
 use Rattle.std.specs.Prelude.{◌≡◌, ℕ, Bool, ◌+◌, ◌-◌, ◌<◌, ◌≤◌, true, false, Option, Some, None, List, [], ◌∷◌, ◌++◌, Contains, slice_get}
 use Rattle.hpr_terms.specs.declared.tag.Tag.{Tag}
 use Rattle.hpr_syntax.specs.declared.rows.Content.{Content}
-use Rattle.hpr_syntax.specs.declared.rows.Content.TheVariants.{Assign, If, While}
+use Rattle.hpr_syntax.specs.declared.rows.Content.TheVariants.{If, While}
 use Rattle.hpr_syntax.specs.Rows.{content_by}
 use Rattle.hpr_syntax.specs.Body.{Body, done, action, branch, loop, part_count}
 use Rattle.hpr_syntax.specs.Tree.{Tree}

@@ -133,7 +133,6 @@ fn push_stmt(
     let point = places.len() + 1;
     push_place(alloc, stmt, parent, others, places)?;
     match stmt {
-        Stmt::Assign(_, _, _) => Ok(()),
         Stmt::If(_, _, yes, no) => {
             let from = point + 1 + yes.part_count();
             let to = from + no.part_count();
@@ -142,6 +141,7 @@ fn push_stmt(
             push_block(alloc, no, under(point, false), others, places)
         }
         Stmt::While(_, _, body) => push_block(alloc, body, under(point, true), others, places),
+        _ => Ok(()),
     }
 }
 

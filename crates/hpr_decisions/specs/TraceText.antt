@@ -5,13 +5,13 @@
 -- instance_line i       == the line of an instance
 -- trace_text is         == the lines of instances
 -- run_text p state steps trace == what is printed of a run: the lines of its instances, if its trace is asked for, and then how it went
-use Rattle.std.specs.Prelude.{ℕ, ℤ, Bool, List, [], ◌∷◌, ◌++◌, flat_map, codes, if◌then◌else◌}
+use Rattle.std.specs.Prelude.{ℕ, Bool, List, [], ◌∷◌, ◌++◌, flat_map, codes, if◌then◌else◌}
 use Rattle.std.specs.Fmt.{decimal, signed_decimal}
 use Rattle.hpr_terms.specs.declared.tag.Tag.{Tag}
 use Rattle.hpr_syntax.specs.Print.{tag_text}
 use Rattle.hpr_syntax.specs.Run.{run}
 use Rattle.hpr_syntax.specs.Tree.{Tree}
-use Rattle.hpr_syntax.specs.Values.{Values}
+use Rattle.hpr_syntax.specs.Values.{Value, Values}
 use Rattle.hpr_meaning.specs.Instances.{Instance, instances}
 use Rattle.hpr_report.specs.Texts.{outcome_text}
 
@@ -22,7 +22,7 @@ abbrev pub turns_text : List ℕ → List ℕ
 turns_text [] = []
 turns_text (n ∷ ns) = decimal n ++ flat_map comma_turn ns
 
-abbrev pub step_line : Tag → List ℕ → ℤ → List ℕ
+abbrev pub step_line : Tag → List ℕ → Value → List ℕ
 step_line tag turns v = tag_text tag ++ codes " [" ++ turns_text turns ++ codes "] " ++ signed_decimal v ++ codes "\n"
 
 abbrev pub instance_line : Instance → List ℕ

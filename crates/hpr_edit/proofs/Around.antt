@@ -2,14 +2,14 @@
 use Rattle.std.proofs.Common.{◌≡◌, ℕ, ◌+◌, ◌≤◌, Bool, true, false, Option, Some, None, ◌⊎◌, refl, ap, sym, ◌∙◌, arith, cond, inl, inr, subst}
 use Rattle.hpr_terms.specs.declared.tag.Tag.{Tag}
 use Rattle.hpr_syntax.specs.declared.tree.Stmt.{Stmt}
-use Rattle.hpr_syntax.specs.declared.tree.Stmt.TheVariants.{Assign, If, While}
+use Rattle.hpr_syntax.specs.declared.tree.Stmt.TheVariants.{If, While}
 use Rattle.hpr_terms.specs.declared.expr.Expr.{Expr}
-use Rattle.hpr_syntax.specs.Action.{assigns}
 use Rattle.hpr_syntax.specs.Body.{Body, done, action, branch, loop}
 use Rattle.hpr_syntax.specs.BodyOf.{before}
 use Rattle.std.specs.Option.{option_or}
 use Rattle.hpr_syntax.specs.Parts.{same_tag, tag_of, find_stmt}
-use Rattle.hpr_syntax.specs.Rows.{Parent}
+use Rattle.hpr_syntax.specs.Rows.{Parent, stmt_by}
+use Rattle.hpr_syntax.proofs.ByStructure.{tag_stmt, before_stmt}
 use Rattle.hpr_edit.specs.declared.command.Place.{Place}
 use Rattle.hpr_edit.specs.Places.{place_from}
 use Rattle.hpr_edit.specs.InPlace.{one_if, times}
@@ -59,14 +59,12 @@ no_one false h = refl
 
 -- how often a tag stands
 pub times_before : (t : Tag) (s : Stmt) (x : Body) → times t (before s x) ≡ times t (before s done) + times t x
-times_before t (Assign u x e) y = omega arith
 times_before t (If u e a b) y = omega arith
-times_before t (While u e b) y = omega arith
+times_before t s y = omega arith
 
 pub times_head : (t : Tag) (s : Stmt) (x : Body) → same_tag (tag_of s) t ≡ true → 1 ≤ times t (before s x)
-times_head t (Assign u x e) y h = rw h (omega arith)
 times_head t (If u e a b) y h = rw h (omega arith)
-times_head t (While u e b) y h = rw h (omega arith)
+times_head t s y h = rw h (omega arith)
 
 pub times_plug : (t : Tag) (c : Around) (x : Body) → times t (plug c x) ≡ times t (plug c done) + times t x
 times_plug t here x = omega arith
@@ -78,7 +76,7 @@ times_plug t (inside u e c rest) x = omega (arith, times_plug t c x)
 -- nothing changes where the tag doesn't stand
 pub absent : (t : Tag) (f : Stmt → Body → Body) (b : Body) → times t b ≡ 0 → at_part t f b ≡ b
 absent t f done h = refl
-absent t f (action u (assigns x e) rest) h = rw (no_one (same_tag u t) (omega (arith, h))) (ap (action u (assigns x e)) (absent t f rest (omega (arith, h))))
+absent t f (action u d rest) h = rw (no_one (same_tag u t) (omega (arith, h))) (ap (action u d) (absent t f rest (omega (arith, h))))
 absent t f (branch u e a b rest) h =
     let i : at_part t f a ≡ a = absent t f a (omega (arith, h)) in
     let j : at_part t f b ≡ b = absent t f b (omega (arith, h)) in
@@ -91,7 +89,7 @@ absent t f (loop u e b rest) h =
 
 pub absent_found : (t : Tag) (b : Body) → times t b ≡ 0 → find_stmt t b ≡ None
 absent_found t done h = refl
-absent_found t (action u (assigns x e) rest) h = rw (no_one (same_tag u t) (omega (arith, h))) (absent_found t rest (omega (arith, h)))
+absent_found t (action u d rest) h = rw (no_one (same_tag u t) (omega (arith, h))) (absent_found t rest (omega (arith, h)))
 absent_found t (branch u e a b rest) h =
     let i : find_stmt t a ≡ None = absent_found t a (omega (arith, h)) in
     let j : find_stmt t b ≡ None = absent_found t b (omega (arith, h)) in
@@ -117,35 +115,32 @@ absent_place t p i (loop u e b rest) h =
 
 -- past a statement in which the tag doesn't stand
 pub at_before : (t : Tag) (f : Stmt → Body → Body) (s : Stmt) (x : Body) → times t (before s done) ≡ 0 → at_part t f (before s x) ≡ before s (at_part t f x)
-at_before t f (Assign u x e) y h = rw (no_one (same_tag u t) (omega (arith, h))) refl
 at_before t f (If u e a b) y h = rw (no_one (same_tag u t) (omega (arith, h)), absent t f a (omega (arith, h)), absent t f b (omega (arith, h))) refl
 at_before t f (While u e b) y h = rw (no_one (same_tag u t) (omega (arith, h)), absent t f b (omega (arith, h))) refl
+at_before t f s y h = rw (no_one (same_tag (tag_of s) t) (omega (arith, h))) refl
 
 pub find_before : (t : Tag) (s : Stmt) (x : Body) → times t (before s done) ≡ 0 → find_stmt t (before s x) ≡ find_stmt t x
-find_before t (Assign u x e) y h = rw (no_one (same_tag u t) (omega (arith, h))) refl
 find_before t (If u e a b) y h = rw (no_one (same_tag u t) (omega (arith, h)), absent_found t a (omega (arith, h)), absent_found t b (omega (arith, h))) refl
 find_before t (While u e b) y h = rw (no_one (same_tag u t) (omega (arith, h)), absent_found t b (omega (arith, h))) refl
+find_before t s y h = rw (no_one (same_tag (tag_of s) t) (omega (arith, h))) refl
 
 pub place_before : (t : Tag) (p : Parent) (i : ℕ) (s : Stmt) (x : Body) → times t (before s done) ≡ 0 → place_from t p i (before s x) ≡ place_from t p (i + 1) x
-place_before t p i (Assign u x e) y h = rw (no_one (same_tag u t) (omega (arith, h))) refl
 place_before t p i (If u e a b) y h = rw (no_one (same_tag u t) (omega (arith, h)), absent_place t (Some (u, true)) 0 a (omega (arith, h)), absent_place t (Some (u, false)) 0 b (omega (arith, h))) refl
 place_before t p i (While u e b) y h = rw (no_one (same_tag u t) (omega (arith, h)), absent_place t (Some (u, true)) 0 b (omega (arith, h))) refl
+place_before t p i s y h = rw (no_one (same_tag (tag_of s) t) (omega (arith, h))) refl
 
 -- at the part itself
 pub at_head : (t : Tag) (f : Stmt → Body → Body) (s : Stmt) (x : Body) → same_tag (tag_of s) t ≡ true → at_part t f (before s x) ≡ f s x
-at_head t f (Assign u x e) y h = rw h refl
 at_head t f (If u e a b) y h = rw h refl
-at_head t f (While u e b) y h = rw h refl
+at_head t f s y h = rw h refl
 
 find_head : (t : Tag) (s : Stmt) (x : Body) → same_tag (tag_of s) t ≡ true → find_stmt t (before s x) ≡ Some s
-find_head t (Assign u x e) y h = rw h refl
 find_head t (If u e a b) y h = rw h refl
-find_head t (While u e b) y h = rw h refl
+find_head t s y h = rw h refl
 
 place_head : (t : Tag) (p : Parent) (i : ℕ) (s : Stmt) (x : Body) → same_tag (tag_of s) t ≡ true → place_from t p i (before s x) ≡ Some (record { parent = p; at = i })
-place_head t p i (Assign u x e) y h = rw h refl
 place_head t p i (If u e a b) y h = rw h refl
-place_head t p i (While u e b) y h = rw h refl
+place_head t p i s y h = rw h refl
 
 -- at the part, wherever it stands
 pub at_plug : (t : Tag) (f : Stmt → Body → Body) (c : Around) (s : Stmt) (x : Body) → times t (plug c done) ≡ 0 → same_tag (tag_of s) t ≡ true → at_part t f (plug c (before s x)) ≡ plug c (f s x)
@@ -209,9 +204,14 @@ wider t a s d body w f = record {
 
 pub found_in : (t : Tag) (body : Body) (s : Stmt) → find_stmt t body ≡ Some s → FoundIn t body s
 found_in t done s h = absurd (grind (arith, h))
-found_in t (action u (assigns x e) rest) s h = elim (if_some (same_tag u t) (Assign u x e) s (find_stmt t rest) h) [
-  | inl p ↦ record { around = here; rest = rest; is = ap (λ y. before y rest) p.1; tag = subst (λ y. same_tag (tag_of y) t ≡ true) p.1 p.0 }
-  | inr q ↦ wider t rest s (past (Assign u x e) here) (action u (assigns x e) rest) (λ y i. ap (action u (assigns x e)) (sym i)) (found_in t rest s q)
+found_in t (action u d rest) s h = elim (if_some (same_tag u t) (stmt_by u d) s (find_stmt t rest) h) [
+  | inl p ↦ record {
+    around = here;
+    rest = rest;
+    is = sym (before_stmt u d rest) ∙ ap (λ y. before y rest) p.1;
+    tag = subst (λ y. same_tag (tag_of y) t ≡ true) p.1 (ap (λ v. same_tag v t) (tag_stmt u d) ∙ p.0);
+  }
+  | inr q ↦ wider t rest s (past (stmt_by u d) here) (action u d rest) (λ y i. ap (action u d) (sym i) ∙ sym (before_stmt u d y)) (found_in t rest s q)
 ]
 found_in t (branch u e a b rest) s h = elim (if_some (same_tag u t) (If u e a b) s (option_or (find_stmt t a) (option_or (find_stmt t b) (find_stmt t rest))) h) [
   | inl p ↦ record { around = here; rest = rest; is = ap (λ y. before y rest) p.1; tag = subst (λ y. same_tag (tag_of y) t ≡ true) p.1 p.0 }

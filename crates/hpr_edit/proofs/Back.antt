@@ -7,7 +7,7 @@ use Rattle.hpr_terms.specs.declared.tag.Tag.{Tag}
 use Rattle.hpr_terms.specs.Names.{IsName}
 use Rattle.hpr_terms.proofs.Facts.{not_is}
 use Rattle.hpr_syntax.specs.declared.tree.Stmt.{Stmt}
-use Rattle.hpr_syntax.specs.declared.tree.Stmt.TheVariants.{Assign, If, While}
+use Rattle.hpr_syntax.specs.declared.tree.Stmt.TheVariants.{If, While}
 use Rattle.hpr_syntax.specs.declared.rows.Content.{Content}
 use Rattle.hpr_syntax.specs.declared.rows.Content.TheVariants as content
 use Rattle.hpr_syntax.specs.Body.{Body, done, part_count}
@@ -47,19 +47,18 @@ stay_end p t q inv i h s =
     subst (λ y. Stay p y i) e.0 (subst (λ y. Stay p t y) e.1 s)
 
 times_made : (u t : Tag) (c : Content) (s : Stmt) → is_assignment c ≡ false → times u (before s done) ≤ times u (before (made t c (before s done) done) done)
-times_made u t (content.Assign x e) s h = absurd cc
 times_made u t (content.If e) s h = omega arith
 times_made u t (content.While e) s h = omega arith
+times_made u t c s h = absurd cc
 
 times_left : (u : Tag) (s : Stmt) (rest : Body) → times u (before s rest) ≤ times u (unwrapped s rest) + one_if (same_tag (tag_of s) u)
-times_left u (Assign t x e) rest = omega arith
 times_left u (If t e a b) rest = omega (arith, times_joined u a (joined b rest), times_joined u b rest)
 times_left u (While t e b) rest = omega (arith, times_joined u b rest)
+times_left u s rest = omega arith
 
 own_tag : (u : Tag) (s : Stmt) (rest : Body) → one_if (same_tag (tag_of s) u) ≤ times u (before s rest)
-own_tag u (Assign t x e) rest = omega arith
 own_tag u (If t e a b) rest = omega arith
-own_tag u (While t e b) rest = omega arith
+own_tag u s rest = omega arith
 
 pub stay : (p : Tree) → IsProgram p → (c : Command) (author : ℕ) (q : Tree) (i : Inverse) → edited p c author ≡ becomes q i → Stay p q i
 stay p is (Insert place c) author q i h =

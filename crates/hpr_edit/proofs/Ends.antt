@@ -3,7 +3,6 @@ use Rattle.std.proofs.Common.{◌≡◌, ◌≢◌, ℕ, ◌≤◌, Bool, true, 
 use Rattle.std.proofs.lemmas.Option.{same_Some}
 use Rattle.hpr_terms.specs.declared.tag.Tag.{Tag}
 use Rattle.hpr_syntax.specs.declared.tree.Stmt.{Stmt}
-use Rattle.hpr_syntax.specs.Action.{assigns}
 use Rattle.hpr_syntax.specs.Body.{Body, done, action, branch, loop}
 use Rattle.hpr_syntax.specs.Parts.{same_tag}
 use Rattle.hpr_syntax.specs.Tree.{Tree}
@@ -24,8 +23,8 @@ times_if false x y u n h k = k
 
 times_gone : (t u : Tag) (b : Body) → times u (at_part t gone b) ≤ times u b
 times_gone t u done = omega arith
-times_gone t u (action v (assigns x e) rest) =
-    times_if (same_tag v t) rest (action v (assigns x e) (at_part t gone rest)) u _ (omega arith) (omega (arith, times_gone t u rest))
+times_gone t u (action v d rest) =
+    times_if (same_tag v t) rest (action v d (at_part t gone rest)) u _ (omega arith) (omega (arith, times_gone t u rest))
 times_gone t u (branch v e a b rest) =
     times_if (same_tag v t) rest (branch v e (at_part t gone a) (at_part t gone b) (at_part t gone rest)) u _ (omega arith) (omega (arith, times_gone t u a, times_gone t u b, times_gone t u rest))
 times_gone t u (loop v e b rest) =

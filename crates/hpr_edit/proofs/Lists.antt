@@ -9,9 +9,8 @@ use Rattle.std.proofs.lemmas.List.Edits.{length-remove}
 use Rattle.hpr_terms.specs.declared.tag.Tag.{Tag}
 use Rattle.hpr_terms.specs.declared.expr.Expr.{Expr}
 use Rattle.hpr_syntax.specs.declared.tree.Stmt.{Stmt}
-use Rattle.hpr_syntax.specs.declared.tree.Stmt.TheVariants.{Assign, If, While}
+use Rattle.hpr_syntax.specs.declared.tree.Stmt.TheVariants.{If, While}
 use Rattle.hpr_syntax.specs.declared.rows.Content.{Content}
-use Rattle.hpr_syntax.specs.Action.{assigns}
 use Rattle.hpr_syntax.specs.Body.{Body, done, action, branch, loop}
 use Rattle.hpr_syntax.specs.BodyOf.{before, body_of}
 use Rattle.hpr_syntax.specs.Parts.{same_tag, tag_of}
@@ -32,9 +31,8 @@ body_of_append [] q = refl
 body_of_append (s ∷ p) q = ap (before s) (body_of_append p q)
 
 pub joined_before : (s : Stmt) (b rest : Body) → joined (before s b) rest ≡ before s (joined b rest)
-joined_before (Assign t x e) b rest = refl
 joined_before (If t e x y) b rest = refl
-joined_before (While t e x) b rest = refl
+joined_before s b rest = refl
 
 pub joined_onto : (p : List Stmt) (b : Body) → joined (body_of p) b ≡ onto p b
 joined_onto [] b = refl
@@ -45,21 +43,20 @@ joined_append p q = body_of_append p q ∙ sym (joined_onto p (body_of q))
 
 pub joined_twice : (a b c : Body) → joined (joined a b) c ≡ joined a (joined b c)
 joined_twice done b c = refl
-joined_twice (action t (assigns x e) rest) b c = ap (action t (assigns x e)) (joined_twice rest b c)
+joined_twice (action t d rest) b c = ap (action t d) (joined_twice rest b c)
 joined_twice (branch t e x y rest) b c = ap (branch t e x y) (joined_twice rest b c)
 joined_twice (loop t e x rest) b c = ap (loop t e x) (joined_twice rest b c)
 
 pub joined_done : (a : Body) → joined a done ≡ a
 joined_done done = refl
-joined_done (action t (assigns x e) rest) = ap (action t (assigns x e)) (joined_done rest)
+joined_done (action t d rest) = ap (action t d) (joined_done rest)
 joined_done (branch t e x y rest) = ap (branch t e x y) (joined_done rest)
 joined_done (loop t e x rest) = ap (loop t e x) (joined_done rest)
 
 pub width_body : (xs : List Stmt) → width (body_of xs) ≡ length xs
 width_body [] = refl
-width_body (Assign t x e ∷ xs) = omega (arith, width_body xs)
 width_body (If t e a b ∷ xs) = omega (arith, width_body xs)
-width_body (While t e b ∷ xs) = omega (arith, width_body xs)
+width_body (s ∷ xs) = omega (arith, width_body xs)
 
 -- a change from a place on
 pub from_le : (g : Body → Body) (n : ℕ) (xs : List Stmt) → n ≤ length xs → from n g (body_of xs) ≡ onto (take n xs) (g (body_of (drop n xs)))
@@ -80,9 +77,8 @@ from_onto g (s ∷ p) b (suc n) h = from_before n g s (onto p b) ∙ ap (before 
 
 -- a change of the part at a place
 on_first_before : (f : Stmt → Body → Body) (s : Stmt) (b : Body) → on_first f (before s b) ≡ f s b
-on_first_before f (Assign t x e) b = refl
 on_first_before f (If t e x y) b = refl
-on_first_before f (While t e x) b = refl
+on_first_before f s b = refl
 
 pub from_at : (f : Stmt → Body → Body) (n : ℕ) (xs : List Stmt) (d : Stmt) → n < length xs → from n (on_first f) (body_of xs) ≡ onto (take n xs) (f (get_or xs n d) (body_of (drop (suc n) xs)))
 from_at f n [] d h = absurd (omega (arith, h))
@@ -119,14 +115,12 @@ set_at_place f n xs y d h e =
     replaced n xs y h ∙ ap (onto (take n xs)) (e (body_of (drop (suc n) xs))) ∙ sym (from_at f n xs d h)
 
 pub said_with : (c : Content) (s : Stmt) (r : Body) → before (with_content c s) r ≡ saying c s r
-said_with c (Assign t x e) r = refl
-said_with c (If t e a b) r = refl
-said_with c (While t e b) r = refl
+said_with c s r = refl
 
 pub unwrapped_rest : (s : Stmt) (rest : Body) → unwrapped s rest ≡ joined (unwrapped s done) rest
-unwrapped_rest (Assign t x e) rest = refl
 unwrapped_rest (If t e a b) rest = ap (joined a) (ap (λ y. joined y rest) (sym (joined_done b))) ∙ sym (joined_twice a (joined b done) rest)
 unwrapped_rest (While t e b) rest = sym (joined_twice b done rest)
+unwrapped_rest s rest = refl
 
 take_seam : (p q : List Stmt) (n : ℕ) → length p ≡ n → take n (p ++ q) ≡ p
 take_seam p q n h = ap (λ k. take k (p ++ q)) (sym h) ∙ take-append_seam p q
@@ -153,16 +147,14 @@ poured_at n xs ys d h e =
 pub firsts_take : (n : ℕ) (xs : List Stmt) → body_of (take n xs) ≡ firsts n (body_of xs)
 firsts_take zero xs = refl
 firsts_take (suc n) [] = refl
-firsts_take (suc n) (Assign t x e ∷ xs) = ap (action t (assigns x e)) (firsts_take n xs)
 firsts_take (suc n) (If t e a b ∷ xs) = ap (branch t e a b) (firsts_take n xs)
-firsts_take (suc n) (While t e b ∷ xs) = ap (loop t e b) (firsts_take n xs)
+firsts_take (suc n) (s ∷ xs) = ap (before s) (firsts_take n xs)
 
 pub later_drop : (n : ℕ) (xs : List Stmt) → body_of (drop n xs) ≡ later n (body_of xs)
 later_drop zero xs = refl
 later_drop (suc n) [] = refl
-later_drop (suc n) (Assign t x e ∷ xs) = later_drop n xs
 later_drop (suc n) (If t e a b ∷ xs) = later_drop n xs
-later_drop (suc n) (While t e b ∷ xs) = later_drop n xs
+later_drop (suc n) (s ∷ xs) = later_drop n xs
 
 -- the walk to a part: those before a place don't hold it
 pub at_after : (t : Tag) (f : Stmt → Body → Body) (n : ℕ) (xs : List Stmt) (d : Stmt) → n < length xs → times t (body_of (take n xs)) ≡ 0
@@ -203,9 +195,9 @@ at_it t f n xs d h z is =
 
 -- a part that holds it but isn't it
 at_holding : (t : Tag) (f : Stmt → Body → Body) (s : Stmt) (rest : Body) → same_tag (tag_of s) t ≡ false → times t rest ≡ 0 → at_part t f (before s rest) ≡ before (in_part t f s) rest
-at_holding t f (Assign u x e) rest h z = rw h (ap (action u (assigns x e)) (absent t f rest z))
 at_holding t f (If u e a b) rest h z = rw h (ap (branch u e (at_part t f a) (at_part t f b)) (absent t f rest z))
 at_holding t f (While u e b) rest h z = rw h (ap (loop u e (at_part t f b)) (absent t f rest z))
+at_holding t f s rest h z = rw h (ap (before s) (absent t f rest z))
 
 pub at_in : (t : Tag) (f : Stmt → Body → Body) (n : ℕ) (xs : List Stmt) (d y : Stmt) → n < length xs → times t (body_of (take n xs)) ≡ 0 → same_tag (tag_of (get_or xs n d)) t ≡ false
     → times t (body_of (drop (suc n) xs)) ≡ 0 → y ≡ in_part t f (get_or xs n d) → body_of (set xs n y) ≡ at_part t f (body_of xs)
@@ -217,12 +209,12 @@ at_in t f n xs d y h z is r e =
 
 -- a part that doesn't hold it
 pub not_in : (t : Tag) (f : Stmt → Body → Body) (s : Stmt) → times t (before s done) ≡ 0 → in_part t f s ≡ s
-not_in t f (Assign u x e) h = refl
 not_in t f (If u e a b) h =
     let i : at_part t f a ≡ a = absent t f a (omega (arith, h)) in
     let j : at_part t f b ≡ b = absent t f b (omega (arith, h)) in cc
 not_in t f (While u e b) h =
     let j : at_part t f b ≡ b = absent t f b (omega (arith, h)) in cc
+not_in t f s h = refl
 
 -- a part that was found through a reference
 pub copied_some : {A : Type 0} (o : Option (Bor A)) → is_some (option_copied o) ≡ is_some o
@@ -234,17 +226,15 @@ firsts_all : (n : ℕ) (xs : List Stmt) → length xs ≤ n → firsts n (body_o
 firsts_all zero [] h = refl
 firsts_all zero (s ∷ xs) h = absurd (omega (arith, h))
 firsts_all (suc n) [] h = refl
-firsts_all (suc n) (Assign t x e ∷ xs) h = ap (action t (assigns x e)) (firsts_all n xs (omega (arith, h)))
 firsts_all (suc n) (If t e a b ∷ xs) h = ap (branch t e a b) (firsts_all n xs (omega (arith, h)))
-firsts_all (suc n) (While t e b ∷ xs) h = ap (loop t e b) (firsts_all n xs (omega (arith, h)))
+firsts_all (suc n) (s ∷ xs) h = ap (before s) (firsts_all n xs (omega (arith, h)))
 
 later_all : (n : ℕ) (xs : List Stmt) → length xs ≤ n → later n (body_of xs) ≡ done
 later_all zero [] h = refl
 later_all zero (s ∷ xs) h = absurd (omega (arith, h))
 later_all (suc n) [] h = refl
-later_all (suc n) (Assign t x e ∷ xs) h = later_all n xs (omega (arith, h))
 later_all (suc n) (If t e a b ∷ xs) h = later_all n xs (omega (arith, h))
-later_all (suc n) (While t e b ∷ xs) h = later_all n xs (omega (arith, h))
+later_all (suc n) (s ∷ xs) h = later_all n xs (omega (arith, h))
 
 least : (b : Bool) (n k m : ℕ) → leb n k ≡ b → m ≡ min n k → (m ≡ n) ⊎ ((k ≤ m) × (k ≤ n))
 least true n k m e h = inl (omega (arith, leb-true n k e, h))

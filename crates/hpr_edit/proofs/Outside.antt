@@ -9,7 +9,7 @@ use Rattle.hpr_syntax.specs.declared.tree.Stmt.{Stmt}
 use Rattle.hpr_syntax.specs.declared.tree.Stmt.TheVariants as stmt
 use Rattle.hpr_syntax.specs.declared.rows.Row.{Row}
 use Rattle.hpr_syntax.specs.declared.rows.Content.{Content}
-use Rattle.hpr_syntax.specs.declared.rows.Content.TheVariants.{Assign, If, While}
+use Rattle.hpr_syntax.specs.declared.rows.Content.TheVariants.{If, While}
 use Rattle.hpr_syntax.specs.Rows.{content_by}
 use Rattle.hpr_syntax.specs.Body.{Body, done, action, branch, loop}
 use Rattle.hpr_syntax.specs.BodyOf.{before}
@@ -77,9 +77,8 @@ listed_append (loop t e b rest) p q =
     ap (λ r. (t, While e) ∷ r) (ap (listed b) (listed_append rest p q) ∙ listed_append b (listed rest p) q)
 
 listed_rest : (s : Stmt) (x : Body) (after : List (Tag × Content)) → listed (before s x) after ≡ listed (before s done) (listed x after)
-listed_rest (stmt.Assign t y e) x after = refl
 listed_rest (stmt.If t e a b) x after = refl
-listed_rest (stmt.While t e b) x after = refl
+listed_rest s x after = refl
 
 record Split (c : Around) (after : List (Tag × Content)) : Type 0 where
   ahead : List (Tag × Content)
@@ -166,27 +165,24 @@ same_gone s rest after =
     ∙ none_told (tags_of (before s done) []) (before s done) (λ u k. among u (tags_of (before s done) []) (omega (arith, k, counted u (before s done) []))) (listed rest after))
 
 same_new : (t : Tag) (c : Content) (rest : Body) → Same (t ∷ []) (before (made t c done done) rest) rest
-same_new t (Assign x e) rest after = alone t (Assign x e) (listed rest after)
 same_new t (If e) rest after = alone t (If e) (listed rest after)
-same_new t (While e) rest after = alone t (While e) (listed rest after)
+same_new t c rest after = alone t c (listed rest after)
 
 same_said : (c : Content) (s : Stmt) (rest : Body) → same_kind c (content_of s) ≡ true → Same (tag_of s ∷ []) (saying c s rest) (before s rest)
-same_said (Assign x e) (stmt.Assign t y f) rest h after = alone t (Assign x e) (listed rest after) ∙ sym (alone t (Assign y f) (listed rest after))
 same_said (If e) (stmt.If t f a b) rest h after = alone t (If e) (listed a (listed b (listed rest after))) ∙ sym (alone t (If f) (listed a (listed b (listed rest after))))
 same_said (While e) (stmt.While t f b) rest h after = alone t (While e) (listed b (listed rest after)) ∙ sym (alone t (While f) (listed b (listed rest after)))
-same_said (Assign x e) (stmt.If t f a b) rest h after = absurd cc
-same_said (Assign x e) (stmt.While t f b) rest h after = absurd cc
-same_said (If e) (stmt.Assign t y f) rest h after = absurd cc
-same_said (If e) (stmt.While t f b) rest h after = absurd cc
-same_said (While e) (stmt.Assign t y f) rest h after = absurd cc
-same_said (While e) (stmt.If t f a b) rest h after = absurd cc
+same_said (If e) s rest h after = absurd cc
+same_said (While e) s rest h after = absurd cc
+same_said c (stmt.If t f a b) rest h after = absurd cc
+same_said c (stmt.While t f b) rest h after = absurd cc
+same_said c s rest h after = alone (tag_of s) c (listed rest after) ∙ sym (alone (tag_of s) (content_of s) (listed rest after))
 
 same_wrapped : (t : Tag) (c : Content) (s : Stmt) (rest : Body) → is_assignment c ≡ false → Same (t ∷ []) (wrapped t c s rest) (before s rest)
-same_wrapped t (Assign x e) s rest h after = absurd cc
 same_wrapped t (If e) s rest h after =
     alone t (If e) (listed (before s done) (listed rest after)) ∙ ap (filter (is_other (t ∷ []))) (sym (listed_rest s rest after))
 same_wrapped t (While e) s rest h after =
     alone t (While e) (listed (before s done) (listed rest after)) ∙ ap (filter (is_other (t ∷ []))) (sym (listed_rest s rest after))
+same_wrapped t c s rest h after = absurd cc
 
 listed_joined : (a x : Body) (after : List (Tag × Content)) → listed (joined a x) after ≡ listed a (listed x after)
 listed_joined done x after = refl
@@ -195,12 +191,12 @@ listed_joined (branch t e a b rest) x after = ap (λ r. (t, If e) ∷ listed a (
 listed_joined (loop t e b rest) x after = ap (λ r. (t, While e) ∷ listed b r) (listed_joined rest x after)
 
 same_unwrapped : (s : Stmt) (rest : Body) → is_assignment (content_of s) ≡ false → Same (tag_of s ∷ []) (unwrapped s rest) (before s rest)
-same_unwrapped (stmt.Assign t x e) rest h after = absurd cc
 same_unwrapped (stmt.If t e a b) rest h after =
     ap (filter (is_other (t ∷ []))) (listed_joined a (joined b rest) after ∙ ap (listed a) (listed_joined b rest after))
     ∙ sym (alone t (If e) (listed a (listed b (listed rest after))))
 same_unwrapped (stmt.While t e b) rest h after =
     ap (filter (is_other (t ∷ []))) (listed_joined b rest after) ∙ sym (alone t (While e) (listed b (listed rest after)))
+same_unwrapped s rest h after = absurd cc
 
 -- a change at a part
 at_others : (ts : List Tag) (t : Tag) (body : Body) (s : Stmt) (old : _) (f : Stmt → Body → Body) (k : Known t body s old) → Same ts (f s k.rest) (before s k.rest) → others ts (at_part t f body) ≡ others ts body

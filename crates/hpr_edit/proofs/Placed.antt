@@ -3,13 +3,13 @@ use Rattle.std.proofs.Common.{◌≡◌, ℕ, zero, suc, ◌+◌, ◌≤◌, Boo
 use Rattle.std.proofs.lemmas.Bool.{leb-true}
 use Rattle.hpr_terms.specs.declared.tag.Tag.{Tag}
 use Rattle.hpr_syntax.specs.declared.tree.Stmt.{Stmt}
-use Rattle.hpr_syntax.specs.declared.tree.Stmt.TheVariants.{Assign, If, While}
-use Rattle.hpr_syntax.specs.Action.{assigns}
+use Rattle.hpr_syntax.specs.declared.tree.Stmt.TheVariants.{If, While}
 use Rattle.hpr_syntax.specs.Body.{Body, done, action, branch, loop}
 use Rattle.hpr_syntax.specs.BodyOf.{before}
 use Rattle.hpr_syntax.specs.Parts.{same_tag, find_stmt}
-use Rattle.hpr_syntax.specs.Rows.{Parent}
+use Rattle.hpr_syntax.specs.Rows.{Parent, stmt_by}
 use Rattle.hpr_syntax.proofs.TagLemmas.{same_tag_itself}
+use Rattle.hpr_syntax.proofs.ByStructure.{before_stmt}
 use Rattle.hpr_edit.specs.declared.command.Place.{Place}
 use Rattle.hpr_edit.specs.Places.{width, block_in, block_in_found, block_at, is_within, is_place}
 use Rattle.hpr_edit.specs.InPlace.{times}
@@ -21,9 +21,8 @@ abbrev pub entering : Bool → ℕ → (Body → Body) → Stmt → Body → Bod
 entering w j g s rest = before (with_block w (from j g) s) rest
 
 pub from_before : (n : ℕ) (g : Body → Body) (s : Stmt) (b : Body) → from (suc n) g (before s b) ≡ before s (from n g b)
-from_before n g (Assign t x e) b = refl
 from_before n g (If t e x y) b = refl
-from_before n g (While t e x) b = refl
+from_before n g s b = refl
 
 from_more : (n : ℕ) (g : Body → Body) (s : Stmt) (b : Body) → from (n + 1) g (before s b) ≡ before s (from n g b)
 from_more n g s b = let e : n + 1 ≡ suc n = omega arith in rw e (from_before n g s b)
@@ -161,7 +160,7 @@ flat_more n s rest f = record {
 flat_in : (n : ℕ) (body : Body) → n ≤ width body → FlatIn n body
 flat_in zero body h = record { around = here; rest = body; is = refl; change = λ g. refl }
 flat_in (suc n) done h = absurd (omega (arith, h))
-flat_in (suc n) (action t (assigns x e) rest) h = flat_more n (Assign t x e) rest (flat_in n rest (omega (arith, h)))
+flat_in (suc n) (action t d rest) h = subst (FlatIn (suc n)) (before_stmt t d rest) (flat_more n (stmt_by t d) rest (flat_in n rest (omega (arith, h))))
 flat_in (suc n) (branch t e a b rest) h = flat_more n (If t e a b) rest (flat_in n rest (omega (arith, h)))
 flat_in (suc n) (loop t e b rest) h = flat_more n (While t e b) rest (flat_in n rest (omega (arith, h)))
 
@@ -174,11 +173,10 @@ record BlockIn (w : Bool) (s : Stmt) (rest : Body) : Type 0 where
   change : (f : Body → Body) → before (with_block w f s) rest ≡ plug around (f block)
 
 block_of : (w : Bool) (s : Stmt) (rest : Body) (n : ℕ) → is_within n (block_in w s) ≡ true → BlockIn w s rest
-block_of w (Assign t x e) rest n h = absurd cc
 block_of true (If t e a b) rest n h = record { around = first t e here b rest; block = a; some = refl; is = refl; change = λ f. refl }
 block_of false (If t e a b) rest n h = record { around = second t e a here rest; block = b; some = refl; is = refl; change = λ f. refl }
 block_of true (While t e b) rest n h = record { around = inside t e here rest; block = b; some = refl; is = refl; change = λ f. refl }
-block_of false (While t e b) rest n h = absurd cc
+block_of w s rest n h = absurd cc
 
 deep_in : (t : Tag) (w : Bool) (n : ℕ) (body : Body) (s : Stmt) → times t body ≤ 1 → find_stmt t body ≡ Some s → is_within n (block_in w s) ≡ true → PlacedIn (record { parent = Some (t, w); at = n }) body
 deep_in t w n body s le fs h =

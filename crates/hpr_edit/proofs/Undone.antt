@@ -3,10 +3,9 @@ use Rattle.std.proofs.Common.{◌≡◌, ℕ, ◌+◌, ◌≤◌, Bool, true, fa
 use Rattle.hpr_terms.specs.declared.tag.Tag.{Tag}
 use Rattle.hpr_terms.proofs.Facts.{not_is}
 use Rattle.hpr_syntax.specs.declared.tree.Stmt.{Stmt}
-use Rattle.hpr_syntax.specs.declared.tree.Stmt.TheVariants.{Assign, If, While}
+use Rattle.hpr_syntax.specs.declared.tree.Stmt.TheVariants.{If, While}
 use Rattle.hpr_syntax.specs.declared.rows.Content.{Content}
 use Rattle.hpr_syntax.specs.declared.rows.Content.TheVariants as content
-use Rattle.hpr_syntax.specs.Action.{assigns}
 use Rattle.hpr_syntax.specs.Body.{Body, done, action, branch, loop}
 use Rattle.hpr_syntax.specs.BodyOf.{before}
 use Rattle.hpr_syntax.specs.Parts.{same_tag, tag_of, find_stmt}
@@ -104,9 +103,8 @@ known_back t body s old k g x le e =
 
 -- Insert
 tag_made : (t : Tag) (c : Content) (a b : Body) → tag_of (made t c a b) ≡ t
-tag_made t (content.Assign x e) a b = refl
 tag_made t (content.If e) a b = refl
-tag_made t (content.While e) a b = refl
+tag_made t c a b = refl
 
 same_made : (t : Tag) (c : Content) (a b : Body) → same_tag (tag_of (made t c a b)) t ≡ true
 same_made t c a b = rw (tag_made t c a b) (same_tag_itself t)
@@ -150,15 +148,13 @@ pub record Said (c : Content) (s : Stmt) : Type 0 where
   pub back : (rest : Body) → saying (content_of s) stmt rest ≡ before s rest
 
 pub said : (c : Content) (s : Stmt) → same_kind c (content_of s) ≡ true → Said c s
-said (content.Assign x e) (Assign t y f) h = record { stmt = Assign t x e; is = λ r. refl; tag = refl; same = λ u r. refl; back = λ r. refl }
 said (content.If e) (If t f a b) h = record { stmt = If t e a b; is = λ r. refl; tag = refl; same = λ u r. refl; back = λ r. refl }
 said (content.While e) (While t f b) h = record { stmt = While t e b; is = λ r. refl; tag = refl; same = λ u r. refl; back = λ r. refl }
-said (content.Assign x e) (If t f a b) h = absurd cc
-said (content.Assign x e) (While t f b) h = absurd cc
-said (content.If e) (Assign t y f) h = absurd cc
-said (content.If e) (While t f b) h = absurd cc
-said (content.While e) (Assign t y f) h = absurd cc
-said (content.While e) (If t f a b) h = absurd cc
+said (content.If e) s h = absurd cc
+said (content.While e) s h = absurd cc
+said c (If t f a b) h = absurd cc
+said c (While t f b) h = absurd cc
+said c s h = record { stmt = made (tag_of s) c done done; is = λ r. refl; tag = refl; same = λ u r. refl; back = λ r. refl }
 
 set_back : (t : Tag) (body : Body) (s : Stmt) (old : Place) (c : Content) → Known t body s old → same_kind c (content_of s) ≡ true → at_part t (saying (content_of s)) (at_part t (saying c) body) ≡ body
 set_back t body s old c k h =
@@ -170,14 +166,13 @@ set_back t body s old c k h =
 
 -- Wrap
 joined_before : (s : Stmt) (b rest : Body) → joined (before s b) rest ≡ before s (joined b rest)
-joined_before (Assign t x e) b rest = refl
 joined_before (If t e x y) b rest = refl
-joined_before (While t e x) b rest = refl
+joined_before s b rest = refl
 
 unwrapped_made : (t : Tag) (c : Content) (s : Stmt) (rest : Body) → is_assignment c ≡ false → unwrapped (made t c (before s done) done) rest ≡ before s rest
-unwrapped_made t (content.Assign x e) s rest h = absurd cc
 unwrapped_made t (content.If e) s rest h = joined_before s done rest
 unwrapped_made t (content.While e) s rest h = joined_before s done rest
+unwrapped_made t c s rest h = absurd cc
 
 wrap_back : (t new : Tag) (body : Body) (s : Stmt) (old : Place) (c : Content) → Known t body s old → times new body ≡ 0 → is_assignment c ≡ false → at_part new unwrapped (at_part t (wrapped new c) body) ≡ body
 wrap_back t new body s old c k z h =
@@ -189,7 +184,7 @@ wrap_back t new body s old c k z h =
 -- Unwrap
 firsts_joined : (a x : Body) → firsts (width a) (joined a x) ≡ a
 firsts_joined done x = refl
-firsts_joined (action t (assigns y e) rest) x = rw add-one (ap (action t (assigns y e)) (firsts_joined rest x))
+firsts_joined (action t d rest) x = rw add-one (ap (action t d) (firsts_joined rest x))
 firsts_joined (branch t e a b rest) x = rw add-one (ap (branch t e a b) (firsts_joined rest x))
 firsts_joined (loop t e b rest) x = rw add-one (ap (loop t e b) (firsts_joined rest x))
 
@@ -206,14 +201,14 @@ times_joined t (branch u e a b rest) x = omega (arith, times_joined t rest x)
 times_joined t (loop u e b rest) x = omega (arith, times_joined t rest x)
 
 pub times_unwrapped : (u : Tag) (s : Stmt) (rest : Body) → times u (unwrapped s rest) ≤ times u (before s rest)
-times_unwrapped u (Assign t x e) rest = omega arith
 times_unwrapped u (If t e a b) rest = omega (arith, times_joined u a (joined b rest), times_joined u b rest)
 times_unwrapped u (While t e b) rest = omega (arith, times_joined u b rest)
+times_unwrapped u s rest = omega arith
 
 remade : (s : Stmt) (rest : Body) → is_assignment (content_of s) ≡ false → before (made (tag_of s) (content_of s) (first_block s) (second_block s)) rest ≡ before s rest
-remade (Assign t x e) rest h = absurd cc
 remade (If t e a b) rest h = refl
 remade (While t e b) rest h = refl
+remade s rest h = absurd cc
 
 rewrapped_unwrapped : (s : Stmt) (rest : Body) → is_assignment (content_of s) ≡ false → rewrapped (tag_of s) (content_of s) (width (first_block s)) (width (second_block s)) (unwrapped s rest) ≡ before s rest
 rewrapped_unwrapped s rest h =

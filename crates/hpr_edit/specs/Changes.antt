@@ -4,7 +4,7 @@
 -- from n f block         == `f rest` stands in place of the rest of a block from its place n on
 -- with_block w f part    == the part with one of its blocks changed by f
 -- at_place place f body  == `f rest` stands in place of what stands in a body from this place on
--- first_block part       == a loop's body or a conditional's first block; an assignment's is empty
+-- first_block part       == a loop's body or a conditional's first block; of another part it is empty
 -- second_block part      == a conditional's second block; of another part it is empty
 --
 -- In place of a part and of the rest of its block can stand:
@@ -18,21 +18,19 @@
 use Rattle.std.specs.Prelude.{ℕ, zero, suc, Bool, true, false, if◌then◌else◌, Some, None}
 use Rattle.hpr_terms.specs.declared.tag.Tag.{Tag}
 use Rattle.hpr_syntax.specs.declared.tree.Stmt.{Stmt}
-use Rattle.hpr_syntax.specs.declared.tree.Stmt.TheVariants.{Assign, If, While}
+use Rattle.hpr_syntax.specs.declared.tree.Stmt.TheVariants.{If, While}
 use Rattle.hpr_syntax.specs.declared.rows.Content.{Content}
-use Rattle.hpr_syntax.specs.declared.rows.Content.TheVariants as content
-use Rattle.hpr_syntax.specs.Action.{assigns}
 use Rattle.hpr_syntax.specs.Body.{Body, done, action, branch, loop}
 use Rattle.hpr_syntax.specs.BodyOf.{before}
-use Rattle.hpr_syntax.specs.Parts.{same_tag}
-use Rattle.hpr_syntax.specs.Rows.{Parent, made}
+use Rattle.hpr_syntax.specs.Parts.{tag_of, same_tag}
+use Rattle.hpr_syntax.specs.Rows.{Parent, stmt_by, made}
 use Rattle.hpr_edit.specs.declared.command.Place.{Place}
 use Rattle.hpr_edit.specs.Places.{joined}
 
 -- a change at a part; a program has at most one with a tag
 abbrev pub at_part : Tag → (Stmt → Body → Body) → Body → Body
 at_part t f done = done
-at_part t f (action u (assigns x e) rest) = if same_tag u t then f (Assign u x e) rest else action u (assigns x e) (at_part t f rest)
+at_part t f (action u d rest) = if same_tag u t then f (stmt_by u d) rest else action u d (at_part t f rest)
 at_part t f (branch u e a b rest) = if same_tag u t then f (If u e a b) rest else branch u e (at_part t f a) (at_part t f b) (at_part t f rest)
 at_part t f (loop u e b rest) = if same_tag u t then f (While u e b) rest else loop u e (at_part t f b) (at_part t f rest)
 
@@ -44,11 +42,9 @@ from (suc n) f (branch t e a b rest) = branch t e a b (from n f rest)
 from (suc n) f (loop t e b rest) = loop t e b (from n f rest)
 
 abbrev pub with_block : Bool → (Body → Body) → Stmt → Stmt
-with_block w f (Assign t x e) = Assign t x e
-with_block true f (If t e a b) = If t e (f a) b
-with_block false f (If t e a b) = If t e a (f b)
-with_block true f (While t e b) = While t e (f b)
-with_block false f (While t e b) = While t e b
+with_block w f (If t e a b) = if w then If t e (f a) b else If t e a (f b)
+with_block w f (While t e b) = if w then While t e (f b) else While t e b
+with_block w f part = part
 
 -- the block of a body that a place names, changed
 abbrev pub in_block : Parent → (Body → Body) → Body → Body
@@ -60,22 +56,19 @@ abbrev pub at_place : Place → (Body → Body) → Body → Body
 at_place place f body = in_block place.parent (from place.at f) body
 
 abbrev pub first_block : Stmt → Body
-first_block (Assign t x e) = done
 first_block (If t e a b) = a
 first_block (While t e b) = b
+first_block part = done
 
 abbrev pub second_block : Stmt → Body
-second_block (Assign t x e) = done
 second_block (If t e a b) = b
-second_block (While t e b) = done
+second_block part = done
 
 abbrev pub gone : Stmt → Body → Body
 gone part rest = rest
 
 abbrev pub saying : Content → Stmt → Body → Body
-saying c (Assign t x e) rest = before (made t c done done) rest
-saying c (If t e a b) rest = before (made t c a b) rest
-saying c (While t e b) rest = before (made t c b done) rest
+saying c part rest = before (made (tag_of part) c (first_block part) (second_block part)) rest
 
 abbrev pub wrapped : Tag → Content → Stmt → Body → Body
 wrapped t c part rest = before (made t c (before part done) done) rest

@@ -5,8 +5,8 @@
 -- named t body next       == what is next of the part with this tag and of its place; refused where no part has the tag
 -- settled tree inverse    == this tree and inverse; refused where the tree is no program
 -- stands_in parent part   == a place with this parent is in the part
--- is_assignment c         == the content is one of an assignment
--- same_kind c d           == both contents are of assignments, or of conditionals, or of loops
+-- is_assignment c         == the content is one of a part without blocks
+-- same_kind c d           == both contents are of parts without blocks, or of conditionals, or of loops
 -- next_tag author issued  == the tag of the author's next part
 -- is_spent author issued  == the author has no next serial
 -- new_tag author issued   == the tag of the author's next part, if it has a next serial
@@ -15,12 +15,11 @@ use Rattle.std.specs.Prelude.{ℕ, ◌+◌, Bool, true, false, not, nat_le, Opti
 use Rattle.hpr_terms.specs.declared.tag.Tag.{Tag}
 use Rattle.hpr_syntax.specs.declared.tree.Stmt.{Stmt}
 use Rattle.hpr_syntax.specs.declared.rows.Content.{Content}
-use Rattle.hpr_syntax.specs.declared.rows.Content.TheVariants as content
 use Rattle.hpr_syntax.specs.declared.shape.ShapeError.{ShapeError}
 use Rattle.hpr_syntax.specs.Body.{Body, done}
 use Rattle.hpr_syntax.specs.BodyOf.{before}
 use Rattle.hpr_syntax.specs.Parts.{find_stmt}
-use Rattle.hpr_syntax.specs.Rows.{Parent, content_of, made}
+use Rattle.hpr_syntax.specs.Rows.{Parent, content_of, made, structure_of, is_simple, same_structure}
 use Rattle.hpr_syntax.specs.Issued.{Issued, issued_to, raised}
 use Rattle.hpr_syntax.specs.Tree.{Tree}
 use Rattle.hpr_syntax.specs.Shape.{shape}
@@ -63,15 +62,10 @@ stands_in None part = false
 stands_in (Some p) part = is_some (find_stmt p.0 (before part done))
 
 abbrev pub is_assignment : Content → Bool
-is_assignment (content.Assign x e) = true
-is_assignment (content.If e) = false
-is_assignment (content.While e) = false
+is_assignment c = is_simple (structure_of c)
 
 abbrev pub same_kind : Content → Content → Bool
-same_kind (content.Assign x e) (content.Assign y f) = true
-same_kind (content.If e) (content.If f) = true
-same_kind (content.While e) (content.While f) = true
-same_kind _ _ = false
+same_kind c d = same_structure (structure_of c) (structure_of d)
 
 abbrev pub max_serial : ℕ
 max_serial = 4294967295

@@ -13,9 +13,8 @@ use Rattle.std.specs.Prelude.{◌≡◌, ℕ, ◌+◌, Bool, true, false, Option
 use Rattle.std.proofs.Common.{Ok, Err, Bor}
 use Rattle.hpr_terms.specs.declared.tag.Tag.{Tag}
 use Rattle.hpr_syntax.specs.declared.tree.Stmt.{Stmt}
-use Rattle.hpr_syntax.specs.declared.tree.Stmt.TheVariants.{Assign, If, While}
+use Rattle.hpr_syntax.specs.declared.tree.Stmt.TheVariants.{If, While}
 use Rattle.hpr_syntax.specs.declared.rows.Content.{Content}
-use Rattle.hpr_syntax.specs.Action.{assigns}
 use Rattle.hpr_syntax.specs.Body.{Body, done, action, branch, loop}
 use Rattle.hpr_syntax.specs.BodyOf.{before}
 use Rattle.hpr_syntax.specs.Parts.{tag_of, same_tag, find_stmt}
@@ -31,7 +30,7 @@ use Rattle.hpr_edit.specs.declared.command.Inverse.{Inverse}
 use Rattle.hpr_edit.specs.declared.command.EditError.{EditError}
 use Rattle.hpr_edit.specs.declared.command.EditError.TheVariants.{NoTag, Shape, Memory}
 use Rattle.hpr_edit.specs.Places.{place_of}
-use Rattle.hpr_syntax.specs.Rows.{made}
+use Rattle.hpr_syntax.specs.Rows.{stmt_by, made}
 use Rattle.hpr_edit.specs.Changes.{at_part, from, with_block, first_block, second_block, gone, saying, wrapped, unwrapped, rewrapped}
 use Rattle.hpr_edit.specs.Edited.{Edited, becomes, refused, named}
 
@@ -58,14 +57,14 @@ done_by (change.Put w n x) part rest = before (with_block w (from n (put_by x)) 
 
 abbrev pub on_first : (Stmt → Body → Body) → Body → Body
 on_first f done = done
-on_first f (action t (assigns x e) rest) = f (Assign t x e) rest
+on_first f (action t d rest) = f (stmt_by t d) rest
 on_first f (branch t e a b rest) = f (If t e a b) rest
 on_first f (loop t e b rest) = f (While t e b) rest
 
 abbrev pub in_part : Tag → (Stmt → Body → Body) → Stmt → Stmt
-in_part t f (Assign u x e) = Assign u x e
 in_part t f (If u e a b) = If u e (at_part t f a) (at_part t f b)
 in_part t f (While u e b) = While u e (at_part t f b)
+in_part t f part = part
 
 abbrev pub with_content : Content → Stmt → Stmt
 with_content c part = made (tag_of part) c (first_block part) (second_block part)

@@ -10,7 +10,7 @@ use Rattle.std.specs.Prelude.{ℕ, ◌+◌, Bool, true, false, nat_le, if◌then
 use Rattle.std.specs.Option.{option_or}
 use Rattle.hpr_terms.specs.declared.tag.Tag.{Tag}
 use Rattle.hpr_syntax.specs.declared.tree.Stmt.{Stmt}
-use Rattle.hpr_syntax.specs.declared.tree.Stmt.TheVariants.{Assign, If, While}
+use Rattle.hpr_syntax.specs.declared.tree.Stmt.TheVariants.{If, While}
 use Rattle.hpr_syntax.specs.Body.{Body, done, action, branch, loop}
 use Rattle.hpr_syntax.specs.Parts.{same_tag, find_stmt}
 use Rattle.hpr_syntax.specs.Rows.{Parent}
@@ -29,11 +29,9 @@ joined (branch t e a b rest) next = branch t e a b (joined rest next)
 joined (loop t e b rest) next = loop t e b (joined rest next)
 
 abbrev pub block_in : Bool → Stmt → Option Body
-block_in w (Assign t x e) = None
-block_in true (If t e a b) = Some a
-block_in false (If t e a b) = Some b
-block_in true (While t e b) = Some b
-block_in false (While t e b) = None
+block_in w (If t e a b) = if w then Some a else Some b
+block_in w (While t e b) = if w then Some b else None
+block_in w part = None
 
 abbrev pub block_in_found : Bool → Option Stmt → Option Body
 block_in_found w None = None

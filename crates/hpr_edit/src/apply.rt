@@ -16,7 +16,9 @@ ghost use Rattle.hpr_edit.specs.InPlace.{done_by, times, Located, Settles, Answe
 use crate::change::{Change, Put, change_body, put_at_place};
 use crate::command::{Command, EditError, FinalNames, Inverse, Place};
 use crate::places::{is_place, place_of, stands_in, width};
-use hpr_syntax::{Block, Content, Issued, NoMemory, Program, ShapeError, Stmt, content_of};
+use hpr_syntax::{
+    Block, Content, Issued, NoMemory, Program, ShapeError, Stmt, content_of, structure_of,
+};
 use hpr_terms::{Name, Tag, copy_names};
 use std::alloc::Global;
 
@@ -266,30 +268,21 @@ pub(crate) fn next_tag(issued: &Issued, author: u32) -> Option<Tag>
 fn same_kind(content: &Content, part: &Stmt) -> bool
     ensures { result ≡ same_kind content.now (content_of part.now) }
 {
-    match (content, part) {
-        (Content::Assign(_, _), Stmt::Assign(_, _, _)) => true,
-        (Content::If(_), Stmt::If(_, _, _, _)) => true,
-        (Content::While(_), Stmt::While(_, _, _)) => true,
-        _ => false,
-    }
+    content.structure().is_same(structure_of(part))
 }
 
-/// Whether a part is an assignment.
+/// Whether a part has no blocks.
 fn says_assignment(part: &Stmt) -> bool
     ensures { result ≡ is_assignment (content_of part.now) }
 {
-    matches!(part, Stmt::Assign(_, _, _))
+    structure_of(part).is_simple()
 }
 
-/// Whether a content is one of an assignment.
+/// Whether a content is one of a part without blocks.
 fn is_assignment(content: &Content) -> bool
     ensures { result ≡ is_assignment content.now }
 {
-    match content {
-        Content::Assign(_, _) => true,
-        Content::If(_) => false,
-        Content::While(_) => false,
-    }
+    content.structure().is_simple()
 }
 
 /// How many parts a part's two blocks have, without those that stand in them.
@@ -298,9 +291,9 @@ fn widths(part: &Stmt) -> (usize, usize)
     ensures second { result.1 ≡ width (second_block part.now) }
 {
     match part {
-        Stmt::Assign(_, _, _) => (0, 0),
         Stmt::If(_, _, yes, no) => (width(yes), width(no)),
         Stmt::While(_, _, body) => (width(body), 0),
+        _ => (0, 0),
     }
 }
 

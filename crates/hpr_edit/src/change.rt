@@ -95,7 +95,6 @@ fn change_within(
     ensures found { IfOk result (λ found. one_if (same_tag (tag_of stmt.old) tag) + one_if found ≡ times tag (before stmt.old done)) }
 {
     match stmt {
-        Stmt::Assign(_, _, _) => Ok(false),
         Stmt::If(_, _, yes, no) => {
             if change_part(alloc, yes, tag, change)? {
                 return Ok(true);
@@ -103,6 +102,7 @@ fn change_within(
             change_part(alloc, no, tag, change)
         }
         Stmt::While(_, _, body) => change_part(alloc, body, tag, change),
+        _ => Ok(false),
     }
 }
 
@@ -189,9 +189,9 @@ fn take_blocks(alloc: Global, part: &mut Stmt) -> (Block, Block)
     ensures second { result.1 ≡ second_block part.old }
 {
     match part {
-        Stmt::Assign(_, _, _) => (empty(alloc), empty(alloc)),
         Stmt::If(_, _, yes, no) => (take_block(alloc, yes), take_block(alloc, no)),
         Stmt::While(_, _, body) => (take_block(alloc, body), empty(alloc)),
+        _ => (empty(alloc), empty(alloc)),
     }
 }
 
@@ -244,7 +244,6 @@ fn put_in(
     ensures { OnOk result (stmt.new ≡ with_block branch (from place (put_by what.entry)) stmt.old) }
 {
     match stmt {
-        Stmt::Assign(_, _, _) => Ok(()),
         Stmt::If(_, _, yes, no) => {
             if branch {
                 put_into(alloc, yes, place, what)
@@ -259,6 +258,7 @@ fn put_in(
                 Ok(())
             }
         }
+        _ => Ok(()),
     }
 }
 

@@ -23,9 +23,9 @@ fn block_in(stmt: &Stmt, branch: bool) -> Option<&Block>
     ensures { option_copied result ≡ block_in branch stmt.now }
 {
     match stmt {
-        Stmt::Assign(_, _, _) => None,
         Stmt::If(_, _, yes, no) => { if branch { Some(yes) } else { Some(no) } }
         Stmt::While(_, _, body) => { if branch { Some(body) } else { None } }
+        _ => None,
     }
 }
 
@@ -84,11 +84,11 @@ fn place_in(stmt: &Stmt, tag: Tag, parent: Option<(Tag, bool)>, at: usize) -> Op
         return Some(Place { parent, at });
     }
     match stmt {
-        Stmt::Assign(_, _, _) => None,
         Stmt::If(_, _, yes, no) => match place_from(yes, tag, Some((own, true))) {
             Some(place) => Some(place),
             None => place_from(no, tag, Some((own, false))),
         },
         Stmt::While(_, _, body) => place_from(body, tag, Some((own, true))),
+        _ => None,
     }
 }

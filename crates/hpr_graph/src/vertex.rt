@@ -1,7 +1,6 @@
 //! The vertices of a dependence graph.
 ghost use Rattle.std.specs.Prelude.{◌≡◌, ◌↔◌, IfOk, IsTrue};
 ghost use Rattle.std.specs.Option.{option_copied};
-ghost use Rattle.hpr_syntax.specs.Rows.{assigned};
 ghost use Rattle.hpr_graph.specs.Graphs.{name_of};
 
 use hpr_syntax::{Content, Name, NoMemory, Tag};
@@ -42,7 +41,7 @@ impl Vertex {
     {
         match self {
             Vertex::Init(name) => Some(name),
-            Vertex::Part(_, content) => assigned(content),
+            Vertex::Part(_, content) => content.assigned(),
             _ => None,
         }
     }
@@ -57,16 +56,6 @@ impl Vertex {
             Vertex::Part(tag, content) => Ok(Vertex::Part(*tag, content.copy(alloc)?)),
             Vertex::Final(name) => Ok(Vertex::Final(name.copy(alloc)?)),
         }
-    }
-}
-
-/// The name that a part with this content assigns.
-fn assigned(content: &Content) -> Option<&Name>
-    ensures { option_copied result ≡ assigned content.now }
-{
-    match content {
-        Content::Assign(name, _) => Some(name),
-        _ => None,
     }
 }
 

@@ -9,14 +9,14 @@
 -- states_of words       == the state that the words tell, where none is refused, and else the first one that is
 -- refused_word_text r   == the message on a word that is refused
 -- OnState told next r   == r is the refusal of a state word; or r is what next says of the state
-use Rattle.std.specs.Prelude.{◌≡◌, ℕ, ℤ, ◌==◌, ◌&&◌, nat_le, List, [], ◌∷◌, ◌++◌, length, Option, Some, None, option_map, Result, Ok, Err, if◌then◌else◌, codes}
+use Rattle.std.specs.Prelude.{◌≡◌, ℕ, ◌==◌, ◌&&◌, nat_le, List, [], ◌∷◌, ◌++◌, length, Option, Some, None, option_map, Result, Ok, Err, if◌then◌else◌, codes}
 use Rattle.std.specs.Char.{is_digit}
 use Rattle.std.specs.FinMap.{contains_key, from_entries}
 use Rattle.std.specs.List.{after_first, before_first, filter_map, list_all}
 use Rattle.std.specs.Str.Parse.{signed_digits_value}
 use Rattle.hpr_terms.specs.Names.{is_name}
 use Rattle.hpr_syntax.specs.Value.{in_range}
-use Rattle.hpr_syntax.specs.Values.{Values}
+use Rattle.hpr_syntax.specs.Values.{Value, Values}
 use Rattle.hpr_words.specs.Request.{Text}
 use Rattle.hpr_refusals.specs.Reasons.{about}
 use Rattle.hpr_inputs.specs.Decision.{Decision, refuses}
@@ -28,14 +28,14 @@ abbrev pub behind_minus : Text → Text
 behind_minus [] = []
 behind_minus (byte ∷ bytes) = if byte == 45 then bytes else byte ∷ bytes
 
-abbrev pub value_of : Text → Option ℤ
+abbrev pub value_of : Text → Option Value
 value_of text =
     let digits = behind_minus text in
     let number = signed_digits_value 10 text in
     if nat_le 1 (length digits) && (list_all (λ digit. is_digit digit 10) digits && in_range number) then Some number else None
 
 -- 61 is `=`
-abbrev pub assignment : Text → Option (Text × ℤ)
+abbrev pub assignment : Text → Option (Text × Value)
 assignment word =
     let name = before_first (λ byte. byte == 61) word in
     if is_name name then option_map (λ value. (name, value)) (value_of (after_first (λ byte. byte == 61) word)) else None
@@ -43,7 +43,7 @@ assignment word =
 abbrev pub told : List Text → Values
 told words = from_entries (filter_map assignment words)
 
-abbrev pub refusal_of : Values → Option (Text × ℤ) → Option WordRefusal
+abbrev pub refusal_of : Values → Option (Text × Value) → Option WordRefusal
 refusal_of state None = Some Malformed
 refusal_of state (Some given) = if contains_key state given.0 then Some GivenTwice else None
 

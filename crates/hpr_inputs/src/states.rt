@@ -5,7 +5,7 @@ ghost use Rattle.hpr_inputs.specs.ReadsState.{ReadsState, TakesWord};
 
 use crate::answer::Stop;
 use hpr_refusals::about;
-use hpr_run::State;
+use hpr_run::{State, Value};
 use hpr_syntax::{Name, NameError, NoMemory};
 use std::alloc::{AllocError, Global};
 
@@ -69,7 +69,7 @@ fn take_word(alloc: Global, state: &mut State, word: &str) -> Result<(), Stop>
 }
 
 /// The name and the number of a word `name=value`.
-fn read_assignment(alloc: Global, word: &str) -> Result<Option<(Name, i64)>, NoMemory>
+fn read_assignment(alloc: Global, word: &str) -> Result<Option<(Name, Value)>, NoMemory>
     ensures { IfOk result (λ given. given ≡ spec.assignment word.now) }
 {
     match word.split_once('=') {
@@ -86,11 +86,11 @@ fn read_assignment(alloc: Global, word: &str) -> Result<Option<(Name, i64)>, NoM
 }
 
 /// The number that an optional `-` and decimal digits spell.
-fn read_value(text: &str) -> Option<i64>
+fn read_value(text: &str) -> Option<Value>
     ensures { result ≡ spec.value_of text.now }
 {
     if text.starts_with('+') {
         return None;
     }
-    text.parse::<i64>().ok()
+    text.parse::<Value>().ok()
 }

@@ -3,9 +3,12 @@ use Rattle.std.proofs.Common.{◌≡◌, ℕ, suc, ◌+◌, Bool, true, false, L
 use Rattle.std.proofs.lemmas.List.{length-append}
 use Rattle.hpr_terms.specs.declared.tag.Tag.{Tag}
 use Rattle.hpr_syntax.specs.declared.rows.Content.{Content}
-use Rattle.hpr_syntax.specs.declared.rows.Content.TheVariants.{Assign, If, While}
-use Rattle.hpr_syntax.specs.Action.{Action, assigns}
-use Rattle.hpr_syntax.specs.Rows.{content_by}
+use Rattle.hpr_syntax.specs.declared.rows.Content.TheVariants.{If, While}
+use Rattle.hpr_syntax.specs.declared.rows.Structure.{Structure}
+use Rattle.hpr_syntax.specs.declared.rows.Structure.TheVariants.{Simple, Conditional, Loop}
+use Rattle.hpr_syntax.specs.Action.{Action}
+use Rattle.hpr_syntax.specs.Rows.{content_by, structure_of}
+use Rattle.hpr_syntax.proofs.ByStructure.{structure_by}
 use Rattle.hpr_syntax.specs.Body.{Body, done, action, branch, loop}
 use Rattle.hpr_syntax.specs.Skeleton.{at, StandsIn, Distinct, skeleton}
 use Rattle.hpr_syntax.specs.Nests.{Standing, StandsAs, StandsAsIn}
@@ -15,13 +18,16 @@ use Rattle.hpr_meaning.proofs.CommonLoops.{BeginsWith, nest_begins}
 use Rattle.hpr_paths.proofs.Says.{standing_one}
 use Rattle.hpr_syntax.specs.Rows.{Parent}
 
+abbrev pub nest_under : Structure → Tag → List Tag → List Tag
+nest_under Simple t nest = nest
+nest_under Conditional t nest = nest
+nest_under Loop t nest = nest ++ (t ∷ [])
+
 abbrev pub own_nest : Content → Tag → List Tag → List Tag
-own_nest (Assign x e) t nest = nest
-own_nest (If e) t nest = nest
-own_nest (While e) t nest = nest ++ (t ∷ [])
+own_nest c t nest = nest_under (structure_of c) t nest
 
 own_said : (d : Action) (t : Tag) (nest : List Tag) → own_nest (content_by d) t nest ≡ nest
-own_said (assigns x e) t nest = refl
+own_said d t nest = ap (λ (s : Structure). nest_under s t nest) (structure_by d)
 
 pub data Chain (p : Body) : Tag → List Tag → Type 0 where
   top : {t : Tag} (r : Standing) → StandsAsIn p t r → r.parent ≡ None → Chain p t (own_nest r.content t [])

@@ -2,7 +2,6 @@
 use Rattle.std.proofs.Common.{◌≡◌, ℕ, zero, suc, ◌+◌, Bool, true, false, List, [], ◌∷◌, ◌++◌, ◌⊎◌, Some, length, refl, ap, subst, ◌∙◌, inl, inr, arith, append_assoc, append-nil}
 use Rattle.hpr_terms.specs.declared.tag.Tag.{Tag}
 use Rattle.hpr_syntax.specs.Parts.{same_tag}
-use Rattle.hpr_syntax.specs.Action.{assigns}
 use Rattle.hpr_syntax.specs.Body.{Body, done, action, branch, loop}
 use Rattle.hpr_syntax.specs.Skeleton.{Skeleton, round, at, StandsIn, Distinct, skeleton}
 use Rattle.hpr_syntax.specs.Nests.{Standing, StandsAs}
@@ -78,8 +77,8 @@ AreCounted B nest v w r s = (c : ℕ) × HaveCommon B (at v) (at w) c × (common
 pub loops_counted : (B : Body) (nest : List Tag) (up : Parent) → Distinct (skeleton B) → (v w : Tag) (r s : Standing) → StandsAs nest up B v r → StandsAs nest up B w s
     → AreCounted (skeleton B) nest v w r.nest s.nest
 loops_counted done nest up di v w r s h g = absurd h
-loops_counted (action t (assigns x e) rest) nest up di v w r s (inl h) g =
-    (0, inl (inl (ap at h.0, standing_in (action t (assigns x e) rest) nest up w s g), refl), first_is_nest nest r.nest s.nest _ (ap (λ (q : Standing). q.nest) h.1) (nest_begins (action t (assigns x e) rest) nest up w s g))
+loops_counted (action t action_ rest) nest up di v w r s (inl h) g =
+    (0, inl (inl (ap at h.0, standing_in (action t action_ rest) nest up w s g), refl), first_is_nest nest r.nest s.nest _ (ap (λ (q : Standing). q.nest) h.1) (nest_begins (action t action_ rest) nest up w s g))
 loops_counted (action t d rest) nest up di v w r s (inr h) (inl g) =
     (0, inl (inr (inr (standing_in rest nest up v r h), ap at g.0), refl), second_is_nest nest r.nest s.nest _ (nest_begins rest nest up v r h) (ap (λ (q : Standing). q.nest) g.1))
 loops_counted (action t d rest) nest up di v w r s (inr h) (inr g) = let n = loops_counted rest nest up di.1 v w r s h g in (n.0, inr n.1, n.2)

@@ -3,13 +3,15 @@
 use Rattle.std.proofs.Common.{◌≡◌, ℕ, suc, Bool, true, false, List, [], ◌∷◌, ◌++◌, ◌⊎◌, Some, None, refl, ap, sym, subst, ◌∙◌, inl, inr}
 use Rattle.hpr_terms.specs.declared.tag.Tag.{Tag}
 use Rattle.hpr_syntax.specs.declared.rows.Content.TheVariants.{While}
-use Rattle.hpr_syntax.specs.Action.{Action, assigns}
+use Rattle.hpr_syntax.specs.declared.rows.Structure.{Structure}
+use Rattle.hpr_syntax.specs.Action.{Action}
 use Rattle.hpr_syntax.specs.Rows.{content_by}
 use Rattle.hpr_syntax.specs.Body.{Body, done, action, branch, loop}
 use Rattle.hpr_syntax.specs.Skeleton.{Skeleton, act, fork, round, at, StandsIn, Distinct, skeleton}
 use Rattle.hpr_syntax.specs.Nests.{Standing, StandsAs}
 use Rattle.hpr_paths.specs.Times.{Place}
-use Rattle.hpr_meaning.specs.Due.{IsLoop, first_turns, Calls}
+use Rattle.hpr_syntax.proofs.ByStructure.{structure_by}
+use Rattle.hpr_meaning.specs.Due.{IsRepeated, IsLoop, turns_under, first_turns, Calls}
 use Rattle.hpr_paths.proofs.Causes.{IsFirstOnTop, IsCalledBy}
 use Rattle.hpr_syntax.specs.Rows.{Parent}
 use Rattle.hpr_paths.proofs.PlacesUnder.{IsPlaceUnder, place_stands, same_part, same_turns, place_of, place_after_act, place_at_fork, place_in_yes, place_in_no, place_after_fork, place_at_round, place_in_body, place_after_round}
@@ -20,10 +22,10 @@ abbrev pub StandsFirst : List Tag → Parent → Body → List ℕ → Place →
 StandsFirst nest up B T σ = (r : Standing) × StandsAs nest up B σ.0 r × (r.parent ≡ up) × (σ.1 ≡ first_turns r.content T)
 
 first_said : (d : Action) (T : List ℕ) → first_turns (content_by d) T ≡ T
-first_said (assigns x e) T = refl
+first_said d T = ap (λ (s : Structure). turns_under s T) (structure_by d)
 
 no_loop_said : (d : Action) → ¬ IsLoop (content_by d)
-no_loop_said (assigns x e) h = h
+no_loop_said d h = subst IsRepeated (structure_by d) h
 
 pub standing_of_first : (B : Body) (T : List ℕ) (nest : List Tag) (up : Parent) (σ : Place) → IsFirstOnTop (skeleton B) 0 T σ → StandsFirst nest up B T σ
 standing_of_first done T nest up σ h = absurd h

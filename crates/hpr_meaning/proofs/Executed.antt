@@ -4,8 +4,7 @@ use Rattle.std.proofs.Common.{◌≡◌, ℕ, zero, suc, ◌+◌, ◌<◌, ◌�
 use Rattle.hpr_terms.specs.declared.tag.Tag.{Tag}
 use Rattle.hpr_terms.specs.declared.expr.Expr.{Expr}
 use Rattle.hpr_syntax.specs.declared.rows.Content.{Content}
-use Rattle.hpr_syntax.specs.declared.rows.Content.TheVariants.{Assign, If, While}
-use Rattle.hpr_syntax.specs.Action.{assigns}
+use Rattle.hpr_syntax.specs.declared.rows.Content.TheVariants.{If, While}
 use Rattle.hpr_syntax.specs.Contents.{answer_of}
 use Rattle.hpr_syntax.specs.Body.{Body, done, action, branch, loop}
 use Rattle.hpr_syntax.specs.Value.{Fault, Answer, value, is_true}
@@ -14,7 +13,7 @@ use Rattle.hpr_syntax.specs.Skeleton.{Skeleton, act, fork, round, skeleton}
 use Rattle.hpr_syntax.specs.Nests.{Says}
 use Rattle.hpr_paths.specs.Times.{Place}
 use Rattle.hpr_meaning.specs.Instances.{Did, Instance, truth, reads_of, state_after, logged, Course, goes, stops, step_at, then_go, turns_from, trace}
-use Rattle.hpr_syntax.specs.Rows.{expr_in}
+use Rattle.hpr_syntax.specs.Rows.{content_by, expr_in}
 use Rattle.hpr_paths.specs.Runs.{Execution}
 use Rattle.hpr_paths.proofs.Listed.{where_stopped}
 
@@ -176,9 +175,10 @@ module _ (p : Body) (s : Values) where
   pub course_has_run : (B : Body) → ((t : Tag) (c : Content) → Says B t c → Says p t c) → (T : List ℕ) (g : List Instance) (left : ℕ)
       → HasRun (skeleton B) 0 T g left (trace s B T g left)
   course_has_run done inc T g left = ([], runs.ended, refl, omega arith)
-  course_has_run (action t (assigns x e) rest) inc T g left =
-      assign_step t (Assign x e) (skeleton rest) T g (answer_of (Assign x e) (state_after s g)) left (inc t (Assign x e) (inl (refl, refl))) refl _
-      (λ v l. course_has_run rest (λ u c h. inc u c (inr h)) T (logged (t, T) (Assign x e) e v s g) l)
+  course_has_run (action t d rest) inc T g left =
+      let a = content_by d in
+      assign_step t a (skeleton rest) T g (answer_of a (state_after s g)) left (inc t a (inl (refl, refl))) refl _
+      (λ v l. course_has_run rest (λ u c h. inc u c (inr h)) T (logged (t, T) a (expr_in a) v s g) l)
   course_has_run (branch t e a b rest) inc T g left =
       branch_step t e (skeleton a) (skeleton b) (skeleton rest) T g (answer_of (If e) (state_after s g)) left (inc t (If e) (inl (refl, refl))) refl (trace s a T) (trace s b T)
       (λ h m. course_has_run a (λ u c q. inc u c (inr (inl q))) T h m) (λ h m. course_has_run b (λ u c q. inc u c (inr (inr (inl q)))) T h m) (trace s rest T)

@@ -1,9 +1,8 @@
 -- The flow edges of a program's graph between parts, as ways of its skeleton.
-use Rattle.std.proofs.Common.{◌≡◌, ℕ, List, Option, Some, refl, ap, sym, subst, inl, inr}
+use Rattle.std.proofs.Common.{◌≡◌, ℕ, List, Option, Some, refl, ap, sym, ◌∙◌, subst, inl, inr}
 use Rattle.hpr_terms.specs.declared.tag.Tag.{Tag}
 use Rattle.hpr_terms.specs.Uses.{Uses}
 use Rattle.hpr_syntax.specs.declared.rows.Content.{Content}
-use Rattle.hpr_syntax.specs.declared.rows.Content.TheVariants.{Assign, If, While}
 use Rattle.hpr_syntax.specs.Contents.{UsesIn}
 use Rattle.hpr_syntax.specs.Body.{Body}
 use Rattle.hpr_syntax.specs.Tree.{Tree}
@@ -22,13 +21,11 @@ use Rattle.hpr_paths.proofs.ByEdges.{HasPath}
 use Rattle.hpr_paths.proofs.Programs.{at_end, part_not_enter, path_inside, path_outside, none_encloses, avoids_common}
 
 pub defines_part : (p : Body) (x : List ℕ) (t : Tag) (c : Content) → assigned c ≡ Some x → Says p t c → DefinesAt p x (at t)
-defines_part p x t (Assign y e) is h = let same : y ≡ x = cc in (t, e, refl, subst (λ z. Says p t (Assign z e)) same h)
-defines_part p x t (If e) is h = absurd cc
-defines_part p x t (While e) is h = absurd cc
+defines_part p x t c is h = (t, c, refl, h, is)
 
 pub assigns_at : (p : Body) → Distinct (skeleton p) → (x : List ℕ) (t : Tag) (c : Content) → Says p t c → DefinesAt p x (at t) → assigned c ≡ Some x
-assigns_at p di x t c h (u, e, is, d) =
-    let same : c ≡ Assign x e = says_one p di t c (Assign x e) h (subst (λ v. Says p v (Assign x e)) (sym (same_at is)) d) in ap assigned same
+assigns_at p di x t c h (u, d, is, says, by) =
+    let same : c ≡ d = says_one p di t c d h (subst (λ v. Says p v d) (sym (same_at is)) says) in ap assigned same ∙ by
 
 -- an undisturbed path between the points that stand for two parts is one between the parts
 moved : (p : Tree) (x : List ℕ) (a z : Point) (t v : Tag) (ms : List (Option Tag)) → a ≡ at t → z ≡ at v → IsUndisturbed p.body x a z ms

@@ -1,18 +1,15 @@
 -- The items of a run by their numbers, and the log before each: which value and which definition it has for a name, and the paths
 -- between the steps.
-use Rattle.std.proofs.Common.{◌≡◌, ℕ, zero, suc, ◌<◌, ◌≤◌, ℤ, Bool, true, false, List, [], ◌∷◌, ◌++◌, ◌⊎◌, Option, Some, None, length, refl, ap, sym, subst, ◌∙◌, inl, inr, arith}
-use Rattle.std.specs.Ordering.{nat_cmp, is_eq}
-use Rattle.std.specs.Cmp.{eq_by_cmp_equiv, Equal-is}
-use Rattle.std.specs.Cmp.Lexicographic.{slice_cmp, nat_list_cmp_total}
-use Rattle.std.specs.FinMap.{get-insert, nat_cmp-IsAntisymmetric, slice_cmp-IsAntisymmetric}
+use Rattle.std.proofs.Common.{◌≡◌, ℕ, zero, suc, ◌<◌, ◌≤◌, Bool, true, false, List, [], ◌∷◌, ◌++◌, ◌⊎◌, Option, Some, None, length, refl, ap, sym, subst, ◌∙◌, inl, inr, arith}
 use native.Mathlib.Decide.{ℕ_discrete}
 use Rattle.hpr_terms.specs.declared.tag.Tag.{Tag}
 use Rattle.hpr_syntax.specs.declared.rows.Content.{Content}
 use Rattle.hpr_syntax.specs.Values.{Values, value_at}
+use Rattle.hpr_syntax.proofs.StateLaws.{same_itself, same_not, value_given, value_kept}
 use Rattle.hpr_syntax.specs.Skeleton.{Point, at}
 use Rattle.hpr_syntax.specs.Paths.{Path, one, step}
 use Rattle.hpr_paths.specs.Times.{Place}
-use Rattle.hpr_meaning.specs.Instances.{Did, Instance, with_value, with_definer, state_after, definer}
+use Rattle.hpr_meaning.specs.Instances.{Did, Instance, with_definer, state_after, definer}
 use Rattle.hpr_syntax.specs.Rows.{assigned}
 use mathlib.Core.List.{reverse_aux}
 use Rattle.hpr_paths.proofs.Among.{Among, here, there}
@@ -20,7 +17,6 @@ use Rattle.std.specs.List.{AllByRecursion}
 use Rattle.hpr_paths.specs.Runs.{Ascending}
 use Rattle.hpr_paths.proofs.Walks.{WalksAlong}
 use Rattle.hpr_paths.proofs.Logs.{places_of, stop_if, IsLawful}
-use Rattle.hpr_graph.specs.Order.{name_cmp}
 
 -- a place with what the part there says
 abbrev pub Spot : Type 0
@@ -47,9 +43,6 @@ log_before is g k = reverse_aux (first_items k is) g
 abbrev pub Assigns : Content → List ℕ → Type 0
 Assigns c x = assigned c ≡ Some x
 
-abbrev same_name : List ℕ → List ℕ → Bool
-same_name x y = is_eq (name_cmp x y)
-
 -- names are the same or not
 pub names_discrete : (x y : List ℕ) → Dec (x ≡ y)
 names_discrete [] [] = yes refl
@@ -73,27 +66,7 @@ assigns? c x = go (assigned c)
         down (yes e) = yes (ap Some e)
         down (no n) = no (λ e. let f : y ≡ x = cc in n f)
 
-tied : (x y : List ℕ) → same_name x y ≡ true → x ≡ y
-tied x y e = slice_cmp-IsAntisymmetric nat_cmp-IsAntisymmetric x y ((Equal-is (slice_cmp nat_cmp x y)).0 e)
-
-same_itself : (x : List ℕ) → same_name x x ≡ true
-same_itself x = (eq_by_cmp_equiv nat_list_cmp_total).refl x
-
-same_not : (x y : List ℕ) → ¬ (Some y ≡ Some x) → same_name x y ≡ false
-same_not x y n = go (same_name x y) refl
-  where
-    go : (b : Bool) → same_name x y ≡ b → same_name x y ≡ false
-    go false e = e
-    go true e = absurd (n (ap Some (sym (tied x y e))))
-
--- the state and the last definition after one more step
-other_value : (o : Option (List ℕ)) (v : ℤ) (s : Values) (x : List ℕ) → ¬ (o ≡ Some x) → value_at (with_value o v s) x ≡ value_at s x
-other_value None v s x n = refl
-other_value (Some y) v s x n = let e = get-insert nat_list_cmp_total s y v x in let f = same_not x y n in rw (e, f) refl
-
-its_value : (o : Option (List ℕ)) (v : ℤ) (s : Values) (x : List ℕ) → o ≡ Some x → value_at (with_value o v s) x ≡ v
-its_value o v s x e = let g = get-insert nat_list_cmp_total s x v x in let f = same_itself x in rw (e, g, f) refl
-
+-- the last definition after one more step
 other_origin : (o : Option (List ℕ)) (a : Spot) (x : List ℕ) (old : Option Spot) → ¬ (o ≡ Some x) → with_definer o a x old ≡ old
 other_origin None a x old n = refl
 other_origin (Some y) a x old n = let f = same_not x y n in rw f refl
@@ -105,13 +78,13 @@ module _ (s : Values) (d : Instance) (x : List ℕ) where
   pub value_none : (k : ℕ) (is g : List Instance) → ((j : ℕ) → j < k → ¬ Assigns (item_at is d j).1.content x) → value_at (state_after s (log_before is g k)) x ≡ value_at (state_after s g) x
   value_none zero is g n = refl
   value_none (suc k) [] g n = refl
-  value_none (suc k) (i ∷ is) g n = value_none k is (i ∷ g) (λ j l. n (suc j) (omega (arith, l))) ∙ other_value (assigned i.1.content) i.1.gave (state_after s g) x (n 0 (omega arith))
+  value_none (suc k) (i ∷ is) g n = value_none k is (i ∷ g) (λ j l. n (suc j) (omega (arith, l))) ∙ value_kept i.1.content i.1.gave (state_after s g) x (n 0 (omega arith))
 
   pub value_last : (j k : ℕ) (is g : List Instance) → k ≤ length is → j < k → Assigns (item_at is d j).1.content x → ((i : ℕ) → j < i → i < k → ¬ Assigns (item_at is d i).1.content x)
       → value_at (state_after s (log_before is g k)) x ≡ (item_at is d j).1.gave
   value_last j zero is g l a e n = absurd (omega (arith, a))
   value_last j (suc k) [] g l a e n = absurd (omega (arith, l))
-  value_last zero (suc k) (i ∷ is) g l a e n = value_none k is (i ∷ g) (λ m b. n (suc m) (omega arith) (omega (arith, b))) ∙ its_value (assigned i.1.content) i.1.gave (state_after s g) x e
+  value_last zero (suc k) (i ∷ is) g l a e n = value_none k is (i ∷ g) (λ m b. n (suc m) (omega arith) (omega (arith, b))) ∙ value_given i.1.content i.1.gave (state_after s g) x e
   value_last (suc j) (suc k) (i ∷ is) g l a e n = value_last j k is (i ∷ g) (omega (arith, l)) (omega (arith, a)) e (λ m b c. n (suc m) (omega (arith, b)) (omega (arith, c)))
 
   pub origin_none : (k : ℕ) (is g : List Instance) → ((j : ℕ) → j < k → ¬ Assigns (item_at is d j).1.content x) → definer x (log_before is g k) ≡ definer x g

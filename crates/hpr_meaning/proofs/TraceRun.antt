@@ -2,8 +2,8 @@
 use Rattle.std.proofs.Common.{◌≡◌, ℕ, zero, suc, ◌+◌, ℤ, Bool, true, false, List, [], ◌∷◌, ◌++◌, Some, None, refl, ap, ◌∙◌, if◌then◌else◌, Ok, Err}
 use Rattle.hpr_terms.specs.declared.tag.Tag.{Tag}
 use Rattle.hpr_terms.specs.declared.expr.Expr.{Expr}
-use Rattle.hpr_syntax.specs.declared.rows.Content.TheVariants.{Assign, If, While}
-use Rattle.hpr_syntax.specs.Action.{assigns}
+use Rattle.hpr_syntax.specs.declared.rows.Content.TheVariants.{If, While}
+use Rattle.hpr_syntax.specs.Rows.{content_by, expr_in}
 use Rattle.hpr_syntax.specs.Contents.{answer_of}
 use Rattle.hpr_syntax.specs.Body.{Body, done, action, branch, loop}
 use Rattle.hpr_syntax.specs.Values.{Values}
@@ -44,8 +44,9 @@ turns_run s k (suc n) t e body body' h around log left =
 pub trace_run : (s : Values) (b : Body) (around : List ℕ) (log : List Instance) (left : ℕ)
     → after_of s (trace s b around log left) ≡ run_body b (state_after s log) left
 trace_run s done around log left = refl
-trace_run s (action t (assigns x e) rest) around log left =
-    step_run s (t, around) (answer_of (Assign x e) (state_after s log)) log left _ _ (λ v l. trace_run s rest around (logged (t, around) (Assign x e) e v s log) l)
+trace_run s (action t d rest) around log left =
+    let a = content_by d in
+    step_run s (t, around) (answer_of a (state_after s log)) log left _ _ (λ v l. trace_run s rest around (logged (t, around) a (expr_in a) v s log) l)
 trace_run s (branch t e a b rest) around log left =
     step_run s (t, around) (answer_of (If e) (state_after s log)) log left _ _ (λ v l.
     then_run s (if is_true v then trace s a around (logged (t, around) (If e) e v s log) l else trace s b around (logged (t, around) (If e) e v s log) l) _ _ _

@@ -26,21 +26,19 @@
 -- course_of p s n       == the whole run of the program p from the state s with n steps to spend
 -- instances p s n       == its finished steps, in their order
 -- IsStopOf p s n a      == the run stops at the place a, for a fault or for want of steps
-use Rattle.std.specs.Prelude.{◌≡◌, ℕ, zero, suc, ◌+◌, ℤ, Bool, if◌then◌else◌, List, [], ◌∷◌, ◌++◌, map, reverse, Option, Some, None, Ok, Err}
+use Rattle.std.specs.Prelude.{◌≡◌, ℕ, zero, suc, ◌+◌, Bool, if◌then◌else◌, List, [], ◌∷◌, ◌++◌, map, reverse, Option, Some, None, Ok, Err}
 use Rattle.std.specs.Ordering.{is_lt, is_eq}
-use Rattle.std.specs.FinMap.{insert}
 use Rattle.hpr_terms.specs.declared.tag.Tag.{Tag}
 use Rattle.hpr_terms.specs.declared.expr.Expr.{Expr}
 use Rattle.hpr_terms.specs.Uses.{names_in}
 use Rattle.hpr_terms.specs.TermOf.{term_of}
 use Rattle.hpr_syntax.specs.declared.rows.Content.{Content}
-use Rattle.hpr_syntax.specs.declared.rows.Content.TheVariants.{Assign, If, While}
-use Rattle.hpr_syntax.specs.Action.{assigns}
-use Rattle.hpr_syntax.specs.Contents.{answer_of}
+use Rattle.hpr_syntax.specs.declared.rows.Content.TheVariants.{If, While}
+use Rattle.hpr_syntax.specs.Contents.{answer_of, next_state}
 use Rattle.hpr_syntax.specs.Body.{Body, done, action, branch, loop}
 use Rattle.hpr_syntax.specs.Tree.{Tree}
-use Rattle.hpr_syntax.specs.Rows.{assigned}
-use Rattle.hpr_syntax.specs.Values.{Values, value_at}
+use Rattle.hpr_syntax.specs.Rows.{content_by, assigned, expr_in}
+use Rattle.hpr_syntax.specs.Values.{Value, Values, value_at}
 use Rattle.hpr_syntax.specs.Value.{Fault, Answer, value, is_true}
 use Rattle.hpr_syntax.specs.Run.{After}
 use Rattle.hpr_syntax.specs.Run as after
@@ -49,13 +47,13 @@ use Rattle.hpr_paths.specs.Times.{Place}
 
 pub record Read : Type 0 where
   pub name : List ℕ
-  pub value : ℤ
+  pub value : Value
   pub origin : Option (Place × Content)
 
 pub record Did : Type 0 where
   pub content : Content
   pub reads : List Read
-  pub gave : ℤ
+  pub gave : Value
 
 abbrev pub Instance : Type 0
 Instance = Place × Did
@@ -63,14 +61,9 @@ Instance = Place × Did
 abbrev pub truth : Did → Bool
 truth d = is_true d.gave
 
--- a state with the number of the name that is defined, if one is
-abbrev pub with_value : Option (List ℕ) → ℤ → Values → Values
-with_value None v s = s
-with_value (Some x) v s = insert s x v
-
 abbrev pub state_after : Values → List Instance → Values
 state_after s [] = s
-state_after s (i ∷ log) = with_value (assigned i.1.content) i.1.gave (state_after s log)
+state_after s (i ∷ log) = next_state i.1.content i.1.gave (state_after s log)
 
 -- the step at a place that defines y, if y is x; else an older one
 abbrev pub with_definer : Option (List ℕ) → Place × Content → List ℕ → Option (Place × Content) → Option (Place × Content)
@@ -99,14 +92,14 @@ read_of s log x = record { name = x; value = value_at (state_after s log) x; ori
 abbrev pub reads_of : Expr → Values → List Instance → List Read
 reads_of e s log = map (read_of s log) (names_of e)
 
-abbrev pub logged : Place → Content → Expr → ℤ → Values → List Instance → List Instance
+abbrev pub logged : Place → Content → Expr → Value → Values → List Instance → List Instance
 logged a c e v s log = (a, record { content = c; reads = reads_of e s log; gave = v }) ∷ log
 
 pub data Course : Type 0 where
   goes : (log : List Instance) → (left : ℕ) → Course
   stops : (place : Place) → (why : Option Fault) → (log : List Instance) → (left : ℕ) → Course
 
-abbrev pub step_at : Place → Answer → List Instance → ℕ → (ℤ → ℕ → Course) → Course
+abbrev pub step_at : Place → Answer → List Instance → ℕ → (Value → ℕ → Course) → Course
 step_at a answer log zero go = stops a None log zero
 step_at a (Ok v) log (suc left) go = go v left
 step_at a (Err f) log (suc left) go = stops a (Some f) log left
@@ -126,8 +119,10 @@ turns_from k (suc n) t e body s around log left =
 -- A loop makes no more turns than it has steps, and one to see that none is left.
 abbrev pub trace : Values → Body → List ℕ → List Instance → ℕ → Course
 trace s done around log left = goes log left
-trace s (action t (assigns x e) rest) around log left =
-    step_at (t, around) (answer_of (Assign x e) (state_after s log)) log left (λ v left'. trace s rest around (logged (t, around) (Assign x e) e v s log) left')
+trace s (action t d rest) around log left =
+    let c = content_by d in
+    step_at (t, around) (answer_of c (state_after s log)) log left (λ v left'.
+    trace s rest around (logged (t, around) c (expr_in c) v s log) left')
 trace s (branch t e a b rest) around log left =
     step_at (t, around) (answer_of (If e) (state_after s log)) log left (λ v left'.
     then_go

@@ -8,8 +8,9 @@
 -- item_after log i  == an instance after the log
 -- items_after log is == instances after the log
 -- items_of is       == the items of these instances
-use Rattle.std.specs.Prelude.{◌≡◌, slice_get, ℕ, ℤ, if◌then◌else◌, List, [], ◌∷◌, map, length, Option, Some, None}
+use Rattle.std.specs.Prelude.{◌≡◌, slice_get, ℕ, if◌then◌else◌, List, [], ◌∷◌, map, length, Option, Some, None}
 use Rattle.std.specs.Ordering.{is_eq}
+use Rattle.hpr_syntax.specs.Values.{Value}
 use Rattle.hpr_terms.specs.declared.tag.Tag.{Tag}
 use Rattle.hpr_syntax.specs.declared.rows.Content.{Content}
 use Rattle.hpr_syntax.specs.Rows.{assigned}
@@ -26,7 +27,7 @@ pub record Item : Type 0 where
   pub tag : Tag
   pub turns : List ℕ
   pub reads : List Read
-  pub value : ℤ
+  pub value : Value
 
 abbrev pub item_in : code.Instance → Item
 item_in i = record { tag = i.tag; turns = i.turns.items; reads = i.reads.items; value = i.value }

@@ -5,12 +5,12 @@
 --                             each instance of the slice in q's run stands in p's, with the same turns, number and reads; q faults at
 --                             no part of the slice; and where q ends too, each instance of the slice in p's run stands in q's, and each
 --                             name whose Final vertex is in the slice has the same final value
-use Rattle.std.specs.Prelude.{◌≡◌, ◌↔◌, ℕ, ℤ, List, Contains}
+use Rattle.std.specs.Prelude.{◌≡◌, ◌↔◌, ℕ, List, Contains}
 use Rattle.hpr_terms.specs.declared.tag.Tag.{Tag}
 use Rattle.hpr_syntax.specs.declared.rows.Content.{Content}
 use Rattle.hpr_syntax.specs.Nests.{Says}
 use Rattle.hpr_syntax.specs.Tree.{Tree}
-use Rattle.hpr_syntax.specs.Values.{Values}
+use Rattle.hpr_syntax.specs.Values.{Value, Values}
 use Rattle.hpr_syntax.specs.Value.{Fault}
 use Rattle.hpr_syntax.specs.Run.{FinalValues, ends, faults, run}
 use Rattle.hpr_graph.specs.declared.vertex.Vertex.{Vertex}
@@ -29,4 +29,4 @@ pub record SharesSlice (p q : Tree) (S : Vertex → Type 0) (s : Values) (n m : 
   pub done_by_both : (finals : FinalValues) (steps : ℕ) → run q s m ≡ ends finals steps → (i : Instance) → Contains (instances p s n) i
       → HasInSlice p S (vertex_of i) → Contains (instances q s m) i
   pub same_finals : (finals finals' : FinalValues) (steps steps' : ℕ) → run p s n ≡ ends finals steps → run q s m ≡ ends finals' steps'
-      → (x : List ℕ) (v : ℤ) → HasInSlice p S (Final x) → Contains finals (x, v) ↔ Contains finals' (x, v)
+      → (x : List ℕ) (v : Value) → HasInSlice p S (Final x) → Contains finals (x, v) ↔ Contains finals' (x, v)

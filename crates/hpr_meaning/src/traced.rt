@@ -1,5 +1,5 @@
 //! Traces: the instances of a run, and how it went.
-use hpr_run::Outcome;
+use hpr_run::{Outcome, Value};
 use hpr_syntax::{Name, Tag};
 
 /// Where the value of a name comes from.
@@ -15,7 +15,7 @@ pub enum Origin {
 #[derive(Drop)]
 pub struct Read {
     pub name: Name,
-    pub value: i64,
+    pub value: Value,
     pub origin: Origin,
 }
 
@@ -30,7 +30,7 @@ pub struct Instance {
     /// The names of the part's expression, ascending, each once.
     pub reads: Vec<Read>,
     /// The number that the expression gave.
-    pub value: i64,
+    pub value: Value,
 }
 
 /// A run, step by step.

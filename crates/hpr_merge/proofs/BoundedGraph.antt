@@ -4,10 +4,9 @@ use Rattle.hpr_terms.specs.declared.tag.Tag.{Tag}
 use Rattle.hpr_terms.specs.TermOf.{term_of}
 use Rattle.hpr_terms.specs.Uses.{Uses}
 use Rattle.hpr_syntax.specs.declared.rows.Content.{Content}
-use Rattle.hpr_syntax.specs.declared.rows.Content.TheVariants.{Assign, If, While}
+use Rattle.hpr_syntax.specs.declared.rows.Content.TheVariants.{If, While}
+use Rattle.hpr_syntax.specs.Rows.{content_by, expr_in}
 use Rattle.hpr_syntax.specs.Initial.{UsedBy}
-use Rattle.hpr_syntax.specs.Action.{assigns}
-use Rattle.hpr_syntax.specs.declared.rows.Content.TheVariants.{Assign, If, While}
 use Rattle.hpr_syntax.specs.Contents.{UsesIn}
 use Rattle.hpr_syntax.specs.Body.{Body, done, action, branch, loop}
 use Rattle.hpr_syntax.specs.Nests.{Says}
@@ -19,6 +18,7 @@ use Rattle.hpr_graph.specs.declared.edge.Kind.{Kind}
 use Rattle.hpr_graph.specs.declared.edge.Kind.TheVariants.{Control, Independent, Carried, Order}
 use Rattle.hpr_graph.specs.declared.edge.Edge.{Edge}
 use Rattle.hpr_graph.specs.ProgramGraph.{Defines, Reads, IsTop, HasFlow, IsVertexOf, IsEdgeBy, IsEdgeOf}
+use Rattle.hpr_syntax.proofs.ActByUses.{uses_in}
 use Rattle.hpr_paths.proofs.Says.{says_of_standing}
 use Rattle.hpr_graph.proofs.Bounded.{Bounded, of_none, of_one, of_within, of_either, of_list, of_each, of_term}
 
@@ -34,13 +34,13 @@ is_part v s t c d is same content = cc
 
 said_bounded : (b : Body) → Bounded (IsSaid b)
 said_bounded done = of_within (IsSaid done) (λ v. ⊥) (λ v (t, c, is, says). says) of_none
-said_bounded (action t (assigns x e) rest) =
-    of_within (IsSaid (action t (assigns x e) rest)) (λ v. IsFirst t (Assign x e) v ⊎ IsSaid rest v)
+said_bounded (action t action_ rest) =
+    of_within (IsSaid (action t action_ rest)) (λ v. IsFirst t (content_by action_) v ⊎ IsSaid rest v)
     (λ v (s, c, is, says). elim says [
-      | inl first ↦ inl (is_part v s t c (Assign x e) is first.0 first.1)
+      | inl first ↦ inl (is_part v s t c (content_by action_) is first.0 first.1)
       | inr later ↦ inr (s, c, is, later)
     ])
-    (of_either (IsFirst t (Assign x e)) (IsSaid rest) (of_one (Part t (Assign x e))) (said_bounded rest))
+    (of_either (IsFirst t (content_by action_)) (IsSaid rest) (of_one (Part t (content_by action_))) (said_bounded rest))
 said_bounded (branch t e a b rest) =
     of_within (IsSaid (branch t e a b rest)) (λ v. IsFirst t (If e) v ⊎ (IsSaid a v ⊎ (IsSaid b v ⊎ IsSaid rest v)))
     (λ v (s, c, is, says). elim says [
@@ -71,9 +71,7 @@ UsesAt (Final y) x = ⊥
 uses_bounded : (v : Vertex) → Bounded (UsesAt v)
 uses_bounded Entry = of_none
 uses_bounded (Init y) = of_none
-uses_bounded (Part t (Assign y e)) = of_term (term_of e)
-uses_bounded (Part t (If e)) = of_term (term_of e)
-uses_bounded (Part t (While e)) = of_term (term_of e)
+uses_bounded (Part t c) = of_within (UsesIn c) (Uses (expr_in c)) (λ x h. (uses_in c x).1 h) (of_term (term_of (expr_in c)))
 uses_bounded (Final y) = of_none
 
 module _ (t : Tree) where

@@ -6,12 +6,11 @@ use Rattle.std.proofs.lemmas.List.{reverse-append}
 use Rattle.std.proofs.lemmas.Option.{get_or_from_slice_get}
 use Rattle.hpr_terms.specs.declared.tag.Tag.{Tag}
 use Rattle.hpr_syntax.specs.declared.rows.Content.{Content}
-use Rattle.hpr_syntax.specs.declared.rows.Content.TheVariants.{Assign, If, While}
 use Rattle.hpr_syntax.specs.declared.tree.Stmt.{Stmt}
-use Rattle.hpr_syntax.specs.declared.tree.Stmt.TheVariants as stmt
 use Rattle.hpr_syntax.specs.Body.{Body, done}
 use Rattle.hpr_syntax.specs.BodyOf.{body_of, before}
 use Rattle.hpr_syntax.specs.Rows.{made}
+use Rattle.hpr_syntax.proofs.ByStructure.{same_before}
 use Rattle.hpr_forest.proofs.Unique.{in_first, in_later}
 use Rattle.hpr_forest.specs.Forest.{IsDistinct}
 use Rattle.hpr_forest.specs.Trees.{Slot, same_slot}
@@ -26,20 +25,10 @@ reversed : (xs : List Stmt) (s : Stmt) → reverse (xs ++ s ∷ []) ≡ s ∷ re
 reversed xs s = reverse-append xs (s ∷ [])
 
 pub said_made : (t : Tag) (c : Content) (y n : Body) → before (made t c y n) done ≡ said t c y n done
-said_made t (Assign x e) y n = refl
-said_made t (If e) y n = refl
-said_made t (While e) y n = refl
+said_made t c y n = refl
 
 before_said : (s : Stmt) (t : Tag) (c : Content) (y n rest : Body) → before s done ≡ said t c y n done → before s rest ≡ said t c y n rest
-before_said (stmt.Assign u x e) t (Assign z f) y n rest is = cc
-before_said (stmt.Assign u x e) t (If f) y n rest is = absurd cc
-before_said (stmt.Assign u x e) t (While f) y n rest is = absurd cc
-before_said (stmt.If u e p q) t (Assign z f) y n rest is = absurd cc
-before_said (stmt.If u e p q) t (If f) y n rest is = cc
-before_said (stmt.If u e p q) t (While f) y n rest is = absurd cc
-before_said (stmt.While u e p) t (Assign z f) y n rest is = absurd cc
-before_said (stmt.While u e p) t (If f) y n rest is = absurd cc
-before_said (stmt.While u e p) t (While f) y n rest is = cc
+before_said s t c y n rest is = same_before s (made t c y n) rest is
 
 other_block : (item : ℕ) (v : Slot) → v ≡ Some (item, false) → ¬ (v ≡ Some (item, true))
 other_block item v f e = first_second v item item e f

@@ -9,11 +9,12 @@ use Rattle.hpr_terms.specs.declared.tag.Tag.{Tag}
 use Rattle.hpr_terms.specs.declared.expr.Expr.{Expr}
 use Rattle.hpr_syntax.specs.declared.rows.Row.{Row}
 use Rattle.hpr_syntax.specs.declared.rows.Content.{Content}
-use Rattle.hpr_syntax.specs.declared.rows.Content.TheVariants.{Assign, If, While}
-use Rattle.hpr_syntax.specs.Action.{assigns}
+use Rattle.hpr_syntax.specs.declared.rows.Content.TheVariants.{If, While}
+use Rattle.hpr_syntax.specs.Action.{Action}
 use Rattle.hpr_syntax.specs.Body.{Body, done, action, branch, loop}
 use Rattle.hpr_syntax.specs.Nests.{Standing, StandsAs, Says}
-use Rattle.hpr_syntax.specs.Rows.{Parent, rows_of}
+use Rattle.hpr_syntax.specs.Rows.{Parent, content_by, rows_of}
+use Rattle.hpr_syntax.proofs.ByStructure.{content_inj, no_test, no_loop}
 use Rattle.hpr_syntax.specs.Skeleton.{at, StandsIn, Distinct, skeleton}
 use Rattle.hpr_syntax.specs.Tree.{Tree}
 use Rattle.hpr_graph.specs.declared.vertex.Vertex.{Vertex}
@@ -34,7 +35,7 @@ item t c up = record { tag = t; content = c; parent = up }
 
 abbrev pub placed : Parent → Body → List Placed
 placed up done = []
-placed up (action t (assigns x e) rest) = item t (Assign x e) up ∷ placed up rest
+placed up (action t d rest) = item t (content_by d) up ∷ placed up rest
 placed up (branch t e a b rest) = item t (If e) up ∷ (placed (Some (t, true)) a ++ (placed (Some (t, false)) b ++ placed up rest))
 placed up (loop t e b rest) = item t (While e) up ∷ (placed (Some (t, true)) b ++ placed up rest)
 
@@ -45,7 +46,7 @@ vertex_of row = Part row.tag row.content
 
 rows_placed : (up : Parent) (i : ℕ) (b : Body) → map vertex_of (rows_of up i b) ≡ map vertex (placed up b)
 rows_placed up i done = refl
-rows_placed up i (action t (assigns x e) rest) = ap (λ (r : List Vertex). Part t (Assign x e) ∷ r) (rows_placed up (i + 1) rest)
+rows_placed up i (action t d rest) = ap (λ (r : List Vertex). Part t (content_by d) ∷ r) (rows_placed up (i + 1) rest)
 rows_placed up i (branch t e a b rest) =
     let ra : List Row = rows_of (Some (t, true)) 0 a in
     let rb : List Row = rows_of (Some (t, false)) 0 b in
@@ -126,9 +127,9 @@ module _ (nest : List Tag) (up : Parent) (b : Body) (i : Placed) (x : Body)
 
 pub stands_so : (nest : List Tag) (up : Parent) (b : Body) (i : Placed) → Contains (placed up b) i → StandsSo nest up b i
 stands_so nest up done i h = absurd (in_none i h)
-stands_so nest up (action t (assigns x e) rest) i h = elim (in_cons (item t (Assign x e) up) i (placed up rest) h) [
-  | inl same ↦ first_so nest up (action t (assigns x e) rest) t (record { content = Assign x e; nest = nest; parent = up }) i same refl (inl (refl, refl))
-  | inr later ↦ later_so nest up (action t (assigns x e) rest) i rest (λ s k. inr k) (λ u d k. inr k) (stands_so nest up rest i later)
+stands_so nest up (action t action_ rest) i h = elim (in_cons (item t (content_by action_) up) i (placed up rest) h) [
+  | inl same ↦ first_so nest up (action t action_ rest) t (record { content = content_by action_; nest = nest; parent = up }) i same refl (inl (refl, refl))
+  | inr later ↦ later_so nest up (action t action_ rest) i rest (λ s k. inr k) (λ u d k. inr k) (stands_so nest up rest i later)
 ]
 stands_so nest up (branch t e a b rest) i h =
     elim (in_cons (item t (If e) up) i (placed (Some (t, true)) a ++ (placed (Some (t, false)) b ++ placed up rest)) h) [
@@ -163,7 +164,7 @@ Ends x up (i ∷ r) = (¬ (i.parent ≡ up)) × IsOutside i.parent x
 -- the same where more stands between, under another parent that is outside
 ends_past : (x : Body) (up : Parent) (y : Body) (other : Parent) (r : List Placed) → ¬ (other ≡ up) → IsOutside other x → Ends x up r → Ends x up (placed other y ++ r)
 ends_past x up done other r apart outside ends = ends
-ends_past x up (action t (assigns z e) k) other r apart outside ends = (apart, outside)
+ends_past x up (action t d k) other r apart outside ends = (apart, outside)
 ends_past x up (branch t e a b k) other r apart outside ends = (apart, outside)
 ends_past x up (loop t e b k) other r apart outside ends = (apart, outside)
 
@@ -201,40 +202,38 @@ other_branch t e = let same : false ≡ true = ap (λ (p : Tag × Bool). p.1) (s
 
 back_done : ReadsBack done
 back_done up done r s p q same = (refl, same)
-back_done up (action u (assigns y f) k) r s p q same = absurd (never_ends done up (item u (Assign y f) up) (placed up k ++ s) r (sym same) refl p.ends)
+back_done up (action u d k) r s p q same = absurd (never_ends done up (item u (content_by d) up) (placed up k ++ s) r (sym same) refl p.ends)
 back_done up (branch u f a b k) r s p q same =
     absurd (never_ends done up (item u (If f) up) ((placed (Some (u, true)) a ++ (placed (Some (u, false)) b ++ placed up k)) ++ s) r (sym same) refl p.ends)
 back_done up (loop u f b k) r s p q same = absurd (never_ends done up (item u (While f) up) ((placed (Some (u, true)) b ++ placed up k) ++ s) r (sym same) refl p.ends)
 
--- ---- an assignment
+-- ---- an action
 
-module _ (t : Tag) (x : List ℕ) (e : Expr) (k : Body) where
-  after_assign : (up : Parent) (r : List Placed) → Before up (action t (assigns x e) k) r → Before up k r
-  after_assign up r p = record {
+module _ (t : Tag) (d : Action) (k : Body) where
+  after_action : (up : Parent) (r : List Placed) → Before up (action t d k) r → Before up k r
+  after_action up r p = record {
     distinct = p.distinct.1;
     outside = λ v l is h. p.outside v l is (inr h);
-    ends = ends_within (action t (assigns x e) k) k up r (λ v h. inr h) p.ends;
+    ends = ends_within (action t d k) k up r (λ v h. inr h) p.ends;
   }
 
-back_assign : (t : Tag) (x : List ℕ) (e : Expr) (k : Body) → ReadsBack k → ReadsBack (action t (assigns x e) k)
-back_assign t x e k more up done r s p q same = absurd (never_ends done up (item t (Assign x e) up) (placed up k ++ r) s same refl q.ends)
-back_assign t x e k more up (action u (assigns y f) m) r s p q same =
-    let head : item t (Assign x e) up ≡ item u (Assign y f) up = cc in
+back_action : (t : Tag) (d : Action) (k : Body) → ReadsBack k → ReadsBack (action t d k)
+back_action t d k more up done r s p q same = absurd (never_ends done up (item t (content_by d) up) (placed up k ++ r) s same refl q.ends)
+back_action t d k more up (action u d' m) r s p q same =
+    let head : item t (content_by d) up ≡ item u (content_by d') up = cc in
     let tail : placed up k ++ r ≡ placed up m ++ s = cc in
     let tag : t ≡ u = ap (λ (i : Placed). i.tag) head in
-    let says : Assign x e ≡ Assign y f = ap (λ (i : Placed). i.content) head in
-    let rest = more up m r s (after_assign t x e k up r p) (after_assign u y f m up s q) tail in
+    let does : d ≡ d' = content_inj d d' (ap (λ (i : Placed). i.content) head) in
+    let rest = more up m r s (after_action t d k up r p) (after_action u d' m up s q) tail in
     let below : k ≡ m = rest.0 in
-    let whole : action t (assigns x e) k ≡ action u (assigns y f) m = cc in
+    let whole : action t d k ≡ action u d' m = cc in
     (whole, rest.1)
-back_assign t x e k more up (branch u f a b m) r s p q same =
-    let head : item t (Assign x e) up ≡ item u (If f) up = cc in
-    let says : Assign x e ≡ If f = ap (λ (i : Placed). i.content) head in
-    absurd cc
-back_assign t x e k more up (loop u f b m) r s p q same =
-    let head : item t (Assign x e) up ≡ item u (While f) up = cc in
-    let says : Assign x e ≡ While f = ap (λ (i : Placed). i.content) head in
-    absurd cc
+back_action t d k more up (branch u f a b m) r s p q same =
+    let head : item t (content_by d) up ≡ item u (If f) up = cc in
+    absurd (no_test d f (ap (λ (i : Placed). i.content) head))
+back_action t d k more up (loop u f b m) r s p q same =
+    let head : item t (content_by d) up ≡ item u (While f) up = cc in
+    absurd (no_loop d f (ap (λ (i : Placed). i.content) head))
 
 -- ---- a conditional
 
@@ -280,10 +279,9 @@ SameBranches a b k r c d m s = (a ≡ c) × (b ≡ d) × (k ≡ m) × (r ≡ s)
 back_branch : (t : Tag) (e : Expr) (a b k : Body) → ReadsBack a → ReadsBack b → ReadsBack k → ReadsBack (branch t e a b k)
 back_branch t e a b k in_a in_b in_k up done r s p q same =
     absurd (never_ends done up (item t (If e) up) ((placed (Some (t, true)) a ++ (placed (Some (t, false)) b ++ placed up k)) ++ r) s same refl q.ends)
-back_branch t e a b k in_a in_b in_k up (action u (assigns y f) m) r s p q same =
-    let head : item t (If e) up ≡ item u (Assign y f) up = cc in
-    let says : If e ≡ Assign y f = ap (λ (i : Placed). i.content) head in
-    absurd cc
+back_branch t e a b k in_a in_b in_k up (action u d m) r s p q same =
+    let head : item t (If e) up ≡ item u (content_by d) up = cc in
+    absurd (no_test d e (sym (ap (λ (i : Placed). i.content) head)))
 back_branch t e a b k in_a in_b in_k up (branch u f c d m) r s p q same =
     let head : item t (If e) up ≡ item u (If f) up = cc in
     let behind : (placed (Some (t, true)) a ++ (placed (Some (t, false)) b ++ placed up k)) ++ r ≡ (placed (Some (u, true)) c ++ (placed (Some (u, false)) d ++ placed up m)) ++ s = cc in
@@ -338,10 +336,9 @@ SameLoops b k r d m s = (b ≡ d) × (k ≡ m) × (r ≡ s)
 back_loop : (t : Tag) (e : Expr) (b k : Body) → ReadsBack b → ReadsBack k → ReadsBack (loop t e b k)
 back_loop t e b k in_b in_k up done r s p q same =
     absurd (never_ends done up (item t (While e) up) ((placed (Some (t, true)) b ++ placed up k) ++ r) s same refl q.ends)
-back_loop t e b k in_b in_k up (action u (assigns y f) m) r s p q same =
-    let head : item t (While e) up ≡ item u (Assign y f) up = cc in
-    let says : While e ≡ Assign y f = ap (λ (i : Placed). i.content) head in
-    absurd cc
+back_loop t e b k in_b in_k up (action u d m) r s p q same =
+    let head : item t (While e) up ≡ item u (content_by d) up = cc in
+    absurd (no_loop d e (sym (ap (λ (i : Placed). i.content) head)))
 back_loop t e b k in_b in_k up (branch u f c d m) r s p q same =
     let head : item t (While e) up ≡ item u (If f) up = cc in
     let says : While e ≡ If f = ap (λ (i : Placed). i.content) head in
@@ -369,7 +366,7 @@ back_loop t e b k in_b in_k up (loop u f d m) r s p q same =
 
 read_back : (x : Body) → ReadsBack x
 read_back done = back_done
-read_back (action t (assigns x e) k) = back_assign t x e k (read_back k)
+read_back (action t d k) = back_action t d k (read_back k)
 read_back (branch t e a b k) = back_branch t e a b k (read_back a) (read_back b) (read_back k)
 read_back (loop t e b k) = back_loop t e b k (read_back b) (read_back k)
 

@@ -5,9 +5,13 @@ use Rattle.std.proofs.lemmas.List.Elements.{Contains-append_left, Contains-appen
 use Rattle.hpr_terms.specs.declared.tag.Tag.{Tag}
 use Rattle.hpr_terms.proofs.Facts.{get_below, some_inj}
 use Rattle.hpr_syntax.specs.declared.rows.Content.{Content}
-use Rattle.hpr_syntax.specs.declared.rows.Content.TheVariants.{Assign, If, While}
-use Rattle.hpr_syntax.specs.Action.{assigns}
+use Rattle.hpr_syntax.specs.declared.rows.Content.TheVariants.{If, While}
+use Rattle.hpr_syntax.specs.declared.rows.Structure.{Structure}
+use Rattle.hpr_terms.proofs.Facts.{get_below}
+use Rattle.hpr_syntax.specs.Action.{Action}
+use Rattle.hpr_syntax.specs.Rows.{content_by}
 use Rattle.hpr_syntax.specs.Body.{Body, done, action, branch, loop}
+use Rattle.hpr_syntax.proofs.ByStructure.{SaysBy, by_action, by_test, by_loop, says_by, structure_by, before_by}
 use Rattle.hpr_forest.proofs.Unique.{in_none, in_first, in_later}
 use Rattle.hpr_forest.specs.Forest.{IsDistinct}
 use Rattle.hpr_forest.specs.Trees.{Tree, empty, node, preorder, Slot, StandsIn, same_slot}
@@ -16,7 +20,7 @@ use Rattle.hpr_forest.proofs.Flat.{once_left, once_right}
 use Rattle.hpr_forest.proofs.Grow.{same_slot_true, same_slot_itself}
 use Rattle.hpr_order.specs.declared.item.Item.{Item}
 use Rattle.hpr_order.specs.Items.{IsItem, slot_at, slot_in, said, with_part, block_at}
-use Rattle.hpr_order.specs.Regions.{AllowsIn}
+use Rattle.hpr_order.specs.Regions.{AllowsIn, HasBranch}
 use Rattle.hpr_order.proofs.BlockOf.{IsBlockOf, in_one, in_two, in_three, in_which}
 
 pub differ_false : (u v : Slot) → (u ≡ v → ⊥) → same_slot u v ≡ false
@@ -182,7 +186,7 @@ module _ (items : List Item) where
           → ((q : Body) → IsBlockOf items n q → block_at items l (Some (c, false)) ≡ q)
           → ((o : Body) → IsBlockOf items r o → block_at items l v ≡ o) → IsBlockOf items (node c y n r) b → block_at items (c ∷ l) v ≡ b
       at done l ry rn rr h = absurd h
-      at (action t (assigns x e) rest) l ry rn rr h = one_part l t (Assign x e) done done rest h.0 (ry done h.1) (rn done h.2) (rr rest h.3)
+      at (action t action_ rest) l ry rn rr h = one_part l t (content_by action_) done done rest h.0 (ry done h.1) (rn done h.2) (rr rest h.3) ∙ before_by t action_ done done rest
       at (branch t e p q rest) l ry rn rr h = one_part l t (If e) p q rest h.0 (ry p h.1) (rn q h.2) (rr rest h.3)
       at (loop t e p rest) l ry rn rr h = one_part l t (While e) p done rest h.0 (ry p h.1) (rn done h.2) (rr rest h.3)
 
@@ -203,6 +207,9 @@ module _ (items : List Item) where
       same_content : (c : ℕ) (t u : Tag) (e f : Content) → IsItem items c t e → IsItem items c u f → e ≡ f
       same_content c t u e f (i, a, it, ic) (j, b, jt, jc) = let same : i ≡ j = cc in sym ic ∙ ap (λ (x : Item). x.content) same ∙ jc
 
+  no_branch : (d : Action) (b : Bool) → AllowsIn (content_by d) b → ⊥
+  no_branch d b may = subst (λ (s : Structure). HasBranch s b) (structure_by d) may
+
   -- each tree whose items stand in their slots is that of a block
   pub block_there : (t : Tree) (v : Slot) → ((k j : ℕ) (m : Bool) → k < length items → slot_at items k ≡ Some (j, m) → (t : Tag) × (c : Content) × IsItem items j t c × AllowsIn c m)
       → ((k : ℕ) → Contains (preorder t) k → k < length items) → StandsIn (slot_at items) v t → (b : Body) × IsBlockOf items t b
@@ -212,21 +219,21 @@ module _ (items : List Item) where
       let (q, hq) = block_there n (Some (c, false)) held (λ k a. within k (in_two c y n r k a)) st.2 in
       let (o, ho) = block_there r v held (λ k a. within k (in_three c y n r k a)) st.3 in
       let (i, is) = get_below items c (within c (in_first c (preorder y ++ (preorder n ++ preorder r)))) in
-      at i.content i is refl p hp q hq o ho
+      at i.content (says_by i.content) i is refl p hp q hq o ho
     where
-      at : (d : Content) (i : Item) → slice_get items c ≡ Some i → i.content ≡ d → (p : Body) → IsBlockOf items y p → (q : Body) → IsBlockOf items n q → (o : Body) → IsBlockOf items r o
+      at : (d : Content) → SaysBy d → (i : Item) → slice_get items c ≡ Some i → i.content ≡ d → (p : Body) → IsBlockOf items y p → (q : Body) → IsBlockOf items n q → (o : Body) → IsBlockOf items r o
           → (b : Body) × IsBlockOf items (node c y n r) b
-      at (Assign x e) i is says p hp q hq o ho = (
-        action i.tag (assigns x e) o,
+      at _ (by_action action_) i is says p hp q hq o ho = (
+        action i.tag action_ o,
         (
           (i, is, refl, says),
-          block_of_none y c true i.tag (Assign x e) held (λ k a. within k (in_one c y n r k a)) st.1 (i, is, refl, says) (λ may. may),
-          block_of_none n c false i.tag (Assign x e) held (λ k a. within k (in_two c y n r k a)) st.2 (i, is, refl, says) (λ may. may),
+          block_of_none y c true i.tag (content_by action_) held (λ k a. within k (in_one c y n r k a)) st.1 (i, is, refl, says) (no_branch action_ true),
+          block_of_none n c false i.tag (content_by action_) held (λ k a. within k (in_two c y n r k a)) st.2 (i, is, refl, says) (no_branch action_ false),
           ho,
         ),
       )
-      at (If e) i is says p hp q hq o ho = (branch i.tag e p q o, ((i, is, refl, says), hp, hq, ho))
-      at (While e) i is says p hp q hq o ho = (
+      at _ (by_test e) i is says p hp q hq o ho = (branch i.tag e p q o, ((i, is, refl, says), hp, hq, ho))
+      at _ (by_loop e) i is says p hp q hq o ho = (
         loop i.tag e p o,
         (
           (i, is, refl, says),

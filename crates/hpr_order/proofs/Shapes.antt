@@ -9,16 +9,16 @@ use Rattle.hpr_terms.specs.declared.tag.Tag.{Tag}
 use Rattle.hpr_terms.proofs.Facts.{if_none, unless, contains_at}
 use Rattle.hpr_syntax.specs.declared.rows.Row.{Row}
 use Rattle.hpr_syntax.specs.declared.rows.Content.{Content}
-use Rattle.hpr_syntax.specs.declared.rows.Content.TheVariants.{Assign, If, While}
-use Rattle.hpr_syntax.specs.Action.{assigns}
+use Rattle.hpr_syntax.specs.declared.rows.Content.TheVariants.{If, While}
 use Rattle.hpr_syntax.specs.Rows.{content_by}
 use Rattle.hpr_syntax.specs.Body.{Body, done, action, branch, loop, part_count}
 use Rattle.hpr_syntax.specs.Issued.{Issued, issued_to}
 use Rattle.hpr_syntax.specs.Parts.{tags_of}
-use Rattle.hpr_syntax.specs.Proper.{IsProperBody, IsProperTag}
+use Rattle.hpr_syntax.specs.Proper.{IsProperBody, IsProperTag, IsProperContent}
 use Rattle.hpr_syntax.specs.Rows.{Parent, rows_of, expr_in}
 use Rattle.hpr_syntax.specs.Shape.{first_repeated, first_unissued, is_unissued, first_deep, first_large, is_large}
 use Rattle.hpr_syntax.proofs.NoRefusal.{or_none}
+use Rattle.hpr_syntax.proofs.ProperLemmas.{proper_action}
 use Rattle.hpr_graph.specs.declared.vertex.Vertex.{Vertex}
 use Rattle.hpr_graph.specs.declared.vertex.Vertex.TheVariants.{Entry, Part}
 use Rattle.hpr_forest.proofs.Unique.{in_none, in_cons, in_first, in_later}
@@ -26,7 +26,7 @@ use Rattle.hpr_forest.specs.Trees.{Tree, empty, node, preorder, Slot, StandsIn}
 use Rattle.hpr_order.specs.declared.item.Item.{Item}
 use Rattle.hpr_order.specs.Items.{IsItem}
 use Rattle.hpr_order.specs.Limits.{level_in, one_more}
-use Rattle.hpr_order.specs.Arranging.{IsProperItem, IsProperContent}
+use Rattle.hpr_order.specs.Arranging.{IsProperItem}
 use Rattle.hpr_order.proofs.ListFacts.{map_append}
 use Rattle.hpr_order.proofs.BlockOf.{IsBlockOf, in_one, in_two, in_three, in_which, none_of, same_part}
 
@@ -151,8 +151,8 @@ module _ (items : List Item) where
   proper_in empty (branch t e p q rest) all h = absurd h
   proper_in empty (loop t e p rest) all h = absurd h
   proper_in (node c y n r) done all h = absurd h
-  proper_in (node c y n r) (action t (assigns x e) rest) all h =
-      (let i = proper_item c t (Assign x e) all h.0 in (i.0, i.1.0, i.1.1, proper_in r rest all h.3))
+  proper_in (node c y n r) (action t action_ rest) all h =
+      (let i = proper_item c t (content_by action_) all h.0 in proper_action t action_ rest i.0 i.1 (proper_in r rest all h.3))
   proper_in (node c y n r) (branch t e p q rest) all h =
       (let i = proper_item c t (If e) all h.0 in (i.0, i.1, proper_in y p all h.1, proper_in n q all h.2, proper_in r rest all h.3))
   proper_in (node c y n r) (loop t e p rest) all h =
@@ -169,7 +169,7 @@ module _ (items : List Item) where
   small_in empty (branch t e p q rest) all h = absurd h
   small_in empty (loop t e p rest) all h = absurd h
   small_in (node c y n r) done all h = absurd h
-  small_in (node c y n r) (action t (assigns x e) rest) all h = unless (is_large e) t (first_large rest) (all c t (Assign x e) h.0) (small_in r rest all h.3)
+  small_in (node c y n r) (action t action_ rest) all h = unless (is_large (expr_in (content_by action_))) t (first_large rest) (all c t (content_by action_) h.0) (small_in r rest all h.3)
   small_in (node c y n r) (branch t e p q rest) all h =
       unless (is_large e) t _ (all c t (If e) h.0) (none_or _ _ (small_in y p all h.1) (none_or _ _ (small_in n q all h.2) (small_in r rest all h.3)))
   small_in (node c y n r) (loop t e p rest) all h =
@@ -186,10 +186,10 @@ module _ (items : List Item) where
       → is_large (expr_in d) ≡ false
   in_small empty b k u d small h a i = absurd (in_none k a)
   in_small (node c y n r) done k u d small h a i = absurd h
-  in_small (node c y n r) (action t (assigns x e) rest) k u d small h a i =
-      let (now, later) = if_none (is_large e) t (first_large rest) small in
+  in_small (node c y n r) (action t action_ rest) k u d small h a i =
+      let (now, later) = if_none (is_large (expr_in (content_by action_))) t (first_large rest) small in
       elim (in_which c y n r k a) [
-        | inl is ↦ small_at c k t u (Assign x e) d is h.0 i now
+        | inl is ↦ small_at c k t u (content_by action_) d is h.0 i now
         | inr (inl none) ↦ absurd (none_there y h.1 k none)
         | inr (inr (inl none)) ↦ absurd (none_there n h.2 k none)
         | inr (inr (inr three)) ↦ in_small r rest k u d later h.3 three i

@@ -4,7 +4,7 @@
 -- AreIssued g issued     == the serial of each part of g is at least 1 and at most its author's issued number
 -- AreFirstNumbers n ns   == the numbers 0, 1, .. below n
 -- IsPreorderOf g order p == the parts of p in preorder are the vertices of g with these numbers
--- IsProperContent c, IsProperItem i == numbers are in range and names are names
+-- IsProperItem i == numbers are in range and names are names
 -- orders_in orders       == the orders that are still to come
 -- coming next orders     == the next order, if there is one, and those behind it
 -- programs_of items issued finals orders == their programs
@@ -14,11 +14,8 @@
 use Rattle.std.specs.Prelude.{◌≡◌, ℕ, ◌<◌, ◌≤◌, All, Option, Some, None, List, [], ◌∷◌, map, Contains, length, slice_get, Vec}
 use Rattle.std.specs.Global.{Global}
 use Rattle.hpr_terms.specs.declared.tag.Tag.{Tag}
-use Rattle.hpr_terms.specs.Names.{IsName}
-use Rattle.hpr_terms.specs.TermOf.{term_of}
 use Rattle.hpr_syntax.specs.declared.rows.Content.{Content}
-use Rattle.hpr_syntax.specs.declared.rows.Content.TheVariants.{Assign, If, While}
-use Rattle.hpr_syntax.specs.Proper.{IsProperTerm, IsProperTag}
+use Rattle.hpr_syntax.specs.Proper.{IsProperTag, IsProperContent}
 use Rattle.hpr_syntax.specs.Issued.{Issued, issued_to}
 use Rattle.hpr_syntax.specs.Tree.{Tree}
 use Rattle.hpr_syntax.specs.Shape.{IsProgram}
@@ -43,11 +40,6 @@ AreFirstNumbers n ns = (length ns ≡ n) × ((k : ℕ) → k < n → slice_get n
 
 abbrev pub IsPreorderOf : Numbered → List ℕ → Tree → Type 0
 IsPreorderOf g order p = map (slice_get g.vertices) order ≡ map Some (parts_of p)
-
-abbrev pub IsProperContent : Content → Type 0
-IsProperContent (Assign x e) = IsName x × IsProperTerm (term_of e)
-IsProperContent (If e) = IsProperTerm (term_of e)
-IsProperContent (While e) = IsProperTerm (term_of e)
 
 abbrev pub IsProperItem : Item → Type 0
 IsProperItem i = IsProperTag i.tag × IsProperContent i.content

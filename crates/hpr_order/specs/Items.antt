@@ -14,9 +14,9 @@
 use Rattle.std.specs.Prelude.{◌≡◌, ℕ, ◌<◌, ◌↔◌, Bool, true, false, if◌then◌else◌, Option, Some, None, List, [], ◌∷◌, length, slice_get}
 use Rattle.hpr_terms.specs.declared.tag.Tag.{Tag}
 use Rattle.hpr_syntax.specs.declared.rows.Content.{Content}
-use Rattle.hpr_syntax.specs.declared.rows.Content.TheVariants.{Assign, If, While}
-use Rattle.hpr_syntax.specs.Action.{assigns}
-use Rattle.hpr_syntax.specs.Body.{Body, done, action, branch, loop}
+use Rattle.hpr_syntax.specs.Body.{Body, done}
+use Rattle.hpr_syntax.specs.BodyOf.{before}
+use Rattle.hpr_syntax.specs.Rows.{made}
 use Rattle.hpr_syntax.specs.Issued.{Issued}
 use Rattle.hpr_syntax.specs.Tree.{Tree}
 use Rattle.hpr_graph.specs.declared.vertex.Vertex.{Vertex}
@@ -58,9 +58,7 @@ Asks g items s t =
     (k : Kind) × (ts tt : Tag) × (cs ct : Content) × IsItem items s ts cs × IsItem items t tt ct × g.edge (edge_into (Part ts cs) (Part tt ct) k) × Directs k
 
 abbrev pub said : Tag → Content → Body → Body → Body → Body
-said t (Assign x e) first second rest = action t (assigns x e) rest
-said t (If e) first second rest = branch t e first second rest
-said t (While e) first second rest = loop t e first rest
+said t c first second rest = before (made t c first second) rest
 
 abbrev pub with_part : Option Item → ℕ → (Slot → Body) → Slot → Body
 with_part None c blocks v = blocks v

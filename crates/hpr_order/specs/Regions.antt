@@ -1,5 +1,6 @@
 -- Where the vertices of a graph stand: the control edge into each (Horwitz, Prins and Reps 1989), and what graphs have none.
 --
+-- HasBranch s label     == a part of this structure has a branch with this label
 -- Allows from label to  == a control edge may go so: from Entry, labelled true, to a part, an Init or a Final vertex; from a loop, labelled true,
 --                          to a part; from a conditional, with either label, to a part
 -- Controls g from label v == a control edge of g with this label goes from one to the other
@@ -20,7 +21,9 @@ use Rattle.std.specs.declared.cmp.Ordering.{Ordering}
 use Rattle.std.specs.declared.cmp.Ordering.TheVariants.{Less}
 use Rattle.hpr_terms.specs.declared.tag.Tag.{Tag}
 use Rattle.hpr_syntax.specs.declared.rows.Content.{Content}
-use Rattle.hpr_syntax.specs.declared.rows.Content.TheVariants.{Assign, If, While}
+use Rattle.hpr_syntax.specs.declared.rows.Structure.{Structure}
+use Rattle.hpr_syntax.specs.declared.rows.Structure.TheVariants.{Simple, Conditional, Loop}
+use Rattle.hpr_syntax.specs.Rows.{structure_of}
 use Rattle.hpr_graph.specs.declared.vertex.Vertex.{Vertex}
 use Rattle.hpr_graph.specs.declared.vertex.Vertex.TheVariants.{Entry, Init, Part, Final}
 use Rattle.hpr_graph.specs.declared.edge.Kind.{Kind}
@@ -36,10 +39,13 @@ use Rattle.hpr_graph.specs.Answer.{IsPart}
 use Rattle.hpr_order.specs.declared.tree.OrderError.{OrderError}
 use Rattle.hpr_order.specs.declared.tree.OrderError.TheVariants.{TwoContents, Impossible, Memory}
 
+abbrev pub HasBranch : Structure → Bool → Type 0
+HasBranch Simple label = ⊥
+HasBranch Conditional label = Unit {0}
+HasBranch Loop label = label ≡ true
+
 abbrev pub AllowsIn : Content → Bool → Type 0
-AllowsIn (Assign x e) label = ⊥
-AllowsIn (If e) label = Unit {0}
-AllowsIn (While e) label = label ≡ true
+AllowsIn c label = HasBranch (structure_of c) label
 
 abbrev pub Allows : Vertex → Bool → Vertex → Type 0
 Allows Entry label to = (label ≡ true) × (to ≢ Entry)

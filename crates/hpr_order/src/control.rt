@@ -8,6 +8,7 @@ ghost use Rattle.hpr_order.specs.Regions.{Allows, AllowsIn};
 ghost use Rattle.hpr_order.specs.Controls.{IsOnlyControl, label_of};
 
 use hpr_graph::{Content, Graph, Link, LinkKind, Vertex};
+use hpr_syntax::Structure;
 
 /// The label of a control edge, or none for another kind.
 pub(crate) fn label_of(kind: LinkKind) -> Option<bool>
@@ -54,9 +55,9 @@ pub(crate) fn is_allowed(from: &Vertex, label: bool, to: &Vertex) -> bool
 fn is_allowed_in(content: &Content, label: bool) -> bool
     ensures { IsTrue result ↔ AllowsIn content.now label }
 {
-    match content {
-        Content::Assign(_, _) => false,
-        Content::If(_) => true,
-        Content::While(_) => label,
+    match content.structure() {
+        Structure::Simple => false,
+        Structure::Conditional => true,
+        Structure::Loop => label,
     }
 }

@@ -1,9 +1,9 @@
 //! The parts of a graph as items.
 ghost use Rattle.std.specs.Prelude.{◌≡◌, IfOk};
-ghost use Rattle.hpr_order.specs.Arranging.{IsProperContent, IsProperItem};
+ghost use Rattle.hpr_order.specs.Arranging.{IsProperItem};
 
 use hpr_graph::{Content, NoMemory, Tag};
-use hpr_syntax::proper::{read_expr, read_tag};
+use hpr_syntax::proper::{read_content, read_tag};
 use std::alloc::Global;
 
 /// A part of a graph, with where it stands: at the top, or in the first block (true) or the second of the
@@ -39,18 +39,4 @@ pub(crate) fn item_of(
     read_content(content);
     let content = content.copy(alloc)?;
     Ok(Item { tag, content, slot })
-}
-
-/// Reads what a part says.
-fn read_content(content: &Content)
-    ensures { IsProperContent content.now }
-{
-    match content {
-        Content::Assign(name, value) => {
-            let _text = name.text();
-            read_expr(value);
-        }
-        Content::If(test) => read_expr(test),
-        Content::While(test) => read_expr(test),
-    }
 }

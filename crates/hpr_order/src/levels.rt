@@ -1,14 +1,13 @@
 //! The limits of programs, on items.
 ghost use Rattle.std.specs.Prelude.{◌≡◌, ℕ, ◌<◌, ◌≤◌, ◌↔◌, length, slice_get, Some, IfOk, IfSome, IfNone, IsTrue};
-ghost use Rattle.hpr_syntax.specs.Rows.{expr_in};
 ghost use Rattle.hpr_order.specs.Items.{AreSlots, slot_at};
 ghost use Rattle.hpr_order.specs.Limits.{IsWithinLimits, level_in};
 ghost use Rattle.hpr_order.specs.Lifting.{AreLevels};
 ghost use Rattle.hpr_order.specs.Building.{IsSlot};
 
 use crate::item::Item;
-use hpr_graph::{Content, NoMemory};
-use hpr_syntax::{Expr, is_large};
+use hpr_graph::NoMemory;
+use hpr_syntax::is_large;
 use hpr_terms::limits::{MAX_LEVELS, MAX_PARTS};
 use std::alloc::Global;
 
@@ -25,7 +24,7 @@ pub(crate) fn levels_of(alloc: Global, items: &[Item]) -> Result<Option<Vec<usiz
     }
     let mut levels = Vec::new(alloc);
     for item in items {
-        if is_large(expr_in(&item.content)) {
+        if is_large(item.content.expr()) {
             return Ok(None);
         }
         let Some(level) = level_in(items, MAX_LEVELS - 1, item.slot) else {
@@ -50,15 +49,4 @@ fn level_in(items: &[Item], most: usize, slot: Option<(usize, bool)>) -> Option<
         return None;
     }
     Some(level_in(items, most - 1, items[item].slot)? + 1)
-}
-
-/// The expression that a part assigns or tests.
-fn expr_in(content: &Content) -> &Expr
-    ensures { result.now ≡ expr_in content.now }
-{
-    match content {
-        Content::Assign(_, value) => value,
-        Content::If(test) => test,
-        Content::While(test) => test,
-    }
 }

@@ -3,7 +3,7 @@ use Rattle.std.proofs.Common.{◌≡◌, ℕ, ◌+◌, ◌<◌, ◌≤◌, Bool,
 use Rattle.std.proofs.lemmas.List.{append-nil, drop_all}
 use Rattle.std.proofs.lemmas.Bool.{cases_lt}
 use Rattle.hpr_syntax.specs.declared.tree.Stmt.{Stmt}
-use Rattle.hpr_syntax.specs.declared.tree.Stmt.TheVariants.{Assign, If, While}
+use Rattle.hpr_syntax.specs.declared.tree.Stmt.TheVariants.{If, While}
 use Rattle.hpr_syntax.specs.declared.rows.Content.TheVariants as content
 use Rattle.hpr_syntax.specs.Body.{Body, done, part_count}
 use Rattle.hpr_syntax.specs.BodyOf.{before, body_of}
@@ -17,16 +17,14 @@ Rows = List Spot
 
 pub first_step_some : (xs : List Stmt) (n : ℕ) (f : Step) → 0 < length xs → first_step (body_of xs) n f ≡ step_to n
 first_step_some [] n f h = absurd (omega arith)
-first_step_some (Assign t x e ∷ xs) n f h = refl
 first_step_some (If t e a b ∷ xs) n f h = refl
-first_step_some (While t e b ∷ xs) n f h = refl
+first_step_some (s ∷ xs) n f h = refl
 
 regroup : (x y z : Rows) → (x ++ (y ++ [])) ++ z ≡ x ++ (y ++ z)
 regroup x y z = append_assoc x (y ++ []) z ∙ ap (λ (r : Rows). x ++ (r ++ z)) (append-nil y)
 
 pub spots_cons : (s : Stmt) (rest : Body) (n m : ℕ) (f : Step) (w : List ℕ) → m ≡ n + part_count (before s done)
     → spots_of (before s rest) n f w ≡ spots_of (before s done) n (first_step rest m f) w ++ spots_of rest m f w
-spots_cons (Assign t x e) rest n m f w is = rw is refl
 spots_cons (If t e a b) rest n m f w is =
     let next : m ≡ n + 1 + part_count a + part_count b = omega arith in
     rw next (ap (λ (r : Rows). spot_of (first_step a (n + 1) (first_step rest (n + 1 + part_count a + part_count b) f) ∷ first_step b (n + 1 + part_count a) (first_step rest (n + 1 + part_count a + part_count b) f) ∷ []) w (part t (content.If e)) ∷ r)
@@ -35,11 +33,11 @@ spots_cons (While t e b) rest n m f w is =
     let next : m ≡ n + 1 + part_count b = omega arith in
     rw next (ap (λ (r : Rows). spot_of (first_step b (n + 1) (record { to = n; back = true }) ∷ first_step rest (n + 1 + part_count b) f ∷ []) (w ++ n ∷ []) (part t (content.While e)) ∷ r)
     (ap (λ (r : Rows). r ++ spots_of rest (n + 1 + part_count b) f w) (sym (append-nil (spots_of b (n + 1) (record { to = n; back = true }) (w ++ n ∷ []))))))
+spots_cons s rest n m f w is = rw is refl
 
 pub count_cons : (s : Stmt) (rest : Body) → part_count (before s rest) ≡ part_count (before s done) + part_count rest
-count_cons (Assign t x e) rest = omega arith
 count_cons (If t e a b) rest = omega arith
-count_cons (While t e b) rest = omega arith
+count_cons s rest = omega arith
 
 if_not : (more : Bool) (s f : Step) → (more ≡ true → ⊥) → cond more s f ≡ f
 if_not true s f h = absurd (h refl)

@@ -6,7 +6,6 @@ use Rattle.std.proofs.lemmas.Option.{same_Some}
 use Rattle.std.proofs.lemmas.List.Elements.{Contains-append_left, Contains-append_right, Contains-append_cases}
 use Rattle.hpr_terms.specs.declared.tag.Tag.{Tag}
 use Rattle.hpr_terms.specs.declared.expr.Expr.{Expr}
-use Rattle.hpr_syntax.specs.Action.{assigns}
 use Rattle.hpr_syntax.specs.Body.{Body, done, action, branch, loop, part_count}
 use Rattle.hpr_syntax.specs.Tree.{Tree}
 use Rattle.hpr_syntax.specs.Skeleton.{Point, skeleton, at, StandsIn}
@@ -243,8 +242,8 @@ in_loop t e b rest n f w a (inr h) =
 
 pub nests_of_encloses : (S : List Spot) (b : Body) (n : ℕ) (f : Step) (w : List ℕ) (d u : Point) (v : Tag) → Holds S b n f w → EnclosesBoth (skeleton b) d u v → TwoIn at_spot (Share S v) (SpotIn b n f w) d u
 nests_of_encloses S done n f w d u v holds h = absurd h
-nests_of_encloses S (action t (assigns x e) rest) n f w d u v holds h =
-    wider at_spot (Share S v) (SpotIn rest (n + 1) f w) (SpotIn (action t (assigns x e) rest) n f w) d u (λ p s i. inr i) (nests_of_encloses S rest (n + 1) f w d u v (λ p s i. holds p s (inr i)) h)
+nests_of_encloses S (action t action_ rest) n f w d u v holds h =
+    wider at_spot (Share S v) (SpotIn rest (n + 1) f w) (SpotIn (action t action_ rest) n f w) d u (λ p s i. inr i) (nests_of_encloses S rest (n + 1) f w d u v (λ p s i. holds p s (inr i)) h)
 nests_of_encloses S (branch t e a b rest) n f w d u v holds h =
     let no : ℕ = n + 1 + part_count a in
     let next : ℕ = no + part_count b in

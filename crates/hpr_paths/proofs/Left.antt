@@ -2,7 +2,6 @@
 use Rattle.std.proofs.Common.{◌≡◌, ◌<◌, ◌≤◌, ◌+◌, ℕ, inl, inr, Some, List, [], ◌∷◌, ◌++◌, refl, sym, ap, ◌∙◌, subst, arith}
 use Rattle.std.specs.List.{slice_get}
 use Rattle.hpr_terms.specs.declared.tag.Tag.{Tag}
-use Rattle.hpr_syntax.specs.Action.{assigns}
 use Rattle.hpr_syntax.specs.Body.{Body, done, action, branch, loop, part_count}
 use Rattle.hpr_syntax.specs.Tree.{Tree}
 use Rattle.hpr_syntax.specs.Skeleton.{Point, skeleton, enter, exit, at}
@@ -146,9 +145,9 @@ led In d u s c n m g v first point two le y = record {
 
 pub numbers_of_left : (b : Body) (n : ℕ) (f : Step) (w : List ℕ) (d u : Point) → StandsLeft (skeleton b) d u → InOrder (SpotIn b n f w) d u
 numbers_of_left done n f w d u h = absurd h
-numbers_of_left (action t (assigns x e) rest) n f w d u (inl h) =
-    led (SpotIn (action t (assigns x e) rest) n f w) d u _ rest n (n + 1) f w (inl (refl, refl)) h.0 (λ p s i. inr i) (omega arith) (spot_standing rest (n + 1) f w u h.1)
-numbers_of_left (action t (assigns x e) rest) n f w d u (inr h) = wider at_spot Before (SpotIn rest (n + 1) f w) (SpotIn (action t (assigns x e) rest) n f w) d u (λ p s i. inr i) (numbers_of_left rest (n + 1) f w d u h)
+numbers_of_left (action t action_ rest) n f w d u (inl h) =
+    led (SpotIn (action t action_ rest) n f w) d u _ rest n (n + 1) f w (inl (refl, refl)) h.0 (λ p s i. inr i) (omega arith) (spot_standing rest (n + 1) f w u h.1)
+numbers_of_left (action t action_ rest) n f w d u (inr h) = wider at_spot Before (SpotIn rest (n + 1) f w) (SpotIn (action t action_ rest) n f w) d u (λ p s i. inr i) (numbers_of_left rest (n + 1) f w d u h)
 numbers_of_left (branch t e a b rest) n f w d u (inl h) =
     let no : ℕ = n + 1 + part_count a in
     let next : ℕ = no + part_count b in

@@ -9,8 +9,7 @@ use Rattle.std.specs.Option.{option_map, option_and_then}
 use Rattle.std.proofs.lemmas.Option.{same_Some}
 use Rattle.hpr_terms.specs.declared.tag.Tag.{Tag}
 use Rattle.hpr_terms.specs.declared.expr.Expr.{Expr}
-use Rattle.hpr_syntax.specs.declared.rows.Content.TheVariants.{Assign, If, While}
-use Rattle.hpr_syntax.specs.Action.{assigns}
+use Rattle.hpr_syntax.specs.declared.rows.Content.TheVariants.{If, While}
 use Rattle.hpr_syntax.specs.Rows.{content_by}
 use Rattle.hpr_syntax.specs.Body.{Body, done, action, branch, loop, part_count}
 use Rattle.hpr_syntax.specs.Skeleton.{Point, skeleton, at}
@@ -136,8 +135,8 @@ step_of_follows S (action t d rest) n f w z a y m holds hf (inl h) =
       there = has_one (first_step rest (n + 1) f);
       named = renamed S (first_step rest (n + 1) f) (y, m) (first_of (skeleton rest) z) h.1 (first_names S rest (n + 1) f w z (λ p s i. holds p s (inr i)) hf);
     }
-step_of_follows S (action t (assigns x e) rest) n f w z a y m holds hf (inr h) =
-    wider S (SpotIn rest (n + 1) f w) (SpotIn (action t (assigns x e) rest) n f w) a (y, m) (λ p s i. inr i) (step_of_follows S rest (n + 1) f w z a y m (λ p s i. holds p s (inr i)) hf h)
+step_of_follows S (action t action_ rest) n f w z a y m holds hf (inr h) =
+    wider S (SpotIn rest (n + 1) f w) (SpotIn (action t action_ rest) n f w) a (y, m) (λ p s i. inr i) (step_of_follows S rest (n + 1) f w z a y m (λ p s i. holds p s (inr i)) hf h)
 step_of_follows S (branch t e b c rest) n f w z a y m holds hf (inl h) =
     let no : ℕ = n + 1 + part_count b in
     let next : ℕ = no + part_count c in

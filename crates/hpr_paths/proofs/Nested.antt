@@ -5,8 +5,7 @@ use Rattle.std.specs.Option.{option_and_then}
 use Rattle.std.proofs.lemmas.List.{map-append}
 use Rattle.hpr_terms.specs.declared.tag.Tag.{Tag}
 use Rattle.hpr_syntax.specs.declared.rows.Content.{Content}
-use Rattle.hpr_syntax.specs.declared.rows.Content.TheVariants.{Assign, If, While}
-use Rattle.hpr_syntax.specs.Action.{assigns}
+use Rattle.hpr_syntax.specs.declared.rows.Content.TheVariants.{If, While}
 use Rattle.hpr_syntax.specs.Rows.{content_by}
 use Rattle.hpr_syntax.specs.Body.{Body, done, action, branch, loop, part_count}
 use Rattle.hpr_syntax.specs.Tree.{Tree}
@@ -54,9 +53,9 @@ deeper S tags tags' up up' b b' v c w f h = record { standing = h.standing; stan
 
 pub stands_of_spot : (S : List Spot) (b : Body) (n : ℕ) (f : Step) (w : List ℕ) (tags : List Tag) (up : Up) (p : ℕ) (s : Spot) (v : Tag) (c : Content) → Holds S b n f w → HaveTags S w tags → SpotIn b n f w p s → s.role ≡ part v c → StandsSo S tags up b v c s.nest
 stands_of_spot S done n f w tags up p s v c holds have h role = absurd h
-stands_of_spot S (action t (assigns x e) rest) n f w tags up p s v c holds have (inl h) role = here S tags up (action t (assigns x e) rest) t v c (Assign x e) w s _ tags h.1 role have (λ is. inl (is, refl))
-stands_of_spot S (action t (assigns x e) rest) n f w tags up p s v c holds have (inr h) role =
-    deeper S tags tags up up rest (action t (assigns x e) rest) v c s.nest (λ u i. inr i) (stands_of_spot S rest (n + 1) f w tags up p s v c (λ p s i. holds p s (inr i)) have h role)
+stands_of_spot S (action t action_ rest) n f w tags up p s v c holds have (inl h) role = here S tags up (action t action_ rest) t v c (content_by action_) w s _ tags h.1 role have (λ is. inl (is, refl))
+stands_of_spot S (action t action_ rest) n f w tags up p s v c holds have (inr h) role =
+    deeper S tags tags up up rest (action t action_ rest) v c s.nest (λ u i. inr i) (stands_of_spot S rest (n + 1) f w tags up p s v c (λ p s i. holds p s (inr i)) have h role)
 stands_of_spot S (branch t e a b rest) n f w tags up p s v c holds have (inl h) role = here S tags up (branch t e a b rest) t v c (If e) w s _ tags h.1 role have (λ is. inl (is, refl))
 stands_of_spot S (branch t e a b rest) n f w tags up p s v c holds have (inr h) role =
     let no : ℕ = n + 1 + part_count a in
@@ -99,9 +98,9 @@ wider S In Out v st f h = record { number = h.number; spot = h.spot; stands = f 
 
 pub spot_of_stands : (S : List Spot) (b : Body) (n : ℕ) (f : Step) (w : List ℕ) (tags : List Tag) (up : Up) (v : Tag) (st : Standing) → Holds S b n f w → HaveTags S w tags → StandsAs tags up b v st → SpotSo S (SpotIn b n f w) v st
 spot_of_stands S done n f w tags up v st holds have h = absurd h
-spot_of_stands S (action t (assigns x e) rest) n f w tags up v st holds have (inl h) = there S (SpotIn (action t (assigns x e) rest) n f w) n _ w tags up t v (Assign x e) st (inl (refl, refl)) h.0 h.1 have
-spot_of_stands S (action t (assigns x e) rest) n f w tags up v st holds have (inr h) =
-    wider S (SpotIn rest (n + 1) f w) (SpotIn (action t (assigns x e) rest) n f w) v st (λ p s i. inr i) (spot_of_stands S rest (n + 1) f w tags up v st (λ p s i. holds p s (inr i)) have h)
+spot_of_stands S (action t action_ rest) n f w tags up v st holds have (inl h) = there S (SpotIn (action t action_ rest) n f w) n _ w tags up t v (content_by action_) st (inl (refl, refl)) h.0 h.1 have
+spot_of_stands S (action t action_ rest) n f w tags up v st holds have (inr h) =
+    wider S (SpotIn rest (n + 1) f w) (SpotIn (action t action_ rest) n f w) v st (λ p s i. inr i) (spot_of_stands S rest (n + 1) f w tags up v st (λ p s i. holds p s (inr i)) have h)
 spot_of_stands S (branch t e a b rest) n f w tags up v st holds have (inl h) = there S (SpotIn (branch t e a b rest) n f w) n _ w tags up t v (If e) st (inl (refl, refl)) h.0 h.1 have
 spot_of_stands S (branch t e a b rest) n f w tags up v st holds have (inr h) =
     let no : ℕ = n + 1 + part_count a in

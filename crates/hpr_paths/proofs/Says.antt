@@ -2,7 +2,7 @@
 use Rattle.std.proofs.Common.{◌≡◌, ℕ, true, false, List, [], ◌∷◌, ◌++◌, Some, None, refl, ap, sym, subst, ◌∙◌, inl, inr}
 use Rattle.hpr_terms.specs.declared.tag.Tag.{Tag}
 use Rattle.hpr_syntax.specs.declared.rows.Content.{Content}
-use Rattle.hpr_syntax.specs.declared.rows.Content.TheVariants.{Assign, If, While}
+use Rattle.hpr_syntax.specs.declared.rows.Content.TheVariants.{If, While}
 use Rattle.hpr_syntax.specs.Rows.{Parent, assigned}
 use Rattle.hpr_syntax.specs.Body.{Body, done, action, branch, loop}
 use Rattle.hpr_syntax.specs.Skeleton.{at, StandsIn, Apart, Distinct, skeleton}
@@ -139,9 +139,9 @@ standing_of_says (loop u e b k) nest up t c (inr (inr h)) = let g = standing_of_
 -- only acts define a name
 module _ (p : Body) (di : Distinct (skeleton p)) (x : List ℕ) where
   predicate_defines : {A : Type 0} (t : Tag) (c : Content) → Says p t c → assigned c ≡ None → DefinesAt p x (at t) → A
-  predicate_defines t c h n (u, e, is, d) =
-      let same : c ≡ Assign x e = says_one p di t c (Assign x e) h (subst (λ v. Says p v (Assign x e)) (sym (same_at is)) d) in
-      let no : None ≡ Some x = sym n ∙ ap assigned same in
+  predicate_defines t c h n (u, d, is, says, by) =
+      let same : c ≡ d = says_one p di t c d h (subst (λ v. Says p v d) (sym (same_at is)) says) in
+      let no : None ≡ Some x = sym n ∙ ap assigned same ∙ by in
       absurd cc
 
   pub only_acts_define : (B : Body) → ((t : Tag) (c : Content) → Says B t c → Says p t c) → OnlyActsStop (skeleton B) (DefinesAt p x)

@@ -9,7 +9,7 @@
 --                                    the loops of a nest up to one of them are that one's own nest
 use Rattle.std.specs.Prelude.{◌≡◌, ℕ, ◌+◌, ◌<◌, ◌≤◌, ◌⊎◌, ◌↔◌, true, false, Some, None, List, [], ◌∷◌, ◌++◌, length, take, All}
 use Rattle.std.specs.List.{slice_get}
-use Rattle.hpr_syntax.specs.declared.rows.Content.TheVariants.{Assign, If, While}
+use Rattle.hpr_syntax.specs.declared.rows.Content.TheVariants.{If, While}
 use Rattle.hpr_syntax.specs.Rows.{content_by}
 use Rattle.hpr_syntax.specs.Body.{Body, done, action, branch, loop, part_count}
 use Rattle.hpr_syntax.specs.Tree.{Tree}

@@ -165,7 +165,6 @@ fn push_stmt(
 {
     let first = spots.len();
     match stmt {
-        Stmt::Assign(_, _, _) => push_part(alloc, spots, &[after], nest, stmt),
         Stmt::If(_, _, yes, no) => {
             let into_yes = first_step(yes, first + 1, after);
             let into_no = first_step(no, first + 1 + yes.part_count(), after);
@@ -188,5 +187,6 @@ fn push_stmt(
             )?;
             push_block(alloc, body, again, &inside, spots)
         }
+        _ => push_part(alloc, spots, &[after], nest, stmt),
     }
 }

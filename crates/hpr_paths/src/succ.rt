@@ -5,8 +5,7 @@ ghost use Rattle.hpr_paths.specs.Spots.{Spot, next_at, nest_at, tag_at, defined_
 ghost use Rattle.hpr_paths.specs.Successors.{AreSpots};
 
 use crate::spot::{Role, Spot, Step};
-use crate::used::{expr_in, names_of};
-use hpr_syntax::Content;
+use crate::used::names_of;
 use hpr_terms::{Name, NoMemory, Tag};
 use std::marker::Model;
 
@@ -97,7 +96,7 @@ impl Succ {
     {
         let spot = &self.spots[point];
         match &spot.role {
-            Role::Part(_, Content::Assign(name, _)) => Some(name),
+            Role::Part(_, content) => content.assigned(),
             _ => None,
         }
     }
@@ -111,7 +110,7 @@ impl Succ {
         let spot = &self.spots[point];
         match &spot.role {
             Role::Enter => false,
-            Role::Part(_, content) => expr_in(content).uses(name),
+            Role::Part(_, content) => content.expr().uses(name),
             Role::Exit(finals) => has_name(finals, name),
         }
     }

@@ -2,7 +2,7 @@
 use Rattle.std.proofs.Common.{◌≡◌, ℕ, ◌+◌, ◌*◌, ◌≤◌, List, [], ◌∷◌, ◌++◌, refl, sym, ap, ◌∙◌, arith, max, append_assoc, replicate, ◌<◌, ◌==◌, length, get_or, drop, false, codes, drop_of_length-le}
 use Rattle.std.proofs.lemmas.List.{replicate-append-replicate, append-nil}
 use Rattle.hpr_syntax.specs.declared.tree.Stmt.{Stmt}
-use Rattle.hpr_syntax.specs.declared.tree.Stmt.TheVariants.{Assign, If, While}
+use Rattle.hpr_syntax.specs.declared.tree.Stmt.TheVariants.{If, While}
 use Rattle.hpr_syntax.specs.Body.{Body, done, action, branch, loop, depth}
 use Rattle.hpr_syntax.specs.BodyOf.{before, body_of}
 use Rattle.hpr_syntax.specs.Print.{indent, body_text, is_done, else_text, line}
@@ -15,9 +15,8 @@ more_indent n =
 
 pub first_part : (n : ℕ) (s : Stmt) (rest : Body) → body_text n (before s rest) ≡ body_text n (before s done) ++ body_text n rest
 unfolding body_text
-first_part n (Assign t x e) rest = simp (append_assoc, append-nil)
 first_part n (If t e a b) rest = simp (append_assoc, append-nil)
-first_part n (While t e b) rest = simp (append_assoc, append-nil)
+first_part n s rest = simp (append_assoc, append-nil)
 
 no_parts : (n : ℕ) → body_text n done ≡ []
 unfolding body_text
@@ -31,9 +30,8 @@ depth_positive (loop t e b rest) = let h = depth_positive rest in omega arith
 
 -- the depth of a part before others
 pub parts_depth : (s : Stmt) (rest : Body) → depth (before s rest) ≡ max (depth (before s done)) (depth rest)
-parts_depth (Assign t x e) rest = let h = depth_positive rest in omega arith
 parts_depth (If t e a b) rest = let h = depth_positive rest in omega arith
-parts_depth (While t e b) rest = let h = depth_positive rest in omega arith
+parts_depth s rest = let h = depth_positive rest in omega arith
 
 -- a part's own depth
 pub part_fits : (stmts : List Stmt) (i : ℕ) (s : Stmt) (most : ℕ) → i < length stmts → s ≡ get_or stmts i s → depth (body_of (drop i stmts)) ≤ most
@@ -47,9 +45,8 @@ part_fits stmts i s most below here deep =
 -- a block with parts isn't empty
 pub some_parts : (stmts : List Stmt) → (length stmts == 0) ≡ false → is_done (body_of stmts) ≡ false
 some_parts [] h = cc
-some_parts (Assign t x e ∷ rest) h = refl
 some_parts (If t e a b ∷ rest) h = refl
-some_parts (While t e b ∷ rest) h = refl
+some_parts (s ∷ rest) h = refl
 
 -- a block with parts has an `else`
 pub else_shown : (n : ℕ) (stmts : List Stmt) (shown : List ℕ) → (length stmts == 0) ≡ false → else_text n (body_of stmts) shown ≡ line n (codes "else") ++ shown

@@ -6,7 +6,7 @@ use Rattle.hpr_terms.specs.declared.tag.Tag.{Tag}
 use Rattle.hpr_terms.proofs.Facts.{unless, get_in_map, get_map}
 use Rattle.hpr_syntax.specs.declared.rows.Row.{Row}
 use Rattle.hpr_syntax.specs.declared.rows.Content.{Content}
-use Rattle.hpr_syntax.specs.declared.rows.Content.TheVariants.{Assign, If, While}
+use Rattle.hpr_syntax.specs.declared.rows.Content.TheVariants.{If, While}
 use Rattle.hpr_syntax.specs.Rows.{content_by}
 use Rattle.hpr_syntax.specs.Body.{Body, done, action, branch, loop, part_count}
 use Rattle.hpr_syntax.specs.Issued.{Issued}

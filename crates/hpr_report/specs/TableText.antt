@@ -10,8 +10,9 @@
 -- table_line row               == the name and the four cells
 -- IsTableText base a b merged text == the text is that of these rows, a line for each
 -- IsKeptIn row                 == the last cell has the value of each variant that changed it, and the one that all three agree on
-use Rattle.std.specs.Prelude.{◌≡◌, ℕ, ℤ, ◌↔◌, List, ◌++◌, Option, Some, None, All, Contains, map, codes}
+use Rattle.std.specs.Prelude.{◌≡◌, ℕ, ◌↔◌, List, ◌++◌, Option, Some, None, All, Contains, map, codes}
 use Rattle.std.specs.Fmt.{signed_decimal}
+use Rattle.hpr_syntax.specs.Values.{Value}
 use Rattle.hpr_syntax.specs.Run.{FinalValues}
 use Rattle.hpr_graph.specs.Order.{name_cmp}
 use Rattle.hpr_graph.specs.InOrder.{Ascends}
@@ -21,17 +22,17 @@ abbrev pub names_in : FinalValues → List (List ℕ)
 names_in values = map (λ e. e.0) values
 
 abbrev pub IsSingleValued : FinalValues → Type 0
-IsSingleValued values = (x : List ℕ) (v w : ℤ) → Contains values (x, v) → Contains values (x, w) → v ≡ w
+IsSingleValued values = (x : List ℕ) (v w : Value) → Contains values (x, v) → Contains values (x, w) → v ≡ w
 
 pub record Row : Type 0 where
   pub name : List ℕ
-  pub base : Option ℤ
-  pub a : Option ℤ
-  pub b : Option ℤ
-  pub merged : Option ℤ
+  pub base : Option Value
+  pub a : Option Value
+  pub b : Option Value
+  pub merged : Option Value
 
-abbrev pub IsValueIn : FinalValues → List ℕ → Option ℤ → Type 0
-IsValueIn values x cell = (v : ℤ) → (cell ≡ Some v) ↔ Contains values (x, v)
+abbrev pub IsValueIn : FinalValues → List ℕ → Option Value → Type 0
+IsValueIn values x cell = (v : Value) → (cell ≡ Some v) ↔ Contains values (x, v)
 
 pub record IsRow (base a b merged : FinalValues) (row : Row) : Type 0 where
   pub of_base : IsValueIn base row.name row.base
@@ -47,7 +48,7 @@ pub record AreRows (base a b merged : FinalValues) (rows : List Row) : Type 0 wh
   pub ascending : Ascends name_cmp (names_of rows)
   pub cells : All (IsRow base a b merged) rows
 
-abbrev pub cell_text : Option ℤ → List ℕ
+abbrev pub cell_text : Option Value → List ℕ
 cell_text None = codes "-"
 cell_text (Some v) = signed_decimal v
 
@@ -59,6 +60,6 @@ abbrev pub IsTableText : FinalValues → FinalValues → FinalValues → FinalVa
 IsTableText base a b merged text = (rows : List Row) × AreRows base a b merged rows × (text ≡ on_lines (map table_line rows))
 
 pub record IsKeptIn (row : Row) : Type 0 where
-  pub changed_by_a : (v : ℤ) → row.a ≡ Some v → ¬ (row.base ≡ Some v) → row.merged ≡ Some v
-  pub changed_by_b : (v : ℤ) → row.b ≡ Some v → ¬ (row.base ≡ Some v) → row.merged ≡ Some v
-  pub agreed : (v : ℤ) → row.base ≡ Some v → row.a ≡ Some v → row.b ≡ Some v → row.merged ≡ Some v
+  pub changed_by_a : (v : Value) → row.a ≡ Some v → ¬ (row.base ≡ Some v) → row.merged ≡ Some v
+  pub changed_by_b : (v : Value) → row.b ≡ Some v → ¬ (row.base ≡ Some v) → row.merged ≡ Some v
+  pub agreed : (v : Value) → row.base ≡ Some v → row.a ≡ Some v → row.b ≡ Some v → row.merged ≡ Some v

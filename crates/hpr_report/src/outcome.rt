@@ -5,7 +5,7 @@ ghost use Rattle.hpr_syntax.specs.Print.{tag_text};
 ghost use Rattle.hpr_run.specs.Outcomes.{fault_of, outcome_of};
 ghost use Rattle.hpr_report.specs.Texts.{fault_word, value_line, outcome_text};
 
-use hpr_run::{Fault, FinalValues, Outcome};
+use hpr_run::{Fault, FinalValues, Outcome, Value};
 use hpr_syntax::{Name, NoMemory, Tag};
 use std::alloc::{AllocError, Global};
 
@@ -55,7 +55,7 @@ fn ended_text(alloc: Global, finals: &FinalValues, steps: u64) -> Result<Vec<u8>
 }
 
 /// Puts a line for each name and its value.
-fn put_values(alloc: Global, out: &mut Vec<u8>, values: &[(Name, i64)]) -> Result<(), NoMemory>
+fn put_values(alloc: Global, out: &mut Vec<u8>, values: &[(Name, Value)]) -> Result<(), NoMemory>
     ensures { OnOk result (out.new.items ≡ out.old.items ++ flat_map value_line values.now) }
 {
     for (name, value) in values {
@@ -65,7 +65,7 @@ fn put_values(alloc: Global, out: &mut Vec<u8>, values: &[(Name, i64)]) -> Resul
     Ok(())
 }
 
-fn value_line(alloc: Global, name: &Name, value: i64) -> Result<String, AllocError>
+fn value_line(alloc: Global, name: &Name, value: Value) -> Result<String, AllocError>
     ensures { IfOk result (λ text. string_bytes text ≡ value_line (name.now, value)) }
 {
     let name = name.text();

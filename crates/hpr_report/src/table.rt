@@ -5,6 +5,7 @@ ghost use Rattle.hpr_graph.specs.InOrder.{Ascends};
 ghost use Rattle.hpr_report.specs.TableText.{names_in, IsSingleValued, IsValueIn, IsRow, Row, cell_text, table_line, IsTableText};
 
 use crate::graphs::put_line;
+use hpr_run::Value;
 use hpr_syntax::{Name, NoMemory};
 use hpr_terms::names::in_order;
 use std::alloc::{AllocError, Global};
@@ -16,10 +17,10 @@ use std::alloc::{AllocError, Global};
 /// is defined here alone.
 pub fn table_text(
     alloc: Global,
-    base: &[(Name, i64)],
-    a: &[(Name, i64)],
-    b: &[(Name, i64)],
-    merged: &[(Name, i64)],
+    base: &[(Name, Value)],
+    a: &[(Name, Value)],
+    b: &[(Name, Value)],
+    merged: &[(Name, Value)],
 ) -> Result<Vec<u8>, NoMemory>
     requires base { IsSingleValued base.now }
     requires a { IsSingleValued a.now }
@@ -39,10 +40,10 @@ pub fn table_text(
 /// The names that stand in one of the lists, each once.
 fn names_in_order(
     alloc: Global,
-    base: &[(Name, i64)],
-    a: &[(Name, i64)],
-    b: &[(Name, i64)],
-    merged: &[(Name, i64)],
+    base: &[(Name, Value)],
+    a: &[(Name, Value)],
+    b: &[(Name, Value)],
+    merged: &[(Name, Value)],
 ) -> Result<Vec<Name>, NoMemory>
     ensures names { IfOk result (λ names. (x : List ℕ)
         → Contains names.items x ↔ Contains (names_in base.now ++ names_in a.now ++ names_in b.now ++ names_in merged.now) x) }
@@ -57,10 +58,10 @@ fn names_in_order(
 fn push_all(
     alloc: Global,
     names: &mut Vec<Name>,
-    base: &[(Name, i64)],
-    a: &[(Name, i64)],
-    b: &[(Name, i64)],
-    merged: &[(Name, i64)],
+    base: &[(Name, Value)],
+    a: &[(Name, Value)],
+    b: &[(Name, Value)],
+    merged: &[(Name, Value)],
 ) -> Result<(), NoMemory>
     ensures { OnOk result (names.new.items ≡ names.old.items ++ (names_in base.now ++ names_in a.now ++ names_in b.now ++ names_in merged.now)) }
 {
@@ -71,7 +72,7 @@ fn push_all(
 }
 
 /// Pushes a copy of each name of a list.
-fn push_names(alloc: Global, names: &mut Vec<Name>, values: &[(Name, i64)]) -> Result<(), NoMemory>
+fn push_names(alloc: Global, names: &mut Vec<Name>, values: &[(Name, Value)]) -> Result<(), NoMemory>
     ensures { OnOk result (names.new.items ≡ names.old.items ++ names_in values.now) }
 {
     for (name, _) in values {
@@ -84,10 +85,10 @@ fn push_names(alloc: Global, names: &mut Vec<Name>, values: &[(Name, i64)]) -> R
 fn table_line(
     alloc: Global,
     name: &Name,
-    base: &[(Name, i64)],
-    a: &[(Name, i64)],
-    b: &[(Name, i64)],
-    merged: &[(Name, i64)],
+    base: &[(Name, Value)],
+    a: &[(Name, Value)],
+    b: &[(Name, Value)],
+    merged: &[(Name, Value)],
 ) -> Result<String, NoMemory>
     requires base { IsSingleValued base.now }
     requires a { IsSingleValued a.now }
@@ -109,10 +110,10 @@ fn table_line(
 /// Puts the four cells of a line behind a text.
 fn put_cells(
     line: &mut String,
-    base: Option<i64>,
-    a: Option<i64>,
-    b: Option<i64>,
-    merged: Option<i64>,
+    base: Option<Value>,
+    a: Option<Value>,
+    b: Option<Value>,
+    merged: Option<Value>,
 ) -> Result<(), AllocError>
     ensures { OnOk result (string_bytes line.new ≡ string_bytes line.old ++ (codes ": " ++ cell_text base ++ codes " " ++ cell_text a ++ codes " " ++ cell_text b ++ codes " " ++ cell_text merged)) }
 {
@@ -123,7 +124,7 @@ fn put_cells(
 }
 
 /// The value of a name in a list, if the list has the name.
-fn value_in(values: &[(Name, i64)], name: &Name) -> Option<i64>
+fn value_in(values: &[(Name, Value)], name: &Name) -> Option<Value>
     requires { IsSingleValued values.now }
     ensures { IsValueIn values.now name.now result }
 {
@@ -136,7 +137,7 @@ fn value_in(values: &[(Name, i64)], name: &Name) -> Option<i64>
 }
 
 /// Puts a cell behind a text.
-fn put_cell(line: &mut String, before: &str, cell: Option<i64>) -> Result<(), AllocError>
+fn put_cell(line: &mut String, before: &str, cell: Option<Value>) -> Result<(), AllocError>
     ensures { OnOk result (string_bytes line.new ≡ string_bytes line.old ++ before.now ++ cell_text cell) }
 {
     line.push_str(before)?;

@@ -7,9 +7,9 @@
 --                             them are left, and o' is known then, where told says what is after the step
 -- Did r way o s left       == r is what statements gave that go this way, with what the observer knows, the state and the steps that they left;
 --                             want of memory may come anywhere
-use Rattle.std.specs.Prelude.{◌≡◌, ℕ, suc, ℤ, Result, Ok, Err}
+use Rattle.std.specs.Prelude.{◌≡◌, ℕ, suc, Result, Ok, Err}
 use Rattle.hpr_terms.specs.declared.tag.Tag.{Tag}
-use Rattle.hpr_syntax.specs.Values.{Values}
+use Rattle.hpr_syntax.specs.Values.{Value, Values}
 use Rattle.hpr_syntax.specs.Value.{Answer, overflow, zero_divide}
 use Rattle.hpr_syntax.specs.Value as means
 use Rattle.hpr_syntax.specs.Run.{ends, faults, more}
@@ -26,7 +26,7 @@ abbrev pub fault_of : Fault → means.Fault
 fault_of Overflow = overflow
 fault_of ZeroDivide = zero_divide
 
-abbrev pub answer_of : Result ℤ Fault → Answer
+abbrev pub answer_of : Result Value Fault → Answer
 answer_of (Ok v) = Ok v
 answer_of (Err f) = Err (fault_of f)
 

@@ -8,6 +8,7 @@ ghost use Rattle.hpr_run.specs.Observed.{observing, walk, walk_turns, known_in};
 ghost use Rattle.hpr_run.specs.Outcomes.{outcome_of, Stepped, Did};
 
 use crate::observer::{Nobody, Observer};
+use crate::Value;
 use crate::state::State;
 use crate::values::{Fault, eval};
 use hpr_syntax::{Block, Expr, Name, NoMemory, Program, Stmt, Tag};
@@ -19,7 +20,7 @@ use std::marker::Model;
 /// A contract sees them as the list of the pairs.
 #[derive(Drop)]
 pub struct FinalValues {
-    list: Vec<(Name, i64)>,
+    list: Vec<(Name, Value)>,
 }
 
 impl Model for FinalValues {
@@ -32,7 +33,7 @@ impl Model for FinalValues {
 
 impl FinalValues {
     /// The names with their numbers, in their order.
-    pub fn list(&self) -> &[(Name, i64)]
+    pub fn list(&self) -> &[(Name, Value)]
         ensures { result.now ≡ self.now }
     {
         &self.list
@@ -203,7 +204,7 @@ fn walk_loop<O: Observer>(
     Err(Stop::Spent)
 }
 
-fn is_true(value: i64) -> bool
+fn is_true(value: Value) -> bool
     ensures { result ≡ is_true value }
 {
     value != 0

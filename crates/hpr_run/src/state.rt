@@ -1,19 +1,20 @@
 //! States.
 ghost use Rattle.std.specs.Prelude.{◌≡◌, IfOk, OnOk, OnErr};
 ghost use Rattle.std.specs.FinMap as map;
-ghost use Rattle.hpr_syntax.specs.Values.{value_at};
+ghost use Rattle.hpr_syntax.specs.Values.{value_at, put};
 
+use crate::Value;
 use hpr_syntax::{Name, NoMemory};
 use std::alloc::Global;
 use std::collections::BTreeMap;
 use std::marker::Model;
 
-/// A state: names with their numbers. A name that it doesn't list has the number 0.
+/// A state: names with their values. A name that it doesn't list has the value 0.
 ///
-/// A contract sees it as a finite map from names to numbers.
+/// A contract sees it as a finite map from names to values.
 #[derive(Drop)]
 pub struct State {
-    values: BTreeMap<Name, i64>,
+    values: BTreeMap<Name, Value>,
 }
 
 impl Model for State {
@@ -38,8 +39,8 @@ impl State {
         }
     }
 
-    /// The name's number: 0 where the state doesn't list it.
-    pub fn get(&self, name: &Name) -> i64
+    /// The name's value: 0 where the state doesn't list it.
+    pub fn get(&self, name: &Name) -> Value
         ensures { result ≡ value_at self.now name.now }
     {
         self.values.get(name).copied().unwrap_or(0)
@@ -52,9 +53,9 @@ impl State {
         self.values.contains_key(name)
     }
 
-    /// Gives the name this number, and leaves the others theirs. Want of memory leaves the state as
+    /// Gives the name this value, and leaves the others theirs. Want of memory leaves the state as
     /// it was.
-    pub fn set(&mut self, name: Name, value: i64) -> Result<(), NoMemory>
+    pub fn set(&mut self, name: Name, value: Value) -> Result<(), NoMemory>
         ensures ok { OnOk result (self.new ≡ map.insert self.old name value) }
         ensures err { OnErr result (self.new ≡ self.old) }
     {
@@ -64,8 +65,8 @@ impl State {
 
     // The same as `set`. The name is copied only where the state doesn't list it yet; else nothing
     // is allocated.
-    pub(crate) fn assign(&mut self, alloc: Global, name: &Name, value: i64) -> Result<(), NoMemory>
-        ensures ok { OnOk result (self.new ≡ map.insert self.old name.now value) }
+    pub(crate) fn assign(&mut self, alloc: Global, name: &Name, value: Value) -> Result<(), NoMemory>
+        ensures ok { OnOk result (self.new ≡ put self.old name.now value) }
         ensures err { OnErr result (self.new ≡ self.old) }
     {
         if let Some(place) = self.values.get_mut(name) {

@@ -3,6 +3,7 @@ ghost use Rattle.std.specs.Prelude.{◌≡◌, Ok};
 ghost use Rattle.hpr_syntax.specs.Value.{value, term_value, apply_unary, apply_binary, truth};
 ghost use Rattle.hpr_run.specs.Outcomes.{answer_of};
 
+use crate::Value;
 use crate::state::State;
 use hpr_syntax::{Binary, Expr, Operand, Unary};
 
@@ -22,7 +23,7 @@ pub enum Fault {
 /// `%` has the sign of its left operand. A test gives 1 or 0; `and`, `or` and `not` take every
 /// number but 0 as true.
 #[cycle(eval)]
-pub fn eval(expr: &Expr, state: &State) -> Result<i64, Fault>
+pub fn eval(expr: &Expr, state: &State) -> Result<Value, Fault>
     ensures { answer_of result ≡ value expr.now state.now }
 {
     match expr {
@@ -38,7 +39,7 @@ pub fn eval(expr: &Expr, state: &State) -> Result<i64, Fault>
 }
 
 #[cycle(eval)]
-fn eval_operand(operand: &Operand, state: &State) -> Result<i64, Fault>
+fn eval_operand(operand: &Operand, state: &State) -> Result<Value, Fault>
     ensures { answer_of result ≡ term_value operand.now state.now }
 {
     eval(operand.expr(), state)

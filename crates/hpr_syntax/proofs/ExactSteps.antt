@@ -1,11 +1,10 @@
 -- A run that ends needs no more steps than it takes.
 use Rattle.std.proofs.Common.{◌≡◌, ℕ, zero, suc, ◌+◌, ◌-◌, ◌≤◌, ◌<◌, ℤ, Bool, true, false, List, arith, ap, sym, ◌∙◌, subst, if◌then◌else◌, Ok, Err}
-use Rattle.std.specs.FinMap.{insert}
 use Rattle.hpr_terms.specs.declared.tag.Tag.{Tag}
 use Rattle.hpr_terms.specs.declared.expr.Expr.{Expr}
-use Rattle.hpr_syntax.specs.Action.{assigns}
-use Rattle.hpr_syntax.specs.declared.rows.Content.TheVariants.{Assign, If, While}
-use Rattle.hpr_syntax.specs.Contents.{answer_of}
+use Rattle.hpr_syntax.specs.declared.rows.Content.TheVariants.{If, While}
+use Rattle.hpr_syntax.specs.Rows.{content_by}
+use Rattle.hpr_syntax.specs.Contents.{answer_of, next_state}
 use Rattle.hpr_syntax.specs.Body.{Body, done, action, branch, loop}
 use Rattle.hpr_syntax.specs.Run.{FinalValues, ends, final_values, run, outcome, After, goes, stops, spent, step, then_go, turns, run_body}
 use Rattle.hpr_syntax.specs.Tree.{Tree}
@@ -98,8 +97,9 @@ module _ (k : ℕ) where
 
   body_less : (b : Body) (s : Values) (m n : ℕ) → m ≡ n + k → IsLess (run_body b s m) (run_body b s n)
   body_less done s m n is = goes_less s m n is
-  body_less (action t (assigns x e) rest) s m n is =
-      step_less t (answer_of (Assign x e) s) m n _ _ is (λ v l. run_body_leaves rest (insert s x v) l) (λ v i j same. body_less rest (insert s x v) i j same)
+  body_less (action t d rest) s m n is =
+      let c = content_by d in
+      step_less t (answer_of c s) m n _ _ is (λ v l. run_body_leaves rest (next_state c v s) l) (λ v i j same. body_less rest (next_state c v s) i j same)
   body_less (branch t e a b rest) s m n is =
       step_less t (answer_of (If e) s) m n _ _ is
       (λ v l. then_leaves _ l (run_body rest) (run_body_leaves rest) (if_leaves (is_true v) _ _ l (run_body_leaves a s l) (run_body_leaves b s l)))

@@ -7,8 +7,10 @@ pub mod MoreSteps
 pub mod ExactSteps
 pub mod ValueByUses
 pub mod ActByUses
+pub mod StateLaws
 pub mod IssuedLemmas
 pub mod ShapeLemmas
+pub mod ByStructure
 pub mod RowLemmas
 pub mod SetLemmas
 pub mod Same

@@ -1,12 +1,11 @@
 -- A run with more steps to spend.
 use Rattle.std.proofs.Common.{◌≡◌, ℕ, zero, suc, ◌+◌, ◌-◌, ◌≤◌, ℤ, Bool, true, false, List, refl, sym, ◌∙◌, subst, arith, if◌then◌else◌, Ok, Err}
-use Rattle.std.specs.FinMap.{insert}
 use Rattle.hpr_terms.specs.declared.tag.Tag.{Tag}
 use Rattle.hpr_terms.specs.declared.expr.Expr.{Expr}
 use Rattle.hpr_syntax.specs.Tree.{Tree}
-use Rattle.hpr_syntax.specs.Action.{assigns}
-use Rattle.hpr_syntax.specs.declared.rows.Content.TheVariants.{Assign, If, While}
-use Rattle.hpr_syntax.specs.Contents.{answer_of}
+use Rattle.hpr_syntax.specs.declared.rows.Content.TheVariants.{If, While}
+use Rattle.hpr_syntax.specs.Rows.{content_by}
+use Rattle.hpr_syntax.specs.Contents.{answer_of, next_state}
 use Rattle.hpr_syntax.specs.Body.{Body, done, action, branch, loop}
 use Rattle.hpr_syntax.specs.Run.{ends, FinalValues}
 use Rattle.hpr_syntax.specs.Meaning.{Ends}
@@ -44,7 +43,7 @@ turns_more k (suc n) (suc m) t e f le h s left =
 
 pub run_body-more : (k : ℕ) (b : Body) (s : Values) (left : ℕ) → IsMore k (run_body b s left) (run_body b s (left + k))
 run_body-more k done s left = refl
-run_body-more k (action t (assigns x e) rest) s left = step_more k t (answer_of (Assign x e) s) left _ _ (λ v l. run_body-more k rest (insert s x v) l)
+run_body-more k (action t d rest) s left = step_more k t (answer_of (content_by d) s) left _ _ (λ v l. run_body-more k rest (next_state (content_by d) v s) l)
 run_body-more k (branch t e a b rest) s left =
     step_more k t (answer_of (If e) s) left _ _ (λ v l. then_more k _ _ _ _ (run_body-more k rest) (if_more k (is_true v) _ _ _ _ (run_body-more k a s l) (run_body-more k b s l)))
 run_body-more k (loop t e b rest) s left =

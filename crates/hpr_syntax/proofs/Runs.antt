@@ -1,11 +1,10 @@
 -- Laws of runs.
 use Rattle.std.proofs.Common.{subst, ◌≡◌, ℕ, zero, suc, ◌+◌, ◌≤◌, ◌<◌, ℤ, Bool, true, false, refl, ap, ◌∙◌, arith, add-one, if◌then◌else◌, Ok, Err}
-use Rattle.std.specs.FinMap.{insert}
 use Rattle.hpr_terms.specs.declared.tag.Tag.{Tag}
 use Rattle.hpr_terms.specs.declared.expr.Expr.{Expr}
-use Rattle.hpr_syntax.specs.Action.{assigns}
-use Rattle.hpr_syntax.specs.declared.rows.Content.TheVariants.{Assign, If, While}
-use Rattle.hpr_syntax.specs.Contents.{answer_of}
+use Rattle.hpr_syntax.specs.declared.rows.Content.TheVariants.{If, While}
+use Rattle.hpr_syntax.specs.Rows.{content_by}
+use Rattle.hpr_syntax.specs.Contents.{answer_of, next_state}
 use Rattle.hpr_syntax.specs.Body.{Body, done, action, branch, loop}
 use Rattle.hpr_syntax.specs.Values.{Values}
 use Rattle.hpr_syntax.specs.Value.{Answer, is_true}
@@ -45,7 +44,7 @@ turns_leaves (suc n) t e k h s left =
 
 pub run_body_leaves : (b : Body) (s : Values) (left : ℕ) → LeavesAtMost (run_body b s left) left
 run_body_leaves done s left = omega arith
-run_body_leaves (action t (assigns x e) rest) s left = step_leaves t (answer_of (Assign x e) s) left _ (λ v l. run_body_leaves rest (insert s x v) l)
+run_body_leaves (action t d rest) s left = step_leaves t (answer_of (content_by d) s) left _ (λ v l. run_body_leaves rest (next_state (content_by d) v s) l)
 run_body_leaves (branch t e a b rest) s left =
     step_leaves t (answer_of (If e) s) left _ (λ v l. then_leaves _ l (run_body rest) (run_body_leaves rest) (if_leaves (is_true v) _ _ l (run_body_leaves a s l) (run_body_leaves b s l)))
 run_body_leaves (loop t e b rest) s left =

@@ -5,9 +5,9 @@
 -- Keeps base a b m   == from every state from which base and both variants end normally, m ends normally within as many steps as
 --                       the three took together, with the variant's value for each final variable that a variant changed, and
 --                       the common value where all three agree
-use Rattle.std.specs.Prelude.{◌≡◌, ℕ, ◌+◌, ℤ, List, Contains}
+use Rattle.std.specs.Prelude.{◌≡◌, ℕ, ◌+◌, List, Contains}
 use Rattle.hpr_syntax.specs.Tree.{Tree}
-use Rattle.hpr_syntax.specs.Values.{Values}
+use Rattle.hpr_syntax.specs.Values.{Value, Values}
 use Rattle.hpr_syntax.specs.Run.{FinalValues, ends, run}
 
 abbrev pub Ends : Tree → Values → ℕ → FinalValues → Type 0
@@ -15,9 +15,9 @@ Ends p s n f = (steps : ℕ) × (run p s n ≡ ends f steps)
 
 -- A final value that base lacks or has with another number is changed.
 pub record IsKept (f0 f1 f2 f : FinalValues) : Type 0 where
-  pub changed_by_a : (x : List ℕ) (v : ℤ) → Contains f1 (x, v) → ¬ Contains f0 (x, v) → Contains f (x, v)
-  pub changed_by_b : (x : List ℕ) (v : ℤ) → Contains f2 (x, v) → ¬ Contains f0 (x, v) → Contains f (x, v)
-  pub agreed : (x : List ℕ) (v : ℤ) → Contains f0 (x, v) → Contains f1 (x, v) → Contains f2 (x, v) → Contains f (x, v)
+  pub changed_by_a : (x : List ℕ) (v : Value) → Contains f1 (x, v) → ¬ Contains f0 (x, v) → Contains f (x, v)
+  pub changed_by_b : (x : List ℕ) (v : Value) → Contains f2 (x, v) → ¬ Contains f0 (x, v) → Contains f (x, v)
+  pub agreed : (x : List ℕ) (v : Value) → Contains f0 (x, v) → Contains f1 (x, v) → Contains f2 (x, v) → Contains f (x, v)
 
 abbrev pub Keeps : Tree → Tree → Tree → Tree → Type 0
 Keeps base a b m =

@@ -12,9 +12,8 @@ use Rattle.hpr_terms.specs.declared.tag.Tag.{Tag}
 use Rattle.hpr_terms.specs.declared.expr.Expr.{Expr}
 use Rattle.hpr_syntax.specs.declared.tree.Stmt.{Stmt}
 use Rattle.hpr_syntax.specs.declared.tree.Stmt.TheVariants.{Assign, If, While}
-use Rattle.hpr_syntax.specs.Action.{assigns}
 use Rattle.hpr_syntax.specs.Body.{Body, done, action, branch, loop}
-use Rattle.hpr_syntax.specs.Rows.{content_of, assigned, expr_in}
+use Rattle.hpr_syntax.specs.Rows.{stmt_by, content_of, assigned, expr_in}
 
 abbrev pub tag_of : Stmt → Tag
 tag_of (Assign t x e) = t
@@ -33,7 +32,7 @@ same_tag a b = (a.author == b.author) && (a.serial == b.serial)
 -- the first statement with this tag, in preorder
 abbrev pub find_stmt : Tag → Body → Option Stmt
 find_stmt t done = None
-find_stmt t (action u (assigns x e) rest) = if same_tag u t then Some (Assign u x e) else find_stmt t rest
+find_stmt t (action u d rest) = if same_tag u t then Some (stmt_by u d) else find_stmt t rest
 find_stmt t (branch u e a b rest) =
     if same_tag u t then Some (If u e a b) else option_or (find_stmt t a) (option_or (find_stmt t b) (find_stmt t rest))
 find_stmt t (loop u e b rest) = if same_tag u t then Some (While u e b) else option_or (find_stmt t b) (find_stmt t rest)

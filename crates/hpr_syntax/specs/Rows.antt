@@ -1,9 +1,13 @@
 -- The rows of a block in preorder.
 --
 -- Parent           == where a part stands: the part around it with the branch, or none at the top
+-- stmt_by t action == the part t that does the action
 -- row_of t p i c   == the row of these four
 -- rows_of p i body == the rows of a block's parts, of which the first stands at the place i
 -- content_of stmt  == what the part says
+-- structure_of c   == which blocks a part that says this has
+-- is_simple s      == a part of this structure has no blocks
+-- same_structure a b == the two structures are one
 -- assigned content == the name that is assigned; none for a predicate
 -- expr_in content  == the expression that is assigned or tested
 -- made t c a b     == the part with this tag that says this, with these blocks, as far as it has blocks
@@ -14,6 +18,8 @@ use Rattle.hpr_syntax.specs.declared.tree.Stmt.{Stmt}
 use Rattle.hpr_syntax.specs.declared.rows.Row.{Row}
 use Rattle.hpr_syntax.specs.declared.rows.Content.{Content}
 use Rattle.hpr_syntax.specs.declared.rows.Content.TheVariants.{Assign, If, While}
+use Rattle.hpr_syntax.specs.declared.rows.Structure.{Structure}
+use Rattle.hpr_syntax.specs.declared.rows.Structure.TheVariants.{Simple, Conditional, Loop}
 use Rattle.hpr_syntax.specs.Action.{Action, assigns}
 use Rattle.hpr_syntax.specs.Body.{Body, done, action, branch, loop}
 use Rattle.hpr_syntax.specs.declared.tree.Stmt.TheVariants as stmt
@@ -25,6 +31,9 @@ Parent = Option (Tag × Bool)
 -- an action as what its part says
 abbrev pub content_by : Action → Content
 content_by (assigns x e) = Assign x e
+
+abbrev pub stmt_by : Tag → Action → Stmt
+stmt_by t (assigns x e) = stmt.Assign t x e
 
 abbrev pub row_of : Tag → Parent → ℕ → Content → Row
 row_of t p i c = record { tag = t; parent = p; at = i; content = c }
@@ -41,6 +50,22 @@ abbrev pub content_of : Stmt → Content
 content_of (stmt.Assign t x e) = Assign x e
 content_of (stmt.If t e a b) = If e
 content_of (stmt.While t e b) = While e
+
+abbrev pub structure_of : Content → Structure
+structure_of (Assign x e) = Simple
+structure_of (If e) = Conditional
+structure_of (While e) = Loop
+
+abbrev pub is_simple : Structure → Bool
+is_simple Simple = true
+is_simple Conditional = false
+is_simple Loop = false
+
+abbrev pub same_structure : Structure → Structure → Bool
+same_structure Simple Simple = true
+same_structure Conditional Conditional = true
+same_structure Loop Loop = true
+same_structure _ _ = false
 
 abbrev pub assigned : Content → Option (List ℕ)
 assigned (Assign x e) = Some x

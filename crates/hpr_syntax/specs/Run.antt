@@ -9,16 +9,15 @@
 -- Outcome           == ends, with the final values and the steps taken; faults, with the tag, the fault and the steps taken, the
 --                      faulting one counted; more, where all steps are taken and there is a further one to do
 -- run p s n         == the run of the program p from the state s with n steps to spend
-use Rattle.std.specs.Prelude.{ℕ, zero, suc, ◌+◌, ◌-◌, ℤ, if◌then◌else◌, List, map, Ok, Err}
-use Rattle.std.specs.FinMap.{insert}
+use Rattle.std.specs.Prelude.{ℕ, zero, suc, ◌+◌, ◌-◌, if◌then◌else◌, List, map, Ok, Err}
 use Rattle.hpr_terms.specs.declared.tag.Tag.{Tag}
 use Rattle.hpr_terms.specs.declared.expr.Expr.{Expr}
-use Rattle.hpr_syntax.specs.Action.{assigns}
-use Rattle.hpr_syntax.specs.declared.rows.Content.TheVariants.{Assign, If, While}
-use Rattle.hpr_syntax.specs.Contents.{answer_of}
+use Rattle.hpr_syntax.specs.declared.rows.Content.TheVariants.{If, While}
+use Rattle.hpr_syntax.specs.Rows.{content_by}
+use Rattle.hpr_syntax.specs.Contents.{answer_of, next_state}
 use Rattle.hpr_syntax.specs.Body.{Body, done, action, branch, loop}
 use Rattle.hpr_syntax.specs.Tree.{Tree}
-use Rattle.hpr_syntax.specs.Values.{Values, value_at}
+use Rattle.hpr_syntax.specs.Values.{Value, Values, value_at}
 use Rattle.hpr_syntax.specs.Value.{Fault, Answer, is_true}
 
 pub data After : Type 0 where
@@ -26,7 +25,7 @@ pub data After : Type 0 where
   stops : (tag : Tag) → (fault : Fault) → (left : ℕ) → After
   spent : After
 
-abbrev pub step : Tag → Answer → ℕ → (ℤ → ℕ → After) → After
+abbrev pub step : Tag → Answer → ℕ → (Value → ℕ → After) → After
 step t a zero go = spent
 step t (Ok v) (suc left) go = go v left
 step t (Err f) (suc left) go = stops t f left
@@ -44,14 +43,15 @@ turns (suc n) t e body s left =
 -- A loop makes no more turns than it has steps, and one to see that none is left.
 abbrev pub run_body : Body → Values → ℕ → After
 run_body done s left = goes s left
-run_body (action t (assigns x e) rest) s left = step t (answer_of (Assign x e) s) left (λ v left'. run_body rest (insert s x v) left')
+run_body (action t d rest) s left =
+    step t (answer_of (content_by d) s) left (λ v left'. run_body rest (next_state (content_by d) v s) left')
 run_body (branch t e a b rest) s left =
     step t (answer_of (If e) s) left (λ v left'. then_go (if is_true v then run_body a s left' else run_body b s left') (run_body rest))
 run_body (loop t e b rest) s left = then_go (turns (left + 1) t e (run_body b) s left) (run_body rest)
 
 -- names and their values
 abbrev pub FinalValues : Type 0
-FinalValues = List (List ℕ × ℤ)
+FinalValues = List (List ℕ × Value)
 
 abbrev pub final_values : List (List ℕ) → Values → FinalValues
 final_values names s = map (λ x. (x, value_at s x)) names

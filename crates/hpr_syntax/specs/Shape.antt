@@ -19,8 +19,8 @@ use Rattle.hpr_terms.specs.Term.{operators}
 use Rattle.hpr_terms.specs.TermOf.{term_of}
 use Rattle.hpr_syntax.specs.declared.shape.ShapeError.{ShapeError}
 use Rattle.hpr_syntax.specs.declared.shape.ShapeError.TheVariants.{DuplicateTag, Unissued, TooDeep, ExprTooLarge, TooManyParts, DuplicateFinal}
-use Rattle.hpr_syntax.specs.Action.{assigns}
 use Rattle.hpr_syntax.specs.Body.{Body, done, action, branch, loop, part_count}
+use Rattle.hpr_syntax.specs.Rows.{content_by, expr_in}
 use Rattle.hpr_syntax.specs.Parts.{same_tag, tags_of}
 use Rattle.hpr_syntax.specs.Issued.{Issued, issued_to}
 use Rattle.hpr_syntax.specs.Tree.{Tree}
@@ -57,7 +57,7 @@ left_after most k = if nat_le k most then Some (most - k) else None
 
 abbrev pub first_large : Body → Option Tag
 first_large done = None
-first_large (action t (assigns x e) rest) = if is_large e then Some t else first_large rest
+first_large (action t d rest) = if is_large (expr_in (content_by d)) then Some t else first_large rest
 first_large (branch t e a b rest) = if is_large e then Some t else option_or (first_large a) (option_or (first_large b) (first_large rest))
 first_large (loop t e b rest) = if is_large e then Some t else option_or (first_large b) (first_large rest)
 

@@ -8,9 +8,10 @@ ghost use Rattle.hpr_terms.specs.TermOf.{term_of};
 ghost use Rattle.hpr_syntax.specs.Body.{done};
 ghost use Rattle.hpr_syntax.specs.BodyOf.{before};
 ghost use Rattle.hpr_syntax.specs.Issued.{IsIssued};
-ghost use Rattle.hpr_syntax.specs.Proper.{IsProperTerm, IsProperTag, IsProperBody, IsProperPair, IsProper};
+ghost use Rattle.hpr_syntax.specs.Proper.{IsProperTerm, IsProperTag, IsProperContent, IsProperBody, IsProperPair, IsProper};
 
 use crate::issued::Issued;
+use crate::rows::Content;
 use crate::tree::{Block, Stmt};
 use hpr_terms::{Expr, Name, Tag};
 
@@ -39,6 +40,20 @@ pub fn read_expr(expr: &Expr)
 pub fn read_tag(_tag: Tag)
     ensures { IsProperTag _tag }
 {}
+
+/// Reads what a part says.
+pub fn read_content(content: &Content)
+    ensures { IsProperContent content.now }
+{
+    match content {
+        Content::Assign(name, value) => {
+            let _text = name.text();
+            read_expr(value);
+        }
+        Content::If(test) => read_expr(test),
+        Content::While(test) => read_expr(test),
+    }
+}
 
 /// Reads a block.
 #[cycle(read)]

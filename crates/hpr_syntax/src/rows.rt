@@ -1,9 +1,10 @@
 //! The parts of a block in preorder.
 ghost use Rattle.std.specs.Prelude.{◌≡◌, ◌↔◌, IsTrue, [], ◌∷◌, ◌++◌, IfOk, OnOk, length, None};
+ghost use Rattle.std.specs.Option.{option_copied};
 ghost use Rattle.hpr_syntax.specs.Body.{done};
 ghost use Rattle.hpr_syntax.specs.BodyOf.{before};
 ghost use Rattle.hpr_syntax.specs.Parts.{tag_of};
-ghost use Rattle.hpr_syntax.specs.Rows.{rows_of, row_of, content_of, made};
+ghost use Rattle.hpr_syntax.specs.Rows.{rows_of, row_of, content_of, made, structure_of, is_simple, same_structure, assigned, expr_in};
 
 use crate::tree::{Block, Stmt};
 use hpr_terms::{Expr, Name, NoMemory, Tag};
@@ -43,6 +44,39 @@ impl Content {
         }
     }
 
+    /// Which blocks a part that says this has.
+    pub fn structure(&self) -> Structure
+        ensures { result ≡ structure_of self.now }
+    {
+        match self {
+            Content::Assign(_, _) => Structure::Simple,
+            Content::If(_) => Structure::Conditional,
+            Content::While(_) => Structure::Loop,
+        }
+    }
+
+    /// The name that a part that says this defines: none for a predicate.
+    pub fn assigned(&self) -> Option<&Name>
+        ensures { option_copied result ≡ assigned self.now }
+    {
+        match self {
+            Content::Assign(name, _) => Some(name),
+            Content::If(_) => None,
+            Content::While(_) => None,
+        }
+    }
+
+    /// The expression in what a part says.
+    pub fn expr(&self) -> &Expr
+        ensures { result.now ≡ expr_in self.now }
+    {
+        match self {
+            Content::Assign(_, value) => value,
+            Content::If(test) => test,
+            Content::While(test) => test,
+        }
+    }
+
     /// The part that says this, with this tag and these blocks, as far as it has blocks.
     pub fn into_stmt(self, tag: Tag, first: Block, second: Block) -> Stmt
         ensures { result ≡ made tag self first second }
@@ -62,6 +96,42 @@ fn assigning(alloc: Global, name: &Name, value: &Expr) -> Result<Content, NoMemo
     let name = name.copy(alloc)?;
     let value = value.copy(alloc)?;
     Ok(Content::Assign(name, value))
+}
+
+/// Which blocks a part has.
+#[derive(Clone, Copy)]
+pub enum Structure {
+    /// None.
+    Simple,
+    /// A first and a second one.
+    Conditional,
+    /// One, again and again.
+    Loop,
+}
+
+impl Structure {
+    /// Whether a part of this structure has no blocks.
+    pub fn is_simple(self) -> bool
+        ensures { result ≡ is_simple self }
+    {
+        match self {
+            Structure::Simple => true,
+            Structure::Conditional => false,
+            Structure::Loop => false,
+        }
+    }
+
+    /// Whether two structures are the same.
+    pub fn is_same(self, other: Structure) -> bool
+        ensures { result ≡ same_structure self other }
+    {
+        match (self, other) {
+            (Structure::Simple, Structure::Simple) => true,
+            (Structure::Conditional, Structure::Conditional) => true,
+            (Structure::Loop, Structure::Loop) => true,
+            _ => false,
+        }
+    }
 }
 
 /// A part by itself, with where it stands.
@@ -95,6 +165,17 @@ pub fn content_of(alloc: Global, stmt: &Stmt) -> Result<Content, NoMemory>
         Stmt::Assign(_, name, value) => assigning(alloc, name, value),
         Stmt::If(_, test, _, _) => Ok(Content::If(test.copy(alloc)?)),
         Stmt::While(_, test, _) => Ok(Content::While(test.copy(alloc)?)),
+    }
+}
+
+/// Which blocks a part has.
+pub fn structure_of(stmt: &Stmt) -> Structure
+    ensures { result ≡ structure_of (content_of stmt.now) }
+{
+    match stmt {
+        Stmt::Assign(_, _, _) => Structure::Simple,
+        Stmt::If(_, _, _, _) => Structure::Conditional,
+        Stmt::While(_, _, _) => Structure::Loop,
     }
 }
 
@@ -162,12 +243,12 @@ fn push_stmt(
 {
     push_row(alloc, stmt, parent, at, rows)?;
     match stmt {
-        Stmt::Assign(_, _, _) => Ok(()),
         Stmt::If(tag, _, yes, no) => {
             push_block(alloc, yes, Some((*tag, true)), rows)?;
             push_block(alloc, no, Some((*tag, false)), rows)
         }
         Stmt::While(tag, _, body) => push_block(alloc, body, Some((*tag, true)), rows),
+        _ => Ok(()),
     }
 }
 

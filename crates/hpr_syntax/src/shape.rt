@@ -74,12 +74,12 @@ fn push_tags_in(stmt: &Stmt, tags: &mut Vec<Tag>) -> Result<(), NoMemory>
 {
     tags.push(stmt.tag())?;
     match stmt {
-        Stmt::Assign(_, _, _) => Ok(()),
         Stmt::If(_, _, yes, no) => {
             push_tags(yes, tags)?;
             push_tags(no, tags)
         }
         Stmt::While(_, _, body) => push_tags(body, tags),
+        _ => Ok(()),
     }
 }
 
@@ -129,12 +129,12 @@ fn deep_in(stmt: &Stmt, levels: usize) -> Option<Tag>
         return Some(stmt.tag());
     }
     match stmt {
-        Stmt::Assign(_, _, _) => None,
         Stmt::If(_, _, yes, no) => match first_deep(yes, levels - 1) {
             Some(tag) => Some(tag),
             None => first_deep(no, levels - 1),
         },
         Stmt::While(_, _, body) => first_deep(body, levels - 1),
+        _ => None,
     }
 }
 
@@ -159,12 +159,12 @@ fn large_in(stmt: &Stmt) -> Option<Tag>
         return Some(stmt.tag());
     }
     match stmt {
-        Stmt::Assign(_, _, _) => None,
         Stmt::If(_, _, yes, no) => match first_large(yes) {
             Some(tag) => Some(tag),
             None => first_large(no),
         },
         Stmt::While(_, _, body) => first_large(body),
+        _ => None,
     }
 }
 

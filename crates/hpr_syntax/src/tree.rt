@@ -150,9 +150,9 @@ impl Stmt {
         ensures { result ≡ part_count (before self.now done) }
     {
         match self {
-            Stmt::Assign(_, _, _) => 1,
             Stmt::If(_, _, yes, no) => yes.part_count() + no.part_count() + 1,
             Stmt::While(_, _, body) => body.part_count() + 1,
+            _ => 1,
         }
     }
 
@@ -176,12 +176,12 @@ impl Stmt {
             return Some(self);
         }
         match self {
-            Stmt::Assign(_, _, _) => None,
             Stmt::If(_, _, yes, no) => match yes.find(tag) {
                 Some(found) => Some(found),
                 None => no.find(tag),
             },
             Stmt::While(_, _, body) => body.find(tag),
+            _ => None,
         }
     }
 

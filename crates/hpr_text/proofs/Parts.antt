@@ -3,8 +3,7 @@ use Rattle.std.proofs.Common.{◌≡◌, ℕ, List, [], ◌∷◌, ◌++◌, ref
 use Rattle.std.proofs.lemmas.List.{map-append}
 use Rattle.hpr_terms.specs.declared.tag.Tag.{Tag}
 use Rattle.hpr_syntax.specs.declared.tree.Stmt.{Stmt}
-use Rattle.hpr_syntax.specs.declared.tree.Stmt.TheVariants.{Assign, If, While}
-use Rattle.hpr_syntax.specs.Action.{assigns}
+use Rattle.hpr_syntax.specs.declared.tree.Stmt.TheVariants.{If, While}
 use Rattle.hpr_syntax.specs.Body.{Body, done, action, branch, loop}
 use Rattle.hpr_syntax.specs.BodyOf.{before, body_of}
 use Rattle.hpr_syntax.specs.Parts.{tags_of}
@@ -20,19 +19,18 @@ use Rattle.hpr_text.specs.Machine.{then_parts}
 
 pub pushed_body : (ss : List Stmt) (s : Stmt) → body_of (ss ++ (s ∷ [])) ≡ then_parts (body_of ss) (before s done)
 pushed_body [] s = refl
-pushed_body (Assign t x e ∷ ss) s = ap (action t (assigns x e)) (pushed_body ss s)
 pushed_body (If t e a b ∷ ss) s = ap (branch t e a b) (pushed_body ss s)
-pushed_body (While t e b ∷ ss) s = ap (loop t e b) (pushed_body ss s)
+pushed_body (r ∷ ss) s = ap (before r) (pushed_body ss s)
 
 pub then_done : (b : Body) → then_parts b done ≡ b
 then_done done = refl
-then_done (action t (assigns x e) r) = ap (action t (assigns x e)) (then_done r)
+then_done (action t d r) = ap (action t d) (then_done r)
 then_done (branch t e a b r) = ap (branch t e a b) (then_done r)
 then_done (loop t e b r) = ap (loop t e b) (then_done r)
 
 pub then_assoc : (a b c : Body) → then_parts (then_parts a b) c ≡ then_parts a (then_parts b c)
 then_assoc done b c = refl
-then_assoc (action t (assigns x e) r) b c = ap (action t (assigns x e)) (then_assoc r b c)
+then_assoc (action t d r) b c = ap (action t d) (then_assoc r b c)
 then_assoc (branch t e y n r) b c = ap (branch t e y n) (then_assoc r b c)
 then_assoc (loop t e y r) b c = ap (loop t e y) (then_assoc r b c)
 

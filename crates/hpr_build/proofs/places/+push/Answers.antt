@@ -1,6 +1,6 @@
 use Rattle.std.proofs.Common.{◌+◌, ◌∙◌, vec_len, arith}
 use Rattle.hpr_syntax.proofs.RowLemmas.{drop_turn}
-use Rattle.hpr_build.proofs.PlaceTurns.{turn_places, turn_parts, stmt_assign, stmt_while, stmt_if, count_assign, count_while, count_if}
+use Rattle.hpr_build.proofs.PlaceTurns.{turn_places, turn_parts, stmt_while, stmt_if, count_while, count_if, stmt_simple, count_simple}
 use Rattle.hpr_build.proofs.StageTurns.{on_ok}
 use Rattle.hpr_build.proofs.places.+push.Goals as goal
 
@@ -15,12 +15,12 @@ push_block-loop-stmt-preserved n c =
       len = omega (arith, parts, c.in_ok-push_stmt.ensures.len, c.loop-stmt.invariant.len);
     }
 
-pub push_stmt-returns-in-Assign-clause-places : goal.push_stmt-returns-in-Assign-clause-places
-push_stmt-returns-in-Assign-clause-places n c =
-    stmt_assign c.args.parent c.args.others.now c.args.stmt.now c.in-Assign.field-0 c.in-Assign.field-1 c.in-Assign.field-2 c.in-Assign.is c.args.places.now.items c.push_place.new.places.items _ c.in_ok-push_place.ensures.place
+pub push_stmt-returns-in_default-clause-places : goal.push_stmt-returns-in_default-clause-places
+push_stmt-returns-in_default-clause-places n c =
+    stmt_simple c.args.parent c.args.others.now c.args.stmt.now (c.in_default.not-If, c.in_default.not-While) c.args.places.now.items c.push_place.new.places.items _ c.in_ok-push_place.ensures.place
 
-pub push_stmt-returns-in-Assign-clause-len : goal.push_stmt-returns-in-Assign-clause-len
-push_stmt-returns-in-Assign-clause-len n c = omega (arith, c.in_ok-push_place.ensures.len, count_assign c.args.stmt.now c.in-Assign.field-0 c.in-Assign.field-1 c.in-Assign.field-2 c.in-Assign.is)
+pub push_stmt-returns-in_default-clause-len : goal.push_stmt-returns-in_default-clause-len
+push_stmt-returns-in_default-clause-len n c = omega (arith, c.in_ok-push_place.ensures.len, count_simple c.args.stmt.now (c.in_default.not-If, c.in_default.not-While))
 
 pub push_stmt-returns-in-While-clause-places : goal.push_stmt-returns-in-While-clause-places
 push_stmt-returns-in-While-clause-places n c =

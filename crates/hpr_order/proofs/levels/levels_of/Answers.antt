@@ -15,7 +15,7 @@ loop-item-init c = record {
 pub returns-then-is_large-clause-none : goal.returns-then-is_large-clause-none
 returns-then-is_large-clause-none c =
     let item : slice_get c.args.items.now c.loop-item.item-index ≡ Some c.item-item.result = read_of c.args.items.now c.loop-item.item-index c.item-item.result c.loop-item-test.true c.item-item.is in
-    let large : is_large (expr_in c.item-item.result.content) ≡ true = ap is_large (sym c.expr_in.ensures) ∙ sym c.is_large.ensures ∙ c.if-is_large.true in
+    let large : is_large (expr_in c.item-item.result.content) ≡ true = ap is_large (sym c.expr.ensures) ∙ sym c.is_large.ensures ∙ c.if-is_large.true in
     not_small c.args.items.now c.loop-item.item-index c.item-item.result item large
 
 pub level_in-requires-clause-slot : goal.level_in-requires-clause-slot
@@ -30,7 +30,7 @@ returns-in_default-clause-none c =
 pub loop-item-preserved : goal.loop-item-preserved
 loop-item-preserved c =
     let item : slice_get c.args.items.now c.loop-item.item-index ≡ Some c.item-item.result = read_of c.args.items.now c.loop-item.item-index c.item-item.result c.loop-item-test.true c.item-item.is in
-    let small : is_large (expr_in c.item-item.result.content) ≡ false = ap is_large (sym c.expr_in.ensures) ∙ sym c.is_large.ensures ∙ c.if-is_large.false in
+    let small : is_large (expr_in c.item-item.result.content) ≡ false = ap is_large (sym c.expr.ensures) ∙ sym c.is_large.ensures ∙ c.if-is_large.false in
     let len : length c.loop-item.levels.items ≡ c.loop-item.item-index = search (rules, c.loop-item.invariant.len) in
     record {
       len = omega (arith, c.in_ok-push.ensures.len, c.loop-item.invariant.len);

@@ -1,0 +1,45 @@
+-- What is read in a state behind a part: what the part gave under the name that it defines, and what was there under another.
+use Rattle.std.proofs.Common.{◌≡◌, ℕ, Bool, true, false, Some, List, refl, sym, ap}
+use Rattle.std.specs.Ordering.{nat_cmp, is_eq}
+use Rattle.std.specs.Cmp.{eq_by_cmp_equiv, Equal-is}
+use Rattle.std.specs.Cmp.Lexicographic.{slice_cmp, nat_list_cmp_total}
+use Rattle.std.specs.FinMap.{get-insert, nat_cmp-IsAntisymmetric, slice_cmp-IsAntisymmetric}
+use Rattle.hpr_syntax.specs.declared.rows.Content.{Content}
+use Rattle.hpr_syntax.specs.declared.rows.Content.TheVariants.{Assign, If, While}
+use Rattle.hpr_syntax.specs.Rows.{assigned}
+use Rattle.hpr_syntax.specs.Values.{Value, Values, value_at, put}
+use Rattle.hpr_syntax.specs.Contents.{next_state}
+
+abbrev pub same_name : List ℕ → List ℕ → Bool
+same_name x y = is_eq (slice_cmp nat_cmp x y)
+
+tied : (x y : List ℕ) → same_name x y ≡ true → x ≡ y
+tied x y e = slice_cmp-IsAntisymmetric nat_cmp-IsAntisymmetric x y ((Equal-is (slice_cmp nat_cmp x y)).0 e)
+
+pub same_itself : (x : List ℕ) → same_name x x ≡ true
+same_itself x = (eq_by_cmp_equiv nat_list_cmp_total).refl x
+
+pub same_not : (x y : List ℕ) → ¬ (Some y ≡ Some x) → same_name x y ≡ false
+same_not x y n = go (same_name x y) refl
+  where
+    go : (b : Bool) → same_name x y ≡ b → same_name x y ≡ false
+    go false e = e
+    go true e = absurd (n (ap Some (sym (tied x y e))))
+
+-- a state after a value is put
+pub get_put : (s : Values) (x : List ℕ) (v : Value) → value_at (put s x v) x ≡ v
+get_put s x v = let g = get-insert nat_list_cmp_total s x v x in let f = same_itself x in rw (g, f) refl
+
+pub get_other : (s : Values) (x y : List ℕ) (v : Value) → ¬ (Some y ≡ Some x) → value_at (put s y v) x ≡ value_at s x
+get_other s x y v n = let g = get-insert nat_list_cmp_total s y v x in let f = same_not x y n in rw (g, f) refl
+
+-- a state behind a part
+pub value_given : (c : Content) (v : Value) (s : Values) (x : List ℕ) → assigned c ≡ Some x → value_at (next_state c v s) x ≡ v
+value_given (Assign y e) v s x is = let same : y ≡ x = cc in rw same (get_put s x v)
+value_given (If e) v s x is = absurd cc
+value_given (While e) v s x is = absurd cc
+
+pub value_kept : (c : Content) (v : Value) (s : Values) (x : List ℕ) → ¬ (assigned c ≡ Some x) → value_at (next_state c v s) x ≡ value_at s x
+value_kept (Assign y e) v s x n = get_other s x y v n
+value_kept (If e) v s x n = refl
+value_kept (While e) v s x n = refl
