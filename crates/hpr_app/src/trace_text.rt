@@ -1,14 +1,14 @@
 //! The text of a trace.
 ghost use Rattle.std.specs.Prelude.{◌≡◌, ◌++◌, IfOk, OnOk, codes, flat_map, map, string_bytes};
 ghost use Rattle.std.specs.Fmt.{signed_decimal};
+ghost use Rattle.hpr_terms.specs.Texts.{tag_text};
 ghost use Rattle.hpr_meaning.specs.Items.{item_in};
 ghost use Rattle.hpr_decisions.specs.TraceText.{comma_turn, turns_text};
 ghost use Rattle.hpr_app.specs.Private.ItemLine.{item_line};
 
 use hpr_meaning::Instance;
-use hpr_refusals::tag_name;
 use hpr_run::Value;
-use hpr_syntax::NoMemory;
+use hpr_syntax::{NoMemory, Tag};
 use std::alloc::{AllocError, Global};
 
 /// The lines of a trace: one for each finished step.
@@ -33,13 +33,12 @@ fn put_items(alloc: Global, out: &mut Vec<u8>, items: &[Instance]) -> Result<(),
 fn item_line(alloc: Global, item: &Instance) -> Result<String, AllocError>
     ensures { IfOk result (λ line. string_bytes line ≡ item_line (item_in item.now)) }
 {
-    let tag = tag_name(alloc, &item.tag)?;
     let turns = turns_text(alloc, &item.turns)?;
-    step_line(alloc, tag.as_str(), turns.as_str(), item.value)
+    step_line(alloc, item.tag, turns.as_str(), item.value)
 }
 
-fn step_line(alloc: Global, tag: &str, turns: &str, value: Value) -> Result<String, AllocError>
-    ensures { IfOk result (λ line. string_bytes line ≡ tag.now ++ codes " [" ++ turns.now ++ codes "] " ++ signed_decimal value ++ codes "\n") }
+fn step_line(alloc: Global, tag: Tag, turns: &str, value: Value) -> Result<String, AllocError>
+    ensures { IfOk result (λ line. string_bytes line ≡ tag_text tag ++ codes " [" ++ turns.now ++ codes "] " ++ signed_decimal value ++ codes "\n") }
 {
     format!(in alloc; "{tag} [{turns}] {value}\n")
 }

@@ -7,13 +7,13 @@ ghost use Rattle.hpr_report.specs.TableText.{IsSingleValued};
 ghost use Rattle.hpr_inputs.specs.Answer.{Decides, Merges};
 ghost use Rattle.hpr_inputs.specs.Reads.{IfTold, IsReached};
 ghost use Rattle.hpr_inputs.specs.States.{states_of};
-ghost use Rattle.hpr_decisions.specs.TrialFiles.{has_ended, finals_of, steps_of, outcome_line, trial_line, three_lines, IsTrialText, IsTrialOf, ShowsTrial, Tried, TrialOutcome, steps_together};
+ghost use Rattle.hpr_decisions.specs.TrialFiles.{has_ended, finals_of, steps_of, trial_line, three_lines, IsTrialText, IsTrialOf, ShowsTrial, Tried, TrialOutcome, steps_together};
 
 use crate::integrate::stopped;
 use hpr_engine::integrate;
 use hpr_inputs::{Kind, Report, Stop, Versions, read_state, read_versions};
 use hpr_io::Shelf;
-use hpr_report::{outcome_text, table_text};
+use hpr_report::{outcome_line, table_text};
 use hpr_run::{Outcome, State, Value, run};
 use hpr_syntax::{Name, NoMemory, Program};
 use hpr_terms::limits::DEFAULT_TRIES;
@@ -211,16 +211,4 @@ fn trial_line(alloc: Global, word: &str, outcome: &Outcome) -> Result<Vec<u8>, N
     let line = outcome_line(alloc, outcome)?;
     text.extend_from_slice(&line)?;
     Ok(text)
-}
-
-fn outcome_line(alloc: Global, outcome: &Outcome) -> Result<Vec<u8>, NoMemory>
-    ensures { IfOk result (λ text. text.items ≡ outcome_line (outcome_of outcome.now)) }
-{
-    match outcome {
-        Outcome::Ends { steps, .. } => {
-            let line = format!(in alloc; "ended, steps {steps}\n")?;
-            Ok(line.into_bytes())
-        }
-        Outcome::Faults { .. } | Outcome::More { .. } => outcome_text(alloc, outcome),
-    }
 }

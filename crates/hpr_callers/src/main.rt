@@ -27,7 +27,6 @@ fn main(rt: HostRuntime) -> io::Result<()> {
     }
     if let Ok(Some(finals)) = final_values(alloc, merged.as_slice(), 1000) {
         for (name, value) in finals.list() {
-            let name = name.text();
             println!(rt; "{name} {value}")?;
         }
     }

@@ -2,8 +2,7 @@
 --
 -- steps_of o, finals_of o          == the steps that a run took; its final values, and none where it doesn't end
 -- has_ended o, have_ended o o1 o2  == the run ends; all three do
--- outcome_line o                   == how a run went, without its values: a line
--- trial_line word o                == that, behind the word for its program
+-- trial_line word o                == how a run went, without its values, behind the word for its program: a line
 -- three_lines o o1 o2              == the lines of base, A and B
 -- IsTrialText o o1 o2 om text      == the text has these three, the line of the merged program and the table of the final values
 -- ShowsTrial o o1 o2 om r          == r prints that where base, A and B end; and else only their lines
@@ -14,7 +13,6 @@
 -- TrialOutcome files base a b words steps r == that, of the state that the words tell and the programs that three files spell, read in order, whose graphs
 --                                     haven't too many edges
 use Rattle.std.specs.Prelude.{◌≡◌, ℕ, ◌+◌, Bool, true, false, ◌&&◌, List, [], ◌++◌, codes}
-use Rattle.std.specs.Fmt.{decimal}
 use Rattle.hpr_terms.specs.declared.limits.TheConstants.{DEFAULT_TRIES}
 use Rattle.hpr_io.specs.Files.{Files}
 use Rattle.hpr_syntax.specs.Run.{FinalValues, Outcome, ends, faults, more, run}
@@ -22,7 +20,7 @@ use Rattle.hpr_syntax.specs.Tree.{Tree}
 use Rattle.hpr_syntax.specs.Values.{Values}
 use Rattle.hpr_graph.specs.Answer.{Answer, interference, printed, no_program, spent, IsAnswer}
 use Rattle.hpr_report.specs.TableText.{IsTableText}
-use Rattle.hpr_report.specs.Texts.{outcome_text}
+use Rattle.hpr_report.specs.Texts.{outcome_line}
 use Rattle.hpr_words.specs.Request.{Text}
 use Rattle.hpr_inputs.specs.Decision.{Decision, Prints, prints}
 use Rattle.hpr_inputs.specs.Files.{OnFiles}
@@ -48,11 +46,6 @@ has_ended (more steps) = false
 
 abbrev pub have_ended : Outcome → Outcome → Outcome → Bool
 have_ended o o1 o2 = has_ended o && (has_ended o1 && has_ended o2)
-
-abbrev pub outcome_line : Outcome → List ℕ
-outcome_line (ends finals steps) = codes "ended, steps " ++ decimal steps ++ codes "\n"
-outcome_line (faults tag fault steps) = outcome_text (faults tag fault steps)
-outcome_line (more steps) = outcome_text (more steps)
 
 abbrev pub trial_line : List ℕ → Outcome → List ℕ
 trial_line word o = word ++ outcome_line o

@@ -7,7 +7,7 @@
 -- no_such_point word           == the message on a word that is that for no vertex
 -- OnPoints g words next r      == r refuses the first word that is that for no vertex of g; or there is none, and r is what next says
 use Rattle.std.specs.Prelude.{◌≡◌, ◌⊎◌, List, [], ◌∷◌, ◌++◌, Contains, All, codes}
-use Rattle.hpr_syntax.specs.Print.{tag_text}
+use Rattle.hpr_terms.specs.Texts.{tag_text}
 use Rattle.hpr_graph.specs.declared.vertex.Vertex.{Vertex}
 use Rattle.hpr_graph.specs.declared.vertex.Vertex.TheVariants.{Entry, Init, Part, Final}
 use Rattle.hpr_graph.specs.Graphs.{Graph}

@@ -5,7 +5,7 @@ ghost use Rattle.hpr_inputs.specs.ReadsPoints.{AreNumbersIn, JudgesPoints, Reads
 
 use crate::answer::Stop;
 use hpr_graph::{Graph, Vertex};
-use hpr_refusals::{about, tag_name};
+use hpr_refusals::about;
 use hpr_syntax::NoMemory;
 use std::alloc::{AllocError, Global};
 
@@ -36,15 +36,9 @@ fn point_text(alloc: Global, vertex: &Vertex) -> Result<String, AllocError>
 {
     match vertex {
         Vertex::Entry => String::from_str(alloc, "entry"),
-        Vertex::Init(name) => {
-            let name = name.text();
-            format!(in alloc; "init:{name}")
-        }
-        Vertex::Part(tag, _) => tag_name(alloc, tag),
-        Vertex::Final(name) => {
-            let name = name.text();
-            format!(in alloc; "final:{name}")
-        }
+        Vertex::Init(name) => format!(in alloc; "init:{name}"),
+        Vertex::Part(tag, _) => tag.to_string(alloc),
+        Vertex::Final(name) => format!(in alloc; "final:{name}"),
     }
 }
 

@@ -7,7 +7,6 @@ use Rattle.hpr_terms.proofs.Facts.{get_below, some_inj}
 use Rattle.hpr_syntax.specs.declared.rows.Content.{Content}
 use Rattle.hpr_syntax.specs.declared.rows.Content.TheVariants.{If, While}
 use Rattle.hpr_syntax.specs.declared.rows.Structure.{Structure}
-use Rattle.hpr_terms.proofs.Facts.{get_below}
 use Rattle.hpr_syntax.specs.Action.{Action}
 use Rattle.hpr_syntax.specs.Rows.{content_by}
 use Rattle.hpr_syntax.specs.Body.{Body, done, action, branch, loop}

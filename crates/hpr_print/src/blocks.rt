@@ -1,12 +1,13 @@
 //! The text of the parts of a block.
 ghost use Rattle.std.specs.Prelude.{◌≡◌, ◌++◌, ◌+◌, ◌^◌, ◌<◌, OnOk, codes};
 ghost use Rattle.hpr_terms.specs.TermOf.{term_of};
+ghost use Rattle.hpr_terms.specs.Texts.{tag_text};
 ghost use Rattle.hpr_syntax.specs.Body.{done, depth};
 ghost use Rattle.hpr_syntax.specs.BodyOf.{before};
-ghost use Rattle.hpr_syntax.specs.Print.{body_text, else_text, term_text, indent, line, tag_text};
+ghost use Rattle.hpr_syntax.specs.Print.{body_text, else_text, term_text, indent, line};
 
 use crate::expressions::put_expr;
-use crate::put::{put, put_number};
+use crate::put::put;
 use hpr_syntax::{Block, Expr, Name, NoMemory, Stmt, Tag};
 use std::alloc::Global;
 
@@ -25,9 +26,8 @@ fn put_start(alloc: Global, out: &mut Vec<u8>, level: usize, tag: Tag) -> Result
     ensures { OnOk result (out.new.items ≡ out.old.items ++ indent level ++ tag_text tag) }
 {
     put_indent(out, level)?;
-    put_number(alloc, out, u64::from(tag.author))?;
-    put(out, b".")?;
-    put_number(alloc, out, u64::from(tag.serial))
+    let text = tag.to_string(alloc)?;
+    put(out, text.as_str().as_bytes())
 }
 
 /// Puts an expression and the end of its line.

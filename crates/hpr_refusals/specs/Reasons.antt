@@ -9,9 +9,9 @@
 use Rattle.std.specs.Prelude.{ℕ, List, [], ◌++◌, codes}
 use Rattle.std.specs.Fmt.{decimal}
 use Rattle.hpr_terms.specs.declared.limits.TheConstants.{MAX_FILE, MAX_LEVELS, MAX_OPERATORS, MAX_PARTS}
+use Rattle.hpr_terms.specs.Texts.{tag_text}
 use Rattle.hpr_syntax.specs.declared.shape.ShapeError.{ShapeError}
 use Rattle.hpr_syntax.specs.declared.shape.ShapeError.TheVariants as shape
-use Rattle.hpr_syntax.specs.Print.{tag_text}
 use Rattle.hpr_edit.specs.declared.command.EditError.{EditError}
 use Rattle.hpr_edit.specs.declared.command.EditError.TheVariants as edit
 use Rattle.hpr_refusals.specs.declared.files.Refusal.{Refusal}

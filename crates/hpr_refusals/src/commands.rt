@@ -2,7 +2,7 @@
 ghost use Rattle.std.specs.Prelude.{◌≡◌, ◌≢◌, IfOk, string_bytes};
 ghost use Rattle.hpr_refusals.specs.Reasons.{command_reason, command_text};
 
-use crate::reasons::{about, around_tag, shape_reason};
+use crate::reasons::{about, shape_reason};
 use hpr_edit::{CommandRefusal, EditError};
 use hpr_syntax::ShapeError;
 use std::alloc::{AllocError, Global};
@@ -28,10 +28,10 @@ fn command_reason(alloc: Global, why: &EditError) -> Result<String, AllocError>
     ensures shape { IfOk result (λ text. why.now ≢ EditError.Shape ShapeError.Memory) }
 {
     match why {
-        EditError::NoTag(tag) => around_tag(alloc, "no part ", tag, ""),
-        EditError::IntoItself(tag) => around_tag(alloc, "part ", tag, " would stand in itself"),
+        EditError::NoTag(tag) => format!(in alloc; "no part {tag}"),
+        EditError::IntoItself(tag) => format!(in alloc; "part {tag} would stand in itself"),
         EditError::NoPlace => String::from_str(alloc, "no such place"),
-        EditError::KindDiffers(tag) => around_tag(alloc, "part ", tag, " is of another kind"),
+        EditError::KindDiffers(tag) => format!(in alloc; "part {tag} is of another kind"),
         EditError::SerialsSpent => String::from_str(alloc, "serials are spent"),
         EditError::Shape(error) => shape_reason(alloc, error),
         EditError::Memory => Err(AllocError),

@@ -10,4 +10,4 @@ pub use commands::command_message;
 pub use files::Refusal;
 pub use hpr_edit::{Command, CommandRefusal, EditError};
 pub use hpr_syntax::{Program, ShapeError, Tag};
-pub use reasons::{about, tag_name};
+pub use reasons::about;

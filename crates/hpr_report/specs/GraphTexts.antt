@@ -10,7 +10,8 @@
 -- IsGraphText g text == the text is that of the graph, whose vertices and edges stand in their order
 use Rattle.std.specs.Prelude.{◌≡◌, ℕ, Bool, if◌then◌else◌, List, ◌++◌, length, map, flat_map, codes}
 use Rattle.std.specs.Fmt.{decimal}
-use Rattle.hpr_syntax.specs.Print.{tag_text, content_text}
+use Rattle.hpr_terms.specs.Texts.{tag_text}
+use Rattle.hpr_syntax.specs.Print.{content_text}
 use Rattle.hpr_graph.specs.declared.vertex.Vertex.{Vertex}
 use Rattle.hpr_graph.specs.declared.vertex.Vertex.TheVariants.{Entry, Init, Part, Final}
 use Rattle.hpr_graph.specs.declared.edge.Kind.{Kind}

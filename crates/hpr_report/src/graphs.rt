@@ -1,6 +1,7 @@
 //! Vertices, edges and graphs.
 ghost use Rattle.std.specs.Prelude.{◌≡◌, ◌++◌, ◌<◌, length, map, IfOk, OnOk, codes, string_bytes};
-ghost use Rattle.hpr_syntax.specs.Print.{content_text, tag_text};
+ghost use Rattle.hpr_terms.specs.Texts.{tag_text};
+ghost use Rattle.hpr_syntax.specs.Print.{content_text};
 ghost use Rattle.hpr_graph.specs.Numbered.{IsLink, graph_in};
 ghost use Rattle.hpr_graph.specs.InOrder.{edge_of, row_edges, edges_of};
 ghost use Rattle.hpr_report.specs.EdgeParts.{kind_head, kind_tail};
@@ -54,15 +55,9 @@ pub(crate) fn vertex_words(alloc: Global, vertex: &Vertex) -> Result<String, NoM
 {
     match vertex {
         Vertex::Entry => Ok(String::from_str(alloc, "entry")?),
-        Vertex::Init(name) => {
-            let name = name.text();
-            Ok(format!(in alloc; "init {name}")?)
-        }
+        Vertex::Init(name) => Ok(format!(in alloc; "init {name}")?),
         Vertex::Part(tag, content) => part_words(alloc, tag, content),
-        Vertex::Final(name) => {
-            let name = name.text();
-            Ok(format!(in alloc; "final {name}")?)
-        }
+        Vertex::Final(name) => Ok(format!(in alloc; "final {name}")?),
     }
 }
 
@@ -70,10 +65,8 @@ pub(crate) fn vertex_words(alloc: Global, vertex: &Vertex) -> Result<String, NoM
 fn part_words(alloc: Global, tag: &Tag, content: &Content) -> Result<String, NoMemory>
     ensures { IfOk result (λ text. string_bytes text ≡ tag_text tag.now ++ codes " " ++ content_text content.now) }
 {
-    let author = tag.author;
-    let serial = tag.serial;
     let content = content_words(alloc, content)?;
-    Ok(format!(in alloc; "{author}.{serial} {content}")?)
+    Ok(format!(in alloc; "{tag} {content}")?)
 }
 
 /// What a part says.
@@ -120,14 +113,8 @@ fn put_head(text: &mut String, kind: &Kind) -> Result<(), AllocError>
 {
     match kind {
         Kind::Control(label) => write!(text, "control {label} "),
-        Kind::Independent(name) => {
-            let name = name.text();
-            write!(text, "flow {name} ")
-        }
-        Kind::Carried(name, _) => {
-            let name = name.text();
-            write!(text, "carried {name} ")
-        }
+        Kind::Independent(name) => write!(text, "flow {name} "),
+        Kind::Carried(name, _) => write!(text, "carried {name} "),
         Kind::Order(_) => text.push_str("order "),
     }
 }

@@ -11,6 +11,6 @@ mod table;
 pub use conflicts::conflicts_text;
 pub use graphs::{edge_text, graph_text, vertex_text};
 pub use objects::graph_json;
-pub use outcome::outcome_text;
+pub use outcome::{outcome_line, outcome_text};
 pub use points::affected_text;
 pub use table::table_text;

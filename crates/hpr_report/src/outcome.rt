@@ -1,11 +1,10 @@
 //! How a run went.
-ghost use Rattle.std.specs.Prelude.{◌≡◌, ◌++◌, flat_map, IfOk, OnOk, codes, string_bytes};
-ghost use Rattle.std.specs.Fmt.{decimal};
-ghost use Rattle.hpr_syntax.specs.Print.{tag_text};
+ghost use Rattle.std.specs.Prelude.{◌≡◌, ◌++◌, flat_map, IfOk, OnOk, string_bytes};
+ghost use Rattle.hpr_syntax.specs.Run.{faults};
 ghost use Rattle.hpr_run.specs.Outcomes.{fault_of, outcome_of};
-ghost use Rattle.hpr_report.specs.Texts.{fault_word, value_line, outcome_text};
+ghost use Rattle.hpr_report.specs.Texts.{fault_word, value_line, outcome_line, outcome_text};
 
-use hpr_run::{Fault, FinalValues, Outcome, Value};
+use hpr_run::{Fault, Outcome, Value};
 use hpr_syntax::{Name, NoMemory, Tag};
 use std::alloc::{AllocError, Global};
 
@@ -15,17 +14,38 @@ use std::alloc::{AllocError, Global};
 pub fn outcome_text(alloc: Global, outcome: &Outcome) -> Result<Vec<u8>, NoMemory>
     ensures { IfOk result (λ text. text.items ≡ outcome_text (outcome_of outcome.now)) }
 {
+    let mut out = outcome_line(alloc, outcome)?;
     match outcome {
-        Outcome::Ends { finals, steps } => ended_text(alloc, finals, *steps),
-        Outcome::Faults { tag, fault, steps } => {
-            let word = fault_word(*fault);
-            let tag = tag_name(alloc, tag)?;
-            Ok(format!(in alloc; "faulted {word} at {tag}, steps {steps}\n")?.into_bytes())
+        Outcome::Ends { finals, .. } => {
+            put_values(alloc, &mut out, finals.list())?;
+            Ok(out)
         }
+        Outcome::Faults { .. } | Outcome::More { .. } => Ok(out),
+    }
+}
+
+/// How a run went, without its values: one line, with the count of its steps, and a newline. It fails
+/// only for want of memory.
+pub fn outcome_line(alloc: Global, outcome: &Outcome) -> Result<Vec<u8>, NoMemory>
+    ensures { IfOk result (λ text. text.items ≡ outcome_line (outcome_of outcome.now)) }
+{
+    match outcome {
+        Outcome::Ends { steps, .. } => {
+            Ok(format!(in alloc; "ended, steps {steps}\n")?.into_bytes())
+        }
+        Outcome::Faults { tag, fault, steps } => faulted_line(alloc, tag, *fault, *steps),
         Outcome::More { steps } => {
             Ok(format!(in alloc; "not ended, steps {steps}\n")?.into_bytes())
         }
     }
+}
+
+/// How a run went that came to a fault.
+fn faulted_line(alloc: Global, tag: &Tag, fault: Fault, steps: u64) -> Result<Vec<u8>, NoMemory>
+    ensures { IfOk result (λ text. text.items ≡ outcome_line (faults tag.now (fault_of fault) steps)) }
+{
+    let word = fault_word(fault);
+    Ok(format!(in alloc; "faulted {word} at {tag}, steps {steps}\n")?.into_bytes())
 }
 
 fn fault_word(fault: Fault) -> &'static str
@@ -35,23 +55,6 @@ fn fault_word(fault: Fault) -> &'static str
         Fault::Overflow => "overflow",
         Fault::ZeroDivide => "zero-divide",
     }
-}
-
-/// The tag as it is written in a program.
-pub(crate) fn tag_name(alloc: Global, tag: &Tag) -> Result<String, AllocError>
-    ensures { IfOk result (λ text. string_bytes text ≡ tag_text tag.now) }
-{
-    let author = tag.author;
-    let serial = tag.serial;
-    format!(in alloc; "{author}.{serial}")
-}
-
-fn ended_text(alloc: Global, finals: &FinalValues, steps: u64) -> Result<Vec<u8>, NoMemory>
-    ensures { IfOk result (λ text. text.items ≡ codes "ended, steps " ++ decimal steps ++ codes "\n" ++ flat_map value_line finals.now) }
-{
-    let mut out = format!(in alloc; "ended, steps {steps}\n")?.into_bytes();
-    put_values(alloc, &mut out, finals.list())?;
-    Ok(out)
 }
 
 /// Puts a line for each name and its value.
@@ -68,6 +71,5 @@ fn put_values(alloc: Global, out: &mut Vec<u8>, values: &[(Name, Value)]) -> Res
 fn value_line(alloc: Global, name: &Name, value: Value) -> Result<String, AllocError>
     ensures { IfOk result (λ text. string_bytes text ≡ value_line (name.now, value)) }
 {
-    let name = name.text();
     format!(in alloc; "{name} = {value}\n")
 }

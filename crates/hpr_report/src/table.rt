@@ -96,7 +96,7 @@ fn table_line(
     requires merged { IsSingleValued merged.now }
     ensures { IfOk result (λ text. (row : Row) × (row.name ≡ name.now) × IsRow base.now a.now b.now merged.now row × (string_bytes text ≡ table_line row)) }
 {
-    let mut line = String::from_str(alloc, name.text())?;
+    let mut line = name.to_string(alloc)?;
     put_cells(
         &mut line,
         value_in(base, name),

@@ -138,9 +138,8 @@ pub fn put_marked(out: &mut Out, title: &str, marks: &[bool]) {
 
 /// Puts a tag.
 pub fn put_tag(out: &mut Out, tag: Tag) {
-    out.put_number(u64::from(tag.author));
-    out.put_piece(".");
-    out.put_number(u64::from(tag.serial));
+    let told = write!(out.text, "{tag}");
+    out.note(told);
 }
 
 /// A truth value as a word.

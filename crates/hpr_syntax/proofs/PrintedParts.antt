@@ -11,9 +11,10 @@ use Rattle.hpr_terms.specs.Keywords.{keyword_text}
 use Rattle.hpr_terms.specs.Names.{IsName}
 use Rattle.hpr_terms.specs.Tokens.{Text}
 use Rattle.hpr_terms.specs.TermOf.{term_of}
+use Rattle.hpr_terms.specs.Texts.{tag_text}
 use Rattle.hpr_syntax.specs.Action.{assigns}
 use Rattle.hpr_syntax.specs.Body.{Body, done, action, branch, loop}
-use Rattle.hpr_syntax.specs.Print.{term_text, tag_text, line, is_done, else_text, body_text}
+use Rattle.hpr_syntax.specs.Print.{term_text, line, is_done, else_text, body_text}
 use Rattle.hpr_syntax.specs.Proper.{IsProperBody}
 use Rattle.hpr_syntax.proofs.Printed.{Printed, weaker, space, newline, indented, mark, word, number, name, term_is}
 use Rattle.hpr_syntax.proofs.ShownParts.{label, shown_expr, shown_else, shown_body}
@@ -27,6 +28,7 @@ label_is t rest ts h = number t.author _ _ (mark sign.Dot _ _ (number t.serial _
 assign_line : (n : ℕ) (t : Tag) (x value more : List ℕ) (tokens us : List Token) → IsName x → Printed false true value tokens → Printed false false more us
     → Printed false false (line n (tag_text t ++ codes ": " ++ x ++ codes " := " ++ value ++ codes ";") ++ more)
     (label t ++ (Name x ∷ Mark sign.Becomes ∷ (tokens ++ (Mark sign.Semicolon ∷ us))))
+unfolding tag_text
 assign_line n t x value more tokens us h p q rest ts k =
     simp append_assoc
     (indented n _ _
@@ -36,6 +38,7 @@ assign_line n t x value more tokens us h p q rest ts k =
 first_line : (n : ℕ) (t : Tag) (value more : List ℕ) (tokens us : List Token) (opening closing : Keyword) → Printed false true value tokens → Printed false false more us
     → Printed false false (line n (tag_text t ++ (codes ": " ++ (keyword_text opening ++ codes " ")) ++ value ++ (codes " " ++ keyword_text closing)) ++ more)
     (label t ++ (Word opening ∷ (tokens ++ (Word closing ∷ us))))
+unfolding tag_text
 first_line n t value more tokens us opening closing p q rest ts k =
     simp append_assoc
     (indented n _ _ (label_is t _ _ (word opening _ _ (space _ _ (p _ _ (space _ _ (word closing _ _ (newline _ _ (q rest ts k)))))))))

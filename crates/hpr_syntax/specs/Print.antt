@@ -4,7 +4,6 @@
 -- term_text term         == the text of an expression, with the brackets that its tree needs and no others
 -- expr_text e            == the text of an expression as the program holds it
 -- content_text c         == what a part says, without its tag and without the parts that stand in it
--- tag_text t             == author, a dot, serial
 -- body_text n body       == the parts of a block, a line each, indented by two times n spaces
 -- else_text n b shown     == where the block b isn't empty, the line `else` and the text shown of it
 -- issued_text issued     == the line of the issued numbers, or nothing where there are none
@@ -13,12 +12,12 @@
 -- text tree              == the canonical text of a tree
 use Rattle.std.specs.Prelude.{ℕ, ◌+◌, ◌*◌, Bool, true, false, nat_lt, nat_le, ◌==◌, ◌||◌, ◌&&◌, if◌then◌else◌, List, [], ◌∷◌, ◌++◌, map, replicate, codes}
 use Rattle.std.specs.Fmt.{decimal}
-use Rattle.hpr_terms.specs.declared.tag.Tag.{Tag}
 use Rattle.hpr_terms.specs.declared.expr.Expr.{Expr}
 use Rattle.hpr_syntax.specs.declared.rows.Content.{Content}
 use Rattle.hpr_syntax.specs.declared.rows.Content.TheVariants.{Assign, If, While}
 use Rattle.hpr_terms.specs.Term.{Term, num, var, prefix, infix'}
 use Rattle.hpr_terms.specs.TermOf.{term_of}
+use Rattle.hpr_terms.specs.Texts.{tag_text}
 use Rattle.hpr_syntax.specs.Issued.{Issued}
 use Rattle.hpr_syntax.specs.Tree.{Tree}
 use Rattle.hpr_syntax.specs.Action.{assigns}
@@ -89,9 +88,6 @@ content_text (While e) = codes "while " ++ expr_text e
 
 abbrev pub indent : ℕ → List ℕ
 indent n = replicate (2 * n) 32
-
-abbrev pub tag_text : Tag → List ℕ
-tag_text t = decimal t.author ++ codes "." ++ decimal t.serial
 
 abbrev pub line : ℕ → List ℕ → List ℕ
 line n text = indent n ++ text ++ 10 ∷ []

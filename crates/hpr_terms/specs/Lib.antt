@@ -3,6 +3,7 @@ pub mod Names
 pub mod Term
 pub mod TermOrder
 pub mod TermOf
+pub mod Texts
 pub mod Tokens
 pub mod Uses
 pub mod Private

@@ -13,6 +13,7 @@ use crate::limits::MAX_NAME;
 use crate::memory::NoMemory;
 use std::alloc::{AllocError, Global};
 use std::cmp::Ordering;
+use std::fmt;
 use std::marker::Model;
 
 /// Why a text is no name.
@@ -152,6 +153,17 @@ pub fn copy_names(alloc: Global, names: &[Name]) -> Result<Vec<Name>, NoMemory>
         copies.push(name.copy(alloc)?)?;
     }
     Ok(copies)
+}
+
+/// A name is written as it is.
+impl fmt::Display for Name {
+    ghost use Rattle.std.specs.Prelude.{Some};
+
+    ghost output = { λ n. Some n };
+
+    fn fmt<W: fmt::Write>(&self, f: &mut fmt::Formatter<W>) -> fmt::Result {
+        f.write_str(self.text.as_str())
+    }
 }
 
 impl PartialEq for Name {

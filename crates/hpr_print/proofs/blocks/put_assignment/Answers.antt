@@ -1,6 +1,7 @@
 use Rattle.std.proofs.lemmas.Result.{on_ok_weaker}
 use Rattle.hpr_terms.specs.TermOf.{term_of}
-use Rattle.hpr_syntax.specs.Print.{term_text, tag_text}
+use Rattle.hpr_terms.specs.Texts.{tag_text}
+use Rattle.hpr_syntax.specs.Print.{term_text}
 use Rattle.hpr_print.proofs.Texts.{assignment_line}
 use Rattle.hpr_print.proofs.blocks.put_assignment.Goals as goal
 

@@ -11,7 +11,8 @@ returns c =
       b = c.value_in-3.result;
       merged = c.value_in-4.result;
     } in
-    let text : string_bytes c.put_cells.new.line ≡ table_line row = rw (c.in_ok-put_cells.ensures, c.in_ok-line.ensures.ok, c.text.ensures.text) (simp append_assoc) in (
+    let named : string_bytes c.in_ok-line.line ≡ c.args.name.now = c.in_ok-line.ensures.ok in
+    let text : string_bytes c.put_cells.new.line ≡ table_line row = rw (c.in_ok-put_cells.ensures, named) (simp append_assoc) in (
       row,
       refl,
       record {
