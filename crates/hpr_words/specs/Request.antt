@@ -29,9 +29,8 @@ pub data Request : Type 0 where
 abbrev pub IsInRange : Request → Type 0
 IsInRange (integrate base a b tries) = (1 ≤ tries) × (tries ≤ MAX_TRIES)
 IsInRange (run file states steps trace) = (1 ≤ steps) × (steps ≤ MAX_STEPS)
-IsInRange (graph file json) = Unit {0}
 IsInRange (slice file points) = 1 ≤ length points
-IsInRange (affected base a) = Unit {0}
 IsInRange (trial base a b states steps) = (1 ≤ steps) × (steps ≤ MAX_STEPS)
 IsInRange (edit file script author) = (1 ≤ author) × (author ≤ 4294967295)
 IsInRange (tag file author) = (1 ≤ author) × (author ≤ 4294967295)
+IsInRange _ = Unit {0}
