@@ -8,7 +8,7 @@ use Rattle.clap.specs.Walk.{Row, Text, is_empty, nothing_held, rows_after}
 use Rattle.clap.specs.Words.{App, fault_of, first_of, matches_of}
 use Rattle.hpr_words.specs.Plain.{Piece, is_used, names, pieces, uses, values}
 use Rattle.hpr_words.specs.Request.{Request}
-use Rattle.hpr_words.specs.Taken.{flag_in, list_in, taken_by}
+use Rattle.hpr_words.specs.Taken.{flag_in, list_in}
 use Rattle.hpr_words.proofs.PieceLemmas.{AreFair, Each, HavePlaces, IsApart, IsCut, IsOf, TakesFlag, TakesOption, given-flag, given-name, given-option, given_at, given_names, none_some, pieces_cut, pieces_read, trues}
 use Rattle.hpr_words.proofs.RowLemmas.{all_of-entry, defaults_of, entry, entry-told, first_list, first_list-none, first_of-entry, kept, told}
 use Rattle.hpr_words.proofs.UseLemmas.{IsPlainShape, IsRead, is_complete, is_once}
@@ -73,12 +73,12 @@ module _ {app : App} {options flags : List Text} (is : IsCommand app options fla
       ap (λ o. option_map_or (λ text. bytes_eq text (codes "true")) o false)
       (first_of-entry id (matches_of app (command ∷ words)) (g id) (defaults_of id (built app).top.rules) (entry_is id) ∙ (λ i. slice_get (first_list (e i) (default i)) 0))
 
-  pub taken_is : (request_in : List Row → Option Request) → taken_by app request_in (command ∷ words) ≡ request_in (matches_of app (command ∷ words))
+  pub taken_is : (request_in : List Row → Option Request) → cond (is_empty (fault_of app (command ∷ words))) (request_in (matches_of app (command ∷ words))) None ≡ request_in (matches_of app (command ∷ words))
   taken_is request_in = ap (λ k. cond (is_empty k) (request_in (matches_of app (command ∷ words))) None) (is.faults command words ∙ read.quiet)
 
--- what is asked for under a condition is asked for
-pub if_so : {X : Type 0} (b : Bool) (o : Option X) (x : X) → cond b o None ≡ Some x → o ≡ Some x
-if_so true o x e = e
+-- what is asked for under a condition is asked for, and the condition holds
+pub if_so : {X : Type 0} (b : Bool) (o : Option X) (x : X) → cond b o None ≡ Some x → (b ≡ true) × (o ≡ Some x)
+if_so true o x e = (refl, e)
 if_so false o x e = absurd (none_some x e)
 
 -- a request of plain words is one of their pieces

@@ -1,6 +1,6 @@
 -- Plain numbers are numbers to `clap`, with the same value.
 use Rattle.std.proofs.Common.{◌≡◌, ◌∙◌, ◌<◌, ◌^◌, ℕ, Bool, true, false, cond, List, [], ◌∷◌, Some, None, is_some, length, slice_get, drop, refl, sym, ap, ap₂, arith, true≢false}
-use Rattle.std.specs.Prelude.{◌&&◌, ◌==◌, not, nat_le, nat_lt}
+use Rattle.std.specs.Prelude.{◌&&◌, ◌||◌, ◌==◌, not, nat_le, nat_lt}
 use Rattle.std.specs.List.{list_all}
 use Rattle.std.specs.Char.{is_digit}
 use Rattle.std.specs.Str.Parse.{digits_value, without_leading_plus}
@@ -9,21 +9,16 @@ use Rattle.clap.proofs.WalkLemmas.{both}
 use Rattle.clap.specs.Walk.{Text}
 use Rattle.clap.specs.ValueTests.{accepts}
 use Rattle.clap.specs.declared.builder.value_parser.ValueParser.TheVariants.{Unsigned}
-use Rattle.hpr_words.specs.Plain.{is_name, is_numeral, number, number_or, only_number}
-use Rattle.hpr_words.specs.Taken as taken
+use Rattle.hpr_words.specs.Commands.{NumberOption}
+use Rattle.hpr_words.specs.Plain.{is_name, is_numeral, number, plain_number}
+use Rattle.hpr_words.specs.Taken.{number_or}
 
 -- what `clap` makes of the words that give an option its number
-pub record IsFair (default most : ℕ) (words : List Text) (n : ℕ) : Type 0 where
-  pub passes : list_all (λ w. is_name w && accepts false (Unsigned 1 most) w) words ≡ true
+pub record IsFair (option : NumberOption) (words : List Text) (n : ℕ) : Type 0 where
+  pub passes : list_all (λ w. is_name w && accepts false (Unsigned 1 option.most) w) words ≡ true
   pub once : nat_le (length words) 1 ≡ true
-  pub is : taken.number_or most default (slice_get words 0) ≡ Some n
-
--- what `clap` makes of the words that give an option its number, where it must be given
-pub record IsFairOnly (most : ℕ) (words : List Text) (n : ℕ) : Type 0 where
-  pub word : Text
-  pub only : words ≡ word ∷ []
-  pub passes : list_all (λ w. is_name w && accepts false (Unsigned 1 most) w) words ≡ true
-  pub is : taken.number_of most word ≡ Some n
+  pub stands : (is_some option.default || is_some (slice_get words 0)) ≡ true
+  pub is : number_or option.default option.most (slice_get words 0) ≡ Some n
 
 digits_of : (word : Text) → is_numeral word ≡ true → list_all (λ d. is_digit d 10) word ≡ true
 digits_of [] e = refl
@@ -59,33 +54,30 @@ module _ (most : ℕ) (x : ℕ) (xs : Text) (numeral : is_numeral (x ∷ xs) ≡
         let some : nat_lt 0 (length (x ∷ xs)) ≡ true = lt-ltb 0 (length (x ∷ xs)) (omega arith) in
         rw (without_leading_plus-digits, some, digits, below, low, high) refl
 
-number_fair : (default most : ℕ) (word : Text) (n : ℕ) → most < 2 ^ 64 → number most word ≡ Some n → IsFair default most (word ∷ []) n
-number_fair default most [] n fits e = absurd (true≢false (ap is_some (sym e)))
-number_fair default most (x ∷ xs) n fits e = go (is_numeral (x ∷ xs) && (nat_le 1 (digits_value 10 (x ∷ xs)) && nat_le (digits_value 10 (x ∷ xs)) most)) refl e
+or_true : (b : Bool) → (b || true) ≡ true
+or_true true = refl
+or_true false = refl
+
+number_fair : (option : NumberOption) (word : Text) (n : ℕ) → option.most < 2 ^ 64 → number option.most word ≡ Some n → IsFair option (word ∷ []) n
+number_fair option [] n fits e = absurd (true≢false (ap is_some (sym e)))
+number_fair option (x ∷ xs) n fits e = go (is_numeral (x ∷ xs) && (nat_le 1 (digits_value 10 (x ∷ xs)) && nat_le (digits_value 10 (x ∷ xs)) option.most)) refl e
   where
-    go : (b : Bool) → (is_numeral (x ∷ xs) && (nat_le 1 (digits_value 10 (x ∷ xs)) && nat_le (digits_value 10 (x ∷ xs)) most)) ≡ b
-        → cond b (Some (digits_value 10 (x ∷ xs))) None ≡ Some n → IsFair default most ((x ∷ xs) ∷ []) n
+    go : (b : Bool) → (is_numeral (x ∷ xs) && (nat_le 1 (digits_value 10 (x ∷ xs)) && nat_le (digits_value 10 (x ∷ xs)) option.most)) ≡ b
+        → cond b (Some (digits_value 10 (x ∷ xs))) None ≡ Some n → IsFair option ((x ∷ xs) ∷ []) n
     go false holds f = absurd (true≢false (ap is_some (sym f)))
     go true holds f =
         let parts = both (is_numeral (x ∷ xs)) _ holds in
         let range = both _ _ parts.1 in
-        let accepted : accepts false (Unsigned 1 most) (x ∷ xs) ≡ true = accepts-digits most x xs parts.0 range.0 range.1 fits in
+        let accepted : accepts false (Unsigned 1 option.most) (x ∷ xs) ≡ true = accepts-digits option.most x xs parts.0 range.0 range.1 fits in
         record {
-          passes = ap₂ (λ b c. (b && c) && true) (is_name-digits most x xs parts.0) accepted;
+          passes = ap₂ (λ b c. (b && c) && true) (is_name-digits option.most x xs parts.0) accepted;
           once = refl;
+          stands = or_true (is_some option.default);
           is = ap (λ b. cond b (Some (digits_value 10 (without_leading_plus (x ∷ xs)))) None) accepted
-              ∙ (ap (λ w. Some (digits_value 10 w)) (without_leading_plus-digits most x xs parts.0) ∙ f);
+              ∙ (ap (λ w. Some (digits_value 10 w)) (without_leading_plus-digits option.most x xs parts.0) ∙ f);
         }
 
-pub numbers_fair : (default most : ℕ) (words : List Text) (n : ℕ) → most < 2 ^ 64 → number_or default most words ≡ Some n → IsFair default most words n
-numbers_fair default most [] n fits e = record { passes = refl; once = refl; is = e }
-numbers_fair default most (w ∷ []) n fits e = number_fair default most w n fits e
-numbers_fair default most (w ∷ x ∷ ws) n fits e = absurd (true≢false (ap is_some (sym e)))
-
--- the default is of no account where a number is given
-pub only_fair : (most : ℕ) (words : List Text) (n : ℕ) → most < 2 ^ 64 → only_number most words ≡ Some n → IsFairOnly most words n
-only_fair most (w ∷ []) n fits e =
-    let fair = number_fair most most w n fits e in
-    record { word = w; only = refl; passes = fair.passes; is = fair.is }
-only_fair most [] n fits e = absurd (true≢false (ap is_some (sym e)))
-only_fair most (w ∷ x ∷ ws) n fits e = absurd (true≢false (ap is_some (sym e)))
+pub numbers_fair : (option : NumberOption) (words : List Text) (n : ℕ) → option.most < 2 ^ 64 → plain_number option words ≡ Some n → IsFair option words n
+numbers_fair option [] n fits e = record { passes = refl; once = refl; stands = ap (λ o. is_some o || false) e; is = e }
+numbers_fair option (w ∷ []) n fits e = number_fair option w n fits e
+numbers_fair option (w ∷ x ∷ ws) n fits e = absurd (true≢false (ap is_some (sym e)))

@@ -1,15 +1,13 @@
 -- Plain words as items of a command.
 use Rattle.std.proofs.Common.{◌≡◌, ◌∙◌, ℕ, zero, suc, Bool, true, false, cond, List, [], ◌∷◌, ◌++◌, Option, Some, None, is_some}
-use Rattle.std.proofs.Common.{refl, sym, ap, ap₂, subst, bytes_eq, true≢false, slice_get, unwrap_or, drop, codes, ◌⊎◌}
+use Rattle.std.proofs.Common.{refl, sym, ap, ap₂, subst, bytes_eq, true≢false, slice_get, unwrap_or, drop, codes}
 use Rattle.std.specs.Prelude.{◌&&◌, ◌||◌}
 use Rattle.std.specs.List.{list_all}
 use Rattle.clap.proofs.WalkLemmas.{both}
-use Rattle.clap.specs.Facts.{unwrap_or_range}
 use Rattle.clap.specs.Simple.{Shape}
 use Rattle.clap.specs.Takes.{value_passes}
-use Rattle.clap.specs.Walk.{Rule, Text, action_of, arg_by_id, arg_by_index, arg_by_long, most_values, next_position, takes_several}
+use Rattle.clap.specs.Walk.{Rule, Text, arg_by_index, arg_by_long, next_position}
 use Rattle.clap.specs.Words.{new_rule}
-use Rattle.clap.specs.declared.builder.action.ArgAction.TheVariants.{Append, Set}
 use Rattle.hpr_words.specs.Plain.{Piece, begun, is_among, is_name, name, names, pieces, uses, values}
 use Rattle.hpr_words.specs.Plain as plain
 use Rattle.hpr_words.proofs.Items.{Item, flag, valued, word, words_of}
@@ -19,9 +17,9 @@ use Rattle.hpr_words.proofs.UseLemmas.{ArePassing, IsOfNone, IsOfOne, IsPlainSha
 
 -- ---- words among others
 
-abbrev pub Each : (Text → Type 0) → List Text → Type 0
+abbrev pub Each : {X : Type 0} → (X → Type 0) → List X → Type 0
 Each P [] = Unit {0}
-Each P (w ∷ ws) = P w × Each P ws
+Each P (x ∷ xs) = P x × Each P xs
 
 pub each_among : (P : Text → Type 0) (w : Text) (ws : List Text) → is_among w ws ≡ true → Each P ws → P w
 each_among P w [] e each = absurd (true≢false (sym e))
@@ -111,15 +109,6 @@ pub record TakesFlag (s : Shape) (f : Text) : Type 0 where
   pub is : IsFlag s f (drop 2 f) (rule_for s f)
   pub none : IsOfNone (rule_for s f)
   pub stands : (rule_for s f).missing ≡ codes "true" ∷ []
-
-pub takes_word : (s : Shape) (position : ℕ) → arg_by_index s.rules position ≡ Some (rule_at s position) → arg_by_id s.rules (rule_at s position).id ≡ Some (rule_at s position)
-    → takes_several (rule_at s position) ≡ false → (rule_at s position).trailing_var_arg ≡ false → (unwrap_or_range (rule_at s position).range).start_inclusive ≡ 1 → most_values (rule_at s position) ≡ 1
-    → (action_of (rule_at s position) ≡ Set) ⊎ (action_of (rule_at s position) ≡ Append) → ((w : Text) → value_passes (rule_at s position) w ≡ true) → (w : Text) → TakesWord s position w
-takes_word s position found by_id single no_trailing least most action passes w = record {
-  at = record { found = found; by_id = by_id; single = single; no_trailing = no_trailing };
-  one = record { least = least; most = most; action = action };
-  passes = passes w;
-}
 
 -- each name has its argument
 abbrev pub HavePlaces : Shape → ℕ → List Text → Type 0

@@ -1,12 +1,13 @@
 -- Options and flags may stand in each of their places.
-use Rattle.std.proofs.Common.{◌≡◌, ◌∙◌, ℕ, Bool, true, false, List, [], ◌∷◌, ◌++◌, map, Some, option_and_then, append-nil, refl, sym, ap, ap₂, codes}
+use Rattle.std.proofs.Common.{◌≡◌, ◌∙◌, ℕ, Bool, true, false, List, [], ◌∷◌, ◌++◌, map, Option, Some, None, cond, option_and_then, append-nil, refl, sym, ap, ap₂, codes}
 use Rattle.std.specs.Prelude.{◌&&◌, not}
 use Rattle.std.specs.List.{list_all}
 use Rattle.hpr_terms.specs.declared.limits.TheConstants.{DEFAULT_TRIES, MAX_TRIES}
 use Rattle.clap.proofs.SimpleLemmas.{is_false}
 use Rattle.clap.proofs.WalkLemmas.{both}
-use Rattle.hpr_words.specs.Plain.{Piece, begun, flag, given, goes_on, is_among, is_name, is_unbroken, name, names, number, pieces, plain, plain_slice, slice_from, uses, values}
-use Rattle.hpr_words.specs.Request.{Text, integrate, slice}
+use Rattle.hpr_words.specs.Commands.{Form, asked_with, form_named, slice_form}
+use Rattle.hpr_words.specs.Plain.{Piece, begun, fits_list, flag, flags_of, given, goes_on, is_among, is_name, is_unbroken, name, names, number, options_of, pieces, plain, plainly_asked, uses, values}
+use Rattle.hpr_words.specs.Request.{Request, Text, integrate, slice}
 use Rattle.hpr_words.proofs.PieceLemmas.{spelling}
 
 module _ (base a b : Text) (p : is_name base ≡ true) (q : is_name a ≡ true) (r : is_name b ≡ true) where
@@ -107,10 +108,31 @@ alone = record { unbroken = refl; stops = refl; no_names = refl }
 pub names-list : (ws : List Text) (ps : List Piece) → IsBehind ps → names (map name ws ++ ps) ≡ ws
 names-list ws ps behind = names-names ws ps ∙ (ap (λ ns. ws ++ ns) behind.no_names ∙ append-nil ws)
 
+-- ---- what plain words ask for, by their pieces
+
+pub plain_spelled : (form : Form) (command : Text) → form_named command ≡ Some form → (ps : List Piece) (words : List Text) → spelling ps ≡ words
+    → list_all (is_cut (options_of form) (flags_of form)) ps ≡ true → plain (command ∷ words) ≡ plainly_asked form ps
+plain_spelled form command named ps words spelled cut =
+    ap (option_and_then (λ (other : Form). option_and_then (plainly_asked other) (pieces (options_of other) (flags_of other) words))) named
+    ∙ (ap (λ ws. option_and_then (plainly_asked form) (pieces (options_of form) (flags_of form) ws)) (sym spelled)
+    ∙ ap (option_and_then (plainly_asked form)) (pieces-spelling (options_of form) (flags_of form) ps cut))
+
+-- a list with pieces behind it is as good as the list and what these pieces give
+pub plain_listed : (form : Form) (command : Text) → form_named command ≡ Some form → (ws : List Text) (after : List Piece) → IsBehind after
+    → (asked : Bool → List Text → (Text → List Text) → (Text → ℕ) → Option Request) (ps : List Piece) (words : List Text) → spelling ps ≡ words
+    → list_all (is_cut (options_of form) (flags_of form)) ps ≡ true
+    → plainly_asked form ps
+    ≡ asked (is_unbroken (map name ws ++ after)) (names (map name ws ++ after)) (λ option. values option (map name ws ++ after)) (λ f. uses f (map name ws ++ after))
+    → plain (command ∷ words) ≡ asked true ws (λ option. values option after) (λ f. uses f after)
+plain_listed form command named ws after behind asked ps words spelled cut parts =
+    plain_spelled form command named ps words spelled cut ∙ (parts
+    ∙ (λ i. asked (is_unbroken-names ws after behind.unbroken behind.stops i) (names-list ws after behind i) (λ option. values-names option ws after i) (λ f. uses-names f ws after i)))
+
 -- ---- `slice`
 
 pub slice-plain : (file point : Text) (points : List Text) → is_name file ≡ true → list_all is_name (point ∷ points) ≡ true → plain (codes "slice" ∷ file ∷ point ∷ points) ≡ Some (slice file (point ∷ points))
 slice-plain file point points p q =
-    let ws = file ∷ point ∷ points in
-    ap (λ vs. option_and_then plain_slice (pieces [] [] vs)) (sym (spelling-names_alone ws))
-    ∙ (ap (option_and_then plain_slice) (pieces-spelling [] [] (map name ws ++ []) (is_cut-names [] [] ws [] (ap₂ (λ b c. b && c) p q) refl)) ∙ ap slice_from (names-names ws [] ∙ append-nil ws))
+    plain_listed slice_form (codes "slice") refl (point ∷ points) [] alone
+    (λ unbroken ns vs us. cond (unbroken && fits_list slice_form.list ns) (asked_with slice_form (Some (file ∷ [])) ns (Some []) (Some [])) None)
+    (map name (file ∷ point ∷ points) ++ []) (file ∷ point ∷ points) (spelling-names_alone (file ∷ point ∷ points))
+    (is_cut-names [] [] (file ∷ point ∷ points) [] (ap₂ (λ b c. b && c) p q) refl) refl

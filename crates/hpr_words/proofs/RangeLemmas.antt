@@ -1,16 +1,21 @@
 -- The numbers of what is taken are in their range.
-use Rattle.std.proofs.Common.{◌≡◌, ◌≤◌, ℕ, Bool, true, false, cond, List, ◌∷◌, Option, Some, None, Result, Ok, Err, IfOk, refl, ap, subst, codes, arith, option_and_then, unwrap_or}
+use Rattle.std.proofs.Common.{◌≡◌, ◌≤◌, ℕ, Bool, true, false, cond, find, List, [], ◌∷◌, map, Option, Some, None, Result, Ok, Err, IfOk, refl, ap, subst, bytes_eq, arith, option_and_then, option_map, unwrap_or}
+use Rattle.std.specs.Prelude.{◌&&◌, nat_le}
+use Rattle.std.specs.List.{list_all}
+use Rattle.std.specs.Option.{option_map_or}
 use Rattle.std.specs.Str.Parse.{digits_value, without_leading_plus}
-use Rattle.hpr_terms.specs.declared.limits.TheConstants.{DEFAULT_STEPS, DEFAULT_TRIES, MAX_STEPS, MAX_TRIES}
+use Rattle.std.proofs.lemmas.Bool.{leb-true}
 use Rattle.clap.proofs.ValueTestLemmas.{accepts-Accepts}
+use Rattle.clap.proofs.WalkLemmas.{both}
 use Rattle.clap.specs.ValueTests.{accepts}
 use Rattle.clap.specs.Walk.{is_empty}
-use Rattle.clap.specs.Words.{App, Row, fault_of, first_of, matches_of}
+use Rattle.clap.specs.Words.{Row, fault_of, first_of, matches_of}
 use Rattle.clap.specs.declared.builder.value_parser.ValueParser.TheVariants.{Unsigned}
-use Rattle.hpr_words.specs.Commands.{affected_app, edit_app, graph_app, integrate_app, run_app, slice_app, tag_app, trial_app}
+use Rattle.hpr_words.specs.Commands.{Form, NumberOption, affected_form, asked_with, commands, edit_form, form_app, form_named, graph_form, integrate_form, run_form, slice_form, tag_form, trial_form}
 use Rattle.hpr_words.specs.Request.{IsInRange, Request, Text}
-use Rattle.hpr_words.specs.Taken.{affected_in, affected_with, author_in, edit_in, edit_with, flag_in, graph_in, graph_with, integrate_in, integrate_with, list_in, number_in, number_of, number_or, run_in, run_with, slice_in, slice_with, steps_in, tag_in, tag_with, taken_by, trial_in, trial_with}
-use Rattle.hpr_words.proofs.PieceLemmas.{none_some}
+use Rattle.hpr_words.specs.Taken.{all_some, asked_in, flag_in, listed_in, number_in, number_of, number_or, taken_by}
+use Rattle.hpr_words.proofs.PieceLemmas.{Each, none_some}
+use Rattle.hpr_words.proofs.UseLemmas.{found_passes}
 
 number_of-range : (most : ℕ) (text : Text) (n : ℕ) → number_of most text ≡ Some n → (1 ≤ n) × (n ≤ most)
 number_of-range most text n e = go (accepts false (Unsigned 1 most) text) refl e
@@ -22,91 +27,113 @@ number_of-range most text n e = go (accepts false (Unsigned 1 most) text) refl e
         let is : digits_value 10 (without_leading_plus text) ≡ n = ap (λ o. unwrap_or o n) f in
         (omega (arith, is, a.2), omega (arith, is, a.3))
 
-number_or-range : (most default : ℕ) (o : Option Text) (n : ℕ) → 1 ≤ default → default ≤ most → number_or most default o ≡ Some n → (1 ≤ n) × (n ≤ most)
-number_or-range most default None n low high e =
+-- the default, if there is one, is in the option's range
+abbrev has_default_within : NumberOption → Bool
+has_default_within option = option_map_or (λ n. nat_le 1 n && nat_le n option.most) option.default true
+
+number_or-range : (most : ℕ) (default : Option ℕ) (o : Option Text) (n : ℕ) → option_map_or (λ n. nat_le 1 n && nat_le n most) default true ≡ true
+    → number_or default most o ≡ Some n → (1 ≤ n) × (n ≤ most)
+number_or-range most None None n within e = absurd (none_some n e)
+number_or-range most (Some default) None n within e =
     let is : default ≡ n = ap (λ o. unwrap_or o n) e in
-    (omega (arith, is, low), omega (arith, is, high))
-number_or-range most default (Some text) n low high e = number_of-range most text n e
+    let parts = both (nat_le 1 default) _ within in
+    (omega (arith, is, leb-true _ _ parts.0), omega (arith, is, leb-true _ _ parts.1))
+number_or-range most default (Some text) n within e = number_of-range most text n e
 
-integrate_with-range : (base a b : Option Text) (o : Option ℕ) (r : Request) → ((n : ℕ) → o ≡ Some n → (1 ≤ n) × (n ≤ MAX_TRIES)) → integrate_with base a b o ≡ Some r → IsInRange r
-integrate_with-range (Some base) (Some a) (Some b) (Some tries) r range e = subst IsInRange (ap (λ o. unwrap_or o r) e) (range tries refl)
-integrate_with-range base a b o r range e = absurd (none_some r e)
+-- each number is in its option's range
+abbrev AreInRange : List NumberOption → List ℕ → Type 0
+AreInRange [] ns = Unit {0}
+AreInRange (option ∷ options) [] = Unit {0}
+AreInRange (option ∷ options) (n ∷ ns) = ((1 ≤ n) × (n ≤ option.most)) × AreInRange options ns
 
-run_with-range : (file : Option Text) (states : List Text) (o : Option ℕ) (trace : Bool) (r : Request) → ((n : ℕ) → o ≡ Some n → (1 ≤ n) × (n ≤ MAX_STEPS))
-    → run_with file states o trace ≡ Some r → IsInRange r
-run_with-range (Some file) states (Some steps) trace r range e = subst IsInRange (ap (λ o. unwrap_or o r) e) (range steps refl)
-run_with-range file states o trace r range e = absurd (none_some r e)
-
-graph_with-range : (file : Option Text) (json : Bool) (r : Request) → graph_with file json ≡ Some r → IsInRange r
-graph_with-range (Some file) json r e = subst IsInRange (ap (λ o. unwrap_or o r) e) tt
-graph_with-range file json r e = absurd (none_some r e)
-
-affected_with-range : (base a : Option Text) (r : Request) → affected_with base a ≡ Some r → IsInRange r
-affected_with-range (Some base) (Some a) r e = subst IsInRange (ap (λ o. unwrap_or o r) e) tt
-affected_with-range base a r e = absurd (none_some r e)
-
-slice_with-range : (file : Option Text) (points : List Text) (r : Request) → slice_with file points ≡ Some r → IsInRange r
-slice_with-range (Some file) (point ∷ points) r e = subst IsInRange (ap (λ o. unwrap_or o r) e) (omega arith)
-slice_with-range file points r e = absurd (none_some r e)
-
-trial_with-range : (base a b : Option Text) (states : List Text) (o : Option ℕ) (r : Request) → ((n : ℕ) → o ≡ Some n → (1 ≤ n) × (n ≤ MAX_STEPS))
-    → trial_with base a b states o ≡ Some r → IsInRange r
-trial_with-range (Some base) (Some a) (Some b) states (Some steps) r range e = subst IsInRange (ap (λ o. unwrap_or o r) e) (range steps refl)
-trial_with-range base a b states o r range e = absurd (none_some r e)
-
-edit_with-range : (file script : Option Text) (o : Option ℕ) (r : Request) → ((n : ℕ) → o ≡ Some n → (1 ≤ n) × (n ≤ 4294967295)) → edit_with file script o ≡ Some r → IsInRange r
-edit_with-range (Some file) (Some script) (Some author) r range e = subst IsInRange (ap (λ o. unwrap_or o r) e) (range author refl)
-edit_with-range file script o r range e = absurd (none_some r e)
-
-tag_with-range : (file : Option Text) (o : Option ℕ) (r : Request) → ((n : ℕ) → o ≡ Some n → (1 ≤ n) × (n ≤ 4294967295)) → tag_with file o ≡ Some r → IsInRange r
-tag_with-range (Some file) (Some author) r range e = subst IsInRange (ap (λ o. unwrap_or o r) e) (range author refl)
-tag_with-range file o r range e = absurd (none_some r e)
-
-taken_by-range : (app : App) (request_in : List Row → Option Request) → ((rows : List Row) (r : Request) → request_in rows ≡ Some r → IsInRange r)
-    → (words : List Text) (r : Request) → taken_by app request_in words ≡ Some r → IsInRange r
-taken_by-range app request_in range words r e = go (is_empty (fault_of app words)) e
+numbers-range : (rows : List Row) (options : List NumberOption) (ns : List ℕ) → list_all has_default_within options ≡ true
+    → all_some (map (λ (option : NumberOption). number_in option rows) options) ≡ Some ns → AreInRange options ns
+numbers-range rows [] ns within e = tt
+numbers-range rows (option ∷ options) ns within e = go (number_in option rows) refl (all_some (map (λ (o : NumberOption). number_in o rows) options)) refl (λ zs f. numbers-range rows options zs parts.1 f) e
   where
-    go : (b : Bool) → cond b (request_in (matches_of app words)) None ≡ Some r → IsInRange r
-    go true f = range (matches_of app words) r f
+    parts : (has_default_within option ≡ true) × (list_all has_default_within options ≡ true)
+    parts = both (has_default_within option) _ within
+
+    go : (o : Option ℕ) → number_in option rows ≡ o → (os : Option (List ℕ)) → all_some (map (λ (o : NumberOption). number_in o rows) options) ≡ os
+        → ((zs : List ℕ) → all_some (map (λ (o : NumberOption). number_in o rows) options) ≡ Some zs → AreInRange options zs)
+        → option_and_then (λ n. option_map (λ zs. n ∷ zs) os) o ≡ Some ns → AreInRange (option ∷ options) ns
+    go None here os there later f = absurd (none_some ns f)
+    go (Some n) here None there later f = absurd (none_some ns f)
+    go (Some n) here (Some zs) there later f =
+        subst (AreInRange (option ∷ options)) (ap (λ o. unwrap_or o ns) f)
+        (number_or-range option.most option.default (first_of option.id rows) n parts.0 here, later zs there)
+
+-- what a command asks for is in range where its numbers are
+abbrev AsksInRange : Form → Type 0
+AsksInRange form = (words list : List Text) (ns : List ℕ) (flags : List Bool) (r : Request) → AreInRange form.numbers ns → form.asks words list ns flags ≡ Some r → IsInRange r
+
+in_range : (q r : Request) → IsInRange q → Some q ≡ Some r → IsInRange r
+in_range q r range e = subst IsInRange (ap (λ o. unwrap_or o r) e) range
+
+integrate-range : AsksInRange integrate_form
+integrate-range (base ∷ a ∷ b ∷ []) list (n ∷ []) flags r range e = in_range _ r range.0 e
+integrate-range _ _ _ _ r range e = absurd (none_some r e)
+
+run-range : AsksInRange run_form
+run-range (file ∷ []) states (n ∷ []) (trace ∷ []) r range e = in_range _ r range.0 e
+run-range _ _ _ _ r range e = absurd (none_some r e)
+
+graph-range : AsksInRange graph_form
+graph-range (file ∷ []) list ns (json ∷ []) r range e = in_range _ r tt e
+graph-range _ _ _ _ r range e = absurd (none_some r e)
+
+slice-range : AsksInRange slice_form
+slice-range (file ∷ []) (point ∷ points) ns flags r range e = in_range _ r (omega arith) e
+slice-range _ _ _ _ r range e = absurd (none_some r e)
+
+affected-range : AsksInRange affected_form
+affected-range (base ∷ a ∷ []) list ns flags r range e = in_range _ r tt e
+affected-range _ _ _ _ r range e = absurd (none_some r e)
+
+trial-range : AsksInRange trial_form
+trial-range (base ∷ a ∷ b ∷ []) states (n ∷ []) flags r range e = in_range _ r range.0 e
+trial-range _ _ _ _ r range e = absurd (none_some r e)
+
+edit-range : AsksInRange edit_form
+edit-range (file ∷ script ∷ []) list (n ∷ []) flags r range e = in_range _ r range.0 e
+edit-range _ _ _ _ r range e = absurd (none_some r e)
+
+tag-range : AsksInRange tag_form
+tag-range (file ∷ []) list (n ∷ []) flags r range e = in_range _ r range.0 e
+tag-range _ _ _ _ r range e = absurd (none_some r e)
+
+each_in_range : Each AsksInRange commands
+each_in_range = (integrate-range, (run-range, (graph-range, (slice-range, (affected-range, (trial-range, (edit-range, (tag-range, tt))))))))
+
+-- what is so of each is so of the one that is found
+found_each : {X : Type 0} (P : X → Type 0) (p : X → Bool) (xs : List X) (x : X) → Each P xs → find p xs ≡ Some x → P x
+found_each P p [] x each e = absurd (none_some x e)
+found_each P p (y ∷ ys) x each e = go (p y) (λ f. found_each P p ys x each.1 f) e
+  where
+    go : (b : Bool) → (find p ys ≡ Some x → P x) → cond b (Some y) (find p ys) ≡ Some x → P x
+    go true later f = subst P (ap (λ o. unwrap_or o y) f) each.0
+    go false later f = later f
+
+defaults_within : list_all (λ (form : Form). list_all has_default_within form.numbers) commands ≡ true
+defaults_within = refl
+
+asked_in-range : (form : Form) → AsksInRange form → list_all has_default_within form.numbers ≡ true → (rows : List Row) (r : Request) → asked_in form rows ≡ Some r → IsInRange r
+asked_in-range form asks within rows r e =
+    go (all_some (map (λ id. first_of id rows) form.words)) (all_some (map (λ (option : NumberOption). number_in option rows) form.numbers)) refl e
+  where
+    go : (words : Option (List Text)) (numbers : Option (List ℕ)) → all_some (map (λ (option : NumberOption). number_in option rows) form.numbers) ≡ numbers
+        → asked_with form words (listed_in form.list rows) numbers (Some (map (λ id. flag_in id rows) form.flags)) ≡ Some r → IsInRange r
+    go (Some words) (Some ns) told f = asks words (listed_in form.list rows) ns (map (λ id. flag_in id rows) form.flags) r (numbers-range rows form.numbers ns within told) f
+    go words numbers told f = absurd (none_some r f)
+
+pub taken-range : (name : Text) (form : Form) → form_named name ≡ Some form → (words : List Text) (r : Request) → taken_by form words ≡ Some r → IsInRange r
+taken-range name form named words r e = go (is_empty (fault_of (form_app form) words)) e
+  where
+    go : (b : Bool) → cond b (asked_in form (matches_of (form_app form) words)) None ≡ Some r → IsInRange r
+    go true f =
+        asked_in-range form (found_each AsksInRange (λ (other : Form). bytes_eq name other.name) commands form each_in_range named)
+        (found_passes (λ (other : Form). bytes_eq name other.name) (λ (other : Form). list_all has_default_within other.numbers) commands form named defaults_within) (matches_of (form_app form) words) r f
     go false f = absurd (none_some r f)
-
-steps_in-range : (rows : List Row) (n : ℕ) → steps_in rows ≡ Some n → (1 ≤ n) × (n ≤ MAX_STEPS)
-steps_in-range rows n = number_or-range MAX_STEPS DEFAULT_STEPS (first_of (codes "steps") rows) n (omega arith) (omega arith)
-
-author_in-range : (rows : List Row) (n : ℕ) → author_in rows ≡ Some n → (1 ≤ n) × (n ≤ 4294967295)
-author_in-range rows n = go (first_of (codes "author") rows)
-  where
-    go : (o : Option Text) → option_and_then (number_of 4294967295) o ≡ Some n → (1 ≤ n) × (n ≤ 4294967295)
-    go None e = absurd (none_some n e)
-    go (Some text) e = number_of-range 4294967295 text n e
-
-pub integrate_taken-range : (words : List Text) (r : Request) → taken_by integrate_app integrate_in words ≡ Some r → IsInRange r
-integrate_taken-range = taken_by-range integrate_app integrate_in (λ rows r.
-    integrate_with-range (first_of (codes "base") rows) (first_of (codes "a") rows) (first_of (codes "b") rows) (number_in (codes "tries") MAX_TRIES DEFAULT_TRIES rows) r
-    (λ n. number_or-range MAX_TRIES DEFAULT_TRIES (first_of (codes "tries") rows) n (omega arith) (omega arith)))
-
-pub run_taken-range : (words : List Text) (r : Request) → taken_by run_app run_in words ≡ Some r → IsInRange r
-run_taken-range = taken_by-range run_app run_in (λ rows r.
-    run_with-range (first_of (codes "file") rows) (list_in (codes "state") rows) (steps_in rows) (flag_in (codes "trace") rows) r (steps_in-range rows))
-
-pub slice_taken-range : (words : List Text) (r : Request) → taken_by slice_app slice_in words ≡ Some r → IsInRange r
-slice_taken-range = taken_by-range slice_app slice_in (λ rows r. slice_with-range (first_of (codes "file") rows) (list_in (codes "point") rows) r)
-
-pub graph_taken-range : (words : List Text) (r : Request) → taken_by graph_app graph_in words ≡ Some r → IsInRange r
-graph_taken-range = taken_by-range graph_app graph_in (λ rows r. graph_with-range (first_of (codes "file") rows) (flag_in (codes "json") rows) r)
-
-pub affected_taken-range : (words : List Text) (r : Request) → taken_by affected_app affected_in words ≡ Some r → IsInRange r
-affected_taken-range = taken_by-range affected_app affected_in (λ rows r. affected_with-range (first_of (codes "base") rows) (first_of (codes "a") rows) r)
-
-pub trial_taken-range : (words : List Text) (r : Request) → taken_by trial_app trial_in words ≡ Some r → IsInRange r
-trial_taken-range = taken_by-range trial_app trial_in (λ rows r.
-    trial_with-range (first_of (codes "base") rows) (first_of (codes "a") rows) (first_of (codes "b") rows) (list_in (codes "state") rows) (steps_in rows) r (steps_in-range rows))
-
-pub edit_taken-range : (words : List Text) (r : Request) → taken_by edit_app edit_in words ≡ Some r → IsInRange r
-edit_taken-range = taken_by-range edit_app edit_in (λ rows r. edit_with-range (first_of (codes "file") rows) (first_of (codes "script") rows) (author_in rows) r (author_in-range rows))
-
-pub tag_taken-range : (words : List Text) (r : Request) → taken_by tag_app tag_in words ≡ Some r → IsInRange r
-tag_taken-range = taken_by-range tag_app tag_in (λ rows r. tag_with-range (first_of (codes "file") rows) (author_in rows) r (author_in-range rows))
 
 pub IfOk-range : {X E : Type 0} (f : X → Request) (r : Result X E) (asked : Option Request) → ((q : Request) → asked ≡ Some q → IsInRange q)
     → IfOk r (λ x. asked ≡ Some (f x)) → IfOk r (λ x. IsInRange (f x))

@@ -1,17 +1,14 @@
 -- The options of `run` may stand in each of their places.
-use Rattle.std.proofs.Common.{◌≡◌, ◌∙◌, ℕ, suc, Bool, true, false, cond, List, [], ◌∷◌, ◌++◌, map, Some, None, option_and_then, refl, sym, ap, ap₂, codes}
+use Rattle.std.proofs.Common.{◌≡◌, ◌∙◌, ℕ, suc, Bool, true, false, cond, List, [], ◌∷◌, ◌++◌, map, Option, Some, None, refl, ap, ap₂, codes}
+use Rattle.std.specs.Prelude.{◌&&◌}
 use Rattle.std.specs.List.{list_all}
 use Rattle.hpr_terms.specs.declared.limits.TheConstants.{DEFAULT_STEPS, MAX_STEPS}
-use Rattle.hpr_words.specs.Plain.{Piece, flag, given, is_name, is_unbroken, is_used, name, names, number, number_or, pieces, plain, plain_run, run_from, uses, values}
-use Rattle.hpr_words.specs.Request.{Text, run}
+use Rattle.hpr_words.specs.Commands.{asked_with, run_form, steps}
+use Rattle.hpr_words.specs.Plain.{Piece, fits_list, flag, flags_of, given, is_name, is_unbroken, is_used, name, names, number, options_of, plain, plain_number, plainly_asked, uses, values}
+use Rattle.hpr_words.specs.Request.{Request, Text, run}
+use Rattle.hpr_words.specs.Taken.{all_some}
 use Rattle.hpr_words.proofs.PieceLemmas.{spelling}
-use Rattle.hpr_words.proofs.PlaceLemmas.{IsBehind, alone, is_cut, is_cut-names, is_unbroken-names, names-list, pieces-spelling, spelling-names, spelling-names_alone, uses-names, values-names}
-
-abbrev steps : List Text
-steps = codes "--steps" ∷ []
-
-abbrev trace : List Text
-trace = codes "--trace" ∷ []
+use Rattle.hpr_words.proofs.PlaceLemmas.{IsBehind, alone, is_cut, is_cut-names, plain_listed, spelling-names, spelling-names_alone}
 
 module _ (file : Text) (states : List Text) (p : is_name file ≡ true) (q : list_all is_name states ≡ true) where
   -- the states and the pieces behind them, where the pieces before them are `ps` with these, give such numbers and use the flag so often
@@ -19,19 +16,21 @@ module _ (file : Text) (states : List Text) (p : is_name file ≡ true) (q : lis
     abbrev rest : List Piece
     rest = map name states ++ after
 
-    run-pieces : (ps : List Piece) (words : List Text) (n : ℕ) (traced : Bool) → spelling ps ≡ words → list_all (is_cut steps trace) ps ≡ true
-        → plain_run ps ≡ cond (is_unbroken rest) (run_from (file ∷ names rest) (number_or DEFAULT_STEPS MAX_STEPS (numbers (values (codes "--steps") rest))) (is_used (flagged (uses (codes "--trace") rest)))) None
-        → number_or DEFAULT_STEPS MAX_STEPS (numbers (values (codes "--steps") after)) ≡ Some n → is_used (flagged (uses (codes "--trace") after)) ≡ Some traced
+    abbrev asked : Bool → List Text → (Text → List Text) → (Text → ℕ) → Option Request
+    asked unbroken ns vs us =
+        cond (unbroken && fits_list run_form.list ns) (asked_with run_form (Some (file ∷ [])) ns (all_some (plain_number steps (numbers (vs (codes "--steps"))) ∷ []))
+        (all_some (is_used (flagged (us (codes "--trace"))) ∷ []))) None
+
+    run-pieces : (ps : List Piece) (words : List Text) (n : ℕ) (traced : Bool) → spelling ps ≡ words → list_all (is_cut (options_of run_form) (flags_of run_form)) ps ≡ true
+        → plainly_asked run_form ps ≡ asked (is_unbroken rest) (names rest) (λ option. values option rest) (λ f. uses f rest)
+        → plain_number steps (numbers (values (codes "--steps") after)) ≡ Some n → is_used (flagged (uses (codes "--trace") after)) ≡ Some traced
         → plain (codes "run" ∷ words) ≡ Some (run file states n traced)
     run-pieces ps words n traced spelled cut parts number used =
-        ap (λ ws. option_and_then plain_run (pieces steps trace ws)) (sym spelled)
-        ∙ (ap (option_and_then plain_run) (pieces-spelling steps trace ps cut) ∙ (parts
-        ∙ ((λ i. cond (is_unbroken-names states after behind.unbroken behind.stops i) (run_from (file ∷ names-list states after behind i)
-        (number_or DEFAULT_STEPS MAX_STEPS (numbers (values-names (codes "--steps") states after i))) (is_used (flagged (uses-names (codes "--trace") states after i)))) None)
-        ∙ ap₂ (run_from (file ∷ states)) number used)))
+        plain_listed run_form (codes "run") refl states after behind asked ps words spelled cut parts
+        ∙ ap₂ (λ a b. asked_with run_form (Some (file ∷ [])) states (all_some (a ∷ [])) (all_some (b ∷ []))) number used
 
-  alone_cut : list_all (is_cut steps trace) (map name states ++ []) ≡ true
-  alone_cut = is_cut-names steps trace states [] q refl
+  alone_cut : list_all (is_cut (options_of run_form) (flags_of run_form)) (map name states ++ []) ≡ true
+  alone_cut = is_cut-names (options_of run_form) (flags_of run_form) states [] q refl
 
   abbrev listed : List Piece
   listed = map name states ++ []
@@ -48,11 +47,11 @@ module _ (file : Text) (states : List Text) (p : is_name file ≡ true) (q : lis
       (ap (λ ws. file ∷ codes "--trace" ∷ ws) (spelling-names_alone states)) (rw (p) alone_cut) refl refl refl
 
   -- options and flags behind the states
-  module _ (after : List Piece) (behind : IsBehind after) (cut : list_all (is_cut steps trace) after ≡ true) (n : ℕ) (traced : Bool)
-      (number : number_or DEFAULT_STEPS MAX_STEPS (values (codes "--steps") after) ≡ Some n) (used : is_used (uses (codes "--trace") after) ≡ Some traced) where
+  module _ (after : List Piece) (behind : IsBehind after) (cut : list_all (is_cut (options_of run_form) (flags_of run_form)) after ≡ true) (n : ℕ) (traced : Bool)
+      (number : plain_number steps (values (codes "--steps") after) ≡ Some n) (used : is_used (uses (codes "--trace") after) ≡ Some traced) where
     run-behind : plain (codes "run" ∷ file ∷ (states ++ spelling after)) ≡ Some (run file states n traced)
     run-behind = run-pieces after behind (λ vs. vs) (λ u. u) (name file ∷ (map name states ++ after)) (file ∷ (states ++ spelling after)) n traced
-        (ap (λ ws. file ∷ ws) (spelling-names states after)) (rw (p) (is_cut-names steps trace states after q cut)) refl number used
+        (ap (λ ws. file ∷ ws) (spelling-names states after)) (rw (p) (is_cut-names (options_of run_form) (flags_of run_form) states after q cut)) refl number used
 
   pub run-traced_last : plain (codes "run" ∷ file ∷ (states ++ codes "--trace" ∷ [])) ≡ Some (run file states DEFAULT_STEPS true)
   run-traced_last = run-behind (flag (codes "--trace") ∷ []) (record { unbroken = refl; stops = refl; no_names = refl }) refl DEFAULT_STEPS true refl refl

@@ -11,6 +11,7 @@ use Rattle.clap.specs.Kinds.{or_else}
 use Rattle.clap.specs.Faults.{turn_fault, settle_fault, use_fault, step_fault, walk_fault}
 use Rattle.clap.specs.Simple.{Shape}
 use Rattle.hpr_words.specs.Plain.{is_name}
+use Rattle.hpr_words.proofs.RowLemmas.{same_text}
 
 -- between two items: no option waits, no `--` and no subcommand came
 abbrev pub at : Held → Bool → ℕ → Walk
@@ -27,15 +28,18 @@ pub record IsPositional (s : Shape) (position : ℕ) (a : Rule) : Type 0 where
   pub single : takes_several a ≡ false
   pub no_trailing : a.trailing_var_arg ≡ false
 
--- the words name an option that takes one value
-pub record IsOption (s : Shape) (word name : Text) (a : Rule) : Type 0 where
+-- the word, behind its two dashes, is the name of an argument
+pub record IsNamed (s : Shape) (word name : Text) (a : Rule) : Type 0 where
   pub reads : long_of word ≡ Some (name, None)
   pub no_dashes : bytes_eq word (45 ∷ 45 ∷ []) ≡ false
   pub found : arg_by_long s.rules name ≡ Some a
   pub by_id : arg_by_id s.rules a.id ≡ Some a
+
+-- the words name an option that takes one value
+pub record IsOption (s : Shape) (word name : Text) (a : Rule) : Type 0 where
+  pub named : IsNamed s word name a
   pub takes : takes_values a ≡ true
   pub one : most_values a ≡ 1
-  pub same : bytes_eq a.id a.id ≡ true
 
 word_at : (c : List Rule) (h : Held) (many : Bool) (position : ℕ) (word : Text) → is_name word ≡ true
     → walked c [] (at h many position) word ≡ to_positional c (arg_by_index c position) word (at h many position) h
@@ -91,21 +95,21 @@ module _ (s : Shape) (h : Held) (position : ℕ) where
   pub walked-option : (many : Bool) (word name : Text) (a : Rule) → IsOption s word name a
       → walked s.rules [] (at h many position) word ≡ waiting_at a (held_waiting s a h) position
   unfolding clap_on_literals
-  walked-option true word name a is = rw (is.no_dashes, is.reads, is.found, is.takes) refl
-  walked-option false word name a is = rw (is.no_dashes, is.reads, is.found, is.takes) refl
+  walked-option true word name a is = rw (is.named.no_dashes, is.named.reads, is.named.found, is.takes) refl
+  walked-option false word name a is = rw (is.named.no_dashes, is.named.reads, is.named.found, is.takes) refl
 
   pub turn_fault-option : (many : Bool) (word name : Text) (a : Rule) → IsOption s word name a
       → settle_fault s.rules s.args_override_self h ≡ [] → turn_fault s [] (at h many position) word ≡ []
   unfolding clap_on_literals
-  turn_fault-option true word name a is quiet = rw (is.no_dashes, is.reads, is.found, is.takes) (ap (λ k. or_else k []) quiet)
-  turn_fault-option false word name a is quiet = rw (is.no_dashes, is.reads, is.found, is.takes) (ap (λ k. or_else k []) quiet)
+  turn_fault-option true word name a is quiet = rw (is.named.no_dashes, is.named.reads, is.named.found, is.takes) (ap (λ k. or_else k []) quiet)
+  turn_fault-option false word name a is quiet = rw (is.named.no_dashes, is.named.reads, is.named.found, is.takes) (ap (λ k. or_else k []) quiet)
 
   pub walked-option_value : (word name v : Text) (a : Rule) → IsOption s word name a → is_name v ≡ true
       → walked s.rules [] (waiting_at a (held_waiting s a h) position) v ≡ at (held_with s a v h) false position
   unfolding clap_on_literals
   walked-option_value word name [] a is e = absurd (true≢false (sym e))
   walked-option_value word name (x ∷ xs) a is e =
-      let no : (x == 45) ≡ false = is_false _ e in rw (no, no, is.by_id, is.same, is.one) refl
+      let no : (x == 45) ≡ false = is_false _ e in rw (no, no, is.named.by_id, same_text a.id, is.one) refl
 
   pub turn_fault-option_value : (v : Text) (a : Rule) → is_name v ≡ true
       → turn_fault s [] (waiting_at a (held_waiting s a h) position) v ≡ []
@@ -115,17 +119,14 @@ module _ (s : Shape) (h : Held) (position : ℕ) where
 
 module _ (s : Shape) (h : Held) (a : Rule) (v word name : Text) (is : IsOption s word name a) where
   pub rows-option : rows_at s (held_with s a v h) ≡ used a (v ∷ []) (rows_at s h)
-  rows-option = rw (is.by_id) refl
+  rows-option = rw (is.named.by_id) refl
 
   pub settle_fault-option : settle_fault s.rules s.args_override_self (held_with s a v h) ≡ use_fault s.args_override_self a (v ∷ []) (rows_at s h)
-  settle_fault-option = rw (is.by_id) refl
+  settle_fault-option = rw (is.named.by_id) refl
 
 -- the word names a flag
 pub record IsFlag (s : Shape) (word name : Text) (a : Rule) : Type 0 where
-  pub reads : long_of word ≡ Some (name, None)
-  pub no_dashes : bytes_eq word (45 ∷ 45 ∷ []) ≡ false
-  pub found : arg_by_long s.rules name ≡ Some a
-  pub by_id : arg_by_id s.rules a.id ≡ Some a
+  pub named : IsNamed s word name a
   pub takes : takes_values a ≡ false
 
 -- a flag is used at once
@@ -136,15 +137,15 @@ module _ (s : Shape) (h : Held) (position : ℕ) where
   pub walked-flag : (many : Bool) (word name : Text) (a : Rule) → IsFlag s word name a
       → walked s.rules [] (at h many position) word ≡ at (held_flag s a h) false position
   unfolding clap_on_literals
-  walked-flag true word name a is = rw (is.no_dashes, is.reads, is.found, is.takes) refl
-  walked-flag false word name a is = rw (is.no_dashes, is.reads, is.found, is.takes) refl
+  walked-flag true word name a is = rw (is.named.no_dashes, is.named.reads, is.named.found, is.takes) refl
+  walked-flag false word name a is = rw (is.named.no_dashes, is.named.reads, is.named.found, is.takes) refl
 
   pub turn_fault-flag : (many : Bool) (word name : Text) (a : Rule) → IsFlag s word name a
       → settle_fault s.rules s.args_override_self h ≡ [] → use_fault s.args_override_self a [] (rows_at s h) ≡ []
       → turn_fault s [] (at h many position) word ≡ []
   unfolding clap_on_literals
-  turn_fault-flag true word name a is quiet passes = rw (is.no_dashes, is.reads, is.found, is.takes) (ap₂ (λ j k. or_else (or_else j k) []) quiet passes)
-  turn_fault-flag false word name a is quiet passes = rw (is.no_dashes, is.reads, is.found, is.takes) (ap₂ (λ j k. or_else (or_else j k) []) quiet passes)
+  turn_fault-flag true word name a is quiet passes = rw (is.named.no_dashes, is.named.reads, is.named.found, is.takes) (ap₂ (λ j k. or_else (or_else j k) []) quiet passes)
+  turn_fault-flag false word name a is quiet passes = rw (is.named.no_dashes, is.named.reads, is.named.found, is.takes) (ap₂ (λ j k. or_else (or_else j k) []) quiet passes)
 
 pub walk_fault-next : (s : Shape) (w after : Walk) (word : Text) (rest : List Text) → turn_fault s [] w word ≡ [] → walked s.rules [] w word ≡ after
     → walk_fault s [] after rest ≡ [] → walk_fault s [] w (word ∷ rest) ≡ []

@@ -1,32 +1,33 @@
 -- The option of `trial` may stand in each of its places.
-use Rattle.std.proofs.Common.{◌≡◌, ◌∙◌, ℕ, true, cond, List, [], ◌∷◌, ◌++◌, map, Some, None, option_and_then, refl, sym, ap, codes}
+use Rattle.std.proofs.Common.{◌≡◌, ◌∙◌, ℕ, Bool, true, cond, List, [], ◌∷◌, ◌++◌, map, Option, Some, None, refl, ap, codes}
+use Rattle.std.specs.Prelude.{◌&&◌}
 use Rattle.std.specs.List.{list_all}
 use Rattle.hpr_terms.specs.declared.limits.TheConstants.{DEFAULT_STEPS, MAX_STEPS}
-use Rattle.hpr_words.specs.Plain.{Piece, given, is_name, is_unbroken, name, names, number, number_or, pieces, plain, plain_trial, trial_from, values}
-use Rattle.hpr_words.specs.Request.{Text, trial}
+use Rattle.hpr_words.specs.Commands.{asked_with, steps, trial_form}
+use Rattle.hpr_words.specs.Plain.{Piece, fits_list, given, is_name, is_unbroken, name, names, number, options_of, plain, plain_number, plainly_asked, uses, values}
+use Rattle.hpr_words.specs.Request.{Request, Text, trial}
+use Rattle.hpr_words.specs.Taken.{all_some}
 use Rattle.hpr_words.proofs.PieceLemmas.{spelling}
-use Rattle.hpr_words.proofs.PlaceLemmas.{IsBehind, alone, is_cut, is_cut-names, is_unbroken-names, names-list, pieces-spelling, spelling-names, spelling-names_alone, values-names}
-
-abbrev steps : List Text
-steps = codes "--steps" ∷ []
+use Rattle.hpr_words.proofs.PlaceLemmas.{IsBehind, alone, is_cut, is_cut-names, plain_listed, spelling-names, spelling-names_alone}
 
 module _ (base a b : Text) (states : List Text) (p : is_name base ≡ true) (q : is_name a ≡ true) (r : is_name b ≡ true) (s : list_all is_name states ≡ true) where
   module _ (after : List Piece) (behind : IsBehind after) (numbers : List Text → List Text) where
     abbrev rest : List Piece
     rest = map name states ++ after
 
-    trial-pieces : (ps : List Piece) (words : List Text) (n : ℕ) → spelling ps ≡ words → list_all (is_cut steps []) ps ≡ true
-        → plain_trial ps ≡ cond (is_unbroken rest) (trial_from (base ∷ a ∷ b ∷ names rest) (number_or DEFAULT_STEPS MAX_STEPS (numbers (values (codes "--steps") rest)))) None
-        → number_or DEFAULT_STEPS MAX_STEPS (numbers (values (codes "--steps") after)) ≡ Some n → plain (codes "trial" ∷ words) ≡ Some (trial base a b states n)
-    trial-pieces ps words n spelled cut parts number =
-        ap (λ ws. option_and_then plain_trial (pieces steps [] ws)) (sym spelled)
-        ∙ (ap (option_and_then plain_trial) (pieces-spelling steps [] ps cut) ∙ (parts
-        ∙ ((λ i. cond (is_unbroken-names states after behind.unbroken behind.stops i) (trial_from (base ∷ a ∷ b ∷ names-list states after behind i)
-        (number_or DEFAULT_STEPS MAX_STEPS (numbers (values-names (codes "--steps") states after i)))) None)
-        ∙ ap (trial_from (base ∷ a ∷ b ∷ states)) number)))
+    abbrev asked : Bool → List Text → (Text → List Text) → (Text → ℕ) → Option Request
+    asked unbroken ns vs us =
+        cond (unbroken && fits_list trial_form.list ns) (asked_with trial_form (Some (base ∷ a ∷ b ∷ [])) ns (all_some (plain_number steps (numbers (vs (codes "--steps"))) ∷ [])) (Some [])) None
 
-  alone_cut : list_all (is_cut steps []) (map name states ++ []) ≡ true
-  alone_cut = is_cut-names steps [] states [] s refl
+    trial-pieces : (ps : List Piece) (words : List Text) (n : ℕ) → spelling ps ≡ words → list_all (is_cut (options_of trial_form) []) ps ≡ true
+        → plainly_asked trial_form ps ≡ asked (is_unbroken rest) (names rest) (λ option. values option rest) (λ f. uses f rest)
+        → plain_number steps (numbers (values (codes "--steps") after)) ≡ Some n → plain (codes "trial" ∷ words) ≡ Some (trial base a b states n)
+    trial-pieces ps words n spelled cut parts number =
+        plain_listed trial_form (codes "trial") refl states after behind asked ps words spelled cut parts
+        ∙ ap (λ o. asked_with trial_form (Some (base ∷ a ∷ b ∷ [])) states (all_some (o ∷ [])) (Some [])) number
+
+  alone_cut : list_all (is_cut (options_of trial_form) []) (map name states ++ []) ≡ true
+  alone_cut = is_cut-names (options_of trial_form) [] states [] s refl
 
   abbrev listed : List Piece
   listed = map name states ++ []
@@ -58,4 +59,4 @@ module _ (base a b : Text) (states : List Text) (p : is_name base ≡ true) (q :
     pub trial-last : plain (codes "trial" ∷ base ∷ a ∷ b ∷ (states ++ codes "--steps" ∷ n ∷ [])) ≡ Some (trial base a b states most)
     trial-last = trial-pieces (option ∷ []) (record { unbroken = refl; stops = refl; no_names = refl }) (λ vs. vs) (name base ∷ name a ∷ name b ∷ (map name states ++ option ∷ []))
         (base ∷ a ∷ b ∷ (states ++ codes "--steps" ∷ n ∷ [])) most
-        (ap (λ ws. base ∷ a ∷ b ∷ ws) (spelling-names states (option ∷ []))) (rw (p, q, r) (is_cut-names steps [] states (option ∷ []) s refl)) refl spelled
+        (ap (λ ws. base ∷ a ∷ b ∷ ws) (spelling-names states (option ∷ []))) (rw (p, q, r) (is_cut-names (options_of trial_form) [] states (option ∷ []) s refl)) refl spelled

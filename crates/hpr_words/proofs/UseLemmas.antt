@@ -106,7 +106,7 @@ module _ (s : Shape) (a : Rule) where
 
   pub valued_passes : (dashed name v : Text) → IsOption s dashed name a → IsOfOne a → value_passes a v ≡ true → Passes s (valued a dashed name v)
   valued_passes dashed name v is one passes = record {
-    by_id = is.by_id;
+    by_id = is.named.by_id;
     first = v;
     rest = [];
     puts = refl;
@@ -116,7 +116,7 @@ module _ (s : Shape) (a : Rule) where
 
   pub flag_passes : (dashed name v : Text) → IsFlag s dashed name a → IsOfNone a → a.missing ≡ v ∷ [] → Passes s (flag a dashed name)
   flag_passes dashed name v is none stands = record {
-    by_id = is.by_id;
+    by_id = is.named.by_id;
     first = v;
     rest = [];
     puts = stands;
@@ -141,7 +141,7 @@ is_once g = list_all (λ a. is_append (action_of a) || nat_le (length (g a.id)) 
 abbrev pub is_complete : (Text → List Text) → List Rule → Bool
 is_complete g = list_all (λ a. not a.required || is_some (slice_get (g a.id) 0))
 
-found_passes : {X : Type 0} (p q : X → Bool) (xs : List X) (x : X) → find p xs ≡ Some x → list_all q xs ≡ true → q x ≡ true
+pub found_passes : {X : Type 0} (p q : X → Bool) (xs : List X) (x : X) → find p xs ≡ Some x → list_all q xs ≡ true → q x ≡ true
 found_passes p q [] x e all = absurd (true≢false (ap is_some (sym e)))
 found_passes p q (y ∷ ys) x e all = go (p y) (λ f. found_passes p q ys x f (both (q y) _ all).1) e
   where
@@ -156,7 +156,7 @@ none_before (x ∷ xs) put ys v vs e few =
     let all : length (xs ++ (put ++ ys)) ≡ length xs + (length put + length ys) = length-append xs (put ++ ys) ∙ ap (λ n. length xs + n) (length-append put ys) in
     absurd (omega (arith, all, ap length e, one))
 
-second_of : (b c : Bool) → (b || c) ≡ true → b ≡ false → c ≡ true
+pub second_of : (b c : Bool) → (b || c) ≡ true → b ≡ false → c ≡ true
 second_of true c e miss = absurd (true≢false miss)
 second_of false c e miss = e
 

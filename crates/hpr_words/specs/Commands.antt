@@ -1,71 +1,211 @@
--- The commands as `clap` commands, each without subcommands.
+-- The commands as data, each without subcommands: what it takes, and what it asks for.
 --
--- name_rule id         == a positional of one word, which must be given
--- list_rule id         == a positional of any number of words
--- filled_list_rule id  == a positional of one word or more
--- number_rule id most  == the option `--id`, whose value is a number from 1 to most
--- flag_rule id         == the flag `--id`
--- steps_rule           == the option of the steps
--- author_rule          == the option of the author, which must be given
--- variants_app name    == a command of that name, of the names of base and two variants
--- integrate_app        == `integrate BASE A B [--tries N]`
--- run_app              == `run FILE [STATE..] [--steps N] [--trace]`
--- graph_app            == `graph FILE [--json]`
--- slice_app            == `slice FILE POINT..`
--- affected_app         == `affected BASE A`
--- trial_app            == `trial BASE A B [STATE..] [--steps N]`
--- edit_app             == `edit FILE SCRIPT --author N`
--- tag_app              == `tag FILE --author N`
-use Rattle.std.specs.Prelude.{ℕ, Some, true, codes}
-use Rattle.hpr_terms.specs.declared.limits.TheConstants.{MAX_STEPS, MAX_TRIES}
-use Rattle.clap.specs.Words.{App, Rule, Text, new_app, new_rule, with_rule}
+-- NumberOption            == the option `--id`: a number from 1 to most; where it isn't given, `default`; where there is no default, it must be given
+-- Form                    == a command: its name; its positionals of one word, which must be given; behind them a list of words, if it has one, and whether
+--                            a word of it must be given; its options; its flags; and what it asks for, by the words, the list, the numbers and whether
+--                            each flag is given
+-- tries, steps, author    == the options
+-- integrate_of ws l ns fs == the request of three names and a number
+-- run_of ws l ns fs       == the request of a file, states, a number and a flag
+-- graph_of ws l ns fs     == the request of a file and a flag
+-- slice_of ws l ns fs     == the request of a file and one point or more
+-- affected_of ws l ns fs  == the request of two names
+-- trial_of ws l ns fs     == the request of three names, states and a number
+-- edit_of ws l ns fs      == the request of a file, a script and a number
+-- tag_of ws l ns fs       == the request of a file and a number
+-- integrate_form          == `integrate BASE A B [--tries N]`
+-- run_form                == `run FILE [STATE..] [--steps N] [--trace]`
+-- graph_form              == `graph FILE [--json]`
+-- slice_form              == `slice FILE POINT..`
+-- affected_form           == `affected BASE A`
+-- trial_form              == `trial BASE A B [STATE..] [--steps N]`
+-- edit_form               == `edit FILE SCRIPT --author N`
+-- tag_form                == `tag FILE --author N`
+-- commands                == all of them
+-- form_named name         == the command of this name, if there is one
+-- asked_with form ws l ns fs == what the command asks for, where it is given all of these
+-- word_rule id            == a positional of one word, which must be given, as `clap` has it
+-- list_rule list          == a positional of any number of words, or of one word or more
+-- number_rule id most needed == the option `--id`, whose value is a number from 1 to most, and which must be given or not
+-- flag_rule id            == the flag `--id`
+-- form_rules form         == what the command takes, as `clap` has it
+-- form_app form           == the command, as `clap` has it
+use Rattle.std.specs.Prelude.{ℕ, Bool, true, false, not, List, [], ◌∷◌, ◌++◌, map, find, Option, Some, None, is_some, option_to_list, codes}
+use Rattle.std.specs.Str.{bytes_eq}
+use Rattle.hpr_terms.specs.declared.limits.TheConstants.{DEFAULT_STEPS, DEFAULT_TRIES, MAX_STEPS, MAX_TRIES}
+use Rattle.clap.specs.Simple.{on_top}
+use Rattle.clap.specs.Words.{App, Rule, new_app, new_rule}
 use Rattle.clap.specs.declared.builder.action.ArgAction.TheVariants.{Append, SetTrue}
 use Rattle.clap.specs.declared.builder.value_parser.ValueParser.TheVariants.{Unsigned}
+use Rattle.hpr_words.specs.Request.{Request, Text, affected, edit, graph, integrate, run, slice, tag, trial}
 
-abbrev pub name_rule : Text → Rule
-name_rule id = record (new_rule id) { required = true }
+pub record NumberOption : Type 0 where
+  pub id : Text
+  pub most : ℕ
+  pub default : Option ℕ
 
-abbrev pub list_rule : Text → Rule
-list_rule id = record (new_rule id) { action = Some Append }
+pub record Form : Type 0 where
+  pub name : Text
+  pub words : List Text
+  pub list : Option (Text × Bool)
+  pub numbers : List NumberOption
+  pub flags : List Text
+  pub asks : (words list : List Text) (numbers : List ℕ) (flags : List Bool) → Option Request
 
-abbrev pub filled_list_rule : Text → Rule
-filled_list_rule id = record (list_rule id) { required = true }
+-- ---- the options
 
-abbrev pub number_rule : Text → ℕ → Rule
-number_rule id most = record (new_rule id) { long = Some id; parser = Some (Unsigned 1 most) }
+abbrev pub tries : NumberOption
+tries = record { id = codes "tries"; most = MAX_TRIES; default = Some DEFAULT_TRIES }
+
+abbrev pub steps : NumberOption
+steps = record { id = codes "steps"; most = MAX_STEPS; default = Some DEFAULT_STEPS }
+
+abbrev pub author : NumberOption
+author = record { id = codes "author"; most = 4294967295; default = None }
+
+-- ---- what each command asks for
+
+abbrev pub integrate_of : (words list : List Text) (numbers : List ℕ) (flags : List Bool) → Option Request
+integrate_of (base ∷ a ∷ b ∷ []) list (n ∷ []) flags = Some (integrate base a b n)
+integrate_of _ _ _ _ = None
+
+abbrev pub run_of : (words list : List Text) (numbers : List ℕ) (flags : List Bool) → Option Request
+run_of (file ∷ []) states (n ∷ []) (trace ∷ []) = Some (run file states n trace)
+run_of _ _ _ _ = None
+
+abbrev pub graph_of : (words list : List Text) (numbers : List ℕ) (flags : List Bool) → Option Request
+graph_of (file ∷ []) list numbers (json ∷ []) = Some (graph file json)
+graph_of _ _ _ _ = None
+
+abbrev pub slice_of : (words list : List Text) (numbers : List ℕ) (flags : List Bool) → Option Request
+slice_of (file ∷ []) (point ∷ points) numbers flags = Some (slice file (point ∷ points))
+slice_of _ _ _ _ = None
+
+abbrev pub affected_of : (words list : List Text) (numbers : List ℕ) (flags : List Bool) → Option Request
+affected_of (base ∷ a ∷ []) list numbers flags = Some (affected base a)
+affected_of _ _ _ _ = None
+
+abbrev pub trial_of : (words list : List Text) (numbers : List ℕ) (flags : List Bool) → Option Request
+trial_of (base ∷ a ∷ b ∷ []) states (n ∷ []) flags = Some (trial base a b states n)
+trial_of _ _ _ _ = None
+
+abbrev pub edit_of : (words list : List Text) (numbers : List ℕ) (flags : List Bool) → Option Request
+edit_of (file ∷ script ∷ []) list (n ∷ []) flags = Some (edit file script n)
+edit_of _ _ _ _ = None
+
+abbrev pub tag_of : (words list : List Text) (numbers : List ℕ) (flags : List Bool) → Option Request
+tag_of (file ∷ []) list (n ∷ []) flags = Some (tag file n)
+tag_of _ _ _ _ = None
+
+-- ---- the commands
+
+abbrev pub integrate_form : Form
+integrate_form = record {
+  name = codes "integrate";
+  words = codes "base" ∷ codes "a" ∷ codes "b" ∷ [];
+  list = None;
+  numbers = tries ∷ [];
+  flags = [];
+  asks = integrate_of;
+}
+
+abbrev pub run_form : Form
+run_form = record {
+  name = codes "run";
+  words = codes "file" ∷ [];
+  list = Some (codes "state", false);
+  numbers = steps ∷ [];
+  flags = codes "trace" ∷ [];
+  asks = run_of;
+}
+
+abbrev pub graph_form : Form
+graph_form = record {
+  name = codes "graph";
+  words = codes "file" ∷ [];
+  list = None;
+  numbers = [];
+  flags = codes "json" ∷ [];
+  asks = graph_of;
+}
+
+abbrev pub slice_form : Form
+slice_form = record {
+  name = codes "slice";
+  words = codes "file" ∷ [];
+  list = Some (codes "point", true);
+  numbers = [];
+  flags = [];
+  asks = slice_of;
+}
+
+abbrev pub affected_form : Form
+affected_form = record {
+  name = codes "affected";
+  words = codes "base" ∷ codes "a" ∷ [];
+  list = None;
+  numbers = [];
+  flags = [];
+  asks = affected_of;
+}
+
+abbrev pub trial_form : Form
+trial_form = record {
+  name = codes "trial";
+  words = codes "base" ∷ codes "a" ∷ codes "b" ∷ [];
+  list = Some (codes "state", false);
+  numbers = steps ∷ [];
+  flags = [];
+  asks = trial_of;
+}
+
+abbrev pub edit_form : Form
+edit_form = record {
+  name = codes "edit";
+  words = codes "file" ∷ codes "script" ∷ [];
+  list = None;
+  numbers = author ∷ [];
+  flags = [];
+  asks = edit_of;
+}
+
+abbrev pub tag_form : Form
+tag_form = record {
+  name = codes "tag";
+  words = codes "file" ∷ [];
+  list = None;
+  numbers = author ∷ [];
+  flags = [];
+  asks = tag_of;
+}
+
+abbrev pub commands : List Form
+commands = integrate_form ∷ run_form ∷ graph_form ∷ slice_form ∷ affected_form ∷ trial_form ∷ edit_form ∷ tag_form ∷ []
+
+abbrev pub form_named : Text → Option Form
+form_named name = find (λ form. bytes_eq name form.name) commands
+
+abbrev pub asked_with : Form → Option (List Text) → List Text → Option (List ℕ) → Option (List Bool) → Option Request
+asked_with form (Some words) list (Some numbers) (Some flags) = form.asks words list numbers flags
+asked_with form _ list _ _ = None
+
+-- ---- as `clap` has them
+
+abbrev pub word_rule : Text → Rule
+word_rule id = record (new_rule id) { required = true }
+
+abbrev pub list_rule : Text × Bool → Rule
+list_rule list = record (new_rule list.0) { action = Some Append; required = list.1 }
+
+abbrev pub number_rule : Text → ℕ → Bool → Rule
+number_rule id most needed = record (new_rule id) { long = Some id; parser = Some (Unsigned 1 most); required = needed }
 
 abbrev pub flag_rule : Text → Rule
 flag_rule id = record (new_rule id) { long = Some id; action = Some SetTrue }
 
-abbrev pub steps_rule : Rule
-steps_rule = number_rule (codes "steps") MAX_STEPS
+abbrev pub form_rules : Form → List Rule
+form_rules form = map word_rule form.words ++ (map list_rule (option_to_list form.list)
+    ++ (map (λ option. number_rule option.id option.most (not (is_some option.default))) form.numbers ++ map flag_rule form.flags))
 
-abbrev pub author_rule : Rule
-author_rule = record (number_rule (codes "author") 4294967295) { required = true }
-
-abbrev pub variants_app : Text → App
-variants_app name = with_rule (with_rule (with_rule (new_app name) (name_rule (codes "base"))) (name_rule (codes "a"))) (name_rule (codes "b"))
-
-abbrev pub integrate_app : App
-integrate_app = with_rule (variants_app (codes "integrate")) (number_rule (codes "tries") MAX_TRIES)
-
-abbrev pub run_app : App
-run_app = with_rule (with_rule (with_rule (with_rule (new_app (codes "run")) (name_rule (codes "file"))) (list_rule (codes "state"))) steps_rule) (flag_rule (codes "trace"))
-
-abbrev pub graph_app : App
-graph_app = with_rule (with_rule (new_app (codes "graph")) (name_rule (codes "file"))) (flag_rule (codes "json"))
-
-abbrev pub slice_app : App
-slice_app = with_rule (with_rule (new_app (codes "slice")) (name_rule (codes "file"))) (filled_list_rule (codes "point"))
-
-abbrev pub affected_app : App
-affected_app = with_rule (with_rule (new_app (codes "affected")) (name_rule (codes "base"))) (name_rule (codes "a"))
-
-abbrev pub trial_app : App
-trial_app = with_rule (with_rule (variants_app (codes "trial")) (list_rule (codes "state"))) steps_rule
-
-abbrev pub edit_app : App
-edit_app = with_rule (with_rule (with_rule (new_app (codes "edit")) (name_rule (codes "file"))) (name_rule (codes "script"))) author_rule
-
-abbrev pub tag_app : App
-tag_app = with_rule (with_rule (new_app (codes "tag")) (name_rule (codes "file"))) author_rule
+abbrev pub form_app : Form → App
+form_app form = on_top (λ top. record top { rules = form_rules form }) (new_app form.name)

@@ -14,35 +14,26 @@
 -- is_unbroken ps                == nothing stands between two names
 -- is_numeral word               == decimal digits without leading zeros
 -- number most word              == the number that they spell, if it is from 1 to most
--- number_or n most words        == the number of the one word, or n where there is none
--- only_number most words        == the number of the one word
+-- plain_number option words     == the number of the one word; where there is none, the option's default, if it has one
 -- is_used n                     == whether a flag stands there that stands there n times, if not twice
--- plain_steps ps                == the number of the steps
--- plain_author ps               == the number of the author
--- integrate_from names n        == the request of three names and a number
--- plain_integrate ps            == `integrate BASE A B [--tries N]`: what the pieces ask for
--- run_from names n trace        == the request of a file, states, a number and a flag
--- plain_run ps                  == `run FILE [STATE..] [--steps N] [--trace]`: what the pieces ask for, the states unbroken
--- graph_from names json         == the request of a file and a flag
--- plain_graph ps                == `graph FILE [--json]`: what the pieces ask for
--- slice_from names              == the request of a file and points
--- plain_slice ps                == `slice FILE POINT..`: what the pieces ask for
--- affected_from names           == the request of two names
--- plain_affected ps             == `affected BASE A`: what the pieces ask for
--- trial_from names n            == the request of three names, states and a number
--- plain_trial ps                == `trial BASE A B [STATE..] [--steps N]`: what the pieces ask for, the states unbroken
--- edit_from names n             == the request of a file, a script and a number
--- plain_edit ps                 == `edit FILE SCRIPT --author N`: what the pieces ask for
--- tag_from names n              == the request of a file and a number
--- plain_tag ps                  == `tag FILE --author N`: what the pieces ask for
+-- dashed id                     == the word of the option or flag of this name
+-- options_of form               == the words of the command's options
+-- flags_of form                 == the words of its flags
+-- first_names ids ns            == the first names, one for each of these positionals, if there are so many
+-- names_left ids ns             == the names behind them
+-- fits_list list ws             == the command has such a list: words only if it has a list, and one at least where that must be given
+-- number_at ps option           == the number that the pieces give the option
+-- flag_at ps id                 == whether they give the flag
+-- plainly_asked form ps         == what the pieces ask of the command, the list unbroken
 -- plain words                   == the request that plain words spell
-use Rattle.std.specs.Prelude.{ℕ, Bool, true, false, not, ◌&&◌, ◌==◌, List, [], ◌∷◌, Option, Some, None, option_map, option_and_then, if◌then◌else◌, codes, nat_le, zero, suc}
+use Rattle.std.specs.Prelude.{ℕ, Bool, true, false, not, ◌&&◌, ◌||◌, ◌==◌, List, [], ◌∷◌, map, length, Option, Some, None, is_some, slice_get, option_map, option_and_then, if◌then◌else◌, nat_le, zero, suc}
 use Rattle.std.specs.List.{list_all, list_any}
 use Rattle.std.specs.Char.{is_digit}
 use Rattle.std.specs.Str.{bytes_eq}
 use Rattle.std.specs.Str.Parse.{digits_value}
-use Rattle.hpr_terms.specs.declared.limits.TheConstants.{DEFAULT_STEPS, DEFAULT_TRIES, MAX_STEPS, MAX_TRIES}
-use Rattle.hpr_words.specs.Request.{Request, Text, affected, edit, graph, integrate, run, slice, tag, trial}
+use Rattle.hpr_words.specs.Commands.{Form, NumberOption, asked_with, form_named}
+use Rattle.hpr_words.specs.Request.{Request, Text}
+use Rattle.hpr_words.specs.Taken.{all_some}
 
 -- 45 is `-`
 abbrev pub is_name : Text → Bool
@@ -127,91 +118,52 @@ number most word =
     let n = digits_value 10 word in
     if is_numeral word && (nat_le 1 n && nat_le n most) then Some n else None
 
-abbrev pub number_or : ℕ → ℕ → List Text → Option ℕ
-number_or default most [] = Some default
-number_or default most (word ∷ []) = number most word
-number_or default most _ = None
-
-abbrev pub only_number : ℕ → List Text → Option ℕ
-only_number most (word ∷ []) = number most word
-only_number most _ = None
+abbrev pub plain_number : NumberOption → List Text → Option ℕ
+plain_number option [] = option.default
+plain_number option (word ∷ []) = number option.most word
+plain_number option _ = None
 
 abbrev pub is_used : ℕ → Option Bool
 is_used zero = Some false
 is_used (suc zero) = Some true
 is_used (suc (suc n)) = None
 
-abbrev pub plain_steps : List Piece → Option ℕ
-plain_steps ps = number_or DEFAULT_STEPS MAX_STEPS (values (codes "--steps") ps)
+abbrev pub dashed : Text → Text
+dashed id = 45 ∷ 45 ∷ id
 
-abbrev pub plain_author : List Piece → Option ℕ
-plain_author ps = only_number 4294967295 (values (codes "--author") ps)
+abbrev pub options_of : Form → List Text
+options_of form = map (λ (option : NumberOption). dashed option.id) form.numbers
 
-abbrev pub integrate_from : List Text → Option ℕ → Option Request
-integrate_from (base ∷ a ∷ b ∷ []) (Some tries) = Some (integrate base a b tries)
-integrate_from _ _ = None
+abbrev pub flags_of : Form → List Text
+flags_of form = map dashed form.flags
 
-abbrev pub plain_integrate : List Piece → Option Request
-plain_integrate ps = integrate_from (names ps) (number_or DEFAULT_TRIES MAX_TRIES (values (codes "--tries") ps))
+abbrev pub first_names : List Text → List Text → Option (List Text)
+first_names [] ns = Some []
+first_names (id ∷ ids) [] = None
+first_names (id ∷ ids) (n ∷ ns) = option_map (λ first. n ∷ first) (first_names ids ns)
 
-abbrev pub run_from : List Text → Option ℕ → Option Bool → Option Request
-run_from (file ∷ states) (Some steps) (Some trace) = Some (run file states steps trace)
-run_from _ _ _ = None
+abbrev pub names_left : List Text → List Text → List Text
+names_left [] ns = ns
+names_left (id ∷ ids) [] = []
+names_left (id ∷ ids) (n ∷ ns) = names_left ids ns
 
-abbrev pub plain_run : List Piece → Option Request
-plain_run ps = if is_unbroken (behind 1 ps) then run_from (names ps) (plain_steps ps) (is_used (uses (codes "--trace") ps)) else None
+abbrev pub fits_list : Option (Text × Bool) → List Text → Bool
+fits_list None ws = not (is_some (slice_get ws 0))
+fits_list (Some list) ws = not list.1 || is_some (slice_get ws 0)
 
-abbrev pub graph_from : List Text → Option Bool → Option Request
-graph_from (file ∷ []) (Some json) = Some (graph file json)
-graph_from _ _ = None
+abbrev pub number_at : List Piece → NumberOption → Option ℕ
+number_at ps option = plain_number option (values (dashed option.id) ps)
 
-abbrev pub plain_graph : List Piece → Option Request
-plain_graph ps = graph_from (names ps) (is_used (uses (codes "--json") ps))
+abbrev pub flag_at : List Piece → Text → Option Bool
+flag_at ps id = is_used (uses (dashed id) ps)
 
-abbrev pub slice_from : List Text → Option Request
-slice_from (file ∷ point ∷ points) = Some (slice file (point ∷ points))
-slice_from _ = None
-
-abbrev pub plain_slice : List Piece → Option Request
-plain_slice ps = slice_from (names ps)
-
-abbrev pub affected_from : List Text → Option Request
-affected_from (base ∷ a ∷ []) = Some (affected base a)
-affected_from _ = None
-
-abbrev pub plain_affected : List Piece → Option Request
-plain_affected ps = affected_from (names ps)
-
-abbrev pub trial_from : List Text → Option ℕ → Option Request
-trial_from (base ∷ a ∷ b ∷ states) (Some steps) = Some (trial base a b states steps)
-trial_from _ _ = None
-
-abbrev pub plain_trial : List Piece → Option Request
-plain_trial ps = if is_unbroken (behind 3 ps) then trial_from (names ps) (plain_steps ps) else None
-
-abbrev pub edit_from : List Text → Option ℕ → Option Request
-edit_from (file ∷ script ∷ []) (Some author) = Some (edit file script author)
-edit_from _ _ = None
-
-abbrev pub plain_edit : List Piece → Option Request
-plain_edit ps = edit_from (names ps) (plain_author ps)
-
-abbrev pub tag_from : List Text → Option ℕ → Option Request
-tag_from (file ∷ []) (Some author) = Some (tag file author)
-tag_from _ _ = None
-
-abbrev pub plain_tag : List Piece → Option Request
-plain_tag ps = tag_from (names ps) (plain_author ps)
+abbrev pub plainly_asked : Form → List Piece → Option Request
+plainly_asked form ps =
+    let left = names_left form.words (names ps) in
+    if is_unbroken (behind (length form.words) ps) && fits_list form.list left
+    then asked_with form (first_names form.words (names ps)) left (all_some (map (number_at ps) form.numbers)) (all_some (map (flag_at ps) form.flags))
+    else None
 
 abbrev pub plain : List Text → Option Request
 plain [] = None
-plain (command ∷ words) =
-    if bytes_eq command (codes "integrate") then option_and_then plain_integrate (pieces (codes "--tries" ∷ []) [] words)
-    else (if bytes_eq command (codes "run") then option_and_then plain_run (pieces (codes "--steps" ∷ []) (codes "--trace" ∷ []) words)
-    else (if bytes_eq command (codes "graph") then option_and_then plain_graph (pieces [] (codes "--json" ∷ []) words)
-    else (if bytes_eq command (codes "slice") then option_and_then plain_slice (pieces [] [] words)
-    else (if bytes_eq command (codes "affected") then option_and_then plain_affected (pieces [] [] words)
-    else (if bytes_eq command (codes "trial") then option_and_then plain_trial (pieces (codes "--steps" ∷ []) [] words)
-    else (if bytes_eq command (codes "edit") then option_and_then plain_edit (pieces (codes "--author" ∷ []) [] words)
-    else (if bytes_eq command (codes "tag") then option_and_then plain_tag (pieces (codes "--author" ∷ []) [] words)
-    else None)))))))
+plain (command ∷ words) = option_and_then (λ form. option_and_then (plainly_asked form) (pieces (options_of form) (flags_of form) words)) (form_named command)

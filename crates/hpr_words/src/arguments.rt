@@ -12,24 +12,22 @@ use std::alloc::{AllocError, Global};
 
 /// An argument of a command.
 #[derive(Clone, Copy)]
-pub struct Argument {
-    pub name: &'static str,
-    pub takes: Takes,
-    /// Whether it must be given.
-    pub is_needed: bool,
-}
-
-/// What an argument takes.
-#[derive(Clone, Copy)]
-pub enum Takes {
-    /// One word, in its place.
-    Word,
-    /// Any number of words, in their place.
-    Words,
-    /// A number from 1 to the given one, behind `--NAME`.
-    Number(u32),
-    /// Nothing: it is the flag `--NAME`.
-    Nothing,
+pub enum Argument {
+    /// One word in its place, which must be given.
+    Word(&'static str),
+    /// Any number of words in their place.
+    List {
+        name: &'static str,
+        is_needed: bool,
+    },
+    /// A number from 1 to `most`, behind `--NAME`.
+    Number {
+        name: &'static str,
+        most: u32,
+        is_needed: bool,
+    },
+    /// The flag `--NAME`.
+    Flag(&'static str),
 }
 
 /// What the command of this name and these arguments finds in the words, of which the first is the
@@ -68,12 +66,20 @@ fn arg_of<'a>(alloc: Global, argument: Argument) -> Arg<'a>
     ensures rule { rule_of result ≡ rule_of_argument argument }
     ensures local { result.global ≡ false }
 {
-    let arg = Arg::new(alloc, argument.name).required(argument.is_needed);
-    match argument.takes {
-        Takes::Word => arg,
-        Takes::Words => arg.action(ArgAction::Append),
-        Takes::Number(most) => arg.long(argument.name).value_parser(number_to(most)),
-        Takes::Nothing => arg.long(argument.name).action(ArgAction::SetTrue),
+    match argument {
+        Argument::Word(name) => Arg::new(alloc, name).required(true),
+        Argument::List { name, is_needed } => Arg::new(alloc, name)
+            .required(is_needed)
+            .action(ArgAction::Append),
+        Argument::Number {
+            name,
+            most,
+            is_needed,
+        } => Arg::new(alloc, name)
+            .required(is_needed)
+            .long(name)
+            .value_parser(number_to(most)),
+        Argument::Flag(name) => Arg::new(alloc, name).long(name).action(ArgAction::SetTrue),
     }
 }
 

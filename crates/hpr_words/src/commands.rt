@@ -1,10 +1,11 @@
 //! The commands: what each is called, which arguments it has, and what it asks for.
-ghost use Rattle.std.specs.Prelude.{◌≡◌};
-ghost use Rattle.hpr_words.specs.Private.Commands.{Reads, app_of_command, app_with, asked_in, command_named, name_of};
-ghost use Rattle.hpr_words.specs.Taken.{affected_in, edit_in, graph_in, integrate_in, run_in, slice_in, tag_in, trial_in};
+ghost use Rattle.std.specs.Prelude.{◌≡◌, option_map};
+ghost use Rattle.hpr_words.specs.Commands.{affected_form, edit_form, form_app, form_named, graph_form, integrate_form, run_form, slice_form, tag_form, trial_form};
+ghost use Rattle.hpr_words.specs.Private.Commands.{Reads, app_with, form_of};
+ghost use Rattle.hpr_words.specs.Taken.{asked_in};
 ghost use Rattle.clap.specs.Words.{found_of, rows_of};
 
-use crate::arguments::{Argument, Takes};
+use crate::arguments::Argument;
 use crate::asked::{Asked, WordsError};
 use crate::found::{
     MOST_AUTHORS, author_from, flag_from, list_from, name_from, number_from, steps_from,
@@ -13,77 +14,47 @@ use clap::ArgMatches;
 use hpr_terms::limits::{DEFAULT_TRIES, MAX_STEPS, MAX_TRIES};
 use std::alloc::Global;
 
-const BASE: Argument = Argument {
-    name: "base",
-    takes: Takes::Word,
-    is_needed: true,
-};
+const BASE: Argument = Argument::Word("base");
 
-const A: Argument = Argument {
-    name: "a",
-    takes: Takes::Word,
-    is_needed: true,
-};
+const A: Argument = Argument::Word("a");
 
-const B: Argument = Argument {
-    name: "b",
-    takes: Takes::Word,
-    is_needed: true,
-};
+const B: Argument = Argument::Word("b");
 
-const FILE: Argument = Argument {
-    name: "file",
-    takes: Takes::Word,
-    is_needed: true,
-};
+const FILE: Argument = Argument::Word("file");
 
-const SCRIPT: Argument = Argument {
-    name: "script",
-    takes: Takes::Word,
-    is_needed: true,
-};
+const SCRIPT: Argument = Argument::Word("script");
 
-const STATES: Argument = Argument {
+const STATES: Argument = Argument::List {
     name: "state",
-    takes: Takes::Words,
     is_needed: false,
 };
 
-const POINTS: Argument = Argument {
+const POINTS: Argument = Argument::List {
     name: "point",
-    takes: Takes::Words,
     is_needed: true,
 };
 
-const TRIES: Argument = Argument {
+const TRIES: Argument = Argument::Number {
     name: "tries",
-    takes: Takes::Number(MAX_TRIES),
+    most: MAX_TRIES,
     is_needed: false,
 };
 
-const STEPS: Argument = Argument {
+const STEPS: Argument = Argument::Number {
     name: "steps",
-    takes: Takes::Number(MAX_STEPS),
+    most: MAX_STEPS,
     is_needed: false,
 };
 
-const AUTHOR: Argument = Argument {
+const AUTHOR: Argument = Argument::Number {
     name: "author",
-    takes: Takes::Number(MOST_AUTHORS),
+    most: MOST_AUTHORS,
     is_needed: true,
 };
 
-const TRACE: Argument = Argument {
-    name: "trace",
-    takes: Takes::Nothing,
-    is_needed: false,
-};
+const TRACE: Argument = Argument::Flag("trace");
 
-const JSON: Argument = Argument {
-    name: "json",
-    takes: Takes::Nothing,
-    is_needed: false,
-};
+const JSON: Argument = Argument::Flag("json");
 
 /// The commands by their names.
 #[derive(Clone, Copy)]
@@ -101,7 +72,7 @@ pub enum CommandName {
 impl CommandName {
     /// The command of this name, if there is one.
     pub fn named(name: &str) -> Option<CommandName>
-        ensures { result ≡ command_named name.now }
+        ensures { option_map form_of result ≡ form_named name.now }
     {
         match name {
             "integrate" => Some(CommandName::Integrate),
@@ -118,7 +89,7 @@ impl CommandName {
 
     /// The arguments of the command.
     pub fn arguments(self) -> &'static [Argument]
-        ensures { app_with (name_of self) result.now ≡ app_of_command self }
+        ensures { app_with (form_of self).name result.now ≡ form_app (form_of self) }
     {
         match self {
             CommandName::Integrate => &[BASE, A, B, TRIES],
@@ -134,7 +105,7 @@ impl CommandName {
 
     /// What the command asks for, by what its arguments are given.
     pub fn asked<'a>(self, alloc: Global, matches: &ArgMatches<'a>) -> Result<Asked<'a>, WordsError>
-        ensures { Reads (asked_in self (rows_of (found_of matches.now))) result }
+        ensures { Reads (asked_in (form_of self) (rows_of (found_of matches.now))) result }
     {
         match self {
             CommandName::Integrate => integrate_from(matches),
@@ -150,7 +121,7 @@ impl CommandName {
 }
 
 fn integrate_from<'a>(matches: &ArgMatches<'a>) -> Result<Asked<'a>, WordsError>
-    ensures { Reads (integrate_in (rows_of (found_of matches.now))) result }
+    ensures { Reads (asked_in integrate_form (rows_of (found_of matches.now))) result }
 {
     Ok(Asked::Integrate {
         base: name_from(matches, "base")?,
@@ -161,7 +132,7 @@ fn integrate_from<'a>(matches: &ArgMatches<'a>) -> Result<Asked<'a>, WordsError>
 }
 
 fn run_from<'a>(alloc: Global, matches: &ArgMatches<'a>) -> Result<Asked<'a>, WordsError>
-    ensures { Reads (run_in (rows_of (found_of matches.now))) result }
+    ensures { Reads (asked_in run_form (rows_of (found_of matches.now))) result }
 {
     Ok(Asked::Run {
         file: name_from(matches, "file")?,
@@ -172,7 +143,7 @@ fn run_from<'a>(alloc: Global, matches: &ArgMatches<'a>) -> Result<Asked<'a>, Wo
 }
 
 fn graph_from<'a>(matches: &ArgMatches<'a>) -> Result<Asked<'a>, WordsError>
-    ensures { Reads (graph_in (rows_of (found_of matches.now))) result }
+    ensures { Reads (asked_in graph_form (rows_of (found_of matches.now))) result }
 {
     Ok(Asked::Graph {
         file: name_from(matches, "file")?,
@@ -181,7 +152,7 @@ fn graph_from<'a>(matches: &ArgMatches<'a>) -> Result<Asked<'a>, WordsError>
 }
 
 fn slice_from<'a>(alloc: Global, matches: &ArgMatches<'a>) -> Result<Asked<'a>, WordsError>
-    ensures { Reads (slice_in (rows_of (found_of matches.now))) result }
+    ensures { Reads (asked_in slice_form (rows_of (found_of matches.now))) result }
 {
     let file = name_from(matches, "file")?;
     let points = list_from(alloc, matches, "point")?;
@@ -192,7 +163,7 @@ fn slice_from<'a>(alloc: Global, matches: &ArgMatches<'a>) -> Result<Asked<'a>, 
 }
 
 fn affected_from<'a>(matches: &ArgMatches<'a>) -> Result<Asked<'a>, WordsError>
-    ensures { Reads (affected_in (rows_of (found_of matches.now))) result }
+    ensures { Reads (asked_in affected_form (rows_of (found_of matches.now))) result }
 {
     Ok(Asked::Affected {
         base: name_from(matches, "base")?,
@@ -201,7 +172,7 @@ fn affected_from<'a>(matches: &ArgMatches<'a>) -> Result<Asked<'a>, WordsError>
 }
 
 fn trial_from<'a>(alloc: Global, matches: &ArgMatches<'a>) -> Result<Asked<'a>, WordsError>
-    ensures { Reads (trial_in (rows_of (found_of matches.now))) result }
+    ensures { Reads (asked_in trial_form (rows_of (found_of matches.now))) result }
 {
     Ok(Asked::Trial {
         base: name_from(matches, "base")?,
@@ -213,7 +184,7 @@ fn trial_from<'a>(alloc: Global, matches: &ArgMatches<'a>) -> Result<Asked<'a>, 
 }
 
 fn edit_from<'a>(matches: &ArgMatches<'a>) -> Result<Asked<'a>, WordsError>
-    ensures { Reads (edit_in (rows_of (found_of matches.now))) result }
+    ensures { Reads (asked_in edit_form (rows_of (found_of matches.now))) result }
 {
     Ok(Asked::Edit {
         file: name_from(matches, "file")?,
@@ -223,7 +194,7 @@ fn edit_from<'a>(matches: &ArgMatches<'a>) -> Result<Asked<'a>, WordsError>
 }
 
 fn tag_from<'a>(matches: &ArgMatches<'a>) -> Result<Asked<'a>, WordsError>
-    ensures { Reads (tag_in (rows_of (found_of matches.now))) result }
+    ensures { Reads (asked_in tag_form (rows_of (found_of matches.now))) result }
 {
     Ok(Asked::Tag {
         file: name_from(matches, "file")?,

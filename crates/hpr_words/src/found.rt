@@ -2,7 +2,8 @@
 ghost use Rattle.std.specs.Prelude.{◌≡◌, map, IfOk, Some, None, option_map};
 ghost use Rattle.std.specs.Result.{result_ok};
 ghost use Rattle.hpr_words.specs.Taken as spec;
-ghost use Rattle.hpr_words.specs.Taken.{author_in, flag_in, list_in, number_in, steps_in};
+ghost use Rattle.hpr_words.specs.Commands.{author, steps};
+ghost use Rattle.hpr_words.specs.Taken.{flag_in, list_in, number_in, number_or};
 ghost use Rattle.clap.specs.Words.{first_of, found_of, rows_of};
 
 use crate::asked::WordsError;
@@ -45,7 +46,7 @@ pub fn number_from(
     most: u32,
     default: u64,
 ) -> Result<u64, WordsError>
-    ensures { result_ok result ≡ number_in id.now most default (rows_of (found_of matches.now)) }
+    ensures { result_ok result ≡ number_or (Some default) most (first_of id.now (rows_of (found_of matches.now))) }
 {
     match text_from(matches, id) {
         Some(text) => number_of(text, most).ok_or(WordsError::Refused),
@@ -55,14 +56,14 @@ pub fn number_from(
 
 /// The number of the steps.
 pub fn steps_from(matches: &ArgMatches<'_>) -> Result<u64, WordsError>
-    ensures { result_ok result ≡ steps_in (rows_of (found_of matches.now)) }
+    ensures { result_ok result ≡ number_in steps (rows_of (found_of matches.now)) }
 {
     number_from(matches, "steps", MAX_STEPS, DEFAULT_STEPS)
 }
 
 /// The number of the author.
 pub fn author_from(matches: &ArgMatches<'_>) -> Result<u32, WordsError>
-    ensures { result_ok result ≡ author_in (rows_of (found_of matches.now)) }
+    ensures { result_ok result ≡ number_in author (rows_of (found_of matches.now)) }
 {
     let text = name_from(matches, "author")?;
     let number = number_of(text, MOST_AUTHORS).ok_or(WordsError::Refused)?;
