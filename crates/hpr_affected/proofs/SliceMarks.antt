@@ -2,7 +2,7 @@
 use Rattle.std.proofs.Common.{◌≡◌, ℕ, zero, suc, ◌<◌, ◌↔◌, inl, inr, Bool, IsTrue, Option, Some, List, [], ◌∷◌, length, Contains, slice_get, refl, sym, ap, ◌∙◌, subst, arith}
 use Rattle.std.proofs.lemmas.Option.{slice_get_within}
 use Rattle.hpr_terms.proofs.Facts.{get_below}
-use Rattle.hpr_search.proofs.Rows.{marked_within}
+use Rattle.hpr_search.proofs.Marked.{marked_within}
 use Rattle.hpr_graph.specs.declared.vertex.Vertex.{Vertex}
 use Rattle.hpr_graph.specs.declared.edge.Kind.{Kind}
 use Rattle.hpr_graph.specs.declared.link.LinkKind.{LinkKind}
@@ -17,7 +17,8 @@ use Rattle.hpr_slice.specs.Vertices.{IsOneOf, MarksExactly}
 use Rattle.hpr_graph.proofs.Lists.{some_inj, contains_at, place_of}
 use Rattle.hpr_affected.specs.declared.lacking.OneWay.{OneWay}
 use Rattle.hpr_affected.specs.Comparison.{Sides, IsComparison}
-use Rattle.hpr_affected.specs.Lacking.{IsOneWay, AllKept, IsInside, ThirdMarked}
+use Rattle.hpr_graph.specs.Inside.{IsInside, ThirdMarked}
+use Rattle.hpr_affected.specs.Lacking.{IsOneWay, AllKept}
 use Rattle.hpr_affected.proofs.MovedLinks.{same_at, number_of_one, edge_from_there, there_from_edge}
 
 -- marks on the numbers of an edge, and what holds of its vertices

@@ -6,8 +6,6 @@
 -- AreWithout K links lacks        == of these links those that have not K
 -- links_at rows at                == the row with this number, empty past the last
 -- IsOneWay g h ns rows            == the numbers in h of the vertices of g, and for each the links into it that are not there
--- ThirdMarked marks k             == the loop of a carried link is marked, and so is the shared use of an order link
--- IsInside marks l                == the source of the link is marked, and so is its loop or shared use
 -- NoneInside marks links          == none of the links is so
 -- IsMarkedThere ns others at      == the vertex has a number there, and that is marked among the others
 -- IsKept ns rows marks others at  == where the vertex is marked, it is marked there, and no link into it that lies inside is lacking
@@ -15,10 +13,9 @@
 use Rattle.std.specs.Prelude.{◌≡◌, ℕ, ◌<◌, ◌⊎◌, Bool, Option, Some, None, List, [], Contains, slice_get, slice_index_or, length}
 use Rattle.hpr_search.specs.Marks.{IsMarked}
 use Rattle.hpr_graph.specs.declared.vertex.Vertex.{Vertex}
-use Rattle.hpr_graph.specs.declared.link.LinkKind.{LinkKind}
-use Rattle.hpr_graph.specs.declared.link.LinkKind.TheVariants.{Control, Independent, Carried, Order}
 use Rattle.hpr_graph.specs.declared.link.Link.{Link}
 use Rattle.hpr_graph.specs.Numbered.{Numbered, HasVertex, HasLink, row_of}
+use Rattle.hpr_graph.specs.Inside.{IsInside}
 use Rattle.hpr_graph.specs.Moves.{number_at, moved, ArePlaced}
 
 pub record AreNumbersIn (g h : Numbered) (ns : List (Option ℕ)) : Type 0 where
@@ -43,15 +40,6 @@ pub record IsOneWay (g h : Numbered) (ns : List (Option ℕ)) (rows : List (List
   pub numbers : AreNumbersIn g h ns
   pub count : length rows ≡ length g.vertices
   pub lacking : (at : ℕ) → at < length g.vertices → AreWithout (IsThere h ns at) (row_of g at) (links_at rows at)
-
-abbrev pub ThirdMarked : List Bool → LinkKind → Type 0
-ThirdMarked marks (Control label) = Unit {0}
-ThirdMarked marks Independent = Unit {0}
-ThirdMarked marks (Carried w) = IsMarked marks w
-ThirdMarked marks (Order u) = IsMarked marks u
-
-abbrev pub IsInside : List Bool → Link → Type 0
-IsInside marks l = IsMarked marks l.from × ThirdMarked marks l.kind
 
 abbrev pub NoneInside : List Bool → List Link → Type 0
 NoneInside marks links = (l : Link) → Contains links l → ¬ IsInside marks l

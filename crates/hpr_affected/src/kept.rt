@@ -1,32 +1,12 @@
 //! Marks compared with those in another graph.
 ghost use Rattle.std.specs.Prelude.{◌↔◌, ◌<◌, ◌≤◌, IsTrue, length};
-ghost use Rattle.hpr_search.specs.Marks.{IsMarked};
 ghost use Rattle.hpr_graph.specs.Numbered.{rows_of};
-ghost use Rattle.hpr_affected.specs.Lacking.{AllKept, IsInside, IsKept, IsMarkedThere, NoneInside};
+ghost use Rattle.hpr_affected.specs.Lacking.{AllKept, IsKept, IsMarkedThere, NoneInside};
 
 use crate::lacking::OneWay;
-use hpr_graph::links::number_at;
-use hpr_graph::{Link, LinkKind};
-
-fn is_marked(marks: &[bool], at: usize) -> bool
-    ensures { IsTrue result ↔ IsMarked marks.now at }
-{
-    at < marks.len() && marks[at]
-}
-
-/// Whether the source of the link is marked, and its loop or shared use too.
-fn is_inside(link: Link, marks: &[bool]) -> bool
-    ensures { IsTrue result ↔ IsInside marks.now link }
-{
-    if !is_marked(marks, link.from) {
-        return false;
-    }
-    match link.kind {
-        LinkKind::Control(_) | LinkKind::Independent => true,
-        LinkKind::Carried(w) => is_marked(marks, w),
-        LinkKind::Order(u) => is_marked(marks, u),
-    }
-}
+use hpr_graph::Link;
+use hpr_graph::links::{is_inside, number_at};
+use hpr_search::is_marked;
 
 fn none_inside(links: &[Link], marks: &[bool]) -> bool
     ensures { IsTrue result ↔ NoneInside marks.now links.now }

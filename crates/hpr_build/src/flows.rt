@@ -11,6 +11,7 @@ ghost use Rattle.hpr_graph.specs.Graphs.{IsOnce};
 use crate::lists::push_if;
 use hpr_paths::{Name, NoMemory, Step, Succ};
 use hpr_reach::{BitRow, reach};
+use hpr_search::is_marked;
 use std::alloc::{AllocError, Global};
 
 /// How a value comes to a use: without the back edge of a loop that encloses both ends, or with
@@ -41,12 +42,6 @@ impl Drop for CutRows {
     fn drop(self) {
         let CutRows { rows: _, places: _ } = self;
     }
-}
-
-fn is_marked(marks: &[bool], point: usize) -> bool
-    ensures { IsTrue result ↔ IsMarked marks.now point }
-{
-    point < marks.len() && marks[point]
 }
 
 /// Whether the point defines the name.

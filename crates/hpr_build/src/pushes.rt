@@ -31,7 +31,6 @@ fn push_link(graph: &mut Graph, most: usize, new: NewLink) -> Result<(), BuildEr
     ensures only { IsErrOf result BuildError.TooManyEdges → (to : ℕ) (l : Link) → HasLink graph.new to l → (HasLink graph.old to l ⊎ ((to ≡ new.to) × (l ≡ new.link))) }
 {
     graph.push_new_link(new.to, new.link)?;
-    let _vertices = graph.vertices();
     if graph.edge_count() > most {
         return Err(BuildError::TooManyEdges);
     }

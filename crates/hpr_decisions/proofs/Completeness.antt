@@ -33,10 +33,9 @@ use Rattle.hpr_edit.specs.declared.command.Command.{Command}
 use Rattle.hpr_edit.specs.Applied.{applied, becomes}
 use Rattle.hpr_refusals.specs.Refusals.{IsFileIn, IsFileOf, IsRefusedIn, IsRefusedScript, IsScriptOf}
 use Rattle.hpr_refusals.proofs.Once.{one_file, one_script_file}
-use Rattle.hpr_inputs.specs.States.{OnState}
+use Rattle.hpr_inputs.specs.States.{OnState, states_of}
 use Rattle.hpr_decisions.specs.RunFile.{Ran, RunOutcome}
 use Rattle.hpr_decisions.specs.SliceFile.{Sliced, SliceOutcome}
-use Rattle.hpr_inputs.specs.States.{states_of}
 use Rattle.hpr_decisions.specs.TrialFiles.{IsTried, Tried, TrialOutcome}
 use Rattle.hpr_decisions.specs.Ends.{Change, Ends, Decided, status_of, text_of}
 use Rattle.hpr_inputs.specs.declared.answer.Kind.TheVariants.{Done}
@@ -44,7 +43,7 @@ use Rattle.hpr_decisions.specs.declared.status.Status.{Status}
 use Rattle.hpr_decisions.specs.declared.status.Status.TheVariants as status
 use Rattle.hpr_decisions.proofs.EndsLemmas.{asked_ends}
 use Rattle.hpr_inputs.proofs.VersionLemmas.{of_state}
-use Rattle.hpr_inputs.proofs.SpelledFiles.{of_program, of_programs}
+use Rattle.hpr_inputs.proofs.SpelledFiles.{of_program, of_programs, of_read}
 use Rattle.hpr_inputs.proofs.PointLemmas.{of_points}
 
 done_printing : (P : List ℕ → Type 0) (old new : Option (List ℕ)) (s : Status) (d : Decision) → s ≡ status_of d → new ≡ taken_then old (text_of d) → Prints P d → DonePrinting P old new s

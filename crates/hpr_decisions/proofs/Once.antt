@@ -33,8 +33,7 @@ use Rattle.hpr_edit.specs.Applied.{applied}
 use Rattle.hpr_refusals.specs.Refusals.{IsFileIn, IsFileOf, IsOne, IsRefused, IsRefusedIn, IsRefusedScript, IsScriptOf}
 use Rattle.hpr_refusals.proofs.Once.{one_file, one_script_file}
 use Rattle.hpr_decisions.specs.EditFiles.{OnScript, OnUntagged, edit_decision}
-use Rattle.hpr_inputs.specs.States.{OnState}
-use Rattle.hpr_inputs.specs.States.{RefusedWord, states_of}
+use Rattle.hpr_inputs.specs.States.{OnState, RefusedWord, states_of}
 use Rattle.hpr_decisions.specs.TrialFiles.{IsTried, Tried}
 use Rattle.hpr_words.specs.Request.{Request, Text, integrate, run, graph, slice, affected, trial, edit, tag}
 use Rattle.hpr_inputs.specs.declared.answer.Kind.TheVariants.{Done, Interference}

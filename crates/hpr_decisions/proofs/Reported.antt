@@ -33,9 +33,8 @@ use Rattle.hpr_edit.specs.Applied as made
 use Rattle.hpr_refusals.specs.Refusals.{IsFileIn, IsFileOf, IsRefused, IsRefusedIn, IsRefusedScript, IsScriptOf}
 use Rattle.hpr_decisions.specs.EditFiles.{edit_decision}
 use Rattle.hpr_decisions.specs.Reports.{HasAnswer, HasConflict, IsInterference, tries_of}
-use Rattle.hpr_inputs.specs.States.{OnState}
+use Rattle.hpr_inputs.specs.States.{OnState, RefusedWord, states_of}
 use Rattle.hpr_decisions.specs.RunFile.{kind_of}
-use Rattle.hpr_inputs.specs.States.{RefusedWord, states_of}
 use Rattle.hpr_decisions.specs.TrialFiles.{IsTrialBy, IsTried, ShowsIf, Tried, have_ended, steps_together}
 use Rattle.hpr_inputs.specs.declared.answer.Kind.TheVariants as kind
 use Rattle.hpr_decisions.specs.declared.status.Status.{Status}

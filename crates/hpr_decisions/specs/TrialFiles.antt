@@ -25,8 +25,7 @@ use Rattle.hpr_words.specs.Request.{Text}
 use Rattle.hpr_inputs.specs.Decision.{Decision, Prints, prints}
 use Rattle.hpr_inputs.specs.Files.{OnFiles}
 use Rattle.hpr_decisions.specs.Integrate.{OnGraphs, report}
-use Rattle.hpr_inputs.specs.States.{OnState}
-use Rattle.hpr_inputs.specs.States.{states_of}
+use Rattle.hpr_inputs.specs.States.{OnState, states_of}
 use Rattle.hpr_inputs.specs.declared.answer.Kind.TheVariants.{NotEnded}
 
 abbrev pub steps_of : Outcome → ℕ

@@ -10,11 +10,10 @@ use Rattle.hpr_syntax.specs.declared.tree.Stmt.TheVariants as stmt
 use Rattle.hpr_syntax.specs.declared.rows.Row.{Row}
 use Rattle.hpr_syntax.specs.declared.rows.Content.{Content}
 use Rattle.hpr_syntax.specs.declared.rows.Content.TheVariants.{If, While}
-use Rattle.hpr_syntax.specs.Rows.{content_by}
+use Rattle.hpr_syntax.specs.Rows.{content_by, Parent, rows_of, content_of, made}
 use Rattle.hpr_syntax.specs.Body.{Body, done, action, branch, loop}
 use Rattle.hpr_syntax.specs.BodyOf.{before}
 use Rattle.hpr_syntax.specs.Parts.{same_tag, tag_of, find_stmt, tags_of}
-use Rattle.hpr_syntax.specs.Rows.{Parent, rows_of, content_of, made}
 use Rattle.hpr_syntax.specs.Tree.{Tree}
 use Rattle.hpr_syntax.specs.Shape.{IsProgram}
 use Rattle.hpr_syntax.proofs.TagLemmas.{same_tag_itself, same_tag_is}

@@ -82,11 +82,7 @@ fn with_part(
 }
 
 /// Deletes a part and all that stands in it.
-fn delete(
-    alloc: Global,
-    program: &Program,
-    tag: Tag,
-) -> Result<(Program, Inverse), EditError>
+fn delete(alloc: Global, program: &Program, tag: Tag) -> Result<(Program, Inverse), EditError>
     ensures { (author : ℕ) → Answers (edited program.now (Delete tag) author) result }
 {
     let Some((part, old)) = located(program, tag) else {
@@ -165,11 +161,7 @@ fn wrap(
 }
 
 /// Puts what stands in a part in its place.
-fn unwrap(
-    alloc: Global,
-    program: &Program,
-    tag: Tag,
-) -> Result<(Program, Inverse), EditError>
+fn unwrap(alloc: Global, program: &Program, tag: Tag) -> Result<(Program, Inverse), EditError>
     ensures { (author : ℕ) → Answers (edited program.now (Unwrap tag) author) result }
 {
     let Some((part, place)) = located(program, tag) else {

@@ -1,5 +1,5 @@
 -- Graphs have one list of conflicts.
-use Rattle.std.proofs.Common.{◌≡◌, inl, inr, List}
+use Rattle.std.proofs.Common.{◌≡◌, ℕ, inl, inr, List, [], ◌∷◌, arith}
 use Rattle.hpr_graph.specs.declared.conflict.Conflict.{Conflict}
 use Rattle.hpr_graph.specs.Conflicts.{told_as, ComesFirst, AreConflicts, AreConflictsBy}
 use Rattle.hpr_graph.specs.Graphs.{Graph}

@@ -32,7 +32,6 @@ same_split (y ∷ l1) l2 (z ∷ k1) k2 x once e =
 
 -- the order among siblings apart from the rest
 module _ (f : Forest) where
-
   pub from_bare : (p l : List ℕ) → Follows (can (bare f)) p l
       → ((l1 l2 : List ℕ) (x d : ℕ) → l ≡ l1 ++ x ∷ l2 → Contains (f.before x) d → Contains (p ++ l1) d) → Follows (can f) p l
   from_bare p [] h ready = tt

@@ -117,7 +117,6 @@ total_by cmp ord same total = record {
 }
 
 module _ {X Y : Type 0} (cmp : X → X → Ordering) (ord : Y → Y → Ordering) (f : X → Y) where
-
   pub rises_map : (xs : List X) → Rises cmp xs → ((a b : X) → Contains xs a → Contains xs b → cmp a b ≡ Less → ord (f a) (f b) ≡ Less) → Rises ord (map f xs)
   rises_map [] r keeps = tt
   rises_map (x ∷ xs) r keeps = (

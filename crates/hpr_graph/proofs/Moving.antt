@@ -163,7 +163,6 @@ pub record RowsMoved (source : Numbered) (ns : List (Option ℕ)) (old new : Num
   pub edges : (e : Edge) → HasEdge new e ↔ (HasEdge old e ⊎ MovesEdgeBelow source ns n e)
 
 module _ (source : Numbered) (ns : List (Option ℕ)) (old : Numbered) where
-
   module _ (new : Numbered) (at : ℕ) (so_far : RowsMoved source ns old new at) where
     step_in : (e : Edge) → MovesEdgeBelow source ns (at + 1) e → MovesEdgeBelow source ns at e ⊎ MovesEdgeIn source ns at (row_of source at) e
     step_in e (i, l, lt, has, is) = elim (cases_eq i at) [

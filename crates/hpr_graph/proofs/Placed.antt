@@ -2,7 +2,7 @@
 use Rattle.std.proofs.Common.{◌≡◌, ℕ, zero, suc, ◌+◌, ◌<◌, ◌≤◌, ◌↔◌, ◌⊎◌, inl, inr, Bool, Option, Some, None, IsSome, IfSome, List, [], ◌∷◌, ◌++◌, length, slice_get, refl, sym, ap, ◌∙◌, subst, arith, length-append, below_more}
 use Rattle.std.proofs.lemmas.List.{get_or_append_left}
 use Rattle.hpr_search.specs.Marks.{IsMarked}
-use Rattle.hpr_search.proofs.Rows.{marked_within}
+use Rattle.hpr_search.proofs.Marked.{marked_within}
 use Rattle.hpr_graph.specs.declared.vertex.Vertex.{Vertex}
 use Rattle.hpr_graph.specs.declared.edge.Edge.{Edge}
 use Rattle.hpr_graph.specs.Graphs.{IsOnce}

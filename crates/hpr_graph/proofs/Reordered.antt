@@ -142,8 +142,6 @@ pub record RowsSorted (old rows : List (List Link)) (n : ℕ) : Type 0 where
   pub same : (at : ℕ) → IsPermutation (row_items (slice_get old at)) (row_items (slice_get rows at))
   pub sorted : (at : ℕ) → at < n → IsSorted link_cmp (row_items (slice_get rows at))
 
-}
-
 module _ (old rows : List (List Link)) (n : ℕ) (so_far : RowsSorted old rows n) where
   pub rows_sorted_more : (rows' : List (List Link)) (row new : List Link) → slice_get rows n ≡ Some row → IsPermutation row new → IsSorted link_cmp new → rows' ≡ set rows n new → RowsSorted old rows' (n + 1)
   rows_sorted_more rows' row new at_n moved up is =

@@ -100,10 +100,10 @@ IsAnswer base a b tries (interference cs) = AreConflicts (graph_of base) (graph_
 IsAnswer base a b tries (printed m) =
     IsWithoutConflict base a b
     × ((rank : List Vertex) × IsSearchedRank base a b rank
-        × IsFound (searched_graph base a b) rank (searched_issued base a b) tries (printed m))
+    × IsFound (searched_graph base a b) rank (searched_issued base a b) tries (printed m))
 IsAnswer base a b tries (no_program n) =
     IsWithoutConflict base a b × HasNoProgram (searched_graph base a b) × HasParts (searched_graph base a b) n
 IsAnswer base a b tries spent =
     IsWithoutConflict base a b
     × ((rank : List Vertex) × IsSearchedRank base a b rank
-        × IsFound (searched_graph base a b) rank (searched_issued base a b) tries spent)
+    × IsFound (searched_graph base a b) rank (searched_issued base a b) tries spent)

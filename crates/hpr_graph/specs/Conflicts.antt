@@ -65,7 +65,7 @@ abbrev pub AreConflictsBy : {X : Type 0} → (X → ℕ × Vertex × Edge) → G
 AreConflictsBy {X} at base gs xs =
     ((x : X) → Contains xs x ↔ IsConflictOf base gs (at x).0 (at x).1 (at x).2)
     × ((i j : ℕ) (x y : X) → i < j → slice_get xs i ≡ Some x → slice_get xs j ≡ Some y
-        → ComesFirst (at x).0 (at x).1 (at y).0 (at y).1)
+    → ComesFirst (at x).0 (at x).1 (at y).0 (at y).1)
 
 abbrev pub told_as : Conflict → ℕ × Vertex × Edge
 told_as c = (number_of c.side, c.point, c.edge)

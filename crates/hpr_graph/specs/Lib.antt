@@ -1,5 +1,6 @@
 pub mod Graphs
 pub mod Numbered
+pub mod Inside
 pub mod Moves
 pub mod Twins
 pub mod ProgramGraph

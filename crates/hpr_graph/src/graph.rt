@@ -13,7 +13,7 @@ ghost use Rattle.std.specs.List.Sorted.{IsSorted, IsPermutation};
 use crate::ordered::{edge_at, ordered};
 use crate::same::is_within;
 use crate::sets::{restricted, united};
-use crate::{Edge, Link, LinkKind, Vertex, same_vertex};
+use crate::{Edge, Link, LinkKind, Vertex, place_of};
 use hpr_syntax::NoMemory;
 use std::alloc::Global;
 use std::marker::Model;
@@ -95,6 +95,7 @@ impl Graph {
     pub fn edge_count(&self) -> usize
         ensures count { result ≡ link_count self.now }
         ensures edges { HasEdges (graph_in self.now) result }
+        ensures numbered { IsNumbered self.now }
     {
         self.edges
     }
@@ -121,7 +122,7 @@ impl Graph {
         ensures found { IfSome result (λ n. slice_get self.now.vertices n ≡ Some vertex.now) }
         ensures stranger { IsNone result ↔ (¬ HasVertex self.now vertex.now) }
     {
-        number_in(&self.vertices, vertex)
+        place_of(&self.vertices, vertex)
     }
 
     /// Whether the link into the vertex with the number `to` is an edge: all its numbers are vertices, and
@@ -340,19 +341,6 @@ fn has_link(row: &[Link], link: Link) -> bool
     ensures { IsTrue result ↔ Contains row.now link }
 {
     row.contains(&link)
-}
-
-/// The place of the vertex in the list, if it is there.
-fn number_in(vertices: &[Vertex], vertex: &Vertex) -> Option<usize>
-    ensures found { IfSome result (λ n. slice_get vertices.now n ≡ Some vertex.now) }
-    ensures stranger { IsNone result ↔ (¬ Contains vertices.now vertex.now) }
-{
-    for (at, one) in vertices.iter().enumerate() {
-        if same_vertex(one, vertex) {
-            return Some(at);
-        }
-    }
-    None
 }
 
 pub(crate) fn copy_vertices(alloc: Global, vertices: &[Vertex]) -> Result<Vec<Vertex>, NoMemory>

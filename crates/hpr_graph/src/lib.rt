@@ -23,4 +23,4 @@ pub use graph::Graph;
 pub use hpr_syntax::{Content, Name, NoMemory, Tag};
 pub use link::{Link, LinkKind};
 pub use order::compare_vertices;
-pub use vertex::{Vertex, same_vertex};
+pub use vertex::{Vertex, place_of, same_vertex};

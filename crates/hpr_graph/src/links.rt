@@ -1,10 +1,13 @@
-//! Links by the numbers that their vertices have in another graph, and lists of links that ascend.
+//! Links by the numbers that their vertices have in another graph, links whose vertices are marked, and lists
+//! of links that ascend.
 ghost use Rattle.std.specs.Prelude.{◌≡◌, ◌↔◌, Contains, IfOk, IsTrue};
 ghost use Rattle.std.specs.List.Sorted.{IsSorted};
 ghost use Rattle.hpr_graph.specs.declared.link.Link.{Link};
+ghost use Rattle.hpr_graph.specs.Inside.{IsInside};
 ghost use Rattle.hpr_graph.specs.Moves.{moved, moved_kind, number_at};
 
 use crate::{Link, LinkKind};
+use hpr_search::is_marked;
 use hpr_syntax::NoMemory;
 use std::alloc::Global;
 
@@ -37,6 +40,20 @@ fn moved_kind(kind: LinkKind, numbers: &[Option<usize>]) -> Option<LinkKind>
         LinkKind::Independent => Some(LinkKind::Independent),
         LinkKind::Carried(w) => Some(LinkKind::Carried(number_at(numbers, w)?)),
         LinkKind::Order(u) => Some(LinkKind::Order(number_at(numbers, u)?)),
+    }
+}
+
+/// Whether the source of the link is marked, and its loop or shared use too.
+pub fn is_inside(link: Link, marks: &[bool]) -> bool
+    ensures { IsTrue result ↔ IsInside marks.now link }
+{
+    if !is_marked(marks, link.from) {
+        return false;
+    }
+    match link.kind {
+        LinkKind::Control(_) | LinkKind::Independent => true,
+        LinkKind::Carried(w) => is_marked(marks, w),
+        LinkKind::Order(u) => is_marked(marks, u),
     }
 }
 

@@ -1,5 +1,5 @@
 //! The vertices of a dependence graph.
-ghost use Rattle.std.specs.Prelude.{◌≡◌, ◌↔◌, IfOk, IsTrue};
+ghost use Rattle.std.specs.Prelude.{◌≡◌, ◌↔◌, Contains, IfOk, IfSome, IsNone, IsTrue, Some, slice_get};
 ghost use Rattle.std.specs.Option.{option_copied};
 ghost use Rattle.hpr_graph.specs.Graphs.{name_of};
 
@@ -65,4 +65,17 @@ pub fn same_vertex(a: &Vertex, b: &Vertex) -> bool
     ensures { IsTrue result ↔ (a.now ≡ b.now) }
 {
     a == b
+}
+
+/// The place of the vertex in the list, if it is there. Looks at the vertices one after another.
+pub fn place_of(vertices: &[Vertex], vertex: &Vertex) -> Option<usize>
+    ensures found { IfSome result (λ n. slice_get vertices.now n ≡ Some vertex.now) }
+    ensures stranger { IsNone result ↔ (¬ Contains vertices.now vertex.now) }
+{
+    for (at, one) in vertices.iter().enumerate() {
+        if same_vertex(one, vertex) {
+            return Some(at);
+        }
+    }
+    None
 }

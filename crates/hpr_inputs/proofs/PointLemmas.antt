@@ -88,7 +88,6 @@ pub record AreNumbersTo (texts words : List Text) (numbers : List ℕ) (i : ℕ)
   pub exact : (at : ℕ) → at < i → (text : Text) → slice_get texts at ≡ Some text → Contains numbers at ↔ Contains words text
 
 module _ (texts words : List Text) where
-
   module _ (old new : List ℕ) (i : ℕ) (text : Text) (at_i : slice_get texts i ≡ Some text) (before : AreNumbersTo texts words old i)
       (takes : TakesText words text i old new) where
     below_next : (n : ℕ) → Contains old n ⊎ ((n ≡ i) × Contains words text) → n < i + 1

@@ -9,7 +9,7 @@ use Rattle.hpr_inputs.specs.Decision.{Decision, OnRead}
 use Rattle.hpr_inputs.specs.Files.{OnFile, OnFiles}
 
 -- what is read one way is not refused
-of_read : {A : Type 0} (refused : List ℕ → Type 0) (is : A → Type 0) → IsOne refused is → (next : A → Type 0) (r : Decision) (a : A) → OnRead refused is next r → is a → next a
+pub of_read : {A : Type 0} (refused : List ℕ → Type 0) (is : A → Type 0) → IsOne refused is → (next : A → Type 0) (r : Decision) (a : A) → OnRead refused is next r → is a → next a
 of_read refused is one next r a (inl (m, h, _)) k = absurd (one.apart m a h k)
 of_read refused is one next r a (inr (b, h, n)) k = subst next (one.value b a h k) n
 

@@ -9,8 +9,7 @@ use Rattle.hpr_inputs.specs.ReadsFile.{Fails}
 use Rattle.hpr_inputs.specs.Reads.{IfTold, IsReached}
 use Rattle.hpr_inputs.specs.Files.{OnFile, OnFiles}
 use Rattle.hpr_inputs.specs.ReadsFiles.{AreFilesOf, IsRefusedByFiles}
-use Rattle.hpr_inputs.specs.States.{OnState}
-use Rattle.hpr_inputs.specs.States.{RefusedWord}
+use Rattle.hpr_inputs.specs.States.{OnState, RefusedWord}
 use Rattle.hpr_inputs.specs.declared.answer.Report.{Report}
 use Rattle.hpr_inputs.specs.declared.answer.Stop.{Stop}
 use Rattle.hpr_inputs.specs.declared.answer.Stop.TheVariants as stop

@@ -7,7 +7,7 @@ use Rattle.hpr_syntax.specs.declared.rows.Content.TheVariants.{If, While}
 use Rattle.hpr_syntax.specs.declared.rows.Structure.{Structure}
 use Rattle.hpr_syntax.specs.declared.rows.Structure.TheVariants.{Simple, Conditional, Loop}
 use Rattle.hpr_syntax.specs.Action.{Action}
-use Rattle.hpr_syntax.specs.Rows.{content_by, structure_of}
+use Rattle.hpr_syntax.specs.Rows.{content_by, structure_of, Parent}
 use Rattle.hpr_syntax.proofs.ByStructure.{structure_by}
 use Rattle.hpr_syntax.specs.Body.{Body, done, action, branch, loop}
 use Rattle.hpr_syntax.specs.Skeleton.{at, StandsIn, Distinct, skeleton}
@@ -16,7 +16,6 @@ use Rattle.hpr_paths.specs.Times.{Place}
 use Rattle.hpr_paths.proofs.PlacesUnder.{IsPlaceUnder}
 use Rattle.hpr_meaning.proofs.CommonLoops.{BeginsWith, nest_begins}
 use Rattle.hpr_paths.proofs.Says.{standing_one}
-use Rattle.hpr_syntax.specs.Rows.{Parent}
 
 abbrev pub nest_under : Structure → Tag → List Tag → List Tag
 nest_under Simple t nest = nest

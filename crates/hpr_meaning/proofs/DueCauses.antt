@@ -5,7 +5,7 @@ use Rattle.hpr_terms.specs.declared.tag.Tag.{Tag}
 use Rattle.hpr_syntax.specs.declared.rows.Content.TheVariants.{While}
 use Rattle.hpr_syntax.specs.declared.rows.Structure.{Structure}
 use Rattle.hpr_syntax.specs.Action.{Action}
-use Rattle.hpr_syntax.specs.Rows.{content_by}
+use Rattle.hpr_syntax.specs.Rows.{content_by, Parent}
 use Rattle.hpr_syntax.specs.Body.{Body, done, action, branch, loop}
 use Rattle.hpr_syntax.specs.Skeleton.{Skeleton, act, fork, round, at, StandsIn, Distinct, skeleton}
 use Rattle.hpr_syntax.specs.Nests.{Standing, StandsAs}
@@ -13,7 +13,6 @@ use Rattle.hpr_paths.specs.Times.{Place}
 use Rattle.hpr_syntax.proofs.ByStructure.{structure_by}
 use Rattle.hpr_meaning.specs.Due.{IsRepeated, IsLoop, turns_under, first_turns, Calls}
 use Rattle.hpr_paths.proofs.Causes.{IsFirstOnTop, IsCalledBy}
-use Rattle.hpr_syntax.specs.Rows.{Parent}
 use Rattle.hpr_paths.proofs.PlacesUnder.{IsPlaceUnder, place_stands, same_part, same_turns, place_of, place_after_act, place_at_fork, place_in_yes, place_in_no, place_after_fork, place_at_round, place_in_body, place_after_round}
 use Rattle.hpr_paths.proofs.Says.{standing_in}
 

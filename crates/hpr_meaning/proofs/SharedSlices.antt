@@ -1,7 +1,6 @@
 -- The law of shared slices: what one program does in a slice, the other does too.
-use Rattle.hpr_syntax.specs.Contents.{UsesIn}
+use Rattle.hpr_syntax.specs.Contents.{UsesIn, answer_of}
 use Rattle.hpr_syntax.proofs.ActByUses.{uses_in}
-use Rattle.hpr_syntax.specs.Contents.{answer_of}
 use Rattle.std.proofs.Common.{◌≡◌, ◌↔◌, ℕ, ◌<◌, ◌≤◌, ℤ, true, false, List, [], ◌∷◌, ◌⊎◌, Option, Some, None, length, Contains, refl, ap, sym, subst, ◌∙◌, inl, inr, arith, Ok, Err, map}
 use Rattle.hpr_terms.specs.declared.tag.Tag.{Tag}
 use Rattle.hpr_syntax.specs.declared.rows.Content.{Content}

@@ -8,11 +8,11 @@
 -- noted turns t e v s m == with that item of the part t, under these turns
 -- defined x m         == where the last item defined the name x
 -- tracing             == the observer that keeps this, with the turns of the loops around a part, the outermost loop first
-use Rattle.std.specs.Prelude.{ℕ, ◌-◌, ℤ, List, [], ◌∷◌, ◌++◌, map, length, Option, Some, None}
+use Rattle.std.specs.Prelude.{ℕ, ◌-◌, List, [], ◌∷◌, ◌++◌, map, length, Option, Some, None}
 use Rattle.std.specs.FinMap.{empty, get, insert}
 use Rattle.hpr_terms.specs.declared.tag.Tag.{Tag}
 use Rattle.hpr_terms.specs.declared.expr.Expr.{Expr}
-use Rattle.hpr_syntax.specs.Values.{Values, value_at}
+use Rattle.hpr_syntax.specs.Values.{Value, Values, value_at}
 use Rattle.hpr_run.specs.Observed.{Observing, observing}
 use Rattle.hpr_paths.specs.Times.{Place}
 use Rattle.hpr_meaning.specs.declared.traced.Origin.{Origin}
@@ -39,10 +39,10 @@ no_notes = record { definers = empty; items = [] }
 abbrev pub read_at : Values → Notes → List ℕ → Read
 read_at s m x = record { name = x; value = value_at s x; origin = origin_at m.definers x }
 
-abbrev pub item_at : Place → Expr → ℤ → Values → Notes → Item
+abbrev pub item_at : Place → Expr → Value → Values → Notes → Item
 item_at a e v s m = record { tag = a.0; turns = a.1; reads = map (read_at s m) (names_of e); value = v }
 
-abbrev pub noted : List ℕ → Tag → Expr → ℤ → Values → Notes → Notes
+abbrev pub noted : List ℕ → Tag → Expr → Value → Values → Notes → Notes
 noted turns t e v s m = record { definers = m.definers; items = m.items ++ item_at (t, turns) e v s m ∷ [] }
 
 abbrev pub defined : List ℕ → Notes → Notes

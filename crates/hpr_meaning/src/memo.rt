@@ -8,7 +8,7 @@ use crate::definers::Definers;
 use crate::names::names_of;
 use crate::traced::{Instance, Read};
 use crate::turns::Turns;
-use hpr_run::{Observer, State};
+use hpr_run::{Observer, State, Value};
 use hpr_syntax::{Expr, Name, NoMemory, Tag};
 use std::alloc::Global;
 use std::marker::Model;
@@ -94,7 +94,7 @@ impl Observer for Memo {
         around: &Turns,
         tag: Tag,
         expr: &Expr,
-        value: i64,
+        value: Value,
         state: &State,
     ) -> Result<(), NoMemory> {
         let reads = self.reads(alloc, expr, state)?;

@@ -1,38 +1,16 @@
 -- A graph with the vertices of another too.
-use Rattle.std.proofs.Common.{◌≡◌, ℕ, zero, suc, ◌+◌, ◌<◌, ◌↔◌, ◌⊎◌, inl, inr, Some, List, [], ◌∷◌, ◌++◌, length, take, get_or, Contains, slice_get, sym, ap, ◌∙◌, subst, arith}
-use Rattle.std.proofs.lemmas.List.{take_more}
-use Rattle.std.proofs.lemmas.Option.{slice_get-get_or}
+use Rattle.std.proofs.Common.{◌≡◌, ℕ, ◌↔◌, ◌⊎◌, inl, inr, List, [], ◌∷◌, Contains, sym, subst}
 use Rattle.hpr_graph.specs.declared.vertex.Vertex.{Vertex}
 use Rattle.hpr_graph.specs.declared.edge.Edge.{Edge}
-use Rattle.hpr_graph.specs.Graphs.{Graph, Same, IsOnce, union_of}
-use Rattle.hpr_graph.specs.Numbered.{Numbered, HasEdge, HasVertex, graph_in}
+use Rattle.hpr_graph.specs.declared.link.Link.{Link}
+use Rattle.hpr_graph.specs.Graphs.{Graph, Same, union_of}
+use Rattle.hpr_graph.specs.Numbered.{Numbered, HasEdge, HasLink, HasVertex, graph_in}
 use Rattle.hpr_graph.specs.Slices.{LeadsTo, ReachesOne, slice_at}
 use Rattle.hpr_graph.specs.Conflicts.{IsAdded, IsLeast}
 use Rattle.hpr_graph.proofs.Laws.{IsClosed, vertices_map}
-use Rattle.hpr_graph.proofs.Lists.{in_none}
-
-taken_at : {X : Type 0} (xs : List X) (i : ℕ) (x : X) → Contains (take i xs) x → (j : ℕ) × (j < i) × (slice_get xs j ≡ Some x)
-taken_at [] zero x h = absurd (in_none x h)
-taken_at [] (suc i) x h = absurd (in_none x h)
-taken_at (y ∷ ys) zero x h = absurd (in_none x h)
-taken_at (y ∷ ys) (suc i) x (zero, l, e) = (0, omega arith, ap Some e)
-taken_at (y ∷ ys) (suc i) x (suc k, l, e) = let (j, less, at) = taken_at ys i x (k, omega (arith, l), e) in (suc j, omega (arith, less), at)
-
--- a vertex isn't among those before it
-pub fresh : (vs us : List Vertex) (k : ℕ) (v copy : Vertex) → IsOnce vs → k < length vs → v ≡ get_or vs k v → copy ≡ v → us ≡ take k vs → ¬ Contains us copy
-fresh vs us k v copy once l is same before has =
-    let (j, less, at) = taken_at vs k copy (subst (λ (xs : List Vertex). Contains xs copy) before has) in
-    let at_k : slice_get vs k ≡ Some copy = slice_get-get_or vs k v l ∙ ap Some (sym (same ∙ is)) in
-    let e = once j k copy at at_k in
-    omega (arith, less, e)
-
--- one vertex more
-pub vertices_more : (vs : List Vertex) (k : ℕ) (v copy : Vertex) (us us' : List Vertex) → k < length vs → v ≡ get_or vs k v → copy ≡ v → us ≡ take k vs → us' ≡ us ++ copy ∷ [] → us' ≡ take (k + 1) vs
-vertices_more vs k v copy us us' l is same before items =
-    items ∙ ap (λ (ys : List Vertex). ys ++ copy ∷ []) before ∙ ap (λ (w : Vertex). take k vs ++ w ∷ []) (same ∙ is) ∙ sym (take_more vs k v l)
 
 -- the vertices and edges of what is put together
-module _ (bare g other u r : Numbered) (vertices : bare.vertices ≡ other.vertices) (none : (e : Edge) → ¬ HasEdge bare e) (united : Same (graph_in u) (union_of (graph_in bare) (graph_in g))) (ordered : Same (graph_in r) (graph_in u)) where
+module _ (bare g other u r : Numbered) (vertices : bare.vertices ≡ other.vertices) (none : (to : ℕ) (l : Link) → ¬ HasLink bare to l) (united : Same (graph_in u) (union_of (graph_in bare) (graph_in g))) (ordered : Same (graph_in r) (graph_in u)) where
   pub all_vertices : (v : Vertex) → HasVertex r v ↔ (HasVertex g v ⊎ HasVertex other v)
   all_vertices v = (
     λ h. elim ((united.0 v).0 ((ordered.0 v).0 h)) [ inl of_bare ↦ inr (subst (λ (vs : List Vertex). Contains vs v) vertices of_bare) | inr of_g ↦ inl of_g ],
@@ -44,7 +22,7 @@ module _ (bare g other u r : Numbered) (vertices : bare.vertices ≡ other.verti
 
   pub all_edges : (e : Edge) → HasEdge r e ↔ HasEdge g e
   all_edges e = (
-    λ h. elim ((united.1 e).0 ((ordered.1 e).0 h)) [ inl of_bare ↦ absurd (none e of_bare) | inr of_g ↦ of_g ],
+    λ h. elim ((united.1 e).0 ((ordered.1 e).0 h)) [ inl (to, l, has, at) ↦ absurd (none to l has) | inr of_g ↦ of_g ],
     λ h. (ordered.1 e).1 ((united.1 e).1 (inr h)),
   )
 

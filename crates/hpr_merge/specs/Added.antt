@@ -7,8 +7,8 @@
 use Rattle.std.specs.Prelude.{◌≡◌, ℕ, Bool, ◌<◌, Option, Some, None, List, Contains, slice_get}
 use Rattle.hpr_search.specs.Marks.{IsMarked}
 use Rattle.hpr_graph.specs.declared.link.Link.{Link}
+use Rattle.hpr_graph.specs.Inside.{IsInside}
 use Rattle.hpr_graph.specs.Numbered.{Numbered, HasLink, row_of}
-use Rattle.hpr_affected.specs.Lacking.{IsInside}
 
 abbrev pub IsFirst : (Link → Type 0) → List Link → Option Link → Type 0
 IsFirst P ls None = (l : Link) → Contains ls l → ¬ P l

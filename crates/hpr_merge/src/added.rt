@@ -1,41 +1,12 @@
 //! The least link that a slice got.
-ghost use Rattle.std.specs.Prelude.{◌≡◌, ◌↔◌, ◌<◌, Contains, IsTrue, length};
-ghost use Rattle.std.specs.List.Sorted.{IsSorted};
-ghost use Rattle.hpr_search.specs.Marks.{IsMarked};
+ghost use Rattle.std.specs.Prelude.{◌≡◌, ◌↔◌, ◌<◌, IsTrue, length};
 ghost use Rattle.hpr_graph.specs.Numbered.{row_of};
 ghost use Rattle.hpr_graph.specs.InOrder.{Ascends, RowsAscend};
-ghost use Rattle.hpr_affected.specs.Lacking.{IsInside};
 ghost use Rattle.hpr_merge.specs.Added.{IsAddedLink, IsFirst, IsFirstAdded, IsMore};
 
-use hpr_graph::{Graph, Link, LinkKind};
-
-fn is_marked(marks: &[bool], at: usize) -> bool
-    ensures { IsTrue result ↔ IsMarked marks.now at }
-{
-    at < marks.len() && marks[at]
-}
-
-/// Whether the source of the link is marked, and its loop or shared use too.
-fn is_inside(link: Link, marks: &[bool]) -> bool
-    ensures { IsTrue result ↔ IsInside marks.now link }
-{
-    if !is_marked(marks, link.from) {
-        return false;
-    }
-    match link.kind {
-        LinkKind::Control(_) | LinkKind::Independent => true,
-        LinkKind::Carried(w) => is_marked(marks, w),
-        LinkKind::Order(u) => is_marked(marks, u),
-    }
-}
-
-/// Whether the link is one of these, which ascend.
-fn has_ascending(links: &[Link], link: Link) -> bool
-    requires { Ascends ⟦<Link as Ord>⟧.cmp links.now }
-    ensures { IsTrue result ↔ Contains links.now link }
-{
-    links.binary_search(&link).is_ok()
-}
+use hpr_graph::links::{has_sorted, is_inside};
+use hpr_graph::{Graph, Link};
+use hpr_search::is_marked;
 
 /// Whether the link is inside the marks of the grown slice, but isn't one of the own links, which ascend,
 /// inside its own marks.
@@ -46,7 +17,7 @@ fn is_more(link: Link, own_links: &[Link], grown: &[bool], own: &[bool]) -> bool
     if !is_inside(link, grown) {
         return false;
     }
-    !(is_inside(link, own) && has_ascending(own_links, link))
+    !(is_inside(link, own) && has_sorted(own_links, link))
 }
 
 /// The first of the links that is inside the marks of the grown slice, but isn't one of the own links,

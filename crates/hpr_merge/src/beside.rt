@@ -9,7 +9,7 @@ ghost use Rattle.hpr_graph.specs.InOrder.{Ascends, RowsAscend};
 ghost use Rattle.hpr_merge.specs.Beside.{AreBeside, IsLeastAdded};
 
 use crate::added::first_added;
-use hpr_graph::{Edge, Graph, Link, NoMemory, Vertex};
+use hpr_graph::{Edge, Graph, Link, NoMemory};
 use hpr_slice::Sources;
 use std::alloc::Global;
 use std::marker::Model;
@@ -86,19 +86,6 @@ impl<'a> Beside<'a> {
     }
 }
 
-/// The graph with these vertices in this order, each once, and no edge.
-fn bare_graph(alloc: Global, vertices: &[Vertex]) -> Result<Graph, NoMemory>
-    requires { IsOnce vertices.now }
-    ensures vertices { IfOk result (λ g. g.vertices ≡ vertices.now) }
-    ensures none { IfOk result (λ g. (e : Edge) → ¬ HasEdge g e) }
-{
-    let mut graph = Graph::empty(alloc);
-    for vertex in vertices {
-        graph.push_new_vertex(vertex.copy(alloc)?)?;
-    }
-    Ok(graph)
-}
-
 /// The graph with the vertices of the other too, in order. Looks each vertex of the graph up once.
 pub(crate) fn widened(alloc: Global, graph: &Graph, other: &Graph) -> Result<Graph, NoMemory>
     ensures vertices { IfOk result (λ g. (v : Vertex) → HasVertex g v ↔ (HasVertex graph.now v ⊎ HasVertex other.now v)) }
@@ -107,6 +94,6 @@ pub(crate) fn widened(alloc: Global, graph: &Graph, other: &Graph) -> Result<Gra
     ensures rows { IfOk result (λ g. RowsAscend ⟦<Link as Ord>⟧.cmp g) }
     ensures other { IfOk result (λ g. IsOnce other.now.vertices) }
 {
-    let bare = bare_graph(alloc, other.vertices())?;
+    let bare = Graph::of_vertices(alloc, other.vertices())?;
     bare.union(graph)?.in_order()
 }

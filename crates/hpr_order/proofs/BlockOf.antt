@@ -4,9 +4,8 @@ use Rattle.std.proofs.lemmas.List.Elements.{Contains-append_left, Contains-appen
 use Rattle.hpr_terms.specs.declared.tag.Tag.{Tag}
 use Rattle.hpr_syntax.specs.declared.rows.Content.{Content}
 use Rattle.hpr_syntax.specs.declared.rows.Content.TheVariants.{If, While}
-use Rattle.hpr_syntax.specs.Rows.{content_by}
+use Rattle.hpr_syntax.specs.Rows.{content_by, Parent}
 use Rattle.hpr_syntax.specs.Body.{Body, done, action, branch, loop}
-use Rattle.hpr_syntax.specs.Rows.{Parent}
 use Rattle.hpr_syntax.specs.Nests.{Standing, StandsAs, Says}
 use Rattle.hpr_forest.proofs.Unique.{in_none, in_cons, in_first, in_later}
 use Rattle.hpr_forest.specs.Trees.{Tree, empty, node, preorder, Slot, StandsIn}

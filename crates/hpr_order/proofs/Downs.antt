@@ -14,8 +14,9 @@ use Rattle.hpr_graph.specs.declared.link.Link.{Link}
 use Rattle.hpr_graph.specs.Numbered.{Numbered, HasVertex, HasLink, IsKindAt, IsNumbered, graph_in}
 use Rattle.hpr_graph.specs.Arrangements.{edge_into}
 use Rattle.hpr_order.specs.Regions.{Controls, LeadsDown, IsUnderEntry, control_link}
-use Rattle.hpr_order.specs.Controls.{numbers_at, AreControlled, AreReached}
+use Rattle.hpr_order.specs.Controls.{AreControlled, AreReached}
 use Rattle.hpr_graph.proofs.Lists.{some_inj, in_none, in_cons, in_here, contains_at}
+use Rattle.hpr_search.specs.Rows.{numbers_at}
 use Rattle.hpr_order.proofs.Rows.{row_within, control_of}
 
 module _ (g : Numbered) (k : IsNumbered g) where

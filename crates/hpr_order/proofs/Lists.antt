@@ -7,7 +7,6 @@ use Rattle.hpr_graph.specs.Graphs.{IsOnce}
 use Rattle.hpr_graph.proofs.Lists.{some_inj, in_cons, in_here, in_later, once_tail, once_head, once_cons}
 
 module _ {X : Type 0} where
-
   pub taken_at : (xs : List X) (i : ℕ) (x y : X) → slice_get xs i ≡ Some x → Contains (take (i + 1) xs) y ↔ (Contains (take i xs) y ⊎ (x ≡ y))
   taken_at xs i x y at = taken_item xs i x y (slice_get_within xs i x at) (sym (get_or_from_slice_get xs i x x at))
 

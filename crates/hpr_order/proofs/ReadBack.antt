@@ -42,7 +42,6 @@ pub first_second : (u : Slot) (c d : ℕ) → u ≡ Some (c, true) → u ≡ Som
 first_second u c d e f = let g : true ≡ false = sym (ap branch_of e) ∙ ap branch_of f in absurd cc
 
 module _ (items : List Item) where
-
   -- the slot's item is not among these
   abbrev Outside : List ℕ → Slot → Type 0
   Outside xs v = (w : ℕ) → owner v ≡ Some w → Contains xs w → ⊥

@@ -1,71 +1,17 @@
--- Rows of numbers that grow.
-use Rattle.std.proofs.Common.{◌≡◌, ℕ, zero, suc, ◌+◌, ◌<◌, ◌≤◌, ◌↔◌, ◌⊎◌, inl, inr, Bool, Option, Some, List, [], ◌∷◌, ◌++◌, Vec, Global, All, length, set, take, get_or, Contains, refl, sym, ap, ◌∙◌, subst, arith}
+-- Rows of the vertices into which control edges go, an edge more at a time.
+use Rattle.std.proofs.Common.{◌≡◌, ℕ, zero, suc, ◌+◌, ◌<◌, ◌≤◌, ◌↔◌, ◌⊎◌, inl, inr, Bool, Option, Some, List, [], ◌∷◌, length, take, get_or, Contains, refl, sym, ap, ◌∙◌, subst, arith}
 use Rattle.std.proofs.lemmas.Bool.{cases_eq, cases_lt}
 use Rattle.std.proofs.lemmas.Option.{slice_get_within, slice_get_past}
-use Rattle.std.proofs.lemmas.List.{get_or-set_same, get_or-set_other, length-map, take_all}
-use Rattle.std.proofs.lemmas.List.Elements.{Contains-push, Contains-push_cases, Contains-append_left, Contains-get_or}
+use Rattle.std.proofs.lemmas.List.{take_all}
 use Rattle.hpr_terms.proofs.Facts.{taken_item}
+use Rattle.hpr_search.specs.Rows.{numbers_at, IsPushed}
 use Rattle.hpr_graph.specs.declared.link.LinkKind.{LinkKind}
 use Rattle.hpr_graph.specs.declared.link.LinkKind.TheVariants.{Control, Independent, Carried, Order}
 use Rattle.hpr_graph.specs.declared.link.Link.{Link}
 use Rattle.hpr_graph.specs.Numbered.{Numbered, HasLink, IsLink, IsNumbered, row_of, row_items}
 use Rattle.hpr_order.specs.Regions.{control_link}
-use Rattle.hpr_order.specs.Controls.{label_of, HasControl, numbers_at, numbers_of, AreWithin, AreControlled, IsPushed, IsPushedBy}
+use Rattle.hpr_order.specs.Controls.{label_of, HasControl, AreControlled, IsPushedBy}
 use Rattle.hpr_graph.proofs.Lists.{some_inj, in_none, in_cons, in_here}
-
--- what the code reads of a row
-pub read_row : (rows : List (Vec ℕ Global)) (at : ℕ) (row : Vec ℕ Global) → at < length rows → row ≡ get_or rows at row → numbers_at (numbers_of rows) at ≡ row.items
-read_row [] at row l is = absurd (omega (arith, l))
-read_row (r ∷ rows) zero row l is = ap (λ (x : Vec ℕ Global). x.items) (sym is)
-read_row (r ∷ rows) (suc at) row l is = read_row rows at row (omega (arith, l)) is
-
-pub length_rows : (rows : List (Vec ℕ Global)) → length (numbers_of rows) ≡ length rows
-length_rows rows = length-map rows (λ (row : Vec ℕ Global). row.items)
-
-pub push_row : (rows : List (Vec ℕ Global)) (row : Vec ℕ Global) → numbers_of (rows ++ row ∷ []) ≡ numbers_of rows ++ row.items ∷ []
-push_row [] row = refl
-push_row (r ∷ rows) row = ap (λ (xs : List (List ℕ)). r.items ∷ xs) (push_row rows row)
-
-set_row : (rows : List (Vec ℕ Global)) (at : ℕ) (row : Vec ℕ Global) → numbers_of (set rows at row) ≡ set (numbers_of rows) at row.items
-set_row [] at row = refl
-set_row (r ∷ rows) zero row = refl
-set_row (r ∷ rows) (suc at) row = ap (λ (xs : List (List ℕ)). r.items ∷ xs) (set_row rows at row)
-
-pub within_row : (rows : List (List ℕ)) (at : ℕ) → AreWithin rows → All (λ n. n < length rows) (numbers_at rows at)
-within_row rows at within k d l = within at (get_or (numbers_at rows at) k d) (Contains-get_or (numbers_at rows at) k d l)
-
--- an empty row more
-pub blank_more : (rows : List (List ℕ)) → ((at n : ℕ) → ¬ Contains (numbers_at rows at) n) → (at n : ℕ) → ¬ Contains (numbers_at (rows ++ [] ∷ []) at) n
-blank_more [] none zero n h = in_none n h
-blank_more [] none (suc at) n h = none at n h
-blank_more (row ∷ rows) none zero n h = none zero n h
-blank_more (row ∷ rows) none (suc at) n h = blank_more rows (λ k m. none (suc k) m) at n h
-
--- one more number at the end of a row
-pushed_at : (rows : List (List ℕ)) (at number : ℕ) → at < length rows → IsPushed rows at number (set rows at (numbers_at rows at ++ number ∷ []))
-pushed_at rows at number l from to = elim (cases_eq from at) [
-  | inl e ↦
-      (let same : numbers_at (set rows at (numbers_at rows at ++ number ∷ [])) from ≡ numbers_at rows from ++ number ∷ [] =
-      ap (numbers_at (set rows at (numbers_at rows at ++ number ∷ []))) e ∙ get_or-set_same rows at (numbers_at rows at ++ number ∷ []) [] l ∙ ap (λ (k : ℕ). numbers_at rows k ++ number ∷ []) (sym e) in
-      rw same (
-        λ h. elim (Contains-push_cases (numbers_at rows from) number to h) [ inl was ↦ inl was | inr is ↦ inr (e, sym is) ],
-        λ h. elim h [
-          | inl was ↦ Contains-append_left (numbers_at rows from) (number ∷ []) to was
-          | inr now ↦ subst (Contains (numbers_at rows from ++ number ∷ [])) (sym now.1) (Contains-push (numbers_at rows from) number)
-        ],
-      ))
-  | inr ne ↦
-      (let same : numbers_at (set rows at (numbers_at rows at ++ number ∷ [])) from ≡ numbers_at rows from = get_or-set_other rows at from (numbers_at rows at ++ number ∷ []) [] ne in
-      rw same (λ h. inl h, λ h. elim h [ inl was ↦ was | inr now ↦ absurd (ne now.0) ]))
-]
-
-pub push_at_row : (rows : List (Vec ℕ Global)) (at number : ℕ) (row row' : Vec ℕ Global) → at < length rows → row ≡ get_or rows at row → row'.items ≡ row.items ++ number ∷ []
-    → IsPushed (numbers_of rows) at number (numbers_of (set rows at row'))
-push_at_row rows at number row row' l is is' =
-    let ends : row'.items ≡ numbers_at (numbers_of rows) at ++ number ∷ [] = is' ∙ ap (λ (xs : List ℕ). xs ++ number ∷ []) (sym (read_row rows at row l is)) in
-    let same : numbers_of (set rows at row') ≡ set (numbers_of rows) at (numbers_at (numbers_of rows) at ++ number ∷ []) = set_row rows at row' ∙ ap (set (numbers_of rows) at) ends in
-    subst (λ (xs : List (List ℕ)). IsPushed (numbers_of rows) at number xs) (sym same)
-    (pushed_at (numbers_of rows) at number (omega (arith, l, length_rows rows)))
 
 -- the control edge of a link
 pub control_of : (l : Link) (from : ℕ) (label : Bool) → l.kind ≡ Control label → l.from ≡ from → l ≡ control_link from label
@@ -168,9 +114,6 @@ controlled_whole g k rows at l t = record {
     λ (label, has). (let w = row_within g k to (control_link from label) has in (t.exact from to).1 (omega (arith, w, l), (label, has))),
   );
 }
-
-pub controlled_within : (g : Numbered) → IsNumbered g → (rows : List (List ℕ)) → AreControlled g rows → AreWithin rows
-controlled_within g k rows t at n h = let (label, has) = (t.exact at n).0 h in let w = row_within g k n (control_link at label) has in omega (arith, w, t.count)
 
 -- the source of a link is a vertex
 pub from_within : (g : Numbered) (to : ℕ) (l : Link) → IsLink g to l → l.from < length g.vertices

@@ -10,12 +10,11 @@ use Rattle.hpr_terms.proofs.Facts.{if_none, unless, contains_at}
 use Rattle.hpr_syntax.specs.declared.rows.Row.{Row}
 use Rattle.hpr_syntax.specs.declared.rows.Content.{Content}
 use Rattle.hpr_syntax.specs.declared.rows.Content.TheVariants.{If, While}
-use Rattle.hpr_syntax.specs.Rows.{content_by}
+use Rattle.hpr_syntax.specs.Rows.{content_by, Parent, rows_of, expr_in}
 use Rattle.hpr_syntax.specs.Body.{Body, done, action, branch, loop, part_count}
 use Rattle.hpr_syntax.specs.Issued.{Issued, issued_to}
 use Rattle.hpr_syntax.specs.Parts.{tags_of}
 use Rattle.hpr_syntax.specs.Proper.{IsProperBody, IsProperTag, IsProperContent}
-use Rattle.hpr_syntax.specs.Rows.{Parent, rows_of, expr_in}
 use Rattle.hpr_syntax.specs.Shape.{first_repeated, first_unissued, is_unissued, first_deep, first_large, is_large}
 use Rattle.hpr_syntax.proofs.NoRefusal.{or_none}
 use Rattle.hpr_syntax.proofs.ProperLemmas.{proper_action}

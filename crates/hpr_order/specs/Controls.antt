@@ -3,16 +3,12 @@
 -- label_of kind        == the label of a control edge; none for another kind
 -- IsOnlyControl row from label == the row has the control edge with this label from the vertex with this number, and no other control edge
 -- HasControl row from  == the row has a control edge from the vertex with this number
--- numbers_at rows at   == the row with this number, empty past the last
--- numbers_of rows      == the rows as lists
--- AreWithin rows       == each number is that of a row
 -- AreControlled g rows == for each vertex a row of exactly the vertices into which a control edge goes from it
--- IsPushed old at n new == the rows with the number n more in the row `at`
 -- IsPushedBy old links n new == the rows with the number n more in the row of each vertex from which one of these links is a control edge
 -- AreReached g marks   == there is a mark for each vertex, and exactly those are marked to which control edges lead from Entry
-use Rattle.std.specs.Prelude.{◌≡◌, ◌<◌, ℕ, Bool, ◌↔◌, ◌⊎◌, Option, Some, None, List, [], Vec, Contains, length, map, slice_get, slice_index_or}
-use Rattle.std.specs.Global.{Global}
+use Rattle.std.specs.Prelude.{◌≡◌, ℕ, Bool, ◌↔◌, ◌⊎◌, Option, Some, None, List, Contains, length, slice_get}
 use Rattle.hpr_search.specs.Marks.{IsMarked}
+use Rattle.hpr_search.specs.Rows.{numbers_at}
 use Rattle.hpr_graph.specs.declared.vertex.Vertex.{Vertex}
 use Rattle.hpr_graph.specs.declared.link.LinkKind.{LinkKind}
 use Rattle.hpr_graph.specs.declared.link.LinkKind.TheVariants.{Control, Independent, Carried, Order}
@@ -33,21 +29,9 @@ IsOnlyControl row from label =
 abbrev pub HasControl : List Link → ℕ → Type 0
 HasControl row from = (label : Bool) × Contains row (control_link from label)
 
-abbrev pub numbers_at : List (List ℕ) → ℕ → List ℕ
-numbers_at rows at = slice_index_or rows at []
-
-abbrev pub numbers_of : List (Vec ℕ Global) → List (List ℕ)
-numbers_of rows = map (λ row. row.items) rows
-
-abbrev pub AreWithin : List (List ℕ) → Type 0
-AreWithin rows = (at n : ℕ) → Contains (numbers_at rows at) n → n < length rows
-
 pub record AreControlled (g : Numbered) (rows : List (List ℕ)) : Type 0 where
   pub count : length rows ≡ length g.vertices
   pub exact : (from to : ℕ) → Contains (numbers_at rows from) to ↔ HasControl (row_of g to) from
-
-abbrev pub IsPushed : List (List ℕ) → ℕ → ℕ → List (List ℕ) → Type 0
-IsPushed old at n new = (from to : ℕ) → Contains (numbers_at new from) to ↔ (Contains (numbers_at old from) to ⊎ ((from ≡ at) × (to ≡ n)))
 
 abbrev pub IsPushedBy : List (List ℕ) → List Link → ℕ → List (List ℕ) → Type 0
 IsPushedBy old links n new =

@@ -4,9 +4,8 @@ ghost use Rattle.hpr_terms.specs.declared.tag.Tag.{Tag};
 ghost use Rattle.hpr_syntax.specs.declared.rows.Content.{Content};
 ghost use Rattle.hpr_graph.specs.Graphs.{IsOnce};
 ghost use Rattle.hpr_graph.specs.Answer.{IsPart};
-ghost use Rattle.hpr_graph.specs.Moves.{number_at};
 ghost use Rattle.hpr_graph.specs.declared.vertex.Vertex.TheVariants.{Final};
-ghost use Rattle.hpr_graph.specs.Numbered.{HasVertex, IsNumbered, graph_in};
+ghost use Rattle.hpr_graph.specs.Numbered.{IsNumbered, graph_in};
 ghost use Rattle.hpr_graph.specs.InOrder.{Ascends};
 ghost use Rattle.hpr_graph.specs.Order.{name_cmp};
 ghost use Rattle.hpr_order.specs.Regions.{AreRegionsOf};
@@ -16,7 +15,8 @@ ghost use Rattle.hpr_order.specs.Numbers.{ArePartsOf, AreRanked, AreFinals, AreI
 
 use crate::RegionTree;
 use crate::item::{Item, item_of};
-use hpr_graph::{Graph, Link, LinkKind, Name, NoMemory, Vertex};
+use hpr_graph::links::number_at;
+use hpr_graph::{Graph, Link, LinkKind, Name, NoMemory, Vertex, place_of};
 use hpr_syntax::proper::read_names;
 use hpr_terms::names::in_order;
 use std::alloc::{AllocError, Global};
@@ -31,11 +31,10 @@ pub(crate) fn ranked_parts(
     ensures parts { IfOk result (λ ns. ArePartsOf graph.now ns.items) }
     ensures ranked { IfOk result (λ ns. AreRanked graph.now rank.now ns.items) }
 {
-    // no vertex stands twice
-    let _vertices = graph.vertices();
+    let vertices = graph.vertices();
     let mut numbers = Vec::new(alloc);
     for vertex in rank {
-        let Some(number) = part_number(graph, vertex) else {
+        let Some(number) = part_number(vertices, vertex) else {
             continue;
         };
         numbers.push(number)?;
@@ -43,14 +42,14 @@ pub(crate) fn ranked_parts(
     Ok(numbers)
 }
 
-/// The number of a part of the graph; none of another vertex.
-fn part_number(graph: &Graph, vertex: &Vertex) -> Option<usize>
-    ensures found { IfSome result (λ n. slice_get graph.now.vertices n ≡ Some vertex.now) }
+/// The number of a part among the vertices; none of another vertex.
+fn part_number(vertices: &[Vertex], vertex: &Vertex) -> Option<usize>
+    ensures found { IfSome result (λ n. slice_get vertices.now n ≡ Some vertex.now) }
     ensures part { IfSome result (λ n. IsPart vertex.now) }
-    ensures none { IfNone result (IsPart vertex.now → ¬ HasVertex graph.now vertex.now) }
+    ensures none { IfNone result (IsPart vertex.now → ¬ Contains vertices.now vertex.now) }
 {
     if is_part(vertex) {
-        graph.number_of(vertex)
+        place_of(vertices, vertex)
     } else {
         None
     }
@@ -146,12 +145,6 @@ fn slot_by(places: &[Option<usize>], parent: Option<(usize, bool)>) -> Option<(u
     let (from, label) = parent?;
     let place = number_at(places, from)?;
     Some((place, label))
-}
-
-fn number_at(places: &[Option<usize>], number: usize) -> Option<usize>
-    ensures { result ≡ number_at places.now number }
-{
-    *places.get(number)?
 }
 
 /// The names of the graph's Final vertices in ascending order.

@@ -5,7 +5,7 @@ ghost use Rattle.std.specs.Option.{option_copied};
 ghost use Rattle.hpr_graph.specs.declared.vertex.Vertex.{Vertex};
 ghost use Rattle.hpr_graph.specs.Rank.{parts_of, IsAddedAt, IsPutIn, IsJoined, IsRankOf, IsRank};
 
-use hpr_graph::{NoMemory, Vertex, same_vertex};
+use hpr_graph::{NoMemory, Vertex, place_of};
 use hpr_syntax::{Program, Row};
 use std::alloc::Global;
 
@@ -125,17 +125,4 @@ fn place_before(list: &[Vertex], next: Option<&Vertex>) -> usize
         Some(at) => at,
         None => unreachable!(),
     }
-}
-
-/// Where the vertex stands in the list, if it does. Tags are compared first.
-fn place_of(list: &[Vertex], vertex: &Vertex) -> Option<usize>
-    ensures found { IfSome result (λ n. slice_get list.now n ≡ Some vertex.now) }
-    ensures stranger { IsNone result ↔ (¬ Contains list.now vertex.now) }
-{
-    for (at, one) in list.iter().enumerate() {
-        if same_vertex(one, vertex) {
-            return Some(at);
-        }
-    }
-    None
 }

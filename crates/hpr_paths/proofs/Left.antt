@@ -12,9 +12,9 @@ use Rattle.hpr_paths.specs.Spots.{Spot, point_of}
 use Rattle.hpr_paths.specs.Successors.{first_step, spots_of, spots}
 use Rattle.hpr_paths.specs.Numbers.{IsNumberOf}
 use Rattle.hpr_paths.proofs.Two.{TwoIn, at_spot, wider}
-use Rattle.hpr_paths.proofs.Stands.{SpotIn, WholeIn, has_low, has_of_in, count_spots, end_of, get_of_whole, whole_of_get}
+use Rattle.hpr_paths.proofs.Stands.{SpotIn, WholeIn, has_of_in, count_spots, end_of, get_of_whole, whole_of_get}
 use Rattle.hpr_paths.proofs.Names.{role_of_get, get_of_role}
-use Rattle.hpr_paths.proofs.Sound.{has_high}
+use Rattle.hpr_paths.proofs.Placed.{has_low, has_high}
 use Rattle.hpr_paths.proofs.Tags.{number_once}
 use Rattle.hpr_paths.proofs.Encloses.{Again, head_point, stands, spot_standing}
 

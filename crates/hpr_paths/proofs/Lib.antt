@@ -1,5 +1,6 @@
 pub mod Blocks
 pub mod Readers
+pub mod Placed
 pub mod Stands
 pub mod Names
 pub mod Whole

@@ -87,7 +87,6 @@ each_at P (x ∷ xs) σ h m = go (λ g. each_at P xs σ h.1 g) (among_cons m)
     go f (inr g) = f g
 
 module _ (Value : Type 0) (truth : Value → Bool) (gives : Tag → List (Place × Value) → Value → Type 0) where
-
   -- the place where the run stopped
   unfoldable pub where_stopped : (B : Skeleton) (j : ℕ) (T : List ℕ) (g : List (Place × Value)) (ss : List Place) (e : Bool) (h : List (Place × Value)) → Execution Value truth gives B j T g ss e h → Place
   where_stopped _ j T g _ _ _ ended = (record { author = 0; serial = 0 }, [])

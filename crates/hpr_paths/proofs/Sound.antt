@@ -12,7 +12,8 @@ use Rattle.hpr_syntax.specs.Tree.{Tree}
 use Rattle.hpr_paths.specs.declared.spot.Step.{Step}
 use Rattle.hpr_paths.specs.Spots.{part, Spot, tag_of, loops_of, tag_at, next_at, nest_at, IsLoopAt}
 use Rattle.hpr_paths.specs.Successors.{AreSpots, first_step, spots_of, spots}
-use Rattle.hpr_paths.proofs.Stands.{SpotIn, WholeIn, HasAt, has_low, has_of_in, count_spots, count_whole, end_of, whole_of_get}
+use Rattle.hpr_paths.proofs.Placed.{HasAt, has_low, has_high}
+use Rattle.hpr_paths.proofs.Stands.{SpotIn, WholeIn, has_of_in, count_spots, count_whole, end_of, whole_of_get}
 use Rattle.hpr_paths.proofs.Names.{Holds, role_of_get, get_of_role}
 use Rattle.hpr_paths.proofs.Whole.{holds_whole, step_leads}
 
@@ -102,11 +103,6 @@ part_in (loop t e b rest) n f w p s (inr h) =
       | inl x ↦ part_in b (n + 1) (record { to = n; back = true }) (w ++ n ∷ []) p s x
       | inr x ↦ part_in rest (n + 1 + part_count b) f w p s x
     ]
-
-pub has_high : (xs : List Spot) (n p : ℕ) (s : Spot) → HasAt xs n p s → p < n + length xs
-has_high [] n p s h = absurd h
-has_high (x ∷ xs) n p s (inl h) = omega (arith, h.0)
-has_high (x ∷ xs) n p s (inr h) = omega (arith, has_high xs (n + 1) p s h)
 
 pub number_in : (t : Tree) (p : ℕ) (s : Spot) → SpotIn t.body 1 (end_of t) [] p s → (1 ≤ p) × (p < part_count t.body + 1)
 number_in t p s h =

@@ -1,6 +1,5 @@
 -- What stands at which number, by recursion on the block.
 --
--- HasAt xs n p s                  == in a list whose first element has the number n, s has the number p
 -- SpotIn body first follow nest p s == among the points of a block, s has the number p
 -- WholeIn tree p s                == among the points of a program, s has the number p
 use Rattle.std.proofs.Common.{◌≡◌, ◌≤◌, ◌+◌, ℕ, zero, suc, true, ◌⊎◌, inl, inr, Some, List, [], ◌∷◌, ◌++◌, length, length-append, refl, sym, ap, arith}
@@ -13,41 +12,7 @@ use Rattle.hpr_syntax.specs.Tree.{Tree}
 use Rattle.hpr_paths.specs.declared.spot.Step.{Step}
 use Rattle.hpr_paths.specs.Spots.{enter, part, exit, Spot}
 use Rattle.hpr_paths.specs.Successors.{first_step, step_to, spot_of, spots_of, spots}
-
-abbrev pub HasAt : List Spot → ℕ → ℕ → Spot → Type 0
-HasAt [] n p s = ⊥
-HasAt (x ∷ xs) n p s = ((p ≡ n) × (s ≡ x)) ⊎ HasAt xs (n + 1) p s
-
-pub has_left : (xs ys : List Spot) (n p : ℕ) (s : Spot) → HasAt xs n p s → HasAt (xs ++ ys) n p s
-has_left [] ys n p s h = absurd h
-has_left (x ∷ xs) ys n p s (inl h) = inl h
-has_left (x ∷ xs) ys n p s (inr h) = inr (has_left xs ys (n + 1) p s h)
-
-pub has_right : (xs ys : List Spot) (n m p : ℕ) (s : Spot) → m ≡ n + length xs → HasAt ys m p s → HasAt (xs ++ ys) n p s
-has_right [] ys n m p s e h = let same : m ≡ n = omega arith in rw (← same) h
-has_right (x ∷ xs) ys n m p s e h = inr (has_right xs ys (n + 1) m p s (omega arith) h)
-
-pub has_split : (xs ys : List Spot) (n m p : ℕ) (s : Spot) → m ≡ n + length xs → HasAt (xs ++ ys) n p s → HasAt xs n p s ⊎ HasAt ys m p s
-has_split [] ys n m p s e h = let same : m ≡ n = omega arith in inr (rw same h)
-has_split (x ∷ xs) ys n m p s e (inl h) = inl (inl h)
-has_split (x ∷ xs) ys n m p s e (inr h) = elim (has_split xs ys (n + 1) m p s (omega arith) h) [ inl a ↦ inl (inr a) | inr b ↦ inr b ]
-
-pub has_low : (xs : List Spot) (n p : ℕ) (s : Spot) → HasAt xs n p s → n ≤ p
-has_low [] n p s h = absurd h
-has_low (x ∷ xs) n p s (inl h) = omega (arith, h.0)
-has_low (x ∷ xs) n p s (inr h) = omega (arith, has_low xs (n + 1) p s h)
-
-pub get_of_has : (xs : List Spot) (n p k : ℕ) (s : Spot) → p ≡ n + k → HasAt xs n p s → slice_get xs k ≡ Some s
-get_of_has [] n p k s e h = absurd h
-get_of_has (x ∷ xs) n p zero s e (inl h) = ap (λ (y : Spot). Some y) (sym h.1)
-get_of_has (x ∷ xs) n p zero s e (inr h) = let low : n + 1 ≤ p = has_low xs (n + 1) p s h in absurd (omega arith)
-get_of_has (x ∷ xs) n p (suc k) s e (inl h) = let same : p ≡ n = h.0 in absurd (omega arith)
-get_of_has (x ∷ xs) n p (suc k) s e (inr h) = get_of_has xs (n + 1) p k s (omega arith) h
-
-pub has_of_get : (xs : List Spot) (n p k : ℕ) (s : Spot) → p ≡ n + k → slice_get xs k ≡ Some s → HasAt xs n p s
-has_of_get [] n p k s e h = absurd cc
-has_of_get (x ∷ xs) n p zero s e h = inl (omega arith, sym (same_Some x s h))
-has_of_get (x ∷ xs) n p (suc k) s e h = inr (has_of_get xs (n + 1) p k s (omega arith) h)
+use Rattle.hpr_paths.proofs.Placed.{HasAt, has_left, has_right, has_split, get_of_has, has_of_get}
 
 pub count_spots : (b : Body) (n : ℕ) (f : Step) (w : List ℕ) → length (spots_of b n f w) ≡ part_count b
 count_spots done n f w = refl

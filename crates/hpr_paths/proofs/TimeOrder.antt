@@ -111,7 +111,6 @@ before_trans (round t b k) d di i j l (inr (inl h)) g = go (λ x. before_trans k
     go f (inr (inr g)) = absurd (out g.0)
 before_trans (round t b k) d di i j l (inr (inr (x, y, h))) g = go (λ p q. before_trans b (suc d) di.3 i j l p q) h g
   where
-
     in_body : ((at j.0 ≡ at t) × StandsIn b (at l.0)) ⊎ ComesBefore b (suc d) j l → StandsIn b (at l.0)
     in_body (inl g) = g.1
     in_body (inr g) = (before_in b (suc d) j l g).1

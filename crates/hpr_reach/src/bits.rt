@@ -2,6 +2,7 @@
 ghost use Rattle.std.specs.Prelude.{◌≡◌, ◌↔◌, IsTrue};
 ghost use Rattle.hpr_search.specs.Marks.{IsMarked};
 
+use hpr_search::is_marked;
 use std::marker::Model;
 
 /// A row with a bit for each point of a program: the points that are marked.
@@ -31,6 +32,6 @@ impl BitRow {
     pub fn has(&self, point: usize) -> bool
         ensures { IsTrue result ↔ IsMarked self.now point }
     {
-        point < self.marks.len() && self.marks[point]
+        is_marked(&self.marks, point)
     }
 }

@@ -10,7 +10,11 @@ use std::alloc::{AllocError, Global};
 /// The message on the first command of a script that is refused, where the script has this name.
 ///
 /// It fails where memory runs out, also where that is why the command was refused.
-pub fn command_message(alloc: Global, script: &str, refusal: &CommandRefusal) -> Result<String, AllocError>
+pub fn command_message(
+    alloc: Global,
+    script: &str,
+    refusal: &CommandRefusal,
+) -> Result<String, AllocError>
     ensures text { IfOk result (λ text. string_bytes text ≡ command_text script.now refusal.now.number refusal.now.why) }
     ensures memory { IfOk result (λ text. refusal.now.why ≢ EditError.Memory) }
     ensures shape { IfOk result (λ text. refusal.now.why ≢ EditError.Shape ShapeError.Memory) }

@@ -15,7 +15,7 @@ use Rattle.hpr_syntax.specs.Run.{After, step, then_go, turns, run_body, faults, 
 use Rattle.hpr_run.specs.declared.values.Fault.{Fault}
 use Rattle.hpr_run.specs.declared.interpreter.Stop.{Stop}
 use Rattle.hpr_run.specs.declared.interpreter.Stop.TheVariants.{Faulty, Spent, Memory}
-use Rattle.hpr_run.specs.Outcomes.{fault_of, Stepped, Did}
+use Rattle.hpr_run.specs.Outcomes.{fault_of, Did}
 use Rattle.hpr_run.specs.Observed.{Observing, Way, goes, stops, spent, step_way, then_way, walk_turns, walk, after_in}
 
 -- without its observer, an observed run is the run
@@ -124,35 +124,15 @@ module _ {O A : Type 0} (w : Observing O A) where
     failed_in stop o' s' left' did =
         subst (λ (y : Way O). Did (Err stop) y o' s' left') (sym whole_before) (stopped_before stop x (body_of (drop (i + 1) xs)) a o s left o' s' left' did)
 
-    -- and one behind which it goes on
-    pub went_in : (o' : O) (s' : Values) (left' : ℕ) → walk w (before x done) a o s left ≡ goes o' s' left' → whole ≡ walk w (body_of (drop (i + 1) xs)) a o' s' left'
-    went_in o' s' left' did =
-        whole_before ∙ walk_before x (body_of (drop (i + 1) xs)) a o s left ∙ ap (λ y. then_way y (walk w (body_of (drop (i + 1) xs)) a)) did
-
   -- the turn k of a loop that may make `most` of them
   module _ (t : Tag) (e : Expr) (b : Body) (a : A) (most k : ℕ) (lt : k < most) (whole : Way O) (o : O) (s : Values) (l : ℕ)
       (so_far : whole ≡ walk_turns w k (most - k) t e (walk w b) a o s l) (inside : A) (at : inside ≡ w.in_turn a k) where
     one_more : whole ≡ walk_turns w k (suc (most - (k + 1))) t e (walk w b) a o s l
     one_more = let n : most - k ≡ suc (most - (k + 1)) = omega arith in so_far ∙ ap (λ (m : ℕ). walk_turns w k m t e (walk w b) a o s l) n
 
-    -- its step is not done
-    pub step_failed : (stop : Stop) (o' : O) (l' : ℕ) → Stepped (Err stop) t (value e s) (λ v. w.told inside t e v s o) o l o' l' → Did (Err stop) whole o' s l'
-    step_failed Memory o' l' d = tt
-    step_failed Spent o' l' d =
-        one_more ∙ ap (λ (n : ℕ). walk_turns w k (suc (most - (k + 1))) t e (walk w b) a o s n) d.0 ∙ ap (λ (x : O). spent x) (sym d.1)
-    step_failed (Faulty u f) o' l' d =
-        let first : walk_turns w k (suc (most - (k + 1))) t e (walk w b) a o s l ≡ stops t (fault_of f) o l' = rw (d.0, d.2) refl in
-        one_more ∙ first ∙ ap (λ (z : Tag). stops z (fault_of f) o l') d.1 ∙ ap (λ (x : O). stops u (fault_of f) x l') (sym d.3)
-
     module _ (v : ℤ) (o' : O) (l' : ℕ) (one : l ≡ suc l') (is : value e s ≡ Ok v) (new : o' ≡ w.told inside t e v s o) where
       seen : o' ≡ w.told (w.in_turn a k) t e v s o
       seen = new ∙ ap (λ (x : A). w.told x t e v s o) at
-
-      -- the predicate is false
-      pub last_turn : is_true v ≡ false → whole ≡ goes o' s l'
-      last_turn fails =
-          let first : walk_turns w k (suc (most - (k + 1))) t e (walk w b) a o s l ≡ goes (w.told (w.in_turn a k) t e v s o) s l' = rw (one, is, fails) refl in
-          one_more ∙ first ∙ ap (λ (x : O). goes x s l') (sym seen)
 
       turn : is_true v ≡ true → whole ≡ then_way (walk w b inside o' s l') (walk_turns w (k + 1) (most - (k + 1)) t e (walk w b) a)
       turn holds =
@@ -166,13 +146,7 @@ module _ {O A : Type 0} (w : Observing O A) where
           ∙ ap (λ (x : A). then_way (walk w b x o' s l') (walk_turns w (suc k) m t e (walk w b) a)) (sym at)
           ∙ ap (λ (n : ℕ). then_way (walk w b inside o' s l') (walk_turns w n m t e (walk w b) a)) (sym next)
 
-      -- its block stops the run
-      pub turn_failed : is_true v ≡ true → (stop : Stop) (o'' : O) (s'' : Values) (l'' : ℕ) → Did (Err stop) (walk w b inside o' s l') o'' s'' l'' → Did (Err stop) whole o'' s'' l''
-      turn_failed holds Memory o'' s'' l'' d = tt
-      turn_failed holds Spent o'' s'' l'' d = turn holds ∙ ap (λ y. then_way y (walk_turns w (k + 1) (most - (k + 1)) t e (walk w b) a)) d
-      turn_failed holds (Faulty u f) o'' s'' l'' d = turn holds ∙ ap (λ y. then_way y (walk_turns w (k + 1) (most - (k + 1)) t e (walk w b) a)) d
-
-      -- and one behind which it goes on
+      -- it goes on behind the block
       pub turn_done : is_true v ≡ true → (o'' : O) (s'' : Values) (l'' : ℕ) → walk w b inside o' s l' ≡ goes o'' s'' l''
           → whole ≡ walk_turns w (k + 1) (most - (k + 1)) t e (walk w b) a o'' s'' l''
       turn_done holds o'' s'' l'' d = turn holds ∙ ap (λ y. then_way y (walk_turns w (k + 1) (most - (k + 1)) t e (walk w b) a)) d

@@ -35,7 +35,7 @@ outcome_of (Ends finals steps) = ends finals steps
 outcome_of (Faults tag fault steps) = faults tag (fault_of fault) steps
 outcome_of (More steps) = more steps
 
-abbrev pub Stepped : {O : Type 0} → Result ℤ Stop → Tag → Answer → (ℤ → O) → O → ℕ → O → ℕ → Type 0
+abbrev pub Stepped : {O : Type 0} → Result Value Stop → Tag → Answer → (Value → O) → O → ℕ → O → ℕ → Type 0
 Stepped (Ok v) t a told o n o' left = (n ≡ suc left) × (a ≡ Ok v) × (o' ≡ told v)
 Stepped (Err Spent) t a told o n o' left = (n ≡ 0) × (o' ≡ o)
 Stepped (Err (Faulty u f)) t a told o n o' left = (n ≡ suc left) × (t ≡ u) × (a ≡ Err (fault_of f)) × (o' ≡ o)

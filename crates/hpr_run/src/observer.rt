@@ -1,9 +1,10 @@
 //! What watches a run.
-ghost use Rattle.std.specs.Prelude.{◌≡◌, ℕ, ℤ, List, IfOk, OnOk};
+ghost use Rattle.std.specs.Prelude.{◌≡◌, ℕ, List, IfOk, OnOk};
 ghost use Rattle.hpr_terms.specs.declared.tag.Tag.{Tag};
 ghost use Rattle.hpr_terms.specs.declared.expr.Expr.{Expr};
-ghost use Rattle.hpr_syntax.specs.Values.{Values};
+ghost use Rattle.hpr_syntax.specs.Values.{Value, Values};
 
+use crate::Value;
 use crate::state::State;
 use hpr_syntax::{Expr, Name, NoMemory, Tag};
 use std::alloc::Global;
@@ -17,7 +18,7 @@ pub trait Observer {
     ghost in_turn: { Self.Turns → ℕ → Self.Turns };
 
     // what is known after a step under these turns: the part's expression gave the number in the state
-    ghost told: { Self.Turns → Tag → Expr → ℤ → Values → Self → Self };
+    ghost told: { Self.Turns → Tag → Expr → Value → Values → Self → Self };
 
     // what is known after the last step gave its number to the name
     ghost assigned: { List ℕ → Self → Self };
@@ -38,7 +39,7 @@ pub trait Observer {
         around: &Self::Turns,
         tag: Tag,
         expr: &Expr,
-        value: i64,
+        value: Value,
         state: &State,
     ) -> Result<(), NoMemory>
         ensures { OnOk result (self.new ≡ told around.now tag expr.now value state.now self.old) };
@@ -71,7 +72,7 @@ impl Observer for Nobody {
         _around: &(),
         _tag: Tag,
         _expr: &Expr,
-        _value: i64,
+        _value: Value,
         _state: &State,
     ) -> Result<(), NoMemory> {
         Ok(())

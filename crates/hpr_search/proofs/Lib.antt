@@ -1,2 +1,4 @@
-pub mod Rows
+pub mod Marked
 pub mod Turns
+pub mod RowLists
+mod RowLaws

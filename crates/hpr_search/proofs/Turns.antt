@@ -4,7 +4,7 @@ use Rattle.std.proofs.lemmas.List.{get_or_append_left, get_or_default, length-ap
 use Rattle.std.proofs.lemmas.List.Elements.{Contains-append_left}
 use Rattle.hpr_search.specs.Walks.{Walk, IsReached}
 use Rattle.hpr_search.specs.Marks.{IsMarked, IsRowOf, Visited}
-use Rattle.hpr_search.proofs.Rows.{mark_count-le-length, marked_within, same_or_other}
+use Rattle.hpr_search.proofs.Marked.{mark_count-le-length, marked_within, same_or_other}
 
 -- a walk may have one more step at its end
 pub walk_more : (steps : ℕ → List ℕ) (a : ℕ) (via : List ℕ) (b c : ℕ) → Walk steps a via b → Contains (steps b) c → Walk steps a (via ++ c ∷ []) c

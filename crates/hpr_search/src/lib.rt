@@ -2,7 +2,11 @@
 #![tactic(auto)]
 
 mod digraph;
+mod marks;
+mod rows;
 mod search;
 
 pub use digraph::Digraph;
+pub use marks::is_marked;
+pub use rows::Rows;
 pub use search::reachable;

@@ -1,5 +1,3 @@
-pub mod RowLists
-mod RowLaws
 mod SourceRows
 mod Walks
 mod Marked

@@ -10,8 +10,9 @@ use Rattle.hpr_graph.specs.Numbered.{Numbered, IsNumbered, IsMarkedVertex, graph
 use Rattle.hpr_graph.specs.Slices.{IsReached, ReachesOne}
 use Rattle.hpr_graph.proofs.Laws.{restrict_same_on, closed_by_numbers}
 use Rattle.hpr_slice.specs.Vertices.{IsOneOf, MarksExactly}
-use Rattle.hpr_slice.specs.Neighbours.{AreSources, AreTurned, numbers_at}
+use Rattle.hpr_slice.specs.Neighbours.{AreSources}
 use Rattle.hpr_graph.proofs.Lists.{place_of}
+use Rattle.hpr_search.specs.Rows.{AreTurned, numbers_at}
 use Rattle.hpr_slice.proofs.Walks.{leads_back, walk_back, leads_ahead, walk_ahead}
 
 module _ (g : Numbered) (k : IsNumbered g) (rows : List (List ℕ)) (sources : AreSources g rows) (numbers : List ℕ) (within : All (λ n. n < length g.vertices) numbers) (marks : List Bool) where

@@ -5,10 +5,10 @@ use Rattle.std.proofs.lemmas.Option.{slice_get_within}
 use Rattle.hpr_graph.specs.declared.vertex.Vertex.{Vertex}
 use Rattle.hpr_graph.specs.declared.link.Link.{Link}
 use Rattle.hpr_graph.specs.Numbered.{Numbered, IsNumbered, row_of}
-use Rattle.hpr_slice.specs.Neighbours.{Follows, HasSource, AreSources, AreWithin, numbers_at, numbers_of}
+use Rattle.hpr_search.specs.Rows.{AreWithin, numbers_at, numbers_of}
+use Rattle.hpr_slice.specs.Neighbours.{Follows, HasSource, AreSources}
 use Rattle.hpr_graph.proofs.Lists.{in_taken}
-use Rattle.hpr_slice.proofs.RowLists.{length_rows}
-use Rattle.hpr_slice.proofs.RowLaws.{row_within}
+use Rattle.hpr_search.proofs.RowLists.{length_rows, row_within}
 
 -- a number that is put where F holds
 pub put_where : (F : Type 0) (old new : List ℕ) (number : ℕ) → F → ((n : ℕ) → Contains new n ↔ (Contains old n ⊎ (number ≡ n))) → (n : ℕ) → Contains new n ↔ (Contains old n ⊎ (F × (number ≡ n)))

@@ -10,7 +10,8 @@ use Rattle.hpr_graph.specs.declared.link.LinkKind.TheVariants.{Control, Independ
 use Rattle.hpr_graph.specs.Graphs.{Graph}
 use Rattle.hpr_graph.specs.Numbered.{Numbered, IsKindAt, IsNumbered, HasEdge, graph_in}
 use Rattle.hpr_graph.specs.Slices.{Leads, LeadsTo}
-use Rattle.hpr_slice.specs.Neighbours.{Follows, AreSources, AreTurned, numbers_at}
+use Rattle.hpr_search.specs.Rows.{AreTurned, numbers_at}
+use Rattle.hpr_slice.specs.Neighbours.{Follows, AreSources}
 use Rattle.hpr_graph.proofs.Lists.{some_inj}
 
 kind_leads : (vs : List Vertex) (k : LinkKind) (v : Vertex) (e : Kind) → IsKindAt vs k v e → Follows k → Leads e

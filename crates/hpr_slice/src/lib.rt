@@ -3,7 +3,6 @@
 //! The slices are those of Reps and Yang (1988).
 #![tactic(auto)]
 
-mod rows;
 mod slices;
 mod sources;
 

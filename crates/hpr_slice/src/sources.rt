@@ -5,9 +5,8 @@ ghost use Rattle.hpr_graph.specs.Slices.{IsReached, ReachesOne};
 ghost use Rattle.hpr_slice.specs.Vertices.{IsOneOf, MarksExactly};
 ghost use Rattle.hpr_slice.specs.Neighbours.{Follows, HasSource};
 
-use crate::rows::Rows;
 use hpr_graph::{Graph, Link, LinkKind, NoMemory};
-use hpr_search::reachable;
+use hpr_search::{Rows, reachable};
 use std::alloc::Global;
 use std::marker::Model;
 

@@ -7,12 +7,10 @@ use Rattle.hpr_syntax.specs.declared.rows.Content.TheVariants.{If, While}
 use Rattle.hpr_syntax.specs.Rows.{content_by}
 use Rattle.hpr_syntax.specs.Contents.{answer_of, next_state}
 use Rattle.hpr_syntax.specs.Body.{Body, done, action, branch, loop}
-use Rattle.hpr_syntax.specs.Run.{ends, FinalValues}
+use Rattle.hpr_syntax.specs.Run.{ends, FinalValues, After, goes, stops, spent, step, then_go, turns, run_body, run, outcome}
 use Rattle.hpr_syntax.specs.Meaning.{Ends}
 use Rattle.hpr_syntax.specs.Values.{Values}
 use Rattle.hpr_syntax.specs.Value.{Answer, is_true}
-use Rattle.hpr_syntax.specs.Run.{After, goes, stops, spent, step, then_go, turns, run_body}
-use Rattle.hpr_syntax.specs.Run.{run, outcome}
 use Rattle.hpr_syntax.proofs.Runs.{LeavesAtMost, run_body_leaves}
 
 -- y is x with k more steps left, unless x spent all that it had

@@ -9,9 +9,8 @@ use Rattle.std.specs.Prelude.{◌≡◌, true, false, ◌⊎◌, List, [], ◌�
 use Rattle.hpr_terms.specs.declared.tag.Tag.{Tag}
 use Rattle.hpr_syntax.specs.declared.rows.Content.{Content}
 use Rattle.hpr_syntax.specs.declared.rows.Content.TheVariants.{If, While}
-use Rattle.hpr_syntax.specs.Rows.{content_by}
+use Rattle.hpr_syntax.specs.Rows.{content_by, Parent}
 use Rattle.hpr_syntax.specs.Body.{Body, done, action, branch, loop}
-use Rattle.hpr_syntax.specs.Rows.{Parent}
 
 pub record Standing : Type 0 where
   pub content : Content

@@ -6,9 +6,7 @@ use Rattle.clap.specs.Kinds.{or_else}
 use Rattle.clap.specs.Faults.{built_fault, check_fault, defaults_fault, entered_fault, turn_fault, walk_fault, settle_fault, use_fault}
 use Rattle.clap.specs.Simple.{Shape, entered}
 use Rattle.hpr_words.proofs.Items.{Item, word, valued, flag, words_of, rows_from, item_rule, item_values, is_plain, place_after}
-use Rattle.hpr_words.proofs.StepLemmas.{walk_fault-next, IsPositional, IsOption, at, rows_at, held_with, held_waiting}
-use Rattle.hpr_words.proofs.StepLemmas.{waiting_at, walked-positional, turn_fault-positional, rows-positional, settle_fault-positional, walked-option, walked-option_value}
-use Rattle.hpr_words.proofs.StepLemmas.{turn_fault-option, turn_fault-option_value, rows-option, settle_fault-option, IsFlag, held_flag, walked-flag, turn_fault-flag}
+use Rattle.hpr_words.proofs.StepLemmas.{walk_fault-next, IsPositional, IsOption, at, rows_at, held_with, held_waiting, waiting_at, walked-positional, turn_fault-positional, rows-positional, settle_fault-positional, walked-option, walked-option_value, turn_fault-option, turn_fault-option_value, rows-option, settle_fault-option, IsFlag, held_flag, walked-flag, turn_fault-flag}
 
 -- the item is one of the command's at this place
 abbrev pub Fits : Shape → ℕ → Item → Type 0

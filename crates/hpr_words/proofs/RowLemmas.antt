@@ -1,6 +1,5 @@
 -- What the rows hold of an argument, by its id.
-use Rattle.std.proofs.Common.{◌≡◌, ◌∙◌, Bool, true, false, cond, List, [], ◌∷◌, ◌++◌, Option, Some}
-use Rattle.std.proofs.Common.{None, is_some, option_map, find, slice_get, unwrap_or, refl, sym, ap, append-nil, bytes_eq, true≢false, fold}
+use Rattle.std.proofs.Common.{◌≡◌, ◌∙◌, Bool, true, false, cond, List, [], ◌∷◌, ◌++◌, Option, Some, None, is_some, option_map, find, slice_get, unwrap_or, refl, sym, ap, append-nil, bytes_eq, true≢false, fold}
 use Rattle.std.specs.Prelude.{◌||◌, if◌then◌else◌, option_and_then}
 use Rattle.std.specs.Option.{option_map_or}
 use Rattle.std.proofs.lemmas.Slice.Eq.{bytes_eq-Decides}

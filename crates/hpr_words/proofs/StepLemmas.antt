@@ -5,8 +5,7 @@ use Rattle.std.specs.Str.{bytes_eq}
 use Rattle.clap.proofs.OnLiterals.{clap_on_literals}
 use Rattle.clap.proofs.SimpleLemmas.{is_false}
 use Rattle.clap.specs.Lexer.{long_of}
-use Rattle.clap.specs.Walk.{Held, Row, Rule, Text, Walk, walked, arg_by_id, arg_by_index, arg_by_long, idle, option}
-use Rattle.clap.specs.Walk.{positional, settled, settled_rows, used, pushed, is_multiple, takes_several, takes_values, most_values, next_position, to_positional, value}
+use Rattle.clap.specs.Walk.{Held, Row, Rule, Text, Walk, walked, arg_by_id, arg_by_index, arg_by_long, idle, option, positional, settled, settled_rows, used, pushed, is_multiple, takes_several, takes_values, most_values, next_position, to_positional, value}
 use Rattle.clap.specs.Kinds.{or_else}
 use Rattle.clap.specs.Faults.{turn_fault, settle_fault, use_fault, step_fault, walk_fault}
 use Rattle.clap.specs.Simple.{Shape}

@@ -1,6 +1,5 @@
 -- Items used in any order: each passes, and the rows hold what the items give.
-use Rattle.std.proofs.Common.{◌≡◌, ◌∙◌, ◌≤◌, ◌⊎◌, inl, inr, ℕ, Bool, true, false, cond, List, [], ◌∷◌, ◌++◌, Some}
-use Rattle.std.proofs.Common.{is_some, find, slice_get, length, refl, sym, ap, ap₂, append_assoc, append-nil, length-append, arith, bytes_eq, true≢false, unwrap_or, ◌+◌}
+use Rattle.std.proofs.Common.{◌≡◌, ◌∙◌, ◌≤◌, ◌⊎◌, inl, inr, ℕ, Bool, true, false, cond, List, [], ◌∷◌, ◌++◌, Some, is_some, find, slice_get, length, refl, sym, ap, ap₂, append_assoc, append-nil, length-append, arith, bytes_eq, true≢false, unwrap_or, ◌+◌}
 use Rattle.std.specs.Prelude.{◌&&◌, ◌||◌, not, nat_le}
 use Rattle.std.specs.List.{fold, list_all, list_any}
 use Rattle.std.proofs.lemmas.Bool.{leb-true}
@@ -15,8 +14,7 @@ use Rattle.clap.specs.Faults.{action_fault, built_fault, check_fault, defaults_f
 use Rattle.clap.specs.Kinds.{Kinds, or_else, range_kinds}
 use Rattle.clap.specs.Simple.{Shape}
 use Rattle.clap.specs.Takes.{is_given, value_passes}
-use Rattle.clap.specs.Walk.{Row, Rule, Text, action_of, arg_by_id, has_row, is_append, is_empty}
-use Rattle.clap.specs.Walk.{most_values, nothing_held, reading_by, rows_after, used, used_as, with_default, with_values, without}
+use Rattle.clap.specs.Walk.{Row, Rule, Text, action_of, arg_by_id, has_row, is_append, is_empty, most_values, nothing_held, reading_by, rows_after, used, used_as, with_default, with_values, without}
 use Rattle.hpr_words.proofs.Items.{Item, flag, item_put, item_rule, item_values, is_plain, place_after, rows_from, valued, word, words_of}
 use Rattle.hpr_words.proofs.ItemLemmas.{AreTaken, Fits, items_taken}
 use Rattle.hpr_words.proofs.StepLemmas.{IsFlag, IsOption, IsPositional}

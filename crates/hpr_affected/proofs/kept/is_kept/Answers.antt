@@ -1,7 +1,7 @@
 use Rattle.std.proofs.Common.{◌≡◌, ◌↔◌, ℕ, Option, IsTrue, List, subst}
 use Rattle.hpr_graph.specs.declared.link.Link.{Link}
 use Rattle.hpr_graph.specs.Numbered.{rows_of}
-use Rattle.hpr_slice.proofs.RowLists.{read_slice}
+use Rattle.hpr_search.proofs.RowLists.{read_slice}
 use Rattle.hpr_affected.specs.Lacking.{IsMarkedThere, NoneInside, links_at}
 use Rattle.hpr_affected.proofs.kept.is_kept.Goals as goal
 

@@ -1,7 +1,7 @@
 use Rattle.std.proofs.Common.{◌≡◌, ◌∙◌, List, [], ◌∷◌, ◌++◌, ap, subst, sym, arith}
 use Rattle.hpr_graph.specs.declared.link.Link.{Link}
 use Rattle.hpr_graph.specs.Numbered.{row_of, rows_of}
-use Rattle.hpr_slice.proofs.RowLists.{push_row, length_rows, rows_more}
+use Rattle.hpr_search.proofs.RowLists.{push_row, length_rows, rows_more}
 use Rattle.hpr_affected.specs.Lacking.{AreWithout, IsThere, links_at}
 use Rattle.hpr_affected.proofs.lacking.lacking_rows.Goals as goal
 

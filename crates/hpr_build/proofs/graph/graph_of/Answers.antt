@@ -2,12 +2,11 @@ use Rattle.std.proofs.Common.{◌∙◌, ℕ, Err, List, sym, ap, subst, arith}
 use Rattle.std.proofs.lemmas.Result.{err_from_is_err_and}
 use Rattle.hpr_syntax.specs.Tree.{Tree}
 use Rattle.hpr_graph.specs.declared.vertex.Vertex.{Vertex}
-use Rattle.hpr_graph.specs.Graphs.{Same, HasMoreEdges}
+use Rattle.hpr_graph.specs.Graphs.{Same, HasMoreEdges, IsOnce}
 use Rattle.hpr_graph.specs.Numbered.{graph_in}
 use Rattle.hpr_graph.specs.ProgramGraph.{graph_of}
 use Rattle.hpr_build.specs.declared.error.BuildError.{BuildError}
 use Rattle.hpr_build.specs.declared.error.BuildError.TheVariants.{TooManyEdges}
-use Rattle.hpr_graph.specs.Graphs.{IsOnce}
 use Rattle.hpr_build.proofs.Bridge.{once_vertices, same_graph, more_edges, no_more_edges}
 use Rattle.hpr_build.proofs.InOrder.{names_once}
 use Rattle.hpr_build.proofs.LinkTurns.{no_count, same_error}

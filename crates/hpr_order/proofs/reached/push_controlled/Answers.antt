@@ -8,10 +8,10 @@ use Rattle.hpr_order.proofs.reached.push_controlled.Goals as goal
 no_link : Link
 no_link = record { from = 0; kind = Control false }
 
-pub push_link-requires : goal.push_link-requires
+pub push_link-requires-clause-from : goal.push_link-requires-clause-from
 unfolding no_link
-push_link-requires c =
-    omega (arith, c.requires (get_or c.args.links.now c.loop-link.link-index no_link) (Contains-get_or c.args.links.now c.loop-link.link-index no_link c.loop-link-test.true), c.loop-link.invariant.count)
+push_link-requires-clause-from c =
+    omega (arith, c.requires.links (get_or c.args.links.now c.loop-link.link-index no_link) (Contains-get_or c.args.links.now c.loop-link.link-index no_link c.loop-link-test.true), c.loop-link.invariant.count)
 
 pub loop-link-preserved : goal.loop-link-preserved
 unfolding no_link

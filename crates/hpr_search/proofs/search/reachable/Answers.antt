@@ -1,7 +1,7 @@
 use Rattle.std.proofs.Common.{◌≡◌, ◌∙◌, ◌<◌, ◌++◌, [], length, false, ap, subst, arith}
 use Rattle.std.proofs.lemmas.List.{length-replicate}
 use Rattle.hpr_search.specs.Marks.{Visited}
-use Rattle.hpr_search.proofs.Rows.{empty_row}
+use Rattle.hpr_search.proofs.Marked.{empty_row}
 use Rattle.hpr_search.proofs.Turns.{search_start, search_step, search_complete, listed_within, next_within}
 use Rattle.hpr_search.proofs.search.reachable.Goals as goal
 

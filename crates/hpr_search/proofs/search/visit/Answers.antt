@@ -1,6 +1,6 @@
 use Rattle.std.proofs.Common.{◌≡◌, ◌∙◌, ℕ, ◌+◌, ◌<◌, true, false, sym, ap, length, take, set, get_or, ◌++◌, ◌∷◌, [], arith}
 use Rattle.std.proofs.lemmas.List.{take_more, get_or_default}
-use Rattle.hpr_search.proofs.Rows.{visited_again, visited_new}
+use Rattle.hpr_search.proofs.Marked.{visited_again, visited_new}
 use Rattle.hpr_search.proofs.search.visit.Goals as goal
 use Rattle.hpr_search.proofs.search.visit.Goals.{then-not-index+in_ok-push, else-not-index}
 

@@ -6,14 +6,12 @@ use Rattle.hpr_edit.proofs.editor.Editor.apply.Goals as goal
 
 pub returns-in-Ok-clause-edited : goal.returns-in-Ok-clause-edited
 returns-in-Ok-clause-edited c =
-    let p = c.self.inside.program in
     let a = c.self.inside.author in
     let new = c.next_tag-new.ensures.tag ∙ ap (new_tag a) c.issued.ensures.issued in
     rw (← c.self.view_is) (c.in-Ok.ensures a new)
 
 pub returns-in-Ok-clause-undoes : goal.returns-in-Ok-clause-undoes
 returns-in-Ok-clause-undoes c =
-    let p = c.self.inside.program in
     let a = c.self.inside.author in
     let new = c.next_tag-new.ensures.tag ∙ ap (new_tag a) c.issued.ensures.issued in
     rw (← c.self.view_is) (record { is = c.issued.ensures.program; command = c.args.command.now; author = a; left = c.in-Ok.program; edited = c.in-Ok.ensures a new; body = refl; finals = refl })

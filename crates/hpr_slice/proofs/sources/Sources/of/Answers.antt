@@ -1,8 +1,9 @@
 use Rattle.std.proofs.Common.{◌≡◌, ◌∙◌, ℕ, ◌↔◌, List, ◌∷◌, [], ◌++◌, Contains, length, ap, arith, subst, sym}
 use Rattle.hpr_graph.specs.Numbered.{row_of, row_items}
 use Rattle.hpr_graph.specs.declared.link.Link.{Link}
-use Rattle.hpr_slice.specs.Neighbours.{HasSource, AreSources, numbers_at, numbers_of}
-use Rattle.hpr_slice.proofs.RowLists.{push_row, length_rows, rows_more}
+use Rattle.hpr_search.specs.Rows.{numbers_at, numbers_of}
+use Rattle.hpr_search.proofs.RowLists.{push_row, length_rows, rows_more}
+use Rattle.hpr_slice.specs.Neighbours.{HasSource, AreSources}
 use Rattle.hpr_slice.proofs.SourceRows.{rows_count, rows_within, rows_sources}
 use Rattle.hpr_slice.proofs.sources.Sources.of.Goals as goal
 
