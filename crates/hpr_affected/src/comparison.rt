@@ -73,7 +73,8 @@ impl<'a> Comparison<'a> {
     /// of the two slices a fixed number of times.
     pub(crate) fn is_shared(&self, at: usize) -> Result<bool, NoMemory>
         requires { at < length self.now.graph.vertices }
-        ensures { IfOk result (λ shared. (v : Vertex) → slice_get self.now.graph.vertices at ≡ Some v → IsTrue shared ↔ IsShared (graph_in self.now.graph) (graph_in self.now.other) v) }
+        ensures { IfOk result (λ shared. (v : Vertex) → slice_get self.now.graph.vertices at ≡ Some v → IsTrue shared
+            ↔ IsShared (graph_in self.now.graph) (graph_in self.now.other) v) }
     {
         match number_at(&self.there.numbers, at) {
             Some(to) => self.is_same_slice(at, to),
@@ -85,7 +86,8 @@ impl<'a> Comparison<'a> {
     fn is_same_slice(&self, at: usize, to: usize) -> Result<bool, NoMemory>
         requires at { at < length self.now.graph.vertices }
         requires to { slice_get self.now.other.vertices to ≡ slice_get self.now.graph.vertices at }
-        ensures { IfOk result (λ same. (v : Vertex) → slice_get self.now.graph.vertices at ≡ Some v → IsTrue same ↔ Same (slice_at (graph_in self.now.graph) v) (slice_at (graph_in self.now.other) v)) }
+        ensures { IfOk result (λ same. (v : Vertex) → slice_get self.now.graph.vertices at ≡ Some v → IsTrue same
+            ↔ Same (slice_at (graph_in self.now.graph) v) (slice_at (graph_in self.now.other) v)) }
     {
         let marks = self.sources.reaching(&[at])?;
         let others = self.others.reaching(&[to])?;

@@ -55,7 +55,8 @@ fn lacking_rows(
 ) -> Result<Vec<Vec<Link>>, NoMemory>
     requires { AreNumbersIn graph.now other.now numbers.now }
     ensures count { IfOk result (λ rows. length rows.items ≡ length graph.now.vertices) }
-    ensures lacking { IfOk result (λ rows. (at : ℕ) → at < length graph.now.vertices → AreWithout (IsThere other.now numbers.now at) (row_of graph.now at) (links_at (rows_of rows.items) at)) }
+    ensures lacking { IfOk result (λ rows. (at : ℕ) → at < length graph.now.vertices
+        → AreWithout (IsThere other.now numbers.now at) (row_of graph.now at) (links_at (rows_of rows.items) at)) }
 {
     let mut rows = Vec::new(alloc);
     for at in 0..graph.vertex_count() {

@@ -15,7 +15,8 @@ use std::alloc::Global;
 ///
 /// Compares the slices at each vertex of the variant that the base has, which takes two searches.
 pub fn affected(alloc: Global, variant: &Graph, base: &Graph) -> Result<Vec<usize>, NoMemory>
-    ensures { IfOk result (λ points. AreNumbersOf variant.now (IsAffected (graph_in variant.now) (graph_in base.now)) points.items) }
+    ensures { IfOk result (λ points. AreNumbersOf variant.now
+        (IsAffected (graph_in variant.now) (graph_in base.now)) points.items) }
 {
     let comparison = Comparison::of(alloc, variant, base)?;
     let mut points = Vec::new(alloc);
@@ -32,7 +33,8 @@ pub fn affected(alloc: Global, variant: &Graph, base: &Graph) -> Result<Vec<usiz
 ///
 /// Compares the slices at each vertex of the base, which takes two searches for each variant.
 pub fn preserved(alloc: Global, base: &Graph, a: &Graph, b: &Graph) -> Result<Vec<usize>, NoMemory>
-    ensures { IfOk result (λ points. AreNumbersOf base.now (IsPreserved (graph_in base.now) (graph_in a.now) (graph_in b.now)) points.items) }
+    ensures { IfOk result (λ points. AreNumbersOf base.now (IsPreserved (graph_in base.now) (graph_in a.now)
+        (graph_in b.now)) points.items) }
 {
     let with_a = Comparison::of(alloc, base, a)?;
     let with_b = Comparison::of(alloc, base, b)?;
@@ -48,7 +50,8 @@ fn preserved_in(
 ) -> Result<Vec<usize>, NoMemory>
     requires a { with_a.now.graph ≡ base.now }
     requires b { with_b.now.graph ≡ base.now }
-    ensures { IfOk result (λ points. AreNumbersOf base.now (IsPreserved (graph_in base.now) (graph_in with_a.now.other) (graph_in with_b.now.other)) points.items) }
+    ensures { IfOk result (λ points. AreNumbersOf base.now (IsPreserved (graph_in base.now)
+        (graph_in with_a.now.other) (graph_in with_b.now.other)) points.items) }
 {
     let mut points = Vec::new(alloc);
     for at in 0..base.vertex_count() {
@@ -68,7 +71,8 @@ fn is_preserved(
     requires at { at < length base.now.vertices }
     requires a { with_a.now.graph ≡ base.now }
     requires b { with_b.now.graph ≡ base.now }
-    ensures { IfOk result (λ kept. (v : Vertex) → slice_get base.now.vertices at ≡ Some v → IsTrue kept ↔ IsPreserved (graph_in base.now) (graph_in with_a.now.other) (graph_in with_b.now.other) v) }
+    ensures { IfOk result (λ kept. (v : Vertex) → slice_get base.now.vertices at ≡ Some v → IsTrue kept
+        ↔ IsPreserved (graph_in base.now) (graph_in with_a.now.other) (graph_in with_b.now.other) v) }
 {
     if is_init(base.vertex(at)) {
         return Ok(false);

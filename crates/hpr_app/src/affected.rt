@@ -1,13 +1,12 @@
 //! The command `affected`.
-ghost use Rattle.std.specs.Prelude.{IfOk, IsTrue, Some};
+ghost use Rattle.std.specs.Prelude.{IfOk, IsTrue};
 ghost use Rattle.hpr_graph.specs.Numbered.{graph_in};
 ghost use Rattle.hpr_graph.specs.Points.{IsAffected};
 ghost use Rattle.hpr_report.specs.AffectedText.{IsAffectedText};
 ghost use Rattle.hpr_words.specs.Request.{affected};
-ghost use Rattle.hpr_decisions.specs.Outcome.{OutcomeIfTold};
-ghost use Rattle.hpr_decisions.specs.Reads.{MayRead};
+ghost use Rattle.hpr_decisions.specs.Answered.{Answers};
 ghost use Rattle.hpr_decisions.specs.AffectedFiles.{AffectedPoints};
-ghost use Rattle.hpr_inputs.specs.Answer.{Decides, Merges};
+ghost use Rattle.hpr_inputs.specs.Answer.{Merges};
 
 use crate::graphs::make_graph;
 use hpr_affected::affected;
@@ -27,7 +26,8 @@ pub fn affected_files<S: Shelf>(
 ) -> Result<Report, Stop>
     requires base { IsTrue (S.serves shelf.old base.now) }
     requires a { IsTrue (S.serves shelf.old a.now) }
-    ensures { Decides (OutcomeIfTold (Some (affected base.now a.now)) (S.files shelf.old)) (MayRead (affected base.now a.now) (S.files shelf.old)) (S.faults shelf.old) (S.faults shelf.new) result }
+    ensures { Answers (affected base.now a.now)
+        (S.files shelf.old) (S.faults shelf.old) (S.faults shelf.new) result }
 {
     let base_program = read_program(alloc, base, shelf)?;
     let a_program = read_program(alloc, a, shelf)?;

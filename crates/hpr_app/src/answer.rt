@@ -35,7 +35,8 @@ pub fn write_answer<O: Sink, E: Sink>(
 
 /// Puts a message to `err`; a put that fails changes nothing else.
 pub fn write_message<E: Sink>(message: &[u8], err: &mut E)
-    ensures { Says message.now (record { before = E.faults err.old; now = E.faults err.new; old = E.taken err.old; new = E.taken err.new }) }
+    ensures { Says message.now
+        (record { before = E.faults err.old; now = E.faults err.new; old = E.taken err.old; new = E.taken err.new }) }
 {
     match put_all(err, message) {
         Ok(()) => {}
@@ -45,7 +46,8 @@ pub fn write_message<E: Sink>(message: &[u8], err: &mut E)
 
 fn write_stop<E: Sink>(stop: &Stop, err: &mut E) -> Status
     ensures status { result ≡ stop_status stop.now }
-    ensures says { Says (stop_message stop.now) (record { before = E.faults err.old; now = E.faults err.new; old = E.taken err.old; new = E.taken err.new }) }
+    ensures says { Says (stop_message stop.now)
+        (record { before = E.faults err.old; now = E.faults err.new; old = E.taken err.old; new = E.taken err.new }) }
 {
     write_message(message_of(stop), err);
     status_of(stop)

@@ -1,10 +1,9 @@
 //! The commands: each has its own decision.
-ghost use Rattle.std.specs.Prelude.{All, IsTrue, Some};
+ghost use Rattle.std.specs.Prelude.{All, IsTrue};
 ghost use Rattle.hpr_words.specs.Asked.{request};
 ghost use Rattle.hpr_words.specs.Request.{IsInRange};
-ghost use Rattle.hpr_decisions.specs.Outcome.{OutcomeIfTold};
-ghost use Rattle.hpr_decisions.specs.Reads.{MayRead, files_of};
-ghost use Rattle.hpr_inputs.specs.Answer.{Decides};
+ghost use Rattle.hpr_decisions.specs.Answered.{Answers};
+ghost use Rattle.hpr_decisions.specs.Reads.{files_of};
 
 use crate::affected::affected_files;
 use crate::edit::edit_file;
@@ -23,7 +22,8 @@ use std::alloc::Global;
 pub fn decide<S: Shelf>(alloc: Global, asked: Asked<'_>, shelf: &mut S) -> Result<Report, Stop>
     requires serves { All (λ name. IsTrue (S.serves shelf.old name)) (files_of (request asked)) }
     requires in_range { IsInRange (request asked) }
-    ensures { Decides (OutcomeIfTold (Some (request asked.entry)) (S.files shelf.old)) (MayRead (request asked.entry) (S.files shelf.old)) (S.faults shelf.old) (S.faults shelf.new) result }
+    ensures { Answers (request asked.entry)
+        (S.files shelf.old) (S.faults shelf.old) (S.faults shelf.new) result }
 {
     match asked {
         Asked::Integrate { base, a, b, tries } => {

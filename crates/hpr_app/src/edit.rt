@@ -1,11 +1,10 @@
 //! The command `edit`.
-ghost use Rattle.std.specs.Prelude.{◌≡◌, ◌≤◌, IsTrue, Some};
+ghost use Rattle.std.specs.Prelude.{◌≡◌, ◌≤◌, IsTrue};
 ghost use Rattle.hpr_words.specs.Request.{edit};
 ghost use Rattle.hpr_edit.specs.Applied.{applied};
+ghost use Rattle.hpr_decisions.specs.Answered.{Answers};
 ghost use Rattle.hpr_decisions.specs.EditFiles.{edit_decision};
-ghost use Rattle.hpr_decisions.specs.Outcome.{OutcomeIfTold};
-ghost use Rattle.hpr_decisions.specs.Reads.{MayRead};
-ghost use Rattle.hpr_inputs.specs.Answer.{Decides, Merges};
+ghost use Rattle.hpr_inputs.specs.Answer.{Merges};
 
 use crate::programs::print_program;
 use hpr_edit::{Command, apply_script};
@@ -28,7 +27,8 @@ pub fn edit_file<S: Shelf>(
     requires file { IsTrue (S.serves shelf.old file.now) }
     requires script { IsTrue (S.serves shelf.old script.now) }
     requires author { 1 ≤ author }
-    ensures { Decides (OutcomeIfTold (Some (edit file.now script.now author)) (S.files shelf.old)) (MayRead (edit file.now script.now author) (S.files shelf.old)) (S.faults shelf.old) (S.faults shelf.new) result }
+    ensures { Answers (edit file.now script.now author)
+        (S.files shelf.old) (S.faults shelf.old) (S.faults shelf.new) result }
 {
     let program = read_program(alloc, file, shelf)?;
     let commands = read_commands(alloc, script, shelf)?;

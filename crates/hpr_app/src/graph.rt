@@ -1,11 +1,10 @@
 //! The command `graph`.
-ghost use Rattle.std.specs.Prelude.{IsTrue, IfOk, Some};
+ghost use Rattle.std.specs.Prelude.{IsTrue, IfOk};
 ghost use Rattle.hpr_graph.specs.Numbered.{graph_in};
 ghost use Rattle.hpr_words.specs.Request.{graph};
-ghost use Rattle.hpr_decisions.specs.Outcome.{OutcomeIfTold};
-ghost use Rattle.hpr_decisions.specs.Reads.{MayRead};
+ghost use Rattle.hpr_decisions.specs.Answered.{Answers};
 ghost use Rattle.hpr_decisions.specs.GraphFile.{Graphed, IsShown};
-ghost use Rattle.hpr_inputs.specs.Answer.{Decides, Merges};
+ghost use Rattle.hpr_inputs.specs.Answer.{Merges};
 
 use crate::graphs::make_graph;
 use hpr_graph::Graph;
@@ -23,7 +22,8 @@ pub fn graph_file<S: Shelf>(
     shelf: &mut S,
 ) -> Result<Report, Stop>
     requires { IsTrue (S.serves shelf.old file.now) }
-    ensures { Decides (OutcomeIfTold (Some (graph file.now json)) (S.files shelf.old)) (MayRead (graph file.now json) (S.files shelf.old)) (S.faults shelf.old) (S.faults shelf.new) result }
+    ensures { Answers (graph file.now json)
+        (S.files shelf.old) (S.faults shelf.old) (S.faults shelf.new) result }
 {
     let program = read_program(alloc, file, shelf)?;
     show_graph(alloc, file, &program, json)

@@ -33,7 +33,9 @@ pub fn integrate_files<S: Shelf>(
     requires a { IsTrue (S.serves shelf.old a.now) }
     requires b { IsTrue (S.serves shelf.old b.now) }
     requires tries { 1 ≤ tries }
-    ensures { Decides (λ r. IfTold (S.files shelf.old) (λ fs. IntegrateOutcome fs base.now a.now b.now tries r)) (IsReached (S.files shelf.old) (base.now ∷ a.now ∷ b.now ∷ [])) (S.faults shelf.old) (S.faults shelf.new) result }
+    ensures { Decides (λ r. IfTold (S.files shelf.old) (λ fs. IntegrateOutcome fs base.now a.now b.now tries r))
+        (IsReached (S.files shelf.old) (base.now ∷ a.now ∷ b.now ∷ [])) (S.faults shelf.old)
+        (S.faults shelf.new) result }
 {
     let versions = read_versions(alloc, base, a, b, shelf)?;
     integrate_versions(alloc, base, a, b, &versions, tries)
@@ -114,7 +116,8 @@ fn no_program(alloc: Global, parts: usize) -> Result<Report, Stop>
 }
 
 fn no_program_line(alloc: Global, most: usize, parts: usize) -> Result<String, AllocError>
-    ensures { IfOk result (λ line. string_bytes line ≡ codes "no program with at most " ++ decimal most ++ codes " parts has the merged graph, which has " ++ decimal parts ++ codes " parts\n") }
+    ensures { IfOk result (λ line. string_bytes line ≡ codes "no program with at most " ++ decimal most
+        ++ codes " parts has the merged graph, which has " ++ decimal parts ++ codes " parts\n") }
 {
     format!(in alloc;
         "no program with at most {most} parts has the merged graph, which has {parts} parts\n"

@@ -75,7 +75,8 @@ pub fn hpr<S: Shelf, O: Sink, E: Sink>(
     ensures plain { (asked : Request) → plain (map string_bytes words.now) ≡ Some asked → result ≢ Status.Words }
     ensures read { result ≡ Status.ReadFault → Rose (S.faults shelf.old) (S.faults shelf.new) }
     ensures write { result ≡ Status.WriteFault → Rose (O.faults out.old) (O.faults out.new) }
-    ensures read_grew { S.faults shelf.old < S.faults shelf.new → (result ≡ Status.ReadFault) ⊎ (result ≡ Status.Memory) }
+    ensures read_grew { S.faults shelf.old < S.faults shelf.new → (result ≡ Status.ReadFault)
+        ⊎ (result ≡ Status.Memory) }
     ensures write_grew { O.faults out.old < O.faults out.new → result ≡ Status.WriteFault }
 
     // Where no read and no write failed and nothing is refused, the command does what it is for, if memory was found.
@@ -101,13 +102,14 @@ pub fn hpr<S: Shelf, O: Sink, E: Sink>(
         → (cs : List Conflict) × HasAnswer asked files (interference cs)
         × IsInterference cs (O.taken out.old) (O.taken out.new) result) }
 
-    // NoProgram comes only where no program has the merged graph, and Spent only where none of the arrangements that may
-    // be tried has it and there are more; `out` then takes the line that says so.
+    // NoProgram comes only where no program has the merged graph, and Spent only where none of the arrangements that
+    // may be tried has it and there are more; `out` then takes the line that says so.
     ensures no_program { WhereAsked words.now (S.files shelf.old) (λ asked files. result ≡ Status.NoProgram
         → (parts : ℕ) × HasAnswer asked files (no_program parts)
         × (O.taken out.new ≡ taken_then (O.taken out.old) (no_program_text parts))) }
     ensures spent { WhereAsked words.now (S.files shelf.old) (λ asked files. result ≡ Status.Spent
-        → HasAnswer asked files spent × (O.taken out.new ≡ taken_then (O.taken out.old) (spent_text (tries_of asked)))) }
+        → HasAnswer asked files spent × (O.taken out.new ≡ taken_then (O.taken out.old)
+        (spent_text (tries_of asked)))) }
 
     // Where no read failed, a call with a file that is refused gives its message, if memory was found.
     ensures refused { (message : List ℕ) → WhereAsked words.now (S.files shelf.old) (λ asked files.
@@ -115,7 +117,8 @@ pub fn hpr<S: Shelf, O: Sink, E: Sink>(
         → IsRefusedCall message result
         (record { before = E.faults err.old; now = E.faults err.new; old = E.taken err.old; new = E.taken err.new })) }
 
-    // The integration theorem: the bytes that `out` took in this call spell a program that keeps the meaning of both variants.
+    // The integration theorem: the bytes that `out` took in this call spell a program that keeps the meaning of both
+    // variants.
     ensures keeps { WhereAsked words.now (S.files shelf.old) (λ asked files. result ≡ Status.Done
         → Took (O.taken out.old) (O.taken out.new) (KeepsMeaning asked files)) }
 
@@ -123,8 +126,8 @@ pub fn hpr<S: Shelf, O: Sink, E: Sink>(
     ensures merged { WhereAsked words.now (S.files shelf.old) (λ asked files. result ≡ Status.Done
         → Took (O.taken out.old) (O.taken out.new) (PrintsMerged asked files)) }
 
-    // A trial is finished wherever base, A and B end. Then the merged program ends too, within as many steps as the three
-    // took together, and the rows of the table have what a variant changed and what all three agree on.
+    // A trial is finished wherever base, A and B end. Then the merged program ends too, within as many steps as the
+    // three took together, and the rows of the table have what a variant changed and what all three agree on.
     ensures trial_ends { WhereAsked words.now (S.files shelf.old) (λ asked files. EndsTrial asked files result) }
     ensures trial { WhereAsked words.now (S.files shelf.old) (λ asked files. result ≡ Status.Done
         → Took (O.taken out.old) (O.taken out.new) (KeepsTrial asked files)) }
@@ -154,7 +157,8 @@ fn run_asked<S: Shelf, O: Sink, E: Sink>(
         (record { before = O.faults out.old; now = O.faults out.new; old = O.taken out.old; new = O.taken out.new })
         (record { before = E.faults err.old; now = E.faults err.new; old = E.taken err.old; new = E.taken err.new }) }
     ensures taken { result ≢ Status.Words }
-    ensures read_grew { S.faults shelf.old < S.faults shelf.new → (result ≡ Status.ReadFault) ⊎ (result ≡ Status.Memory) }
+    ensures read_grew { S.faults shelf.old < S.faults shelf.new → (result ≡ Status.ReadFault)
+        ⊎ (result ≡ Status.Memory) }
     ensures write_grew { O.faults out.old < O.faults out.new → result ≡ Status.WriteFault }
 {
     let answer = commands::decide(alloc, asked, shelf);

@@ -1,12 +1,11 @@
 //! The command `run`.
-ghost use Rattle.std.specs.Prelude.{◌≡◌, true, IsTrue, Some, map};
+ghost use Rattle.std.specs.Prelude.{◌≡◌, true, IsTrue, map};
 ghost use Rattle.hpr_words.specs.Request.{run};
 ghost use Rattle.hpr_report.specs.Texts.{outcome_text};
 ghost use Rattle.hpr_run.specs.Outcomes.{outcome_of};
-ghost use Rattle.hpr_decisions.specs.Outcome.{OutcomeIfTold};
-ghost use Rattle.hpr_decisions.specs.Reads.{MayRead};
+ghost use Rattle.hpr_decisions.specs.Answered.{Answers};
 ghost use Rattle.hpr_decisions.specs.RunFile.{Ran, kind_of};
-ghost use Rattle.hpr_inputs.specs.Answer.{Decides, Merges};
+ghost use Rattle.hpr_inputs.specs.Answer.{Merges};
 
 use crate::trace_text::trace_text;
 use hpr_inputs::{Kind, Report, Stop, read_program, read_state};
@@ -28,7 +27,8 @@ pub fn run_file<S: Shelf>(
     shelf: &mut S,
 ) -> Result<Report, Stop>
     requires { IsTrue (S.serves shelf.old file.now) }
-    ensures { Decides (OutcomeIfTold (Some (run file.now (map (λ w. w.now) words.now) steps trace)) (S.files shelf.old)) (MayRead (run file.now (map (λ w. w.now) words.now) steps trace) (S.files shelf.old)) (S.faults shelf.old) (S.faults shelf.new) result }
+    ensures { Answers (run file.now (map (λ w. w.now) words.now) steps trace)
+        (S.files shelf.old) (S.faults shelf.old) (S.faults shelf.new) result }
 {
     let state = read_state(alloc, words)?;
     let program = read_program(alloc, file, shelf)?;

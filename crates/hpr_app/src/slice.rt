@@ -1,14 +1,13 @@
 //! The command `slice`.
-ghost use Rattle.std.specs.Prelude.{◌<◌, All, IfOk, IsTrue, Some, length, map};
+ghost use Rattle.std.specs.Prelude.{◌<◌, All, IfOk, IsTrue, length, map};
 ghost use Rattle.hpr_graph.specs.Numbered.{graph_in};
 ghost use Rattle.hpr_graph.specs.Slices.{slice_of};
 ghost use Rattle.hpr_slice.specs.Vertices.{IsOneOf};
 ghost use Rattle.hpr_report.specs.GraphTexts.{IsGraphText};
 ghost use Rattle.hpr_words.specs.Request.{slice};
-ghost use Rattle.hpr_decisions.specs.Outcome.{OutcomeIfTold};
-ghost use Rattle.hpr_decisions.specs.Reads.{MayRead};
+ghost use Rattle.hpr_decisions.specs.Answered.{Answers};
 ghost use Rattle.hpr_decisions.specs.SliceFile.{Sliced};
-ghost use Rattle.hpr_inputs.specs.Answer.{Decides, Merges};
+ghost use Rattle.hpr_inputs.specs.Answer.{Merges};
 ghost use Rattle.hpr_app.specs.Private.SlicedIn.{SlicedIn};
 
 use crate::graphs::make_graph;
@@ -28,7 +27,8 @@ pub fn slice_file<S: Shelf>(
     shelf: &mut S,
 ) -> Result<Report, Stop>
     requires { IsTrue (S.serves shelf.old file.now) }
-    ensures { Decides (OutcomeIfTold (Some (slice file.now (map (λ w. w.now) points.now))) (S.files shelf.old)) (MayRead (slice file.now (map (λ w. w.now) points.now)) (S.files shelf.old)) (S.faults shelf.old) (S.faults shelf.new) result }
+    ensures { Answers (slice file.now (map (λ w. w.now) points.now))
+        (S.files shelf.old) (S.faults shelf.old) (S.faults shelf.new) result }
 {
     let program = read_program(alloc, file, shelf)?;
     show_slice(alloc, file, &program, points)
@@ -57,7 +57,8 @@ fn show_points(alloc: Global, graph: &Graph, points: &[&str]) -> Result<Report, 
 /// The text of the slice at the vertices with these numbers.
 fn slice_text(alloc: Global, graph: &Graph, numbers: &[usize]) -> Result<Vec<u8>, NoMemory>
     requires { All (λ n. n < length graph.now.vertices) numbers.now }
-    ensures { IfOk result (λ text. IsGraphText (slice_of (graph_in graph.now) (IsOneOf graph.now numbers.now)) text.items) }
+    ensures { IfOk result (λ text. IsGraphText (slice_of (graph_in graph.now)
+        (IsOneOf graph.now numbers.now)) text.items) }
 {
     let part = slice(alloc, graph, numbers)?;
     graph_text(alloc, &part)

@@ -1,9 +1,7 @@
 //! The command `tag`.
-ghost use Rattle.std.specs.Prelude.{◌≤◌, IsTrue, Some};
+ghost use Rattle.std.specs.Prelude.{◌≤◌, IsTrue};
 ghost use Rattle.hpr_words.specs.Request.{tag};
-ghost use Rattle.hpr_decisions.specs.Outcome.{OutcomeIfTold};
-ghost use Rattle.hpr_decisions.specs.Reads.{MayRead};
-ghost use Rattle.hpr_inputs.specs.Answer.{Decides};
+ghost use Rattle.hpr_decisions.specs.Answered.{Answers};
 
 use crate::programs::print_program;
 use hpr_inputs::{Report, Stop, read_text};
@@ -20,7 +18,8 @@ pub fn tag_file<S: Shelf>(
 ) -> Result<Report, Stop>
     requires serves { IsTrue (S.serves shelf.old file.now) }
     requires author { 1 ≤ author }
-    ensures { Decides (OutcomeIfTold (Some (tag file.now author)) (S.files shelf.old)) (MayRead (tag file.now author) (S.files shelf.old)) (S.faults shelf.old) (S.faults shelf.new) result }
+    ensures { Answers (tag file.now author)
+        (S.files shelf.old) (S.faults shelf.old) (S.faults shelf.new) result }
 {
     let program = read_text(alloc, file, Mode::Untagged(author), shelf)?;
     print_program(alloc, &program)

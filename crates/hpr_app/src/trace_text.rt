@@ -38,7 +38,8 @@ fn item_line(alloc: Global, item: &Instance) -> Result<String, AllocError>
 }
 
 fn step_line(alloc: Global, tag: Tag, turns: &str, value: Value) -> Result<String, AllocError>
-    ensures { IfOk result (λ line. string_bytes line ≡ tag_text tag ++ codes " [" ++ turns.now ++ codes "] " ++ signed_decimal value ++ codes "\n") }
+    ensures { IfOk result (λ line. string_bytes line ≡ tag_text tag ++ codes " [" ++ turns.now ++ codes "] "
+        ++ signed_decimal value ++ codes "\n") }
 {
     format!(in alloc; "{tag} [{turns}] {value}\n")
 }

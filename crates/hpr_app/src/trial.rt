@@ -36,7 +36,10 @@ pub fn trial_files<S: Shelf>(
     requires a { IsTrue (S.serves shelf.old a.now) }
     requires b { IsTrue (S.serves shelf.old b.now) }
     requires steps { steps ≤ MAX_STEPS }
-    ensures { Decides (λ r. IfTold (S.files shelf.old) (λ fs. TrialOutcome fs base.now a.now b.now (map (λ w. w.now) words.now) steps r)) (λ file. IsReached (S.files shelf.old) (base.now ∷ a.now ∷ b.now ∷ []) file × IsOk (states_of (map (λ w. w.now) words.now))) (S.faults shelf.old) (S.faults shelf.new) result }
+    ensures { Decides (λ r. IfTold (S.files shelf.old) (λ fs.
+        TrialOutcome fs base.now a.now b.now (map (λ w. w.now) words.now) steps r)) (λ file.
+        IsReached (S.files shelf.old) (base.now ∷ a.now ∷ b.now ∷ []) file
+        × IsOk (states_of (map (λ w. w.now) words.now))) (S.faults shelf.old) (S.faults shelf.new) result }
 {
     let state = read_state(alloc, words)?;
     let versions = read_versions(alloc, base, a, b, shelf)?;
@@ -54,7 +57,8 @@ fn try_versions(
     steps: u64,
 ) -> Result<Report, Stop>
     requires { steps ≤ MAX_STEPS }
-    ensures { Merges (Tried base.now versions.now.base a.now versions.now.a b.now versions.now.b state.now steps) result }
+    ensures { Merges
+        (Tried base.now versions.now.base a.now versions.now.a b.now versions.now.b state.now steps) result }
 {
     match integrate(
         alloc,
@@ -98,7 +102,9 @@ fn show_runs(
     requires a { IsSingleValued (finals_of (outcome_of a.now)) }
     requires b { IsSingleValued (finals_of (outcome_of b.now)) }
     requires steps { steps_together (outcome_of base.now) (outcome_of a.now) (outcome_of b.now) ≤ 3 * MAX_STEPS }
-    ensures { Merges (ShowsTrial (outcome_of base.now) (outcome_of a.now) (outcome_of b.now) (run merged.now state.now (steps_together (outcome_of base.now) (outcome_of a.now) (outcome_of b.now)))) result }
+    ensures { Merges (ShowsTrial (outcome_of base.now) (outcome_of a.now) (outcome_of b.now)
+        (run merged.now state.now (steps_together (outcome_of base.now) (outcome_of a.now)
+        (outcome_of b.now)))) result }
 {
     if has_ended(base) && has_ended(a) && has_ended(b) {
         let text = ended_text(alloc, base, a, b, merged, state)?;
@@ -127,7 +133,9 @@ fn ended_text(
     requires a { IsSingleValued (finals_of (outcome_of a.now)) }
     requires b { IsSingleValued (finals_of (outcome_of b.now)) }
     requires steps { steps_together (outcome_of base.now) (outcome_of a.now) (outcome_of b.now) ≤ 3 * MAX_STEPS }
-    ensures { IfOk result (λ text. IsTrialText (outcome_of base.now) (outcome_of a.now) (outcome_of b.now) (run merged.now state.now (steps_together (outcome_of base.now) (outcome_of a.now) (outcome_of b.now))) text.items) }
+    ensures { IfOk result (λ text. IsTrialText (outcome_of base.now) (outcome_of a.now) (outcome_of b.now)
+        (run merged.now state.now (steps_together (outcome_of base.now) (outcome_of a.now)
+        (outcome_of b.now))) text.items) }
 {
     let together = steps_of(base) + steps_of(a) + steps_of(b);
     let all = run(alloc, merged, state, together)?;
@@ -175,7 +183,8 @@ fn trial_text(
     requires a { IsSingleValued (finals_of (outcome_of a.now)) }
     requires b { IsSingleValued (finals_of (outcome_of b.now)) }
     requires merged { IsSingleValued (finals_of (outcome_of merged.now)) }
-    ensures { IfOk result (λ text. IsTrialText (outcome_of base.now) (outcome_of a.now) (outcome_of b.now) (outcome_of merged.now) text.items) }
+    ensures { IfOk result (λ text. IsTrialText (outcome_of base.now) (outcome_of a.now) (outcome_of b.now)
+        (outcome_of merged.now) text.items) }
 {
     let mut text = three_lines(alloc, base, a, b)?;
     let line = trial_line(alloc, "merged ", merged)?;
@@ -192,7 +201,8 @@ fn trial_text(
 }
 
 fn three_lines(alloc: Global, base: &Outcome, a: &Outcome, b: &Outcome) -> Result<Vec<u8>, NoMemory>
-    ensures { IfOk result (λ text. text.items ≡ three_lines (outcome_of base.now) (outcome_of a.now) (outcome_of b.now)) }
+    ensures { IfOk result (λ text. text.items ≡ three_lines (outcome_of base.now) (outcome_of a.now)
+        (outcome_of b.now)) }
 {
     let mut text = trial_line(alloc, "base ", base)?;
     let a = trial_line(alloc, "A ", a)?;

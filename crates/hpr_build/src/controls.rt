@@ -48,7 +48,8 @@ fn link_under(parent: Option<Parent>) -> Link
 /// The control edges into so many vertices: one into each but Entry.
 fn control_links(alloc: Global, places: &[Place], count: usize) -> Result<Vec<NewLink>, NoMemory>
     requires { 1 ≤ count }
-    ensures exact { IfOk result (λ links. (n : NewLink) → Contains links.items n ↔ ((1 ≤ n.to) × (n.to < count) × (n.link ≡ link_under (parent_of (place_at places.now n.to))))) }
+    ensures exact { IfOk result (λ links. (n : NewLink) → Contains links.items n
+        ↔ ((1 ≤ n.to) × (n.to < count) × (n.link ≡ link_under (parent_of (place_at places.now n.to))))) }
     ensures once { IfOk result (λ links. IsOnce links.items) }
 {
     let mut links = Vec::new(alloc);
@@ -71,8 +72,10 @@ pub(crate) fn push_controls(
     requires begun { IsBegun tables.now.program.now tables.now.inits.items tables.now.most graph.old }
     requires none { (to : ℕ) (l : Link) → ¬ HasLink graph.old to l }
     ensures begun { OnOk result (IsBegun tables.now.program.now tables.now.inits.items tables.now.most graph.new) }
-    ensures exact { OnOk result ((to : ℕ) (l : Link) → HasLink graph.new to l ↔ IsControlLink tables.now.program.now tables.now.inits.items to l) }
-    ensures too_many { IsErrOf result BuildError.TooManyEdges → HasMoreLinks tables.now.program.now tables.now.inits.items tables.now.most }
+    ensures exact { OnOk result ((to : ℕ) (l : Link) → HasLink graph.new to l
+        ↔ IsControlLink tables.now.program.now tables.now.inits.items to l) }
+    ensures too_many { IsErrOf result BuildError.TooManyEdges
+        → HasMoreLinks tables.now.program.now tables.now.inits.items tables.now.most }
 {
     let links = control_links(alloc, &tables.places, tables.vertices.len())?;
     push_links(tables, &links, graph)

@@ -47,8 +47,11 @@ fn push_initial(
     into: &mut Vec<Source>,
 ) -> Result<(), NoMemory>
     requires { AreTables tables.now }
-    ensures exact { OnOk result ((s : Source) → Contains into.new.items s ↔ (Contains into.old.items s ⊎ IsInitialAt tables.now.program.now tables.now.inits.items variable.now.name.now s.point s.number)) }
-    ensures once { OnOk result (IsOnce into.old.items → ((s : Source) → Contains into.old.items s → ¬ (s.point ≡ 0)) → IsOnce into.new.items) }
+    ensures exact { OnOk result ((s : Source) → Contains into.new.items s
+        ↔ (Contains into.old.items s
+        ⊎ IsInitialAt tables.now.program.now tables.now.inits.items variable.now.name.now s.point s.number)) }
+    ensures once { OnOk result (IsOnce into.old.items → ((s : Source) → Contains into.old.items s → ¬ (s.point ≡ 0))
+        → IsOnce into.new.items) }
 {
     match place_of(&tables.inits, variable.name) {
         Some(place) => {
@@ -66,7 +69,8 @@ fn push_initial(
 fn sources_of(alloc: Global, tables: &Tables, variable: &Variable) -> Result<Vec<Source>, NoMemory>
     requires tables { AreTables tables.now }
     requires variable { IsVariable tables.now.program.now variable.now }
-    ensures exact { IfOk result (λ v. (s : Source) → Contains v.items s ↔ IsSourceAt tables.now.program.now tables.now.inits.items variable.now.name.now s.point s.number) }
+    ensures exact { IfOk result (λ v. (s : Source) → Contains v.items s
+        ↔ IsSourceAt tables.now.program.now tables.now.inits.items variable.now.name.now s.point s.number) }
     ensures once { IfOk result (λ v. IsOnce v.items) }
 {
     let mut sources = part_sources(alloc, variable.definitions)?;
@@ -123,8 +127,10 @@ fn links_from(
 ) -> Result<Vec<NewLink>, NoMemory>
     requires tables { AreTables tables.now }
     requires variable { IsVariable tables.now.program.now variable.now }
-    requires source { IsSourceAt tables.now.program.now tables.now.inits.items variable.now.name.now source.point source.number }
-    ensures exact { IfOk result (λ links. (n : NewLink) → Contains links.items n ↔ FlowsFrom tables.now.program.now variable.now.name.now source.point source.number n.to n.link) }
+    requires source { IsSourceAt tables.now.program.now tables.now.inits.items variable.now.name.now
+        source.point source.number }
+    ensures exact { IfOk result (λ links. (n : NewLink) → Contains links.items n
+        ↔ FlowsFrom tables.now.program.now variable.now.name.now source.point source.number n.to n.link) }
     ensures once { IfOk result (λ links. IsOnce links.items) }
 {
     let name = variable.name;
@@ -144,12 +150,17 @@ fn push_flows_from(
 ) -> Result<(), BuildError>
     requires tables { AreTables tables.now }
     requires variable { IsVariable tables.now.program.now variable.now }
-    requires source { IsSourceAt tables.now.program.now tables.now.inits.items variable.now.name.now source.point source.number }
+    requires source { IsSourceAt tables.now.program.now tables.now.inits.items variable.now.name.now
+        source.point source.number }
     requires begun { IsBegun tables.now.program.now tables.now.inits.items tables.now.most graph.old }
-    requires fresh { (to : ℕ) (l : Link) → HasLink graph.old to l → ¬ FlowsFrom tables.now.program.now variable.now.name.now source.point source.number to l }
+    requires fresh { (to : ℕ) (l : Link) → HasLink graph.old to l
+        → ¬ FlowsFrom tables.now.program.now variable.now.name.now source.point source.number to l }
     ensures begun { OnOk result (IsBegun tables.now.program.now tables.now.inits.items tables.now.most graph.new) }
-    ensures added { OnOk result ((to : ℕ) (l : Link) → HasLink graph.new to l ↔ (HasLink graph.old to l ⊎ FlowsFrom tables.now.program.now variable.now.name.now source.point source.number to l)) }
-    ensures too_many { IsErrOf result BuildError.TooManyEdges → HasMoreLinks tables.now.program.now tables.now.inits.items tables.now.most }
+    ensures added { OnOk result ((to : ℕ) (l : Link) → HasLink graph.new to l
+        ↔ (HasLink graph.old to l
+        ⊎ FlowsFrom tables.now.program.now variable.now.name.now source.point source.number to l)) }
+    ensures too_many { IsErrOf result BuildError.TooManyEdges
+        → HasMoreLinks tables.now.program.now tables.now.inits.items tables.now.most }
 {
     let links = links_from(alloc, tables, variable, source)?;
     push_links(tables, &links, graph)
@@ -165,10 +176,13 @@ fn push_flows_of(
     requires tables { AreTables tables.now }
     requires variable { IsVariable tables.now.program.now variable.now }
     requires begun { IsBegun tables.now.program.now tables.now.inits.items tables.now.most graph.old }
-    requires fresh { (to : ℕ) (l : Link) → HasLink graph.old to l → ¬ FlowsOf tables.now.program.now tables.now.inits.items variable.now.name.now to l }
+    requires fresh { (to : ℕ) (l : Link) → HasLink graph.old to l
+        → ¬ FlowsOf tables.now.program.now tables.now.inits.items variable.now.name.now to l }
     ensures begun { OnOk result (IsBegun tables.now.program.now tables.now.inits.items tables.now.most graph.new) }
-    ensures added { OnOk result ((to : ℕ) (l : Link) → HasLink graph.new to l ↔ (HasLink graph.old to l ⊎ FlowsOf tables.now.program.now tables.now.inits.items variable.now.name.now to l)) }
-    ensures too_many { IsErrOf result BuildError.TooManyEdges → HasMoreLinks tables.now.program.now tables.now.inits.items tables.now.most }
+    ensures added { OnOk result ((to : ℕ) (l : Link) → HasLink graph.new to l
+        ↔ (HasLink graph.old to l ⊎ FlowsOf tables.now.program.now tables.now.inits.items variable.now.name.now to l)) }
+    ensures too_many { IsErrOf result BuildError.TooManyEdges
+        → HasMoreLinks tables.now.program.now tables.now.inits.items tables.now.most }
 {
     let sources = sources_of(alloc, tables, variable)?;
     for source in &sources {
@@ -185,10 +199,13 @@ pub(crate) fn push_flows(
 ) -> Result<(), BuildError>
     requires tables { AreTables tables.now }
     requires begun { IsBegun tables.now.program.now tables.now.inits.items tables.now.most graph.old }
-    requires fresh { (to : ℕ) (l : Link) → HasLink graph.old to l → ¬ IsFlowLink tables.now.program.now tables.now.inits.items to l }
+    requires fresh { (to : ℕ) (l : Link) → HasLink graph.old to l
+        → ¬ IsFlowLink tables.now.program.now tables.now.inits.items to l }
     ensures begun { OnOk result (IsBegun tables.now.program.now tables.now.inits.items tables.now.most graph.new) }
-    ensures added { OnOk result ((to : ℕ) (l : Link) → HasLink graph.new to l ↔ (HasLink graph.old to l ⊎ IsFlowLink tables.now.program.now tables.now.inits.items to l)) }
-    ensures too_many { IsErrOf result BuildError.TooManyEdges → HasMoreLinks tables.now.program.now tables.now.inits.items tables.now.most }
+    ensures added { OnOk result ((to : ℕ) (l : Link) → HasLink graph.new to l
+        ↔ (HasLink graph.old to l ⊎ IsFlowLink tables.now.program.now tables.now.inits.items to l)) }
+    ensures too_many { IsErrOf result BuildError.TooManyEdges
+        → HasMoreLinks tables.now.program.now tables.now.inits.items tables.now.most }
 {
     for at in 0..tables.variables.names.len() {
         push_flows_of(alloc, tables, &variable_at(tables, at), graph)?;

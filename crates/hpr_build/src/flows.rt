@@ -69,7 +69,8 @@ fn leaves(succ: &Succ, from: usize, name: &Name, row: &BitRow, point: usize) -> 
 fn mark_backs(round: &mut Vec<bool>, steps: &[Step])
     requires { All (λ s. s.to < vec_len round.old) steps.now }
     ensures len { vec_len round.new ≡ vec_len round.old }
-    ensures marks { (w : ℕ) → IsMarked round.new.items w ↔ (IsMarked round.old.items w ⊎ Contains steps.now (back_to w)) }
+    ensures marks { (w : ℕ) → IsMarked round.new.items w ↔ (IsMarked round.old.items w
+        ⊎ Contains steps.now (back_to w)) }
 {
     for step in steps {
         if step.back {
@@ -118,9 +119,11 @@ fn add_row(
     requires from { from < length succ.now }
     requires cut { cut ≤ length (nest_at succ.now from) }
     requires some { 0 < vec_len rows.old }
-    requires last { ¬ IsTrue comes → CutsTo succ.now name.now from cut (slice_index_or rows.old.items (vec_len rows.old - 1) []) }
+    requires last { ¬ IsTrue comes → CutsTo succ.now name.now from cut
+        (slice_index_or rows.old.items (vec_len rows.old - 1) []) }
     ensures last { IfOk result (λ place. vec_len rows.new ≡ place + 1) }
-    ensures kept { OnOk result ((i : ℕ) → i < length rows.old.items → (i < length rows.new.items) × (slice_index_or rows.new.items i [] ≡ slice_index_or rows.old.items i [])) }
+    ensures kept { OnOk result ((i : ℕ) → i < length rows.old.items → (i < length rows.new.items)
+        × (slice_index_or rows.new.items i [] ≡ slice_index_or rows.old.items i [])) }
     ensures row { IfOk result (λ place. CutsTo succ.now name.now from cut (slice_index_or rows.new.items place [])) }
 {
     if comes {
@@ -143,7 +146,8 @@ fn cut_rows(
     requires all { CutsTo succ.now name.now from 0 all }
     requires round { (w : ℕ) → IsMarked round.now w ↔ ComesRound succ.now name.now w from }
     ensures count { IfOk result (λ cuts. vec_len cuts.places ≡ length (nest_at succ.now from) + 1) }
-    ensures exact { IfOk result (λ cuts. AreCuts succ.now name.now from (vec_len cuts.places) cuts.rows.items cuts.places.items) }
+    ensures exact { IfOk result (λ cuts. AreCuts succ.now name.now from
+        (vec_len cuts.places) cuts.rows.items cuts.places.items) }
 {
     let nest = succ.nest(from);
     let mut rows = Vec::new(alloc);
@@ -226,8 +230,10 @@ fn push_flows(
 ) -> Result<(), NoMemory>
     requires carries { common ≤ length carries.now }
     requires nest { common ≤ length nest.now }
-    ensures exact { OnOk result ((f : Flow) → Contains into.new.items f ↔ (Contains into.old.items f ⊎ IsFlowBelow common nest.now cut.now carries.now user f)) }
-    ensures once { OnOk result (IsOnce into.old.items → IsOnce nest.now → ((f : Flow) → Contains into.old.items f → f.to ≡ user → ⊥) → IsOnce into.new.items) }
+    ensures exact { OnOk result ((f : Flow) → Contains into.new.items f
+        ↔ (Contains into.old.items f ⊎ IsFlowBelow common nest.now cut.now carries.now user f)) }
+    ensures once { OnOk result (IsOnce into.old.items → IsOnce nest.now
+        → ((f : Flow) → Contains into.old.items f → f.to ≡ user → ⊥) → IsOnce into.new.items) }
 {
     let independent = Flow {
         to: user,
@@ -268,7 +274,8 @@ pub(crate) fn flows_from(
     requires from { from < length succ.now }
     requires users { All (λ u. u < length succ.now) users.now }
     ensures once { IfOk result (λ flows. IsOnce users.now → IsOnce flows.items) }
-    ensures exact { IfOk result (λ flows. (f : Flow) → Contains flows.items f ↔ (Contains users.now f.to × IsFlowAt succ.now name.now from f.to f.kind)) }
+    ensures exact { IfOk result (λ flows. (f : Flow) → Contains flows.items f
+        ↔ (Contains users.now f.to × IsFlowAt succ.now name.now from f.to f.kind)) }
 {
     let all = reach(alloc, succ, from, name, 0)?;
     let round = rounds(alloc, succ, from, name, &all)?;

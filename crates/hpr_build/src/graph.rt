@@ -22,8 +22,10 @@ fn push_edges(alloc: Global, tables: &Tables, graph: &mut Graph) -> Result<(), B
     requires begun { IsBegun tables.now.program.now tables.now.inits.items tables.now.most graph.old }
     requires none { (to : ℕ) (l : Link) → ¬ HasLink graph.old to l }
     ensures begun { OnOk result (IsBegun tables.now.program.now tables.now.inits.items tables.now.most graph.new) }
-    ensures exact { OnOk result ((to : ℕ) (l : Link) → HasLink graph.new to l ↔ IsLinkOf tables.now.program.now tables.now.inits.items to l) }
-    ensures too_many { IsErrOf result BuildError.TooManyEdges → HasMoreLinks tables.now.program.now tables.now.inits.items tables.now.most }
+    ensures exact { OnOk result ((to : ℕ) (l : Link) → HasLink graph.new to l
+        ↔ IsLinkOf tables.now.program.now tables.now.inits.items to l) }
+    ensures too_many { IsErrOf result BuildError.TooManyEdges
+        → HasMoreLinks tables.now.program.now tables.now.inits.items tables.now.most }
 {
     push_controls(alloc, tables, graph)?;
     push_flows(alloc, tables, graph)?;

@@ -6,7 +6,8 @@ use hpr_terms::NoMemory;
 
 /// Puts the item behind the others where the test holds.
 pub(crate) fn push_if<T: Drop>(test: bool, item: T, into: &mut Vec<T>) -> Result<(), NoMemory>
-    ensures exact { OnOk result ((x : T) → Contains into.new.items x ↔ (Contains into.old.items x ⊎ (IsTrue test × (item ≡ x)))) }
+    ensures exact { OnOk result ((x : T) → Contains into.new.items x
+        ↔ (Contains into.old.items x ⊎ (IsTrue test × (item ≡ x)))) }
     ensures once { OnOk result (IsOnce into.old.items → (Contains into.old.items item → ⊥) → IsOnce into.new.items) }
 {
     if test {

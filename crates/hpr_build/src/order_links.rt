@@ -47,7 +47,8 @@ fn reaching(
     point: usize,
 ) -> Result<Vec<usize>, NoMemory>
     requires { length rows.now ≡ length definitions.now }
-    ensures exact { IfOk result (λ v. (p : ℕ) → Contains v.items p ↔ ((i : ℕ) × IsOn definitions.now rows.now point p i)) }
+    ensures exact { IfOk result (λ v. (p : ℕ) → Contains v.items p
+        ↔ ((i : ℕ) × IsOn definitions.now rows.now point p i)) }
     ensures once { IfOk result (λ v. IsOnce definitions.now → IsOnce v.items) }
 {
     let mut points = Vec::new(alloc);
@@ -87,7 +88,8 @@ fn links_at(
     requires rows { length rows.now ≡ length variable.now.definitions.now }
     requires reached { AreReached tables.now.succ variable.now.name.now variable.now.definitions.now rows.now }
     requires user { UsesAt (spots tables.now.program.now) user variable.now.name.now }
-    ensures exact { IfOk result (λ links. (n : NewLink) → Contains links.items n ↔ OrdersAt tables.now.program.now variable.now.name.now user n.to n.link) }
+    ensures exact { IfOk result (λ links. (n : NewLink) → Contains links.items n
+        ↔ OrdersAt tables.now.program.now variable.now.name.now user n.to n.link) }
     ensures once { IfOk result (λ links. IsOnce links.items) }
 {
     let reaching = reaching(alloc, variable.definitions, rows, user)?;
@@ -112,10 +114,13 @@ fn push_orders_at(
     requires reached { AreReached tables.now.succ variable.now.name.now variable.now.definitions.now rows.now }
     requires user { UsesAt (spots tables.now.program.now) user variable.now.name.now }
     requires begun { IsBegun tables.now.program.now tables.now.inits.items tables.now.most graph.old }
-    requires fresh { (to : ℕ) (l : Link) → HasLink graph.old to l → ¬ OrdersAt tables.now.program.now variable.now.name.now user to l }
+    requires fresh { (to : ℕ) (l : Link) → HasLink graph.old to l
+        → ¬ OrdersAt tables.now.program.now variable.now.name.now user to l }
     ensures begun { OnOk result (IsBegun tables.now.program.now tables.now.inits.items tables.now.most graph.new) }
-    ensures added { OnOk result ((to : ℕ) (l : Link) → HasLink graph.new to l ↔ (HasLink graph.old to l ⊎ OrdersAt tables.now.program.now variable.now.name.now user to l)) }
-    ensures too_many { IsErrOf result BuildError.TooManyEdges → HasMoreLinks tables.now.program.now tables.now.inits.items tables.now.most }
+    ensures added { OnOk result ((to : ℕ) (l : Link) → HasLink graph.new to l
+        ↔ (HasLink graph.old to l ⊎ OrdersAt tables.now.program.now variable.now.name.now user to l)) }
+    ensures too_many { IsErrOf result BuildError.TooManyEdges
+        → HasMoreLinks tables.now.program.now tables.now.inits.items tables.now.most }
 {
     let links = links_at(alloc, tables, variable, rows, user)?;
     push_links(tables, &links, graph)
@@ -131,10 +136,13 @@ fn push_orders_of(
     requires tables { AreTables tables.now }
     requires variable { IsVariable tables.now.program.now variable.now }
     requires begun { IsBegun tables.now.program.now tables.now.inits.items tables.now.most graph.old }
-    requires fresh { (to : ℕ) (l : Link) → HasLink graph.old to l → ¬ OrdersOf tables.now.program.now variable.now.name.now to l }
+    requires fresh { (to : ℕ) (l : Link) → HasLink graph.old to l
+        → ¬ OrdersOf tables.now.program.now variable.now.name.now to l }
     ensures begun { OnOk result (IsBegun tables.now.program.now tables.now.inits.items tables.now.most graph.new) }
-    ensures added { OnOk result ((to : ℕ) (l : Link) → HasLink graph.new to l ↔ (HasLink graph.old to l ⊎ OrdersOf tables.now.program.now variable.now.name.now to l)) }
-    ensures too_many { IsErrOf result BuildError.TooManyEdges → HasMoreLinks tables.now.program.now tables.now.inits.items tables.now.most }
+    ensures added { OnOk result ((to : ℕ) (l : Link) → HasLink graph.new to l
+        ↔ (HasLink graph.old to l ⊎ OrdersOf tables.now.program.now variable.now.name.now to l)) }
+    ensures too_many { IsErrOf result BuildError.TooManyEdges
+        → HasMoreLinks tables.now.program.now tables.now.inits.items tables.now.most }
 {
     let rows = reached_rows(alloc, &tables.succ, variable.name, variable.definitions)?;
     for user in variable.users {
@@ -153,8 +161,10 @@ pub(crate) fn push_orders(
     requires begun { IsBegun tables.now.program.now tables.now.inits.items tables.now.most graph.old }
     requires fresh { (to : ℕ) (l : Link) → HasLink graph.old to l → ¬ IsOrderLink tables.now.program.now to l }
     ensures begun { OnOk result (IsBegun tables.now.program.now tables.now.inits.items tables.now.most graph.new) }
-    ensures added { OnOk result ((to : ℕ) (l : Link) → HasLink graph.new to l ↔ (HasLink graph.old to l ⊎ IsOrderLink tables.now.program.now to l)) }
-    ensures too_many { IsErrOf result BuildError.TooManyEdges → HasMoreLinks tables.now.program.now tables.now.inits.items tables.now.most }
+    ensures added { OnOk result ((to : ℕ) (l : Link) → HasLink graph.new to l
+        ↔ (HasLink graph.old to l ⊎ IsOrderLink tables.now.program.now to l)) }
+    ensures too_many { IsErrOf result BuildError.TooManyEdges
+        → HasMoreLinks tables.now.program.now tables.now.inits.items tables.now.most }
 {
     for at in 0..tables.variables.names.len() {
         push_orders_of(alloc, tables, &variable_at(tables, at), graph)?;

@@ -48,8 +48,11 @@ fn push_after(
 ) -> Result<(), NoMemory>
     requires first { 0 < left }
     requires last { left ≤ length places.now }
-    ensures exact { OnOk result ((o : Ordered) → Contains into.new.items o ↔ (Contains into.old.items o ⊎ ((o.left ≡ left) × Contains definitions.now o.right × IsBefore places.now left o.right))) }
-    ensures once { OnOk result (IsOnce into.old.items → IsOnce definitions.now → ((o : Ordered) → Contains into.old.items o → o.left ≡ left → ⊥) → IsOnce into.new.items) }
+    ensures exact { OnOk result ((o : Ordered) → Contains into.new.items o
+        ↔ (Contains into.old.items o ⊎ ((o.left ≡ left) × Contains definitions.now o.right
+        × IsBefore places.now left o.right))) }
+    ensures once { OnOk result (IsOnce into.old.items → IsOnce definitions.now
+        → ((o : Ordered) → Contains into.old.items o → o.left ≡ left → ⊥) → IsOnce into.new.items) }
 {
     for right in definitions {
         let pair = Ordered {
@@ -72,7 +75,8 @@ pub(crate) fn order_of(
     definitions: &[usize],
 ) -> Result<Vec<Ordered>, NoMemory>
     requires { All (λ p. (0 < p) × (p ≤ length places.now)) definitions.now }
-    ensures exact { IfOk result (λ pairs. (o : Ordered) → Contains pairs.items o ↔ (Contains definitions.now o.left × Contains definitions.now o.right × IsBefore places.now o.left o.right)) }
+    ensures exact { IfOk result (λ pairs. (o : Ordered) → Contains pairs.items o
+        ↔ (Contains definitions.now o.left × Contains definitions.now o.right × IsBefore places.now o.left o.right)) }
     ensures once { IfOk result (λ pairs. IsOnce definitions.now → IsOnce pairs.items) }
 {
     let mut pairs = Vec::new(alloc);

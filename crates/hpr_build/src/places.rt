@@ -84,7 +84,8 @@ fn push_place(
     others: &[Span],
     places: &mut Vec<Place>,
 ) -> Result<(), NoMemory>
-    ensures place { OnOk result (places.new.items ≡ places.old.items ++ place_of (tag_of stmt.now) (content_of stmt.now) parent others.now ∷ []) }
+    ensures place { OnOk result (places.new.items ≡ places.old.items
+        ++ place_of (tag_of stmt.now) (content_of stmt.now) parent others.now ∷ []) }
     ensures len { OnOk result (vec_len places.new ≡ vec_len places.old + 1) }
 {
     let others = Vec::from_slice(alloc, others)?;
@@ -108,7 +109,8 @@ fn push_block(
     places: &mut Vec<Place>,
 ) -> Result<(), NoMemory>
     requires fits { vec_len places.old + part_count block.now < 2 ^ 32 }
-    ensures places { OnOk result (places.new.items ≡ places.old.items ++ places_of block.now (vec_len places.old + 1) parent others.now) }
+    ensures places { OnOk result (places.new.items ≡ places.old.items
+        ++ places_of block.now (vec_len places.old + 1) parent others.now) }
     ensures len { OnOk result (vec_len places.new ≡ vec_len places.old + part_count block.now) }
 {
     for stmt in &block.stmts {
@@ -127,7 +129,8 @@ fn push_stmt(
     places: &mut Vec<Place>,
 ) -> Result<(), NoMemory>
     requires fits { vec_len places.old + part_count (before stmt.now done) < 2 ^ 32 }
-    ensures places { OnOk result (places.new.items ≡ places.old.items ++ places_of (before stmt.now done) (vec_len places.old + 1) parent others.now) }
+    ensures places { OnOk result (places.new.items ≡ places.old.items
+        ++ places_of (before stmt.now done) (vec_len places.old + 1) parent others.now) }
     ensures len { OnOk result (vec_len places.new ≡ vec_len places.old + part_count (before stmt.now done)) }
 {
     let point = places.len() + 1;

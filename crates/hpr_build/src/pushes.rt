@@ -24,11 +24,13 @@ fn push_link(graph: &mut Graph, most: usize, new: NewLink) -> Result<(), BuildEr
     requires link { IsLink graph.old new.to new.link }
     requires fresh { ¬ HasLink graph.old new.to new.link }
     ensures vertices { graph.new.vertices ≡ graph.old.vertices }
-    ensures added { OnOk result ((to : ℕ) (l : Link) → HasLink graph.new to l ↔ (HasLink graph.old to l ⊎ ((to ≡ new.to) × (l ≡ new.link)))) }
+    ensures added { OnOk result ((to : ℕ) (l : Link) → HasLink graph.new to l
+        ↔ (HasLink graph.old to l ⊎ ((to ≡ new.to) × (l ≡ new.link)))) }
     ensures room { OnOk result (link_count graph.new ≤ most) }
     ensures full { IsErrOf result BuildError.TooManyEdges → most < link_count graph.new }
     ensures numbered { IsErrOf result BuildError.TooManyEdges → IsNumbered graph.new }
-    ensures only { IsErrOf result BuildError.TooManyEdges → (to : ℕ) (l : Link) → HasLink graph.new to l → (HasLink graph.old to l ⊎ ((to ≡ new.to) × (l ≡ new.link))) }
+    ensures only { IsErrOf result BuildError.TooManyEdges → (to : ℕ) (l : Link) → HasLink graph.new to l
+        → (HasLink graph.old to l ⊎ ((to ≡ new.to) × (l ≡ new.link))) }
 {
     graph.push_new_link(new.to, new.link)?;
     if graph.edge_count() > most {
@@ -47,11 +49,14 @@ pub(crate) fn push_links(
     requires tables { AreTables tables.now }
     requires begun { IsBegun tables.now.program.now tables.now.inits.items tables.now.most graph.old }
     requires once { IsOnce links.now }
-    requires links { (n : NewLink) → Contains links.now n → IsLinkOf tables.now.program.now tables.now.inits.items n.to n.link }
+    requires links { (n : NewLink) → Contains links.now n
+        → IsLinkOf tables.now.program.now tables.now.inits.items n.to n.link }
     requires fresh { (n : NewLink) → Contains links.now n → ¬ HasLink graph.old n.to n.link }
     ensures begun { OnOk result (IsBegun tables.now.program.now tables.now.inits.items tables.now.most graph.new) }
-    ensures added { OnOk result ((to : ℕ) (l : Link) → HasLink graph.new to l ↔ (HasLink graph.old to l ⊎ Contains links.now (record { to = to; link = l }))) }
-    ensures too_many { IsErrOf result BuildError.TooManyEdges → HasMoreLinks tables.now.program.now tables.now.inits.items tables.now.most }
+    ensures added { OnOk result ((to : ℕ) (l : Link) → HasLink graph.new to l
+        ↔ (HasLink graph.old to l ⊎ Contains links.now (record { to = to; link = l }))) }
+    ensures too_many { IsErrOf result BuildError.TooManyEdges
+        → HasMoreLinks tables.now.program.now tables.now.inits.items tables.now.most }
 {
     for new in links {
         push_link(graph, tables.most, *new)?;

@@ -87,7 +87,8 @@ fn vertices(
     finals: &[Name],
     inits: &[Name],
 ) -> Result<Vec<Vertex>, NoMemory>
-    ensures { IfOk result (λ v. v.items ≡ Entry ∷ (map part_vertex places.now ++ (map Final finals.now ++ map Init inits.now))) }
+    ensures { IfOk result (λ v. v.items ≡ Entry ∷ (map part_vertex places.now
+        ++ (map Final finals.now ++ map Init inits.now))) }
 {
     let mut vertices = Vec::new(alloc);
     vertices.push(Vertex::Entry)?;
@@ -138,7 +139,8 @@ pub(crate) struct Variable<'a> {
 fn final_number(tables: &Tables, name: &Name) -> usize
     requires { AreTables tables.now }
     ensures low { exit_of tables.now.program.now ≤ result }
-    ensures exact { (k : ℕ) → slice_get tables.now.program.now.finals k ≡ Some name.now → result ≡ exit_of tables.now.program.now + k }
+    ensures exact { (k : ℕ) → slice_get tables.now.program.now.finals k ≡ Some name.now
+        → result ≡ exit_of tables.now.program.now + k }
 {
     for (at, one) in tables.program.finals().iter().enumerate() {
         if one.is_same(name) {

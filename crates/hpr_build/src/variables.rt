@@ -53,8 +53,12 @@ fn push_for(
     requires names { IsStrictlySortedBy (slice_cmp nat_cmp) names.now }
     requires len { vec_len rows.old ≡ length names.now }
     ensures len { vec_len rows.new ≡ vec_len rows.old }
-    ensures rows { OnOk result ((i : ℕ) (x : List ℕ) → slice_get names.now i ≡ Some x → (p : ℕ) → Contains (points_at rows.new.items i) p ↔ (Contains (points_at rows.old.items i) p ⊎ ((name.now ≡ x) × (point ≡ p)))) }
-    ensures once { OnOk result ((i : ℕ) (x : List ℕ) → slice_get names.now i ≡ Some x → IsOnce (points_at rows.old.items i) → (name.now ≡ x → ¬ Contains (points_at rows.old.items i) point) → IsOnce (points_at rows.new.items i)) }
+    ensures rows { OnOk result ((i : ℕ) (x : List ℕ) → slice_get names.now i ≡ Some x → (p : ℕ)
+        → Contains (points_at rows.new.items i) p ↔ (Contains (points_at rows.old.items i) p
+        ⊎ ((name.now ≡ x) × (point ≡ p)))) }
+    ensures once { OnOk result ((i : ℕ) (x : List ℕ) → slice_get names.now i ≡ Some x
+        → IsOnce (points_at rows.old.items i) → (name.now ≡ x → ¬ Contains (points_at rows.old.items i) point)
+        → IsOnce (points_at rows.new.items i)) }
 {
     match place_of(names, name) {
         Some(at) => {
@@ -76,8 +80,12 @@ fn push_all(
     requires used { IsStrictlySortedBy (slice_cmp nat_cmp) used.now }
     requires len { vec_len rows.old ≡ length names.now }
     ensures len { vec_len rows.new ≡ vec_len rows.old }
-    ensures rows { OnOk result ((i : ℕ) (x : List ℕ) → slice_get names.now i ≡ Some x → (p : ℕ) → Contains (points_at rows.new.items i) p ↔ (Contains (points_at rows.old.items i) p ⊎ (Contains used.now x × (point ≡ p)))) }
-    ensures once { OnOk result ((i : ℕ) (x : List ℕ) → slice_get names.now i ≡ Some x → IsOnce (points_at rows.old.items i) → ¬ Contains (points_at rows.old.items i) point → IsOnce (points_at rows.new.items i)) }
+    ensures rows { OnOk result ((i : ℕ) (x : List ℕ) → slice_get names.now i ≡ Some x → (p : ℕ)
+        → Contains (points_at rows.new.items i) p ↔ (Contains (points_at rows.old.items i) p
+        ⊎ (Contains used.now x × (point ≡ p)))) }
+    ensures once { OnOk result ((i : ℕ) (x : List ℕ) → slice_get names.now i ≡ Some x
+        → IsOnce (points_at rows.old.items i) → ¬ Contains (points_at rows.old.items i) point
+        → IsOnce (points_at rows.new.items i)) }
 {
     for name in used {
         push_for(names, name, point, rows)?;
@@ -97,8 +105,12 @@ fn push_used(
     requires names { IsStrictlySortedBy (slice_cmp nat_cmp) names.now }
     requires len { vec_len rows.old ≡ length names.now }
     ensures len { vec_len rows.new ≡ vec_len rows.old }
-    ensures rows { OnOk result ((i : ℕ) (x : List ℕ) → slice_get names.now i ≡ Some x → (p : ℕ) → Contains (points_at rows.new.items i) p ↔ (Contains (points_at rows.old.items i) p ⊎ (UsesAt succ.now point x × (point ≡ p)))) }
-    ensures once { OnOk result ((i : ℕ) (x : List ℕ) → slice_get names.now i ≡ Some x → IsOnce (points_at rows.old.items i) → ¬ Contains (points_at rows.old.items i) point → IsOnce (points_at rows.new.items i)) }
+    ensures rows { OnOk result ((i : ℕ) (x : List ℕ) → slice_get names.now i ≡ Some x → (p : ℕ)
+        → Contains (points_at rows.new.items i) p ↔ (Contains (points_at rows.old.items i) p
+        ⊎ (UsesAt succ.now point x × (point ≡ p)))) }
+    ensures once { OnOk result ((i : ℕ) (x : List ℕ) → slice_get names.now i ≡ Some x
+        → IsOnce (points_at rows.old.items i) → ¬ Contains (points_at rows.old.items i) point
+        → IsOnce (points_at rows.new.items i)) }
 {
     let used = in_order(succ.used_names(point)?)?;
     push_all(names, &used, point, rows)?;
@@ -116,8 +128,12 @@ fn push_defined(
     requires names { IsStrictlySortedBy (slice_cmp nat_cmp) names.now }
     requires len { vec_len rows.old ≡ length names.now }
     ensures len { vec_len rows.new ≡ vec_len rows.old }
-    ensures rows { OnOk result ((i : ℕ) (x : List ℕ) → slice_get names.now i ≡ Some x → (p : ℕ) → Contains (points_at rows.new.items i) p ↔ (Contains (points_at rows.old.items i) p ⊎ ((defined_at succ.now point ≡ Some x) × (point ≡ p)))) }
-    ensures once { OnOk result ((i : ℕ) (x : List ℕ) → slice_get names.now i ≡ Some x → IsOnce (points_at rows.old.items i) → ¬ Contains (points_at rows.old.items i) point → IsOnce (points_at rows.new.items i)) }
+    ensures rows { OnOk result ((i : ℕ) (x : List ℕ) → slice_get names.now i ≡ Some x → (p : ℕ)
+        → Contains (points_at rows.new.items i) p ↔ (Contains (points_at rows.old.items i) p
+        ⊎ ((defined_at succ.now point ≡ Some x) × (point ≡ p)))) }
+    ensures once { OnOk result ((i : ℕ) (x : List ℕ) → slice_get names.now i ≡ Some x
+        → IsOnce (points_at rows.old.items i) → ¬ Contains (points_at rows.old.items i) point
+        → IsOnce (points_at rows.new.items i)) }
 {
     match succ.defines(point) {
         Some(name) => {

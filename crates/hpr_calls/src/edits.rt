@@ -64,7 +64,8 @@ fn there_and_back(
 ) -> Result<(), EditError>
     ensures body { OnOk result (editor.new.program.body ≡ editor.old.program.body) }
     ensures finals { OnOk result (editor.new.program.finals ≡ editor.old.program.finals) }
-    ensures issued { OnOk result ((a : ℕ) → issued_to a editor.old.program.issued ≤ issued_to a editor.new.program.issued) }
+    ensures issued { OnOk result ((a : ℕ)
+        → issued_to a editor.old.program.issued ≤ issued_to a editor.new.program.issued) }
 {
     match commands.split_first() {
         Some((first, rest)) => {

@@ -8,9 +8,7 @@ use Rattle.hpr_decisions.specs.Outcome.{RequestOutcome, OutcomeIfTold}
 use Rattle.hpr_decisions.specs.Reads.{MayReadIfTaken}
 use Rattle.hpr_inputs.specs.Decision.{Decision, prints}
 use Rattle.hpr_decisions.specs.Ends.{Change, Ends, Decided, status_of, text_of}
-use Rattle.hpr_inputs.specs.declared.answer.Kind.{Kind}
 use Rattle.hpr_inputs.specs.declared.answer.Kind.TheVariants as kind
-use Rattle.hpr_inputs.specs.declared.answer.Stop.{Stop}
 use Rattle.hpr_decisions.specs.declared.status.Status.{Status}
 use Rattle.hpr_decisions.specs.declared.status.Status.TheVariants as status
 

@@ -9,6 +9,7 @@ pub mod AffectedFiles
 pub mod EditFiles
 pub mod TrialFiles
 pub mod Outcome
+pub mod Answered
 pub mod Ends
 pub mod Number
 pub mod Asked

@@ -15,7 +15,7 @@
 -- In place of the rest of a block can stand:
 -- before part            == the part, and then the rest
 -- rewrapped t c n m      == a part that says this, with the next n parts as its first block and the m behind them as its second
-use Rattle.std.specs.Prelude.{ℕ, zero, suc, Bool, true, false, if◌then◌else◌, Some, None}
+use Rattle.std.specs.Prelude.{ℕ, zero, suc, Bool, if◌then◌else◌, Some, None}
 use Rattle.hpr_terms.specs.declared.tag.Tag.{Tag}
 use Rattle.hpr_syntax.specs.declared.tree.Stmt.{Stmt}
 use Rattle.hpr_syntax.specs.declared.tree.Stmt.TheVariants.{If, While}

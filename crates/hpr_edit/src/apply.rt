@@ -31,7 +31,8 @@ pub(crate) fn edited(
     new: Option<Tag>,
 ) -> Result<(Program, Inverse), EditError>
     requires { IfSome new (λ tag. 1 ≤ tag.serial) }
-    ensures { (author : ℕ) → new ≡ new_tag author program.now.issued → Answers (edited program.now command.now author) result }
+    ensures { (author : ℕ) → new ≡ new_tag author program.now.issued
+        → Answers (edited program.now command.now author) result }
 {
     match command {
         Command::Insert(place, content) => insert(alloc, program, *place, content, new),
@@ -53,7 +54,8 @@ fn insert(
     new: Option<Tag>,
 ) -> Result<(Program, Inverse), EditError>
     requires { IfSome new (λ tag. 1 ≤ tag.serial) }
-    ensures { (author : ℕ) → new ≡ new_tag author program.now.issued → Answers (edited program.now (Insert place content.now) author) result }
+    ensures { (author : ℕ) → new ≡ new_tag author program.now.issued
+        → Answers (edited program.now (Insert place content.now) author) result }
 {
     if !is_place(program.body(), place) {
         return Err(EditError::NoPlace);
@@ -145,7 +147,8 @@ fn wrap(
     new: Option<Tag>,
 ) -> Result<(Program, Inverse), EditError>
     requires { IfSome new (λ tag. 1 ≤ tag.serial) }
-    ensures { (author : ℕ) → new ≡ new_tag author program.now.issued → Answers (edited program.now (Wrap tag content.now) author) result }
+    ensures { (author : ℕ) → new ≡ new_tag author program.now.issued
+        → Answers (edited program.now (Wrap tag content.now) author) result }
 {
     let Some((_, _)) = located(program, tag) else {
         return Err(EditError::NoTag(tag));
@@ -177,7 +180,8 @@ fn unwrap(alloc: Global, program: &Program, tag: Tag) -> Result<(Program, Invers
 
 /// What puts a part with this tag, which says what this one says, round what stands in this one.
 fn rewrapping(alloc: Global, part: &Stmt, tag: Tag, place: Place) -> Result<Inverse, NoMemory>
-    ensures { IfOk result (λ i. i ≡ Rewrap place tag (content_of part.now) (width (first_block part.now)) (width (second_block part.now))) }
+    ensures { IfOk result (λ i. i ≡ Rewrap place tag (content_of part.now) (width (first_block part.now))
+        (width (second_block part.now))) }
 {
     let (first, second) = widths(part);
     let content = content_of(alloc, part)?;
@@ -323,7 +327,8 @@ fn settle_finals(alloc: Global, program: &Program, names: &[Name]) -> Result<Pro
 /// The program with another body, in which there is a new part with this tag.
 fn settle_new(alloc: Global, program: &Program, body: Block, new: Tag) -> Result<Program, EditError>
     requires { 1 ≤ new.serial }
-    ensures { Settles (record { issued = raised new.author new.serial program.now.issued; body = body; finals = program.now.finals }) result }
+    ensures { Settles
+        (record { issued = raised new.author new.serial program.now.issued; body = body; finals = program.now.finals }) result }
 {
     let issued = issued_with(alloc, program, new)?;
     settle_issued(alloc, program, issued, body)

@@ -92,7 +92,8 @@ fn change_within(
 ) -> Result<bool, NoMemory>
     requires once { times tag (before stmt.old done) ≤ 1 }
     ensures changed { OnOk result (stmt.new ≡ in_part tag (done_by change.entry) stmt.old) }
-    ensures found { IfOk result (λ found. one_if (same_tag (tag_of stmt.old) tag) + one_if found ≡ times tag (before stmt.old done)) }
+    ensures found { IfOk result (λ found. one_if (same_tag (tag_of stmt.old) tag) + one_if found
+        ≡ times tag (before stmt.old done)) }
 {
     match stmt {
         Stmt::If(_, _, yes, no) => {
@@ -109,7 +110,8 @@ fn change_within(
 /// Does it to the part at this place.
 fn act(alloc: Global, stmts: &mut Vec<Stmt>, at: usize, change: Change<'_>) -> Result<(), NoMemory>
     requires { at < vec_len stmts.old }
-    ensures { OnOk result (body_of stmts.new.items ≡ from at (on_first (done_by change.entry)) (body_of stmts.old.items)) }
+    ensures { OnOk result (body_of stmts.new.items ≡ from at (on_first (done_by change.entry))
+        (body_of stmts.old.items)) }
 {
     match change {
         Change::Take => {
@@ -139,7 +141,8 @@ fn say_at(
     content: &Content,
 ) -> Result<(), NoMemory>
     requires { at < vec_len stmts.old }
-    ensures { OnOk result (body_of stmts.new.items ≡ from at (on_first (saying content.now)) (body_of stmts.old.items)) }
+    ensures { OnOk result (body_of stmts.new.items ≡ from at (on_first (saying content.now))
+        (body_of stmts.old.items)) }
 {
     say(alloc, &mut stmts[at], content)
 }
@@ -153,7 +156,8 @@ fn wrap_at(
     content: &Content,
 ) -> Result<(), NoMemory>
     requires { at < vec_len stmts.old }
-    ensures { OnOk result (body_of stmts.new.items ≡ from at (on_first (wrapped tag content.now)) (body_of stmts.old.items)) }
+    ensures { OnOk result (body_of stmts.new.items ≡ from at (on_first (wrapped tag content.now))
+        (body_of stmts.old.items)) }
 {
     let content = content.copy(alloc)?;
     let part = stmts.remove(at);
@@ -228,7 +232,9 @@ fn put_at(
     what: Put<'_>,
 ) -> Result<(), NoMemory>
     requires { at < vec_len stmts.old }
-    ensures { OnOk result (body_of stmts.new.items ≡ from at (on_first (λ part rest. before (with_block branch (from place (put_by what.entry)) part) rest)) (body_of stmts.old.items)) }
+    ensures { OnOk result (body_of stmts.new.items ≡ from at
+        (on_first (λ part rest. before (with_block branch (from place (put_by what.entry)) part) rest))
+        (body_of stmts.old.items)) }
 {
     put_in(alloc, &mut stmts[at], branch, place, what)
 }
@@ -315,7 +321,8 @@ fn enclose_at(
     second: usize,
 ) -> Result<(), NoMemory>
     requires { at ≤ vec_len stmts.old }
-    ensures { OnOk result (body_of stmts.new.items ≡ from at (rewrapped tag content.now first second) (body_of stmts.old.items)) }
+    ensures { OnOk result (body_of stmts.new.items ≡ from at (rewrapped tag content.now first second)
+        (body_of stmts.old.items)) }
 {
     let mut rest = stmts.split_off(at)?;
     let part = take_enclosed(alloc, &mut rest, tag, content, first, second)?;
@@ -333,7 +340,8 @@ fn take_enclosed(
     first: usize,
     second: usize,
 ) -> Result<Stmt, NoMemory>
-    ensures part { IfOk result (λ part. part ≡ made tag content.now (firsts first (body_of stmts.old.items)) (firsts second (later first (body_of stmts.old.items)))) }
+    ensures part { IfOk result (λ part. part ≡ made tag content.now (firsts first (body_of stmts.old.items))
+        (firsts second (later first (body_of stmts.old.items)))) }
     ensures rest { OnOk result (body_of stmts.new.items ≡ later second (later first (body_of stmts.old.items))) }
 {
     let content = content.copy(alloc)?;

@@ -58,10 +58,12 @@ impl Editor {
     /// want of memory, and the editor is then as it was. It takes time and memory in proportion to the
     /// program, up to the logarithm that the search for repeated tags adds.
     pub fn apply(&mut self, alloc: Global, command: &Command) -> Result<Inverse, EditError>
-        ensures edited { IfOk result (λ i. edited self.old.program command.now self.old.author ≡ becomes self.new.program i) }
+        ensures edited { IfOk result (λ i. edited self.old.program command.now self.old.author
+            ≡ becomes self.new.program i) }
         ensures undoes { IfOk result (λ i. Undoes self.old.program i self.new.program) }
         ensures issued { IfOk result (λ i. IsPutBackIssued i self.new.program) }
-        ensures refused { IfErr result (λ e. e ≢ EditError.Memory → edited self.old.program command.now self.old.author ≡ refused e) }
+        ensures refused { IfErr result (λ e. e ≢ EditError.Memory
+            → edited self.old.program command.now self.old.author ≡ refused e) }
         ensures unchanged { OnErr result (self.new ≡ self.old) }
         ensures author { self.new.author ≡ self.old.author }
     {
@@ -85,8 +87,10 @@ impl Editor {
         requires undoes { (old : Tree) × Undoes old inverse self.old.program }
         requires issued { IsPutBackIssued inverse self.old.program }
         ensures reverted { OnOk result (self.new.program ≡ reverted inverse self.old.program) }
-        ensures body { OnOk result ((old : Tree) → Undoes old inverse self.old.program → self.new.program.body ≡ old.body) }
-        ensures finals { OnOk result ((old : Tree) → Undoes old inverse self.old.program → self.new.program.finals ≡ old.finals) }
+        ensures body { OnOk result ((old : Tree) → Undoes old inverse self.old.program
+            → self.new.program.body ≡ old.body) }
+        ensures finals { OnOk result ((old : Tree) → Undoes old inverse self.old.program
+            → self.new.program.finals ≡ old.finals) }
         ensures numbers { OnOk result (self.new.program.issued ≡ self.old.program.issued) }
         ensures back { IfErr result (λ i. i ≡ inverse) }
         ensures unchanged { OnErr result (self.new ≡ self.old) }

@@ -17,23 +17,29 @@ ghost use Rattle.hpr_edit.specs.Steps.{Steps, Fresh};
 /// may be reverted again and again, wherever that body and those finals come back: so the inverses of
 /// a list of commands may be reverted from the last to the first.
 pub fn undone()
-    ensures restored { (p : Tree) → IsProgram p → (c : Command) (author : ℕ) (q : Tree) (i : Inverse) → edited p c author ≡ becomes q i → Restores p i q }
-    ensures ready { (p : Tree) → IsProgram p → (c : Command) (author : ℕ) (q : Tree) (i : Inverse) → edited p c author ≡ becomes q i → IsPutBackIssued i q }
-    ensures program { (old : Tree) (i : Inverse) (q : Tree) → IsProgram q → Undoes old i q → IsPutBackIssued i q → IsProgram (reverted i q) }
-    ensures again { (old : Tree) (i : Inverse) (p q : Tree) → Undoes old i p → IsPutBackIssued i p → p.body ≡ q.body → p.finals ≡ q.finals
+    ensures restored { (p : Tree) → IsProgram p → (c : Command) (author : ℕ) (q : Tree) (i : Inverse)
+        → edited p c author ≡ becomes q i → Restores p i q }
+    ensures ready { (p : Tree) → IsProgram p → (c : Command) (author : ℕ) (q : Tree) (i : Inverse)
+        → edited p c author ≡ becomes q i → IsPutBackIssued i q }
+    ensures program { (old : Tree) (i : Inverse) (q : Tree) → IsProgram q → Undoes old i q → IsPutBackIssued i q
+        → IsProgram (reverted i q) }
+    ensures again { (old : Tree) (i : Inverse) (p q : Tree) → Undoes old i p → IsPutBackIssued i p → p.body ≡ q.body
+        → p.finals ≡ q.finals
         → ((a : ℕ) → issued_to a p.issued ≤ issued_to a q.issued) → Undoes old i q × IsPutBackIssued i q }
 {}
 
 /// No command makes an author's issued number less, and no revert changes one.
 pub fn issued_numbers_rise()
-    ensures command { (p : Tree) → IsProgram p → (c : Command) (author : ℕ) (q : Tree) (i : Inverse) → edited p c author ≡ becomes q i
+    ensures command { (p : Tree) → IsProgram p → (c : Command) (author : ℕ) (q : Tree) (i : Inverse)
+        → edited p c author ≡ becomes q i
         → (a : ℕ) → issued_to a p.issued ≤ issued_to a q.issued }
     ensures revert { (i : Inverse) (p : Tree) → (reverted i p).issued ≡ p.issued }
 {}
 
 /// The parts that a command doesn't name keep tag and content, and their order among each other.
 pub fn others_stay()
-    ensures { (p : Tree) → IsProgram p → (c : Command) (author : ℕ) (q : Tree) (i : Inverse) → edited p c author ≡ becomes q i
+    ensures { (p : Tree) → IsProgram p → (c : Command) (author : ℕ) (q : Tree) (i : Inverse)
+        → edited p c author ≡ becomes q i
         → others (touched p c author) q.body ≡ others (touched p c author) p.body }
 {}
 

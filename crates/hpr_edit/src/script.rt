@@ -32,7 +32,8 @@ pub fn apply_script(
 ) -> Result<Program, CommandRefusal>
     requires { 1 ≤ author }
     ensures edited { IfOk result (λ q. applied program commands.now author ≡ becomes q) }
-    ensures refused { IfErr result (λ r. r.why ≢ EditError.Memory → applied program commands.now author ≡ refused r.number r.why) }
+    ensures refused { IfErr result (λ r. r.why ≢ EditError.Memory
+        → applied program commands.now author ≡ refused r.number r.why) }
 {
     let mut editor = Editor::start(program, author);
     apply_all(alloc, &mut editor, commands)?;
@@ -41,8 +42,10 @@ pub fn apply_script(
 
 /// Carries out commands one after the other, until one is refused.
 fn apply_all(alloc: Global, editor: &mut Editor, commands: &[Command]) -> Result<(), CommandRefusal>
-    ensures edited { OnOk result (applied editor.old.program commands.now editor.old.author ≡ becomes editor.new.program) }
-    ensures refused { IfErr result (λ r. r.why ≢ EditError.Memory → applied editor.old.program commands.now editor.old.author ≡ refused r.number r.why) }
+    ensures edited { OnOk result (applied editor.old.program commands.now editor.old.author
+        ≡ becomes editor.new.program) }
+    ensures refused { IfErr result (λ r. r.why ≢ EditError.Memory
+        → applied editor.old.program commands.now editor.old.author ≡ refused r.number r.why) }
 {
     for (at, command) in commands.iter().enumerate() {
         apply_command(alloc, editor, command, at + 1)?;
@@ -57,8 +60,10 @@ fn apply_command(
     command: &Command,
     number: usize,
 ) -> Result<(), CommandRefusal>
-    ensures edited { OnOk result ((i : Inverse) × (edited editor.old.program command.now editor.old.author ≡ one.becomes editor.new.program i)) }
-    ensures refused { IfErr result (λ r. r.why ≢ EditError.Memory → edited editor.old.program command.now editor.old.author ≡ one.refused r.why) }
+    ensures edited { OnOk result ((i : Inverse) × (edited editor.old.program command.now editor.old.author
+        ≡ one.becomes editor.new.program i)) }
+    ensures refused { IfErr result (λ r. r.why ≢ EditError.Memory
+        → edited editor.old.program command.now editor.old.author ≡ one.refused r.why) }
     ensures number { IfErr result (λ r. r.number ≡ number) }
     ensures author { editor.new.author ≡ editor.old.author }
 {

@@ -2,7 +2,6 @@
 --
 -- HasTooManyEdges p   == the graph of the program p has more
 -- AreInLimit base a b == the graphs of all three programs are within the limit
-use Rattle.std.specs.Prelude.{ℕ}
 use Rattle.hpr_terms.specs.declared.limits.TheConstants.{MAX_EDGES}
 use Rattle.hpr_syntax.specs.Tree.{Tree}
 use Rattle.hpr_graph.specs.Graphs.{HasMoreEdges}

@@ -35,9 +35,11 @@ pub fn one_side_is_free()
 /// Where one variant is the base, the answer is the other variant, whatever the budget is: its finals
 /// in ascending order, and each author's issued number the greatest of the three programs.
 pub fn one_side_unchanged()
-    ensures b { (base a : Tree) (tries : ℕ) (r : Answer) → IsProgram base → IsProgram a → 1 ≤ tries → IsAnswer base a base tries r
+    ensures b { (base a : Tree) (tries : ℕ) (r : Answer) → IsProgram base → IsProgram a → 1 ≤ tries
+        → IsAnswer base a base tries r
         → (m : Tree) × (r ≡ printed m) × IsSettled (searched_issued base a base) a m }
-    ensures a { (base b : Tree) (tries : ℕ) (r : Answer) → IsProgram base → IsProgram b → 1 ≤ tries → IsAnswer base base b tries r
+    ensures a { (base b : Tree) (tries : ℕ) (r : Answer) → IsProgram base → IsProgram b → 1 ≤ tries
+        → IsAnswer base base b tries r
         → (m : Tree) × (r ≡ printed m) × IsSettled (searched_issued base base b) b m }
 {}
 
@@ -45,10 +47,13 @@ pub fn one_side_unchanged()
 /// first arrangements that the budget allows fits, the first such one is the answer; and where there are
 /// no more arrangements than tries, the budget is not spent.
 pub fn one_answer()
-    ensures agree { (base a b : Tree) (tries : ℕ) (r s : Answer) → IsProgram a → IsProgram b → IsAnswer base a b tries r → IsAnswer base a b tries s → Agree r s }
-    ensures first { (base a b : Tree) (tries : ℕ) (ps : List Tree) (m : Tree) (r : Answer) → IsProgram a → IsProgram b → IsWithoutConflict base a b → AreTried base a b ps
+    ensures agree { (base a b : Tree) (tries : ℕ) (r s : Answer) → IsProgram a → IsProgram b
+        → IsAnswer base a b tries r → IsAnswer base a b tries s → Agree r s }
+    ensures first { (base a b : Tree) (tries : ℕ) (ps : List Tree) (m : Tree) (r : Answer) → IsProgram a → IsProgram b
+        → IsWithoutConflict base a b → AreTried base a b ps
         → IsFirstFit (searched_graph base a b) (take tries ps) m → IsAnswer base a b tries r → r ≡ printed m }
-    ensures enough { (base a b : Tree) (tries : ℕ) (ps : List Tree) (r : Answer) → IsProgram a → IsProgram b → IsWithoutConflict base a b → AreTried base a b ps
+    ensures enough { (base a b : Tree) (tries : ℕ) (ps : List Tree) (r : Answer) → IsProgram a → IsProgram b
+        → IsWithoutConflict base a b → AreTried base a b ps
         → length ps ≤ tries → IsAnswer base a b tries r → r ≢ spent }
 {}
 
@@ -73,5 +78,6 @@ pub fn printed_is_merged()
 /// ends within as many steps as the three took together, with the variant's value for each final variable
 /// that a variant changed, and the common value where all three agree.
 pub fn printed_keeps()
-    ensures { (base a b : Tree) (tries : ℕ) (m : Tree) → IsProgram base → IsProgram a → IsProgram b → IsAnswer base a b tries (printed m) → Keeps base a b m }
+    ensures { (base a b : Tree) (tries : ℕ) (m : Tree) → IsProgram base → IsProgram a → IsProgram b
+        → IsAnswer base a b tries (printed m) → Keeps base a b m }
 {}

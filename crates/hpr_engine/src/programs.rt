@@ -37,7 +37,8 @@ pub fn merge_programs(
     ensures kept { IfOk result (λ _. KeepsSides base.now a.now b.now) }
     ensures within { IfJudged result (AreInLimit base.now a.now b.now) }
     ensures too_many { IfTooManyEdges result (λ which. IsFirstTooLarge base.now a.now b.now which) }
-    ensures conflicts { IfInterference result (λ cs. AreConflicts (graph_of base.now) (graph_of a.now) (graph_of b.now) cs) }
+    ensures conflicts { IfInterference result (λ cs. AreConflicts (graph_of base.now) (graph_of a.now)
+        (graph_of b.now) cs) }
     ensures interferes { IfInterference result (λ cs. cs ≢ []) }
     ensures unsearched { IfErr result IsUnsearched }
 {
@@ -54,12 +55,7 @@ struct Graphs {
 }
 
 /// The graphs of the three programs, of which the first that has too many edges is named.
-fn limited_graphs(
-    alloc: Global,
-    base: &Program,
-    a: &Program,
-    b: &Program,
-) -> Result<Graphs, Stop>
+fn limited_graphs(alloc: Global, base: &Program, a: &Program, b: &Program) -> Result<Graphs, Stop>
     ensures base { IfOk result (λ g. IsGraphOf base.now g.base) }
     ensures a { IfOk result (λ g. IsGraphOf a.now g.a) }
     ensures b { IfOk result (λ g. IsGraphOf b.now g.b) }
@@ -82,7 +78,8 @@ fn limited_graphs(
 fn merge_graphs(alloc: Global, base: &Graph, a: &Graph, b: &Graph) -> Result<Graph, Stop>
     ensures merged { IfOk result (λ g. IsMergeOf (graph_in base.now) (graph_in a.now) (graph_in b.now) g) }
     ensures within { IfTooManyEdges result (λ _. ⊥) }
-    ensures conflicts { IfInterference result (λ cs. AreConflicts (graph_in base.now) (graph_in a.now) (graph_in b.now) cs) }
+    ensures conflicts { IfInterference result (λ cs. AreConflicts (graph_in base.now) (graph_in a.now)
+        (graph_in b.now) cs) }
     ensures interferes { IfInterference result (λ cs. cs ≢ []) }
     ensures unsearched { IfErr result IsUnsearched }
 {

@@ -205,7 +205,8 @@ impl Context {
     }
 
     fn join_and(&mut self, alloc: Global, value: Expr) -> Result<Option<Expr>, Fault>
-        ensures { Leads (expression.counted self.old (pending.with_and self.old.here Binary.And value)) self.new result }
+        ensures { Leads (expression.counted self.old
+            (pending.with_and self.old.here Binary.And value)) self.new result }
     {
         self.here.join_and(alloc, Binary::And, value)?;
         self.counted()

@@ -127,7 +127,8 @@ impl Pending {
 
     fn last_comparison(&mut self, alloc: Global, value: Expr) -> Result<Expr, NoMemory>
         ensures value { IfOk result (λ e. e ≡ pending.last_comparison self.old value) }
-        ensures rest { OnOk result (self.new ≡ record self.old { compared = None; summed = None; multiplied = None; prefixes = [] }) }
+        ensures rest { OnOk result (self.new
+            ≡ record self.old { compared = None; summed = None; multiplied = None; prefixes = [] }) }
     {
         let right = self.last_sum(alloc, value)?;
         joined(alloc, self.compared.take(), right)

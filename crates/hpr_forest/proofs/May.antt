@@ -5,7 +5,7 @@ use Rattle.std.proofs.lemmas.List.{append-nil}
 use Rattle.std.proofs.lemmas.Bool.{ltb-true, lt-ltb, eqb-true, eq-eqb, ne_eqb}
 use Rattle.hpr_forest.specs.Choices.{Follows}
 use Rattle.hpr_forest.proofs.Unique.{in_none, in_cons, in_first, in_later}
-use Rattle.hpr_forest.specs.Forest.{Forest, IsForest, is_in, all_in, behind}
+use Rattle.hpr_forest.specs.Forest.{Forest, is_in, all_in, behind}
 use Rattle.hpr_forest.specs.Forest as forest
 use Rattle.hpr_forest.proofs.Members.{IsDistinct, is_in-false, out_is_in, all_in-true, in_all_in, cond_parts}
 

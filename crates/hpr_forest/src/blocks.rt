@@ -6,7 +6,8 @@ ghost use Rattle.hpr_forest.specs.Blocks.{forest_in, row_at, parent_at};
 
 use crate::Choices;
 
-/// A forest of items, numbered from 0, by tables: what each stands under, what stands under it, and which of its siblings must come before it.
+/// A forest of items, numbered from 0, by tables: what each stands under, what stands under it, and which of its
+/// siblings must come before it.
 pub struct Blocks {
     pub parents: Vec<Option<usize>>,
     pub children: Vec<Vec<usize>>,

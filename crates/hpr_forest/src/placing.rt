@@ -77,7 +77,8 @@ impl Blocks {
         ensures can { IfSome result (λ c. can_of self.now placed.now c ≡ true) }
         ensures from { IfSome result (λ c. from ≤ c) }
         ensures least { IfSome result (λ c. (d : ℕ) → from ≤ d → d < c → can_of self.now placed.now d ≡ false) }
-        ensures none { IfNone result ((d : ℕ) → from ≤ d → d < vec_len self.now.parents → can_of self.now placed.now d ≡ false) }
+        ensures none { IfNone result ((d : ℕ) → from ≤ d → d < vec_len self.now.parents
+            → can_of self.now placed.now d ≡ false) }
     {
         let under = self.open_parent(marks, placed);
         for item in from..self.parents.len() {

@@ -18,7 +18,8 @@ pub fn descend<T: Choices>(choices: &T, marks: &mut Vec<bool>, placed: &mut Vec<
     requires len { vec_len placed.old ≤ T.size choices.now }
     requires room { T.size choices.now ≤ vec_capacity placed.old }
     ensures whole { IsTrue result → IsWhole (T.can choices.now) (T.size choices.now) placed.new.items }
-    ensures same { IsTrue result → from_here (T.can choices.now) (T.size choices.now) placed.new.items ≡ from_here (T.can choices.now) (T.size choices.now) placed.old.items }
+    ensures same { IsTrue result → from_here (T.can choices.now) (T.size choices.now) placed.new.items
+        ≡ from_here (T.can choices.now) (T.size choices.now) placed.old.items }
     ensures dead { IsFalse result → (l : List ℕ) → IsWhole (T.can choices.now) (T.size choices.now) l → ⊥ }
     ensures room { vec_capacity placed.new ≡ vec_capacity placed.old }
     ensures row { vec_len marks.new ≡ vec_len marks.old }
@@ -46,7 +47,8 @@ pub fn advance<T: Choices>(choices: &T, marks: &mut Vec<bool>, placed: &mut Vec<
     requires whole { IsWhole (T.can choices.now) (T.size choices.now) placed.old.items }
     requires room { T.size choices.now ≤ vec_capacity placed.old }
     ensures whole { IsTrue result → IsWhole (T.can choices.now) (T.size choices.now) placed.new.items }
-    ensures next { IsTrue result → after (T.can choices.now) (T.size choices.now) placed.old.items ≡ placed.new.items ∷ after (T.can choices.now) (T.size choices.now) placed.new.items }
+    ensures next { IsTrue result → after (T.can choices.now) (T.size choices.now) placed.old.items
+        ≡ placed.new.items ∷ after (T.can choices.now) (T.size choices.now) placed.new.items }
     ensures last { IsFalse result → after (T.can choices.now) (T.size choices.now) placed.old.items ≡ [] }
     ensures room { vec_capacity placed.new ≡ vec_capacity placed.old }
     ensures row { vec_len marks.new ≡ vec_len marks.old }

@@ -17,12 +17,11 @@
 -- graph_of tree              == the graph of the program
 use Rattle.std.specs.Prelude.{◌≡◌, ℕ, Bool, true, ◌⊎◌, Option, Some, None, List, Contains}
 use Rattle.hpr_terms.specs.declared.tag.Tag.{Tag}
-use Rattle.hpr_terms.specs.Uses.{Uses}
 use Rattle.hpr_syntax.specs.Contents.{UsesIn}
 use Rattle.hpr_syntax.specs.declared.rows.Content.{Content}
 use Rattle.hpr_syntax.specs.Tree.{Tree}
 use Rattle.hpr_syntax.specs.Skeleton.{Point, enter, at, exit, skeleton}
-use Rattle.hpr_syntax.specs.Rows.{assigned, expr_in}
+use Rattle.hpr_syntax.specs.Rows.{assigned}
 use Rattle.hpr_syntax.specs.Nests.{Standing, StandsAsIn, Says}
 use Rattle.hpr_syntax.specs.Places.{StandsLeft, Parted, EnclosesBoth}
 use Rattle.hpr_syntax.specs.Paths.{IsUndisturbed}

@@ -42,7 +42,8 @@ impl Model for Graph {
 
     ghost view = { λ g. record { vertices = g.vertices.items; links = rows_of g.links.items } };
 
-    ghost invariant = { λ g. IsCounted (record { vertices = g.vertices.items; links = rows_of g.links.items }) g.edges };
+    ghost invariant = { λ g. IsCounted
+        (record { vertices = g.vertices.items; links = rows_of g.links.items }) g.edges };
 }
 
 /// A graph is dropped in one call.
@@ -184,7 +185,8 @@ impl Graph {
         ensures known { HasLink self.old to link → self.new ≡ self.old }
         ensures there { OnOk result (HasLink self.new to link) }
         ensures kept { OnOk result ((at : ℕ) (l : Link) → HasLink self.old at l → HasLink self.new at l) }
-        ensures only { OnOk result ((at : ℕ) (l : Link) → HasLink self.new at l → HasLink self.old at l ⊎ ((at ≡ to) × (l ≡ link))) }
+        ensures only { OnOk result ((at : ℕ) (l : Link) → HasLink self.new at l → HasLink self.old at l
+            ⊎ ((at ≡ to) × (l ≡ link))) }
         ensures err { OnErr result (self.new ≡ self.old) }
     {
         if has_link(self.edges_into(to), link) {
@@ -201,7 +203,8 @@ impl Graph {
         ensures vertices { self.new.vertices ≡ self.old.vertices }
         ensures there { OnOk result (HasLink self.new to link) }
         ensures kept { OnOk result ((at : ℕ) (l : Link) → HasLink self.old at l → HasLink self.new at l) }
-        ensures only { OnOk result ((at : ℕ) (l : Link) → HasLink self.new at l → HasLink self.old at l ⊎ ((at ≡ to) × (l ≡ link))) }
+        ensures only { OnOk result ((at : ℕ) (l : Link) → HasLink self.new at l → HasLink self.old at l
+            ⊎ ((at ≡ to) × (l ≡ link))) }
         ensures count { OnOk result (link_count self.new ≡ link_count self.old + 1) }
         ensures err { OnErr result (self.new ≡ self.old) }
     {
@@ -236,7 +239,8 @@ impl Graph {
     /// carried edge, the shared use of an order edge. There are as many marks as vertices.
     pub fn restrict(&self, keep: &[bool]) -> Result<Graph, NoMemory>
         requires { length keep.now ≡ length self.now.vertices }
-        ensures { IfOk result (λ g. Same (graph_in g) (restrict_to (graph_in self.now) (IsMarkedVertex self.now keep.now))) }
+        ensures { IfOk result (λ g. Same (graph_in g) (restrict_to (graph_in self.now)
+            (IsMarkedVertex self.now keep.now))) }
     {
         restricted(self.alloc, self, keep)
     }
@@ -356,7 +360,8 @@ pub(crate) fn copy_vertices(alloc: Global, vertices: &[Vertex]) -> Result<Vec<Ve
 /// Puts each row in ascending order.
 fn sort_rows(rows: &mut Vec<Vec<Link>>)
     ensures count { length rows.new.items ≡ length rows.old.items }
-    ensures same { (at : ℕ) → IsPermutation (row_items (slice_get (rows_of rows.old.items) at)) (row_items (slice_get (rows_of rows.new.items) at)) }
+    ensures same { (at : ℕ) → IsPermutation (row_items (slice_get (rows_of rows.old.items) at))
+        (row_items (slice_get (rows_of rows.new.items) at)) }
     ensures sorted { (at : ℕ) → IsSorted ⟦<Link as Ord>⟧.cmp (row_items (slice_get (rows_of rows.new.items) at)) }
 {
     for row in rows.iter_mut() {

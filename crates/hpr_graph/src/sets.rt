@@ -28,7 +28,8 @@ pub(crate) fn united(alloc: Global, a: &Graph, b: &Graph) -> Result<Graph, NoMem
 pub(crate) fn restricted(alloc: Global, graph: &Graph, keep: &[bool]) -> Result<Graph, NoMemory>
     requires numbered { IsNumbered graph.now }
     requires marks { length keep.now ≡ length graph.now.vertices }
-    ensures { IfOk result (λ g. Same (graph_in g) (restrict_to (graph_in graph.now) (IsMarkedVertex graph.now keep.now))) }
+    ensures { IfOk result (λ g. Same (graph_in g) (restrict_to (graph_in graph.now)
+        (IsMarkedVertex graph.now keep.now))) }
 {
     let mut kept = Graph::empty(alloc);
     let numbers = push_marked(alloc, &mut kept, graph, keep)?;
@@ -46,7 +47,8 @@ fn add_vertices(
     ensures all { IfOk result (λ ns. (i : ℕ) → i < length source.now.vertices → HasNumber ns.items i) }
     ensures grown { OnOk result (IsGrown target.old target.new) }
     ensures edges { OnOk result ((e : Edge) → HasEdge target.new e ↔ HasEdge target.old e) }
-    ensures only { OnOk result ((v : Vertex) → HasVertex target.new v → HasVertex target.old v ⊎ HasVertex source.now v) }
+    ensures only { OnOk result ((v : Vertex) → HasVertex target.new v → HasVertex target.old v
+        ⊎ HasVertex source.now v) }
 {
     let mut numbers = Vec::new(alloc);
     for vertex in source.vertices() {
@@ -89,7 +91,8 @@ fn push_if(
     ensures there { IfOk result (λ n. IfSome n (λ j. slice_get target.new.vertices j ≡ Some vertex.now)) }
     ensures grown { OnOk result (IsGrown target.old target.new) }
     ensures edges { OnOk result ((e : Edge) → HasEdge target.new e ↔ HasEdge target.old e) }
-    ensures only { OnOk result ((v : Vertex) → HasVertex target.new v → HasVertex target.old v ⊎ (IsTrue keep × (v ≡ vertex.now))) }
+    ensures only { OnOk result ((v : Vertex) → HasVertex target.new v → HasVertex target.old v
+        ⊎ (IsTrue keep × (v ≡ vertex.now))) }
 {
     if !keep {
         return Ok(None);
@@ -118,7 +121,8 @@ pub(crate) fn add_edges(
 ) -> Result<(), NoMemory>
     requires { ArePlaced source.now.vertices numbers.now target.old.vertices }
     ensures vertices { OnOk result (target.new.vertices ≡ target.old.vertices) }
-    ensures edges { OnOk result ((e : Edge) → HasEdge target.new e ↔ (HasEdge target.old e ⊎ MovesEdge source.now numbers.now e)) }
+    ensures edges { OnOk result ((e : Edge) → HasEdge target.new e
+        ↔ (HasEdge target.old e ⊎ MovesEdge source.now numbers.now e)) }
 {
     for at in 0..source.vertex_count() {
         if let Some(to) = number_at(numbers, at) {
@@ -141,7 +145,8 @@ fn add_row(
     requires placed { ArePlaced source.now.vertices numbers.now target.old.vertices }
     requires number { number_at numbers.now at ≡ Some to }
     ensures vertices { OnOk result (target.new.vertices ≡ target.old.vertices) }
-    ensures edges { OnOk result ((e : Edge) → HasEdge target.new e ↔ (HasEdge target.old e ⊎ MovesEdgeIn source.now numbers.now at (row_of source.now at) e)) }
+    ensures edges { OnOk result ((e : Edge) → HasEdge target.new e
+        ↔ (HasEdge target.old e ⊎ MovesEdgeIn source.now numbers.now at (row_of source.now at) e)) }
 {
     let known = sorted(alloc, target.edges_into(to))?;
     for link in source.edges_into(at) {
@@ -167,7 +172,8 @@ fn add_moved(
     requires sorted { IsSorted ⟦<Link as Ord>⟧.cmp known.now }
     requires known { (m : Link) → moved numbers.now link ≡ Some m → Contains known.now m ↔ HasLink target.old to m }
     ensures vertices { target.new.vertices ≡ target.old.vertices }
-    ensures edges { OnOk result ((e : Edge) → HasEdge target.new e ↔ (HasEdge target.old e ⊎ MovesLink source.now numbers.now at link e)) }
+    ensures edges { OnOk result ((e : Edge) → HasEdge target.new e
+        ↔ (HasEdge target.old e ⊎ MovesLink source.now numbers.now at link e)) }
 {
     let Some(moved) = moved(link, numbers) else {
         return Ok(());

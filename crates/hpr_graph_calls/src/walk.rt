@@ -17,7 +17,8 @@ fn stands(blocked: bool, marks: &[bool], placed: &[usize], number: usize) -> boo
     requires number { number < 3 }
     requires row { length marks.now ≡ 3 }
     requires marks { IsMarksOf marks.now placed.now }
-    ensures { result ≡ cond blocked false (cond (ltb number 3) (cond (is_in placed.now number) false (cond (eqb number 2) (is_in placed.now 0) true)) false) }
+    ensures { result ≡ cond blocked false (cond (ltb number 3)
+        (cond (is_in placed.now number) false (cond (eqb number 2) (is_in placed.now 0) true)) false) }
 {
     if blocked || marks[number] {
         return false;
@@ -28,7 +29,8 @@ fn stands(blocked: bool, marks: &[bool], placed: &[usize], number: usize) -> boo
 impl Choices for Example {
     ghost size = { λ _. 3 };
 
-    ghost can = { λ e q c. cond e.blocked false (cond (ltb c 3) (cond (is_in q c) false (cond (eqb c 2) (is_in q 0) true)) false) };
+    ghost can = { λ e q c. cond e.blocked false
+        (cond (ltb c 3) (cond (is_in q c) false (cond (eqb c 2) (is_in q 0) true)) false) };
 
     fn size(&self) -> usize {
         3

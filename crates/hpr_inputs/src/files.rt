@@ -66,7 +66,8 @@ pub fn read_text<S: Shelf>(
 ) -> Result<Program, Stop>
     requires serves { IsTrue (S.serves shelf.old file.now) }
     requires author { HasAuthor mode }
-    ensures reads { ReadsIn (form_of mode) (S.files shelf.old) file.now (S.faults shelf.old) (S.faults shelf.new) result }
+    ensures reads { ReadsIn (form_of mode) (S.files shelf.old) file.now (S.faults shelf.old)
+        (S.faults shelf.new) result }
     ensures same_files { S.files shelf.new ≡ S.files shelf.old }
     ensures same_names { (n : List ℕ) → S.serves shelf.new n ≡ S.serves shelf.old n }
 {

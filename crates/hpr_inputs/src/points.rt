@@ -69,7 +69,8 @@ fn is_text(texts: &[String], word: &str) -> bool
 
 /// The places of the texts that are among the words.
 fn numbers_among(alloc: Global, texts: &[String], words: &[&str]) -> Result<Vec<usize>, NoMemory>
-    ensures { IfOk result (λ numbers. AreNumbersIn (map string_bytes texts.now) (map (λ w. w.now) words.now) numbers.items) }
+    ensures { IfOk result (λ numbers. AreNumbersIn (map string_bytes texts.now)
+        (map (λ w. w.now) words.now) numbers.items) }
 {
     let mut numbers = Vec::new(alloc);
     for (at, text) in texts.iter().enumerate() {

@@ -21,7 +21,8 @@ pub enum WordRefusal {
 impl WordRefusal {
     /// The message on a word.
     fn message(self, alloc: Global, word: &str) -> Result<String, AllocError>
-        ensures { IfOk result (λ text. string_bytes text ≡ spec.refused_word_text (record { word = word.now; why = self })) }
+        ensures { IfOk result (λ text. string_bytes text ≡ spec.refused_word_text
+            (record { word = word.now; why = self })) }
     {
         about(alloc, word, self.reason())
     }

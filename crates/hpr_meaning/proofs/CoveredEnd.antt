@@ -7,18 +7,17 @@ use Rattle.hpr_terms.specs.declared.tag.Tag.{Tag}
 use Rattle.hpr_syntax.specs.declared.rows.Content.TheVariants.{If}
 use Rattle.hpr_terms.specs.declared.expr.Expr.TheVariants.{Num}
 use Rattle.hpr_syntax.specs.Tree.{Tree}
-use Rattle.hpr_syntax.specs.Value.{Fault, Answer, value}
+use Rattle.hpr_syntax.specs.Value.{Fault, Answer}
 use Rattle.hpr_syntax.specs.Run.{Outcome, ends, faults, more, run, outcome, FinalValues}
 use Rattle.hpr_syntax.specs.Values.{Values}
 use Rattle.hpr_syntax.specs.Skeleton.{Distinct, skeleton}
 use Rattle.hpr_syntax.specs.Nests.{Says}
 use Rattle.hpr_paths.specs.Times.{Place, IsBefore}
 use Rattle.hpr_meaning.specs.Instances.{Instance, state_after, trace, log_of, after_of}
-use Rattle.hpr_syntax.specs.Rows.{expr_in}
 use mathlib.Core.List.{reverse_aux}
 use Rattle.hpr_graph.specs.declared.vertex.Vertex.{Vertex}
-use Rattle.hpr_graph.specs.Graphs.{Graph, Same}
-use Rattle.hpr_graph.specs.Slices.{ReachesOne, slice_at}
+use Rattle.hpr_graph.specs.Graphs.{Same}
+use Rattle.hpr_graph.specs.Slices.{slice_at}
 use Rattle.hpr_graph.specs.ProgramGraph.{graph_of}
 use Rattle.hpr_syntax.specs.Meaning.{Ends}
 use Rattle.hpr_paths.proofs.Among.{Among, here, there, among_left, among_right, among_contains, contains_among, no_both}
@@ -29,7 +28,6 @@ use Rattle.hpr_meaning.proofs.Items.{Spot, spot_of, item_at, log_before, item_of
 use Rattle.hpr_paths.proofs.Says.{says_one}
 use Rattle.hpr_meaning.proofs.RunRecords.{vertex_at, nth_step, IsStepAt, step_says, steps_rise, at_stop, run_record, known}
 use Rattle.hpr_meaning.proofs.SameSlices.{InBoth, both_of_first, shares}
-use Rattle.hpr_graph.proofs.Laws.{same_turned, slice_at_same, same_then}
 use Rattle.hpr_meaning.proofs.TwoRuns.{shared}
 use Rattle.hpr_meaning.proofs.SharedSlices.{faults_at}
 use Rattle.std.proofs.lemmas.List.{length-append}

@@ -1,12 +1,11 @@
 -- The flow edges of a program's graph between parts, as ways of its skeleton.
 use Rattle.std.proofs.Common.{◌≡◌, ℕ, List, Option, Some, refl, ap, sym, ◌∙◌, subst, inl, inr}
 use Rattle.hpr_terms.specs.declared.tag.Tag.{Tag}
-use Rattle.hpr_terms.specs.Uses.{Uses}
 use Rattle.hpr_syntax.specs.declared.rows.Content.{Content}
 use Rattle.hpr_syntax.specs.Contents.{UsesIn}
 use Rattle.hpr_syntax.specs.Body.{Body}
 use Rattle.hpr_syntax.specs.Tree.{Tree}
-use Rattle.hpr_syntax.specs.Rows.{assigned, expr_in}
+use Rattle.hpr_syntax.specs.Rows.{assigned}
 use Rattle.hpr_syntax.specs.Skeleton.{Point, at, Distinct, skeleton}
 use Rattle.hpr_syntax.specs.Pairs.{FollowsIn}
 use Rattle.hpr_syntax.specs.Nests.{Says}

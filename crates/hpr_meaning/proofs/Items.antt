@@ -1,6 +1,6 @@
 -- The items of a run by their numbers, and the log before each: which value and which definition it has for a name, and the paths
 -- between the steps.
-use Rattle.std.proofs.Common.{◌≡◌, ℕ, zero, suc, ◌<◌, ◌≤◌, Bool, true, false, List, [], ◌∷◌, ◌++◌, ◌⊎◌, Option, Some, None, length, refl, ap, sym, subst, ◌∙◌, inl, inr, arith}
+use Rattle.std.proofs.Common.{◌≡◌, ℕ, zero, suc, ◌<◌, ◌≤◌, Bool, true, false, List, [], ◌∷◌, ◌++◌, ◌⊎◌, Option, Some, None, length, refl, ap, subst, ◌∙◌, inl, inr, arith}
 use native.Mathlib.Decide.{ℕ_discrete}
 use Rattle.hpr_terms.specs.declared.tag.Tag.{Tag}
 use Rattle.hpr_syntax.specs.declared.rows.Content.{Content}

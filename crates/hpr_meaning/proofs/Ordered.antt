@@ -7,12 +7,11 @@ use Rattle.hpr_syntax.specs.Body.{Body}
 use Rattle.hpr_syntax.specs.Tree.{Tree}
 use Rattle.hpr_syntax.specs.Shape.{IsProgram}
 use Rattle.hpr_syntax.specs.Values.{Values}
-use Rattle.hpr_terms.specs.Uses.{Uses}
 use Rattle.hpr_syntax.specs.Skeleton.{at, Distinct, skeleton, Skeleton}
 use Rattle.hpr_paths.proofs.Ahead.{StandsAhead}
 use Rattle.hpr_syntax.specs.Nests.{Standing, StandsAsIn, Says}
 use Rattle.hpr_paths.specs.Times.{Place, IsBefore, HaveLessTurns, HaveSameTurns}
-use Rattle.hpr_syntax.specs.Rows.{expr_in, assigned}
+use Rattle.hpr_syntax.specs.Rows.{assigned}
 use Rattle.hpr_graph.specs.declared.vertex.Vertex.{Vertex}
 use Rattle.hpr_syntax.specs.Paths.{DefinesAt}
 use Rattle.hpr_graph.specs.ProgramGraph.{IsIndependent, HasFlow, IsOrder}

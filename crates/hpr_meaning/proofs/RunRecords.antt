@@ -3,12 +3,11 @@ use Rattle.std.proofs.Common.{◌≡◌, ℕ, ◌<◌, ℤ, pos, Bool, true, fal
 use Rattle.hpr_terms.specs.declared.expr.Expr.TheVariants.{Num}
 use Rattle.hpr_syntax.specs.declared.rows.Content.{Content}
 use Rattle.hpr_syntax.specs.declared.rows.Content.TheVariants.{If}
-use Rattle.hpr_terms.specs.TermOf.{term_of}
 use Rattle.hpr_syntax.specs.Contents.{UsesIn, answer_of}
 use Rattle.hpr_syntax.specs.Body.{Body}
 use Rattle.hpr_syntax.specs.Tree.{Tree}
 use Rattle.hpr_syntax.specs.Values.{Values, value_at}
-use Rattle.hpr_syntax.specs.Value.{Answer, value, is_true}
+use Rattle.hpr_syntax.specs.Value.{Answer, is_true}
 use Rattle.hpr_terms.specs.Uses.{Uses}
 use Rattle.hpr_terms.proofs.Facts.{compared}
 use Rattle.hpr_syntax.proofs.ActByUses.{act_by_uses}
@@ -17,7 +16,6 @@ use Rattle.hpr_syntax.specs.Pairs.{first_of, FollowsIn}
 use Rattle.hpr_syntax.specs.Nests.{Standing, StandsAsIn, Says}
 use Rattle.hpr_paths.specs.Times.{Place, ComesBefore, IsBefore}
 use Rattle.hpr_meaning.specs.Instances.{Did, Instance, truth, state_after, trace}
-use Rattle.hpr_syntax.specs.Rows.{expr_in}
 use Rattle.hpr_meaning.specs.Due.{Calls, first_turns}
 use Rattle.hpr_graph.specs.declared.vertex.Vertex.{Vertex}
 use Rattle.hpr_meaning.proofs.Items.{Assigns, Spot, spot_of, item_at, log_before, assigns?, value_none, value_last, item_given, item_of_among, among_of_item, IsStepIn, each_step, steps_ascend_at, path_between_steps}

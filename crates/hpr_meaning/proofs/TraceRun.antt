@@ -7,7 +7,7 @@ use Rattle.hpr_syntax.specs.Rows.{content_by, expr_in}
 use Rattle.hpr_syntax.specs.Contents.{answer_of}
 use Rattle.hpr_syntax.specs.Body.{Body, done, action, branch, loop}
 use Rattle.hpr_syntax.specs.Values.{Values}
-use Rattle.hpr_syntax.specs.Value.{Answer, value, is_true}
+use Rattle.hpr_syntax.specs.Value.{Answer, is_true}
 use Rattle.hpr_syntax.specs.Run.{After, run_body}
 use Rattle.hpr_syntax.specs.Run as run
 use Rattle.hpr_paths.specs.Times.{Place}

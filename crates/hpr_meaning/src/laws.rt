@@ -55,7 +55,8 @@ pub fn order_by_edges()
 /// slice. Where it ends too, both have the same instances of the slice, and the same final value for each
 /// name whose Final vertex is in it.
 pub fn shared_slices()
-    ensures { (p q : Tree) (points : List Vertex) (s : Values) (n m : ℕ) (finals : FinalValues) → IsProgram p → IsProgram q
+    ensures { (p q : Tree) (points : List Vertex) (s : Values) (n m : ℕ) (finals : FinalValues) → IsProgram p
+        → IsProgram q
         → Same (slice_of (graph_of p) (Contains points)) (slice_of (graph_of q) (Contains points)) → Ends p s n finals
         → SharesSlice p q (Contains points) s n m }
 {}
@@ -71,7 +72,8 @@ pub fn union_kept()
 /// The law of the covered end. A program each of whose parts lies in a slice that it has from one of some
 /// programs ends on every state on which they end, within as many steps as they have together.
 pub fn covered_end()
-    ensures { (m : Tree) (versions : List Version) (s : Values) → IsProgram m → ((i : Version) → Contains versions i → DoesEnd s i) → IsCovered versions m
+    ensures { (m : Tree) (versions : List Version) (s : Values) → IsProgram m
+        → ((i : Version) → Contains versions i → DoesEnd s i) → IsCovered versions m
         → (f : FinalValues) × Ends m s (steps_of versions) f }
 {}
 

@@ -75,7 +75,8 @@ impl<'a> Beside<'a> {
     /// slices a fixed number of times, and looks those of the merged graph up among those of the variant.
     pub(crate) fn added_at(&self, at: usize) -> Result<Option<Edge>, NoMemory>
         requires { at < length self.now.merged.vertices }
-        ensures { IfOk result (λ edge. (v : Vertex) → slice_get self.now.merged.vertices at ≡ Some v → IsLeastAdded (graph_in self.now.merged) (graph_in self.now.own) v edge) }
+        ensures { IfOk result (λ edge. (v : Vertex) → slice_get self.now.merged.vertices at ≡ Some v
+            → IsLeastAdded (graph_in self.now.merged) (graph_in self.now.own) v edge) }
     {
         let grown = self.wide.reaching(&[at])?;
         let own = self.narrow.reaching(&[at])?;
@@ -88,7 +89,8 @@ impl<'a> Beside<'a> {
 
 /// The graph with the vertices of the other too, in order. Looks each vertex of the graph up once.
 pub(crate) fn widened(alloc: Global, graph: &Graph, other: &Graph) -> Result<Graph, NoMemory>
-    ensures vertices { IfOk result (λ g. (v : Vertex) → HasVertex g v ↔ (HasVertex graph.now v ⊎ HasVertex other.now v)) }
+    ensures vertices { IfOk result (λ g. (v : Vertex) → HasVertex g v
+        ↔ (HasVertex graph.now v ⊎ HasVertex other.now v)) }
     ensures edges { IfOk result (λ g. (e : Edge) → HasEdge g e ↔ HasEdge graph.now e) }
     ensures order { IfOk result (λ g. Ascends vertex_cmp g.vertices) }
     ensures rows { IfOk result (λ g. RowsAscend ⟦<Link as Ord>⟧.cmp g) }

@@ -26,7 +26,8 @@ pub(crate) fn conflicts_on(
     merged: &Graph,
 ) -> Result<Vec<Conflict>, NoMemory>
     requires { Ascends nat_cmp points.now }
-    ensures { IfOk result (λ cs. AreSideConflicts (graph_in merged.now) (graph_in variant.now) (IsOneOf variant.now points.now) side cs.items) }
+    ensures { IfOk result (λ cs. AreSideConflicts (graph_in merged.now) (graph_in variant.now)
+        (IsOneOf variant.now points.now) side cs.items) }
 {
     let wide = widened(alloc, merged, variant)?;
     let narrow = widened(alloc, variant, merged)?;
@@ -47,7 +48,8 @@ fn conflicts_in(
     requires points { Ascends nat_cmp points.now }
     requires order { Ascends vertex_cmp wide.now.vertices }
     requires wide { beside.now.merged ≡ wide.now }
-    ensures { IfOk result (λ cs. AreSideConflicts (graph_in wide.now) (graph_in beside.now.own) (λ v. IsOneOf variant.now points.now v × HasVertex wide.now v) side cs.items) }
+    ensures { IfOk result (λ cs. AreSideConflicts (graph_in wide.now) (graph_in beside.now.own) (λ v.
+        IsOneOf variant.now points.now v × HasVertex wide.now v) side cs.items) }
 {
     let mut conflicts = Vec::new(alloc);
     for at in 0..wide.vertex_count() {
@@ -70,7 +72,8 @@ fn edge_at(
     requires once { IsOnce variant.now.vertices }
     requires points { Ascends nat_cmp points.now }
     requires vertex { slice_get beside.now.merged.vertices at ≡ Some vertex.now }
-    ensures { IfOk result (λ edge. IsEdgeOfPoint (graph_in beside.now.merged) (graph_in beside.now.own) (IsOneOf variant.now points.now) vertex.now edge) }
+    ensures { IfOk result (λ edge. IsEdgeOfPoint (graph_in beside.now.merged) (graph_in beside.now.own)
+        (IsOneOf variant.now points.now) vertex.now edge) }
 {
     if !is_one_of(variant, points, vertex) {
         return Ok(None);

@@ -39,10 +39,14 @@ pub struct Merged {
 /// the affected and the preserved points take, makes two searches for each affected point, looks each
 /// vertex up a fixed number of times, and puts vertices and edges in order.
 pub fn merge(alloc: Global, base: &Graph, a: &Graph, b: &Graph) -> Result<Merged, NoMemory>
-    ensures graph { IfOk result (λ m. Same (graph_in m.graph) (merged (graph_in base.now) (graph_in a.now) (graph_in b.now))) }
-    ensures affected_a { IfOk result (λ m. AreNumbersOf a.now (IsAffected (graph_in a.now) (graph_in base.now)) m.affected_a.items) }
-    ensures affected_b { IfOk result (λ m. AreNumbersOf b.now (IsAffected (graph_in b.now) (graph_in base.now)) m.affected_b.items) }
-    ensures conflicts { IfOk result (λ m. AreConflicts (graph_in base.now) (graph_in a.now) (graph_in b.now) m.conflicts.items) }
+    ensures graph { IfOk result (λ m. Same (graph_in m.graph)
+        (merged (graph_in base.now) (graph_in a.now) (graph_in b.now))) }
+    ensures affected_a { IfOk result (λ m. AreNumbersOf a.now
+        (IsAffected (graph_in a.now) (graph_in base.now)) m.affected_a.items) }
+    ensures affected_b { IfOk result (λ m. AreNumbersOf b.now
+        (IsAffected (graph_in b.now) (graph_in base.now)) m.affected_b.items) }
+    ensures conflicts { IfOk result (λ m. AreConflicts (graph_in base.now) (graph_in a.now)
+        (graph_in b.now) m.conflicts.items) }
 {
     let affected_a = affected(alloc, a, base)?;
     let affected_b = affected(alloc, b, base)?;
@@ -98,7 +102,8 @@ fn both_conflicts(
 
 /// The slice of the base at the preserved points.
 fn shared_part(alloc: Global, base: &Graph, a: &Graph, b: &Graph) -> Result<Graph, NoMemory>
-    ensures { IfOk result (λ g. Same (graph_in g) (slice_of (graph_in base.now) (IsPreserved (graph_in base.now) (graph_in a.now) (graph_in b.now)))) }
+    ensures { IfOk result (λ g. Same (graph_in g) (slice_of (graph_in base.now)
+        (IsPreserved (graph_in base.now) (graph_in a.now) (graph_in b.now)))) }
 {
     let points = preserved(alloc, base, a, b)?;
     slice(alloc, base, &points)

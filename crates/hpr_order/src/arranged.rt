@@ -27,10 +27,12 @@ pub fn arrange(
     issued: &Issued,
 ) -> Result<Program, NoMemory>
     requires regions { AreRegionsOf graph.now regions.now }
-    requires arrangement { (p : Tree) × IsArrangement (graph_in graph.now) issued.now p × IsPreorderOf graph.now order.now p }
+    requires arrangement { (p : Tree) × IsArrangement (graph_in graph.now) issued.now p
+        × IsPreorderOf graph.now order.now p }
     ensures arrangement { IfOk result (λ m. IsArrangement (graph_in graph.now) issued.now m) }
     ensures preorder { IfOk result (λ m. IsPreorderOf graph.now order.now m) }
-    ensures only { IfOk result (λ m. (p : Tree) → IsArrangement (graph_in graph.now) issued.now p → IsPreorderOf graph.now order.now p → p ≡ m) }
+    ensures only { IfOk result (λ m. (p : Tree) → IsArrangement (graph_in graph.now) issued.now p
+        → IsPreorderOf graph.now order.now p → p ≡ m) }
 {
     // no vertex stands twice
     let _vertices = graph.vertices();

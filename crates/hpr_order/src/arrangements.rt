@@ -40,7 +40,8 @@ impl Model for Arrangements {
 
     ghost view = { λ a. programs_of a.ordered.items.items a.issued a.finals.items (coming a.next a.ordered.orders) };
 
-    ghost invariant = { λ a. IsSearching a.ordered.items.items a.issued a.finals.items (coming a.next a.ordered.orders) };
+    ghost invariant = { λ a. IsSearching a.ordered.items.items a.issued a.finals.items
+        (coming a.next a.ordered.orders) };
 }
 
 /// What is still to come is dropped in one call.

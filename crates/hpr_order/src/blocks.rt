@@ -65,7 +65,8 @@ fn siblings_by(
     requires within { (s t : ℕ) → Contains pairs.now (s, t) → (s < length items.now) × (t < length items.now) }
     ensures limits { IfOk result (λ o. IfSome o (λ _. IsWithinLimits items.now)) }
     ensures lifted { IfOk result (λ o. IfSome o (λ asked. AreLifted items.now pairs.now asked.items)) }
-    ensures never { IfOk result (λ o. IfNone o (IsWithinLimits items.now → (s t : ℕ) × Contains pairs.now (s, t) × IsBelow items.now t s)) }
+    ensures never { IfOk result (λ o. IfNone o (IsWithinLimits items.now → (s t : ℕ) × Contains pairs.now (s, t)
+        × IsBelow items.now t s)) }
 {
     let Some(levels) = levels_of(alloc, items)? else {
         return Ok(None);
@@ -128,7 +129,8 @@ fn set_mark(asked: &mut Vec<Vec<bool>>, second: usize, first: usize)
     ensures rows { (n : ℕ) → HasRows n asked.old.items → HasRows n asked.new.items }
     ensures set { IsMarkedAt asked.new.items second first }
     ensures kept { (x d : ℕ) → IsMarkedAt asked.old.items x d → IsMarkedAt asked.new.items x d }
-    ensures only { (x d : ℕ) → IsMarkedAt asked.new.items x d → IsMarkedAt asked.old.items x d ⊎ ((x ≡ second) × (d ≡ first)) }
+    ensures only { (x d : ℕ) → IsMarkedAt asked.new.items x d → IsMarkedAt asked.old.items x d
+        ⊎ ((x ≡ second) × (d ≡ first)) }
 {
     asked[second][first] = true;
 }
@@ -167,7 +169,8 @@ fn blocks_of(alloc: Global, items: &[Item], asked: &[Vec<bool>]) -> Result<Block
 /// For each item the one under which it stands.
 fn parents_of(alloc: Global, items: &[Item]) -> Result<Vec<Option<usize>>, NoMemory>
     ensures count { IfOk result (λ ps. vec_len ps ≡ length items.now) }
-    ensures parents { IfOk result (λ ps. (k : ℕ) → k < length items.now → slice_get ps.items k ≡ Some (parent_in items.now k)) }
+    ensures parents { IfOk result (λ ps. (k : ℕ) → k < length items.now
+        → slice_get ps.items k ≡ Some (parent_in items.now k)) }
 {
     let mut parents = Vec::new(alloc);
     for item in 0..items.len() {
@@ -179,7 +182,8 @@ fn parents_of(alloc: Global, items: &[Item]) -> Result<Vec<Option<usize>>, NoMem
 /// For each item those that stand under it.
 fn child_rows(alloc: Global, items: &[Item]) -> Result<Vec<Vec<usize>>, NoMemory>
     ensures count { IfOk result (λ rows. vec_len rows ≡ length items.now) }
-    ensures children { IfOk result (λ rows. (k : ℕ) → k < length items.now → (x : ℕ) → Contains (row_at (slice_get rows.items k)) x ↔ ((x < length items.now) × (parent_in items.now x ≡ Some k))) }
+    ensures children { IfOk result (λ rows. (k : ℕ) → k < length items.now → (x : ℕ)
+        → Contains (row_at (slice_get rows.items k)) x ↔ ((x < length items.now) × (parent_in items.now x ≡ Some k))) }
 {
     let mut rows = Vec::new(alloc);
     for item in 0..items.len() {
@@ -196,7 +200,8 @@ fn before_rows(
 ) -> Result<Vec<Vec<usize>>, NoMemory>
     requires { HasRows (length items.now) asked.now }
     ensures count { IfOk result (λ rows. vec_len rows ≡ length items.now) }
-    ensures before { IfOk result (λ rows. (k : ℕ) → k < length items.now → (d : ℕ) → Contains (row_at (slice_get rows.items k)) d ↔ MustPrecede items.now (marks_in (slice_get asked.now k)) d k) }
+    ensures before { IfOk result (λ rows. (k : ℕ) → k < length items.now → (d : ℕ)
+        → Contains (row_at (slice_get rows.items k)) d ↔ MustPrecede items.now (marks_in (slice_get asked.now k)) d k) }
 {
     let mut rows = Vec::new(alloc);
     for item in 0..items.len() {
@@ -207,7 +212,8 @@ fn before_rows(
 
 /// The items that stand under an item.
 fn children_of(alloc: Global, items: &[Item], parent: usize) -> Result<Vec<usize>, NoMemory>
-    ensures { IfOk result (λ row. (x : ℕ) → Contains row.items x ↔ ((x < length items.now) × (parent_in items.now x ≡ Some parent))) }
+    ensures { IfOk result (λ row. (x : ℕ) → Contains row.items x
+        ↔ ((x < length items.now) × (parent_in items.now x ≡ Some parent))) }
 {
     let mut row = Vec::new(alloc);
     for child in 0..items.len() {

@@ -157,7 +157,8 @@ fn put_item(
     requires slots { AreSlots items.now }
     requires item { item < length items.now }
     requires count { vec_len pending.old.branches ≡ length items.now }
-    ensures blocks { OnOk result ((order : List ℕ) → AreBlocks items.now order pending.old → ¬ Contains order item → AreBlocks items.now (item ∷ order) pending.new) }
+    ensures blocks { OnOk result ((order : List ℕ) → AreBlocks items.now order pending.old → ¬ Contains order item
+        → AreBlocks items.now (item ∷ order) pending.new) }
     ensures count { OnOk result (vec_len pending.new.branches ≡ vec_len pending.old.branches) }
 {
     let content = items[item].content.copy(alloc)?;

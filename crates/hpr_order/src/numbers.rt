@@ -188,7 +188,8 @@ pub(crate) fn asked_pairs(
     numbers: &[usize],
 ) -> Result<Vec<(usize, usize)>, NoMemory>
     requires { ArePartsOf graph.now numbers.now }
-    ensures { IfOk result (λ pairs. (items : List Item) → AreItemsAt graph.now numbers.now items → AreAsked (graph_in graph.now) items pairs.items) }
+    ensures { IfOk result (λ pairs. (items : List Item) → AreItemsAt graph.now numbers.now items
+        → AreAsked (graph_in graph.now) items pairs.items) }
 {
     let places = places_of(alloc, graph.vertices().len(), numbers)?;
     pairs_by(alloc, graph, &places, numbers)
@@ -204,7 +205,8 @@ fn pairs_by(
     requires numbered { IsNumbered graph.now }
     requires numbers { ArePartsOf graph.now numbers.now }
     requires places { ArePlaces numbers.now places.now }
-    ensures { IfOk result (λ pairs. (items : List Item) → AreItemsAt graph.now numbers.now items → AreAsked (graph_in graph.now) items pairs.items) }
+    ensures { IfOk result (λ pairs. (items : List Item) → AreItemsAt graph.now numbers.now items
+        → AreAsked (graph_in graph.now) items pairs.items) }
 {
     let mut pairs = Vec::new(alloc);
     for (place, number) in numbers.iter().enumerate() {
@@ -220,7 +222,8 @@ fn add_pairs(
     item: usize,
     pairs: &mut Vec<(usize, usize)>,
 ) -> Result<(), NoMemory>
-    ensures { OnOk result ((s t : ℕ) → Contains pairs.new.items (s, t) ↔ (Contains pairs.old.items (s, t) ⊎ ((t ≡ item) × IsAskedBy places.now links.now s))) }
+    ensures { OnOk result ((s t : ℕ) → Contains pairs.new.items (s, t)
+        ↔ (Contains pairs.old.items (s, t) ⊎ ((t ≡ item) × IsAskedBy places.now links.now s))) }
 {
     for link in links {
         if !directs(link.kind) {

@@ -39,7 +39,8 @@ pub(crate) fn parts_in_order(
 ) -> Result<OrderedItems, NoMemory>
     requires regions { AreRegionsOf graph.now regions.now }
     requires rank { IsRanking (graph_in graph.now) rank.now }
-    ensures { IfOk result (λ o. (numbers : List ℕ) × AreRanked graph.now rank.now numbers × IsOrdered graph.now numbers o) }
+    ensures { IfOk result (λ o. (numbers : List ℕ) × AreRanked graph.now rank.now numbers
+        × IsOrdered graph.now numbers o) }
 {
     let numbers = ranked_parts(alloc, graph, rank)?;
     numbers_in_order(alloc, graph, regions, &numbers)

@@ -31,7 +31,8 @@ fn noted(
     least: Option<Tag>,
     vertex: &Vertex,
 ) -> Result<Option<Tag>, NoMemory>
-    ensures seen { OnOk result ((t : Tag) → (contains tag_cmp seen.new t ≡ true) ↔ ((contains tag_cmp seen.old t ≡ true) ⊎ HasTag vertex.now t)) }
+    ensures seen { OnOk result ((t : Tag) → (contains tag_cmp seen.new t ≡ true)
+        ↔ ((contains tag_cmp seen.old t ≡ true) ⊎ HasTag vertex.now t)) }
     ensures least { IfOk result (λ o. o ≡ noted (contains tag_cmp seen.old) least vertex.now) }
 {
     match vertex {

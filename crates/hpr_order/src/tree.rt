@@ -129,8 +129,10 @@ fn least_impossible<'a>(graph: &'a Graph, reached: &[bool]) -> Option<&'a Vertex
 fn is_impossible(graph: &Graph, reached: &[bool], at: usize) -> bool
     requires at { at < length graph.now.vertices }
     requires reached { AreReached graph.now reached.now }
-    ensures impossible { IsTrue result → (v : Vertex) → slice_get graph.now.vertices at ≡ Some v → IsImpossible (graph_in graph.now) v }
-    ensures possible { result ≡ false → (v : Vertex) → slice_get graph.now.vertices at ≡ Some v → v ≢ Vertex.Entry → IsPossible (graph_in graph.now) v }
+    ensures impossible { IsTrue result → (v : Vertex) → slice_get graph.now.vertices at ≡ Some v
+        → IsImpossible (graph_in graph.now) v }
+    ensures possible { result ≡ false → (v : Vertex) → slice_get graph.now.vertices at ≡ Some v → v ≢ Vertex.Entry
+        → IsPossible (graph_in graph.now) v }
 {
     !is_entry(graph.vertex(at)) && !is_possible(graph, reached, at)
 }
@@ -140,7 +142,8 @@ fn is_impossible(graph: &Graph, reached: &[bool], at: usize) -> bool
 fn is_possible(graph: &Graph, reached: &[bool], at: usize) -> bool
     requires at { at < length graph.now.vertices }
     requires reached { AreReached graph.now reached.now }
-    ensures { (v : Vertex) → slice_get graph.now.vertices at ≡ Some v → IsTrue result ↔ IsPossible (graph_in graph.now) v }
+    ensures { (v : Vertex) → slice_get graph.now.vertices at ≡ Some v → IsTrue result
+        ↔ IsPossible (graph_in graph.now) v }
 {
     match only_control(graph.edges_into(at)) {
         Some((from, label)) => {
@@ -174,7 +177,8 @@ fn is_entry(vertex: &Vertex) -> bool
 fn parents_of(alloc: Global, graph: &Graph) -> Result<Vec<Option<(usize, bool)>>, NoMemory>
     requires { AllPossible (graph_in graph.now) }
     ensures count { IfOk result (λ rs. length rs.items ≡ length graph.now.vertices) }
-    ensures parents { IfOk result (λ rs. (at : ℕ) (v : Vertex) (r : Option (ℕ × Bool)) → slice_get graph.now.vertices at ≡ Some v → slice_get rs.items at ≡ Some r → IsRegionAt graph.now at v r) }
+    ensures parents { IfOk result (λ rs. (at : ℕ) (v : Vertex) (r : Option (ℕ × Bool))
+        → slice_get graph.now.vertices at ≡ Some v → slice_get rs.items at ≡ Some r → IsRegionAt graph.now at v r) }
 {
     let mut parents = Vec::new(alloc);
     for at in 0..graph.vertices().len() {

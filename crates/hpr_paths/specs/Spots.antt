@@ -24,7 +24,7 @@ use Rattle.std.specs.Option.{option_map, option_and_then}
 use Rattle.hpr_terms.specs.declared.tag.Tag.{Tag}
 use Rattle.hpr_terms.specs.declared.expr.Expr.{Expr}
 use Rattle.hpr_terms.specs.TermOf.{term_of}
-use Rattle.hpr_terms.specs.Uses.{Uses, names_in}
+use Rattle.hpr_terms.specs.Uses.{names_in}
 use Rattle.hpr_syntax.specs.Contents.{UsesIn}
 use Rattle.hpr_syntax.specs.declared.rows.Content.{Content}
 use Rattle.hpr_syntax.specs.declared.rows.Content.TheVariants.{While}

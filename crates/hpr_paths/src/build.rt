@@ -119,7 +119,8 @@ fn push_part(
     nest: &[usize],
     stmt: &Stmt,
 ) -> Result<(), NoMemory>
-    ensures spot { OnOk result (spots.new.items ≡ spots.old.items ++ spot_of next.now nest.now (part (tag_of stmt.now) (content_of stmt.now)) ∷ []) }
+    ensures spot { OnOk result (spots.new.items ≡ spots.old.items
+        ++ spot_of next.now nest.now (part (tag_of stmt.now) (content_of stmt.now)) ∷ []) }
     ensures len { OnOk result (vec_len spots.new ≡ vec_len spots.old + 1) }
 {
     let content = content_of(alloc, stmt)?;
@@ -136,7 +137,8 @@ fn push_block(
     spots: &mut Vec<Spot>,
 ) -> Result<(), NoMemory>
     requires fits { vec_len spots.old + part_count block.now < 2 ^ 32 }
-    ensures spots { OnOk result (spots.new.items ≡ spots.old.items ++ spots_of block.now (vec_len spots.old) follow nest.now) }
+    ensures spots { OnOk result (spots.new.items ≡ spots.old.items
+        ++ spots_of block.now (vec_len spots.old) follow nest.now) }
     ensures len { OnOk result (vec_len spots.new ≡ vec_len spots.old + part_count block.now) }
 {
     for (i, stmt) in block.stmts.iter().enumerate() {
@@ -160,7 +162,8 @@ fn push_stmt(
     spots: &mut Vec<Spot>,
 ) -> Result<(), NoMemory>
     requires fits { vec_len spots.old + part_count (before stmt.now done) < 2 ^ 32 }
-    ensures spots { OnOk result (spots.new.items ≡ spots.old.items ++ spots_of (before stmt.now done) (vec_len spots.old) after nest.now) }
+    ensures spots { OnOk result (spots.new.items ≡ spots.old.items
+        ++ spots_of (before stmt.now done) (vec_len spots.old) after nest.now) }
     ensures len { OnOk result (vec_len spots.new ≡ vec_len spots.old + part_count (before stmt.now done)) }
 {
     let first = spots.len();

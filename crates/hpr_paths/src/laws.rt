@@ -23,7 +23,8 @@ pub fn points_in_order()
     ensures first { (t : Tree) → role_at (spots t) 0 ≡ Some enter }
     ensures last { (t : Tree) → role_at (spots t) (part_count t.body + 1) ≡ Some (exit t.finals) }
     ensures count { (t : Tree) → length (spots t) ≡ part_count t.body + 2 }
-    ensures tags { (t : Tree) → map (λ s. tag_of s.role) (spots t) ≡ None ∷ (map Some (tags_of t.body []) ++ None ∷ []) }
+    ensures tags { (t : Tree) → map (λ s. tag_of s.role) (spots t)
+        ≡ None ∷ (map Some (tags_of t.body []) ++ None ∷ []) }
 {}
 
 /// Each number below the number of points stands for one point, and no two numbers stand for the
@@ -31,13 +32,16 @@ pub fn points_in_order()
 pub fn numbers_of_points()
     ensures some { (t : Tree) (p : ℕ) → p < length (spots t) → (a : Point) × IsNumberOf (spots t) p a }
     ensures one { (t : Tree) (p : ℕ) (a b : Point) → IsNumberOf (spots t) p a → IsNumberOf (spots t) p b → a ≡ b }
-    ensures once { (t : Tree) (p q : ℕ) (a : Point) → IsProgram t → IsNumberOf (spots t) p a → IsNumberOf (spots t) q a → p ≡ q }
+    ensures once { (t : Tree) (p q : ℕ) (a : Point) → IsProgram t → IsNumberOf (spots t) p a
+        → IsNumberOf (spots t) q a → p ≡ q }
 {}
 
 /// What stands at a part's number is what the part says.
 pub fn contents_by_number()
-    ensures sound { (t : Tree) (p : ℕ) (v : Tag) (c : Content) → role_at (spots t) p ≡ Some (part v c) → Says t.body v c }
-    ensures complete { (t : Tree) (v : Tag) (c : Content) → Says t.body v c → (p : ℕ) × (role_at (spots t) p ≡ Some (part v c)) }
+    ensures sound { (t : Tree) (p : ℕ) (v : Tag) (c : Content) → role_at (spots t) p ≡ Some (part v c)
+        → Says t.body v c }
+    ensures complete { (t : Tree) (v : Tag) (c : Content) → Says t.body v c → (p : ℕ)
+        × (role_at (spots t) p ≡ Some (part v c)) }
 {}
 
 /// The loops that enclose a number are those that enclose its part.
@@ -51,32 +55,41 @@ pub fn nests_by_number()
 /// The loops that enclose two numbers are those that enclose both points.
 pub fn enclosing_by_number()
     ensures sound { (t : Tree) (p q l : ℕ) (d u : Point) (w : Tag) → IsNumberOf (spots t) p d → IsNumberOf (spots t) q u
-        → Contains (nest_at (spots t) p) l → Contains (nest_at (spots t) q) l → tag_at (spots t) l ≡ Some w → EnclosesBoth (skeleton t.body) d u w }
-    ensures complete { (t : Tree) (p q : ℕ) (d u : Point) (w : Tag) → IsProgram t → IsNumberOf (spots t) p d → IsNumberOf (spots t) q u
+        → Contains (nest_at (spots t) p) l → Contains (nest_at (spots t) q) l → tag_at (spots t) l ≡ Some w
+        → EnclosesBoth (skeleton t.body) d u w }
+    ensures complete { (t : Tree) (p q : ℕ) (d u : Point) (w : Tag) → IsProgram t → IsNumberOf (spots t) p d
+        → IsNumberOf (spots t) q u
         → EnclosesBoth (skeleton t.body) d u w
-        → (l : ℕ) × Contains (nest_at (spots t) p) l × Contains (nest_at (spots t) q) l × (tag_at (spots t) l ≡ Some w) }
+        → (l : ℕ) × Contains (nest_at (spots t) p) l × Contains (nest_at (spots t) q) l
+        × (tag_at (spots t) l ≡ Some w) }
 {}
 
 /// Of two parts the one with the lower number stands to the left.
 pub fn left_by_number()
-    ensures sound { (t : Tree) (p q : ℕ) (d u : Tag) → IsNumberOf (spots t) p (at d) → IsNumberOf (spots t) q (at u) → p < q
+    ensures sound { (t : Tree) (p q : ℕ) (d u : Tag) → IsNumberOf (spots t) p (at d) → IsNumberOf (spots t) q (at u)
+        → p < q
         → StandsLeft (skeleton t.body) (at d) (at u) }
-    ensures complete { (t : Tree) (p q : ℕ) (d u : Point) → IsProgram t → IsNumberOf (spots t) p d → IsNumberOf (spots t) q u
+    ensures complete { (t : Tree) (p q : ℕ) (d u : Point) → IsProgram t → IsNumberOf (spots t) p d
+        → IsNumberOf (spots t) q u
         → StandsLeft (skeleton t.body) d u → p < q }
 {}
 
 /// The name that a number defines is the one that its part defines.
 pub fn definitions_by_number()
-    ensures sound { (t : Tree) (p : ℕ) (a : Point) (x : List ℕ) → IsNumberOf (spots t) p a → defined_at (spots t) p ≡ Some x → DefinesAt t.body x a }
-    ensures complete { (t : Tree) (p : ℕ) (a : Point) (x : List ℕ) → IsProgram t → IsNumberOf (spots t) p a → DefinesAt t.body x a
+    ensures sound { (t : Tree) (p : ℕ) (a : Point) (x : List ℕ) → IsNumberOf (spots t) p a
+        → defined_at (spots t) p ≡ Some x → DefinesAt t.body x a }
+    ensures complete { (t : Tree) (p : ℕ) (a : Point) (x : List ℕ) → IsProgram t → IsNumberOf (spots t) p a
+        → DefinesAt t.body x a
         → defined_at (spots t) p ≡ Some x }
 {}
 
 /// The steps between numbers are the pairs of points, with their marks.
 pub fn steps_are_pairs()
-    ensures sound { (t : Tree) (p q : ℕ) (s : Step) (a z : Point) → Leads (spots t) p q s → IsNumberOf (spots t) p a → IsNumberOf (spots t) q z
+    ensures sound { (t : Tree) (p q : ℕ) (s : Step) (a z : Point) → Leads (spots t) p q s → IsNumberOf (spots t) p a
+        → IsNumberOf (spots t) q z
         → IsPair t.body a z (mark_of (spots t) s) }
-    ensures complete { (t : Tree) (p : ℕ) (a z : Point) (m : Option Tag) → IsProgram t → IsNumberOf (spots t) p a → IsPair t.body a z m
+    ensures complete { (t : Tree) (p : ℕ) (a z : Point) (m : Option Tag) → IsProgram t → IsNumberOf (spots t) p a
+        → IsPair t.body a z m
         → (q : ℕ) × (s : Step) × Leads (spots t) p q s × IsNumberOf (spots t) q z × (m ≡ mark_of (spots t) s) }
 {}
 
@@ -84,15 +97,20 @@ pub fn steps_are_pairs()
 pub fn paths_by_number()
     ensures sound { (t : Tree) (p q : ℕ) (a z : Point) (steps : List Step) → NumberPath (spots t) p q steps
         → IsNumberOf (spots t) p a → IsNumberOf (spots t) q z → IsPath t.body a z (marks_of (spots t) steps) }
-    ensures complete { (t : Tree) (p : ℕ) (a z : Point) (marks : List (Option Tag)) → IsProgram t → IsNumberOf (spots t) p a → IsPath t.body a z marks
-        → (q : ℕ) × (steps : List Step) × NumberPath (spots t) p q steps × IsNumberOf (spots t) q z × (marks ≡ marks_of (spots t) steps) }
+    ensures complete { (t : Tree) (p : ℕ) (a z : Point) (marks : List (Option Tag)) → IsProgram t
+        → IsNumberOf (spots t) p a → IsPath t.body a z marks
+        → (q : ℕ) × (steps : List Step) × NumberPath (spots t) p q steps × IsNumberOf (spots t) q z
+        × (marks ≡ marks_of (spots t) steps) }
 {}
 
 /// The undisturbed paths over numbers are those of the program, with their marks.
 pub fn undisturbed_by_number()
-    ensures sound { (t : Tree) (x : List ℕ) (p q : ℕ) (a z : Point) (steps : List Step) → IsProgram t → NumberUndisturbed (spots t) x p q steps
+    ensures sound { (t : Tree) (x : List ℕ) (p q : ℕ) (a z : Point) (steps : List Step) → IsProgram t
+        → NumberUndisturbed (spots t) x p q steps
         → IsNumberOf (spots t) p a → IsNumberOf (spots t) q z → IsUndisturbed t.body x a z (marks_of (spots t) steps) }
-    ensures complete { (t : Tree) (x : List ℕ) (p : ℕ) (a z : Point) (marks : List (Option Tag)) → IsProgram t → IsNumberOf (spots t) p a
+    ensures complete { (t : Tree) (x : List ℕ) (p : ℕ) (a z : Point) (marks : List (Option Tag)) → IsProgram t
+        → IsNumberOf (spots t) p a
         → IsUndisturbed t.body x a z marks
-        → (q : ℕ) × (steps : List Step) × NumberUndisturbed (spots t) x p q steps × IsNumberOf (spots t) q z × (marks ≡ marks_of (spots t) steps) }
+        → (q : ℕ) × (steps : List Step) × NumberUndisturbed (spots t) x p q steps × IsNumberOf (spots t) q z
+        × (marks ≡ marks_of (spots t) steps) }
 {}

@@ -22,7 +22,8 @@ pub fn paths_lead_ahead()
 /// loop around both.
 pub fn direct_ways_exist()
     ensures { (t : Tree) (x : List ℕ) (d u : Tag) (marks : List (Option Tag)) → IsProgram t → DefinesAt t.body x (at d)
-        → IsUndisturbed t.body x (at d) (at u) marks → StandsLeft (skeleton t.body) (at d) (at u) → ¬ Parted (skeleton t.body) (at d) (at u)
+        → IsUndisturbed t.body x (at d) (at u) marks → StandsLeft (skeleton t.body) (at d) (at u)
+        → ¬ Parted (skeleton t.body) (at d) (at u)
         → (direct : List (Option Tag)) × IsUndisturbed t.body x (at d) (at u) direct
         × ((w : Tag) → EnclosesBoth (skeleton t.body) (at d) (at u) w → ¬ Contains direct (Some w)) }
 {}
@@ -30,12 +31,15 @@ pub fn direct_ways_exist()
 /// The order of places in time is a strict order.
 pub fn time_is_an_order()
     ensures irreflexive { (t : Tree) (i : Place) → IsProgram t → ¬ IsBefore t.body i i }
-    ensures transitive { (t : Tree) (i j k : Place) → IsProgram t → IsBefore t.body i j → IsBefore t.body j k → IsBefore t.body i k }
+    ensures transitive { (t : Tree) (i j k : Place) → IsProgram t → IsBefore t.body i j → IsBefore t.body j k
+        → IsBefore t.body i k }
 {}
 
 /// A run comes to its places in the order of time, whatever its parts give, and whether it goes to
 /// the end or stops.
 pub fn runs_go_with_time()
-    ensures { (sk : Skeleton) (truth : ℕ → Bool) (gives : Tag → Log ℕ → ℕ → Bool) (steps : List Place) (over : Bool) (log : Log ℕ) → Distinct sk
-        → Execution ℕ truth (λ t before v. gives t before v ≡ true) sk 0 [] [] steps over log → Ascending (ComesBefore sk 0) steps }
+    ensures { (sk : Skeleton) (truth : ℕ → Bool) (gives : Tag → Log ℕ → ℕ
+        → Bool) (steps : List Place) (over : Bool) (log : Log ℕ) → Distinct sk
+        → Execution ℕ truth (λ t before v. gives t before v ≡ true) sk 0 [] [] steps over log
+        → Ascending (ComesBefore sk 0) steps }
 {}

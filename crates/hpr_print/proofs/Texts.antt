@@ -2,7 +2,7 @@
 use Rattle.std.proofs.Common.{◌≡◌, ℕ, ◌+◌, ◌*◌, ◌≤◌, List, [], ◌∷◌, ◌++◌, refl, sym, ap, ◌∙◌, arith, max, append_assoc, replicate, ◌<◌, ◌==◌, length, get_or, drop, false, codes, drop_of_length-le}
 use Rattle.std.proofs.lemmas.List.{replicate-append-replicate, append-nil}
 use Rattle.hpr_syntax.specs.declared.tree.Stmt.{Stmt}
-use Rattle.hpr_syntax.specs.declared.tree.Stmt.TheVariants.{If, While}
+use Rattle.hpr_syntax.specs.declared.tree.Stmt.TheVariants.{If}
 use Rattle.hpr_syntax.specs.Body.{Body, done, action, branch, loop, depth}
 use Rattle.hpr_syntax.specs.BodyOf.{before, body_of}
 use Rattle.hpr_syntax.specs.Print.{indent, body_text, is_done, else_text, line}

@@ -49,7 +49,8 @@ fn put_test(
     test: &Expr,
     end: &[u8],
 ) -> Result<(), NoMemory>
-    ensures { OnOk result (out.new.items ≡ out.old.items ++ line level (tag_text tag ++ word.now ++ term_text (term_of test.now) ++ end.now)) }
+    ensures { OnOk result (out.new.items ≡ out.old.items ++ line level
+        (tag_text tag ++ word.now ++ term_text (term_of test.now) ++ end.now)) }
 {
     put_start(alloc, out, level, tag)?;
     put(out, word)?;
@@ -74,7 +75,8 @@ fn put_assignment(
     name: &Name,
     value: &Expr,
 ) -> Result<(), NoMemory>
-    ensures { OnOk result (out.new.items ≡ out.old.items ++ line level (tag_text tag ++ codes ": " ++ name.now ++ codes " := " ++ term_text (term_of value.now) ++ codes ";")) }
+    ensures { OnOk result (out.new.items ≡ out.old.items ++ line level
+        (tag_text tag ++ codes ": " ++ name.now ++ codes " := " ++ term_text (term_of value.now) ++ codes ";")) }
 {
     put_start(alloc, out, level, tag)?;
     put_name(out, name)?;
@@ -131,7 +133,8 @@ fn put_stmt(alloc: Global, out: &mut Vec<u8>, stmt: &Stmt, level: usize) -> Resu
 #[cycle(put_block)]
 fn put_else(alloc: Global, out: &mut Vec<u8>, block: &Block, level: usize) -> Result<(), NoMemory>
     requires { level + 1 + depth block.now < 2 ^ 32 }
-    ensures { OnOk result (out.new.items ≡ out.old.items ++ else_text level block.now (body_text (level + 1) block.now)) }
+    ensures { OnOk result (out.new.items ≡ out.old.items ++ else_text level block.now
+        (body_text (level + 1) block.now)) }
 {
     if !block.stmts.is_empty() {
         put_line(out, level, b"else")?;

@@ -95,7 +95,8 @@ fn put_operand(
     expr: &Expr,
     is_bracketed: bool,
 ) -> Result<(), NoMemory>
-    ensures text { OnOk result (out.new.items ≡ out.old.items ++ bracketed is_bracketed (term_text (term_of expr.now))) }
+    ensures text { OnOk result (out.new.items ≡ out.old.items
+        ++ bracketed is_bracketed (term_text (term_of expr.now))) }
     ensures utf8 { OnOk result (IsUtf8 (bracketed is_bracketed (term_text (term_of expr.now)))) }
 {
     if is_bracketed {

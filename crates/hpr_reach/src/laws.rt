@@ -19,7 +19,8 @@ ghost use Rattle.hpr_reach.specs.ByTags.{NestOf, AvoidsTags, AvoidsShared};
 /// What is reached by number is what an undisturbed path of the program reaches, with no back edge
 /// to one of the first loops around the start.
 pub fn reach_by_tags()
-    ensures { (t : Tree) (x : List ℕ) (p q cut : ℕ) (a z : Point) (loops : List Tag) → IsProgram t → IsNumberOf (spots t) p a → IsNumberOf (spots t) q z
+    ensures { (t : Tree) (x : List ℕ) (p q cut : ℕ) (a z : Point) (loops : List Tag) → IsProgram t
+        → IsNumberOf (spots t) p a → IsNumberOf (spots t) q z
         → NestOf t.body a loops
         → Reaches (spots t) x (take cut (nest_at (spots t) p)) p q
         ↔ ((marks : List (Option Tag)) × IsUndisturbed t.body x a z marks × AvoidsTags (take cut loops) marks) }
@@ -33,11 +34,13 @@ pub fn live_by_tags()
 /// The undisturbed paths by number that take the back edge to a loop, and those that take none to a
 /// loop that encloses both ends, are those of the program.
 pub fn flows_by_tags()
-    ensures carried { (t : Tree) (x : List ℕ) (p q l : ℕ) (a z : Point) (w : Tag) → IsProgram t → IsNumberOf (spots t) p a → IsNumberOf (spots t) q z
+    ensures carried { (t : Tree) (x : List ℕ) (p q l : ℕ) (a z : Point) (w : Tag) → IsProgram t
+        → IsNumberOf (spots t) p a → IsNumberOf (spots t) q z
         → IsNumberOf (spots t) l (at w)
         → ((steps : List Step) × NumberUndisturbed (spots t) x p q steps × Contains steps (back_to l))
         ↔ ((marks : List (Option Tag)) × IsUndisturbed t.body x a z marks × Contains marks (Some w)) }
-    ensures independent { (t : Tree) (x : List ℕ) (p q : ℕ) (a z : Point) (loops others : List Tag) → IsProgram t → IsNumberOf (spots t) p a
+    ensures independent { (t : Tree) (x : List ℕ) (p q : ℕ) (a z : Point) (loops others : List Tag) → IsProgram t
+        → IsNumberOf (spots t) p a
         → IsNumberOf (spots t) q z → NestOf t.body a loops → NestOf t.body z others
         → ((steps : List Step) × NumberUndisturbed (spots t) x p q steps × AvoidsCommon (spots t) p q steps)
         ↔ ((marks : List (Option Tag)) × IsUndisturbed t.body x a z marks × AvoidsShared loops others marks) }
@@ -46,7 +49,8 @@ pub fn flows_by_tags()
 /// An undisturbed path takes the back edge to a loop exactly where it comes round to the end of the
 /// loop's body and goes on from the loop's predicate.
 pub fn carried_by_parts()
-    ensures parts { (s : List Spot) (x : List ℕ) (w d u : ℕ) (steps : List Step) → NumberUndisturbed s x d u steps → Contains steps (back_to w)
+    ensures parts { (s : List Spot) (x : List ℕ) (w d u : ℕ) (steps : List Step) → NumberUndisturbed s x d u steps
+        → Contains steps (back_to w)
         → ComesRound s x w d × GoesOn s x w u }
     ensures whole { (s : List Spot) (x : List ℕ) (w d u : ℕ) → IsLoopAt s w → ComesRound s x w d → GoesOn s x w u
         → (steps : List Step) × NumberUndisturbed s x d u steps × Contains steps (back_to w) }
@@ -58,5 +62,6 @@ pub fn common_loops()
     ensures front { (s : List Spot) (d u c w : ℕ) → AreSpots s → PartsAt (nest_at s d) (nest_at s u) c
         → Contains (take c (nest_at s d)) w ↔ (Contains (nest_at s d) w × Contains (nest_at s u) w) }
     ensures paths { (s : List Spot) (x : List ℕ) (d u c : ℕ) → AreSpots s → PartsAt (nest_at s d) (nest_at s u) c
-        → Reaches s x (take c (nest_at s d)) d u ↔ ((steps : List Step) × NumberUndisturbed s x d u steps × AvoidsCommon s d u steps) }
+        → Reaches s x (take c (nest_at s d)) d u ↔ ((steps : List Step) × NumberUndisturbed s x d u steps
+        × AvoidsCommon s d u steps) }
 {}

@@ -23,7 +23,8 @@ fn push_copy(alloc: Global, name: &Name, into: &mut Vec<Name>) -> Result<(), NoM
 
 /// Puts a copy of the name behind the names where the test holds.
 fn push_if(alloc: Global, test: bool, name: &Name, into: &mut Vec<Name>) -> Result<(), NoMemory>
-    ensures { OnOk result ((x : List ℕ) → Contains into.new.items x ↔ (Contains into.old.items x ⊎ (IsTrue test × (name.now ≡ x)))) }
+    ensures { OnOk result ((x : List ℕ) → Contains into.new.items x
+        ↔ (Contains into.old.items x ⊎ (IsTrue test × (name.now ≡ x)))) }
 {
     if test {
         push_copy(alloc, name, into)
@@ -40,7 +41,8 @@ fn push_defined(
     into: &mut Vec<Name>,
 ) -> Result<(), NoMemory>
     requires { point < length succ.now }
-    ensures { OnOk result ((x : List ℕ) → Contains into.new.items x ↔ (Contains into.old.items x ⊎ (defined_at succ.now point ≡ Some x))) }
+    ensures { OnOk result ((x : List ℕ) → Contains into.new.items x
+        ↔ (Contains into.old.items x ⊎ (defined_at succ.now point ≡ Some x))) }
 {
     match succ.defines(point) {
         Some(name) => push_if(alloc, true, name, into),
@@ -69,7 +71,8 @@ fn push_others(
     into: &mut Vec<Name>,
 ) -> Result<(), NoMemory>
     requires { IsStrictlySortedBy (slice_cmp nat_cmp) defined.now }
-    ensures { OnOk result ((x : List ℕ) → Contains into.new.items x ↔ (Contains into.old.items x ⊎ (Contains names.now x × ¬ Contains defined.now x))) }
+    ensures { OnOk result ((x : List ℕ) → Contains into.new.items x
+        ↔ (Contains into.old.items x ⊎ (Contains names.now x × ¬ Contains defined.now x))) }
 {
     for name in names {
         push_if(alloc, !is_among(defined, name), name, into)?;
@@ -87,7 +90,8 @@ fn push_undefined(
 ) -> Result<(), NoMemory>
     requires point { point < length succ.now }
     requires defined { IsStrictlySortedBy (slice_cmp nat_cmp) defined.now }
-    ensures { OnOk result ((x : List ℕ) → Contains into.new.items x ↔ (Contains into.old.items x ⊎ (UsesAt succ.now point x × ¬ Contains defined.now x))) }
+    ensures { OnOk result ((x : List ℕ) → Contains into.new.items x
+        ↔ (Contains into.old.items x ⊎ (UsesAt succ.now point x × ¬ Contains defined.now x))) }
 {
     let used = succ.used_names(point)?;
     push_others(alloc, used.as_slice(), defined, into)
@@ -103,7 +107,8 @@ fn push_marked(
 ) -> Result<(), NoMemory>
     requires none { into.old.items ≡ [] }
     requires defined { IsStrictlySortedBy (slice_cmp nat_cmp) defined.now }
-    ensures { OnOk result ((x : List ℕ) → Contains into.new.items x ↔ Below (λ p. IsMarked row.now p × UsesAt succ.now p x × ¬ Contains defined.now x) (length succ.now)) }
+    ensures { OnOk result ((x : List ℕ) → Contains into.new.items x
+        ↔ Below (λ p. IsMarked row.now p × UsesAt succ.now p x × ¬ Contains defined.now x) (length succ.now)) }
 {
     for point in 0..succ.points() {
         if row.has(point) {
@@ -118,7 +123,8 @@ fn push_marked(
 fn undefined_names(alloc: Global, succ: &Succ, defined: &[Name]) -> Result<Vec<Name>, NoMemory>
     requires entered { 0 < length succ.now }
     requires defined { IsStrictlySortedBy (slice_cmp nat_cmp) defined.now }
-    ensures { IfOk result (λ v. (x : List ℕ) → Contains v.items x ↔ (IsUsedAfterAll succ.now x × ¬ Contains defined.now x)) }
+    ensures { IfOk result (λ v. (x : List ℕ) → Contains v.items x
+        ↔ (IsUsedAfterAll succ.now x × ¬ Contains defined.now x)) }
 {
     let row = reach_past(alloc, succ, 0, None, &[])?;
     let mut names = Vec::new(alloc);
@@ -155,7 +161,8 @@ fn push_live(
     into: &mut Vec<Name>,
 ) -> Result<(), NoMemory>
     requires { 0 < length succ.now }
-    ensures { OnOk result ((x : List ℕ) → Contains into.new.items x ↔ (Contains into.old.items x ⊎ (Contains names.now x × IsLive succ.now x))) }
+    ensures { OnOk result ((x : List ℕ) → Contains into.new.items x
+        ↔ (Contains into.old.items x ⊎ (Contains names.now x × IsLive succ.now x))) }
 {
     for name in names {
         push_if(alloc, is_live(alloc, succ, name)?, name, into)?;

@@ -91,7 +91,8 @@ pub(crate) fn reach_past(
     loops: &[usize],
 ) -> Result<BitRow, NoMemory>
     requires { from < length succ.now }
-    ensures { IfOk result (λ row. (q : ℕ) → IsMarked row q ↔ ReachesPast succ.now (Stops succ.now (option_copied name.entry)) loops.now from q) }
+    ensures { IfOk result (λ row. (q : ℕ) → IsMarked row q ↔ ReachesPast succ.now
+        (Stops succ.now (option_copied name.entry)) loops.now from q) }
 {
     let starts = first_targets(alloc, succ, from, loops)?;
     let graph = OpenSteps { succ, name, loops };
@@ -114,7 +115,8 @@ pub fn reach(
 ) -> Result<BitRow, NoMemory>
     requires from { from < length succ.now }
     requires cut { cut ≤ length (nest_at succ.now from) }
-    ensures { IfOk result (λ row. (q : ℕ) → IsMarked row q ↔ Reaches succ.now name.now (take cut (nest_at succ.now from)) from q) }
+    ensures { IfOk result (λ row. (q : ℕ) → IsMarked row q ↔ Reaches succ.now name.now
+        (take cut (nest_at succ.now from)) from q) }
 {
     let loops = &succ.nest(from)[..cut];
     reach_past(alloc, succ, from, Some(name), loops)

@@ -24,37 +24,45 @@ pub fn settled_stays()
     ensures stands { (issued : Issued) (p : Tree) → IsProgram p → (q : Tree) × IsSettled issued p q }
     ensures graph { (issued : Issued) (p q : Tree) → IsSettled issued p q → Same (graph_of q) (graph_of p) }
     ensures program { (issued : Issued) (p q : Tree) → IsProgram p → AreProperIssued issued
-        → ((t : Tag) (c : Content) → Says p.body t c → (1 ≤ t.serial) × (t.serial ≤ issued_to t.author issued)) → IsSettled issued p q → IsProgram q }
+        → ((t : Tag) (c : Content) → Says p.body t c → (1 ≤ t.serial) × (t.serial ≤ issued_to t.author issued))
+        → IsSettled issued p q → IsProgram q }
 {}
 
 /// Every program with the graph is an arrangement, but for the order of its finals and its issued
 /// numbers. So where no arrangement has the graph, no program has it.
 pub fn programs_are_arrangements()
-    ensures member { (g : Numbered) (issued : Issued) (p q : Tree) → IsProgram p → Fits (graph_in g) p → AreProperIssued issued → AreIssued (graph_in g) issued
+    ensures member { (g : Numbered) (issued : Issued) (p q : Tree) → IsProgram p → Fits (graph_in g) p
+        → AreProperIssued issued → AreIssued (graph_in g) issued
         → IsSettled issued p q → IsArrangement (graph_in g) issued q }
-    ensures none { (g : Numbered) (rank : List Vertex) (issued : Issued) (ps : List Tree) → AreArrangements (graph_in g) rank issued ps → AreProperIssued issued
+    ensures none { (g : Numbered) (rank : List Vertex) (issued : Issued) (ps : List Tree)
+        → AreArrangements (graph_in g) rank issued ps → AreProperIssued issued
         → AreIssued (graph_in g) issued → NoneFits (graph_in g) ps → HasNoProgram (graph_in g) }
 {}
 
 /// An arrangement has as many parts as the graph.
 pub fn arrangements_have_the_parts()
-    ensures { (g : Numbered) (issued : Issued) (p : Tree) → IsArrangement (graph_in g) issued p → HasParts (graph_in g) (part_count p.body) }
+    ensures { (g : Numbered) (issued : Issued) (p : Tree) → IsArrangement (graph_in g) issued p
+        → HasParts (graph_in g) (part_count p.body) }
 {}
 
 /// Where the rank begins with the parts of a program in preorder, and the program has the graph, it is
 /// the first of the arrangements, but for the order of its finals and its issued numbers.
 pub fn first_by_rank()
-    ensures { (g : Numbered) (rank rest : List Vertex) (issued : Issued) (ps : List Tree) (p q : Tree) → AreArrangements (graph_in g) rank issued ps → IsOnce rank
-        → IsProgram p → Fits (graph_in g) p → AreProperIssued issued → AreIssued (graph_in g) issued → IsSettled issued p q → rank ≡ parts_of p ++ rest
+    ensures { (g : Numbered) (rank rest : List Vertex) (issued : Issued) (ps : List Tree) (p q : Tree)
+        → AreArrangements (graph_in g) rank issued ps → IsOnce rank
+        → IsProgram p → Fits (graph_in g) p → AreProperIssued issued → AreIssued (graph_in g) issued
+        → IsSettled issued p q → rank ≡ parts_of p ++ rest
         → (qs : List Tree) × (ps ≡ q ∷ qs) }
 {}
 
 /// What is found for a graph is found for the same graph with other numbers, or for the merged graph of
 /// three programs that it is.
 pub fn same_graphs_find_the_same()
-    ensures numbered { (g h : Numbered) (rank : List Vertex) (issued : Issued) (tries : ℕ) (r : Answer) → Same (graph_in g) (graph_in h)
+    ensures numbered { (g h : Numbered) (rank : List Vertex) (issued : Issued) (tries : ℕ) (r : Answer)
+        → Same (graph_in g) (graph_in h)
         → IsFound (graph_in g) rank issued tries r → IsFound (graph_in h) rank issued tries r }
-    ensures merged { (g : Numbered) (base a b : Tree) (rank : List Vertex) (issued : Issued) (tries : ℕ) (r : Answer) → Same (graph_in g) (merged_of base a b)
+    ensures merged { (g : Numbered) (base a b : Tree) (rank : List Vertex) (issued : Issued) (tries : ℕ) (r : Answer)
+        → Same (graph_in g) (merged_of base a b)
         → IsFound (graph_in g) rank issued tries r → IsFound (merged_of base a b) rank issued tries r }
 {}
 
@@ -62,7 +70,9 @@ pub fn same_graphs_find_the_same()
 /// what is found, with however few tries, but for the order of its finals and its issued numbers. So it
 /// is where one variant is the base: the other variant has the merged graph.
 pub fn first_by_rank_is_found()
-    ensures { (g : Numbered) (rank rest : List Vertex) (issued : Issued) (tries : ℕ) (r : Answer) (p q : Tree) → IsOnce rank → IsProgram p → Fits (graph_in g) p
-        → AreProperIssued issued → AreIssued (graph_in g) issued → IsSettled issued p q → rank ≡ parts_of p ++ rest → 1 ≤ tries
+    ensures { (g : Numbered) (rank rest : List Vertex) (issued : Issued) (tries : ℕ) (r : Answer) (p q : Tree)
+        → IsOnce rank → IsProgram p → Fits (graph_in g) p
+        → AreProperIssued issued → AreIssued (graph_in g) issued → IsSettled issued p q → rank ≡ parts_of p ++ rest
+        → 1 ≤ tries
         → IsFound (graph_in g) rank issued tries r → r ≡ printed q }
 {}

@@ -15,7 +15,8 @@ pub fn command_message(
     script: &str,
     refusal: &CommandRefusal,
 ) -> Result<String, AllocError>
-    ensures text { IfOk result (λ text. string_bytes text ≡ command_text script.now refusal.now.number refusal.now.why) }
+    ensures text { IfOk result (λ text.
+        string_bytes text ≡ command_text script.now refusal.now.number refusal.now.why) }
     ensures memory { IfOk result (λ text. refusal.now.why ≢ EditError.Memory) }
     ensures shape { IfOk result (λ text. refusal.now.why ≢ EditError.Shape ShapeError.Memory) }
 {

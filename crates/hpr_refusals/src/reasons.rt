@@ -32,13 +32,15 @@ pub(crate) fn shape_reason(alloc: Global, error: &ShapeError) -> Result<String, 
 }
 
 fn too_deep(alloc: Global, tag: &Tag, most: usize) -> Result<String, AllocError>
-    ensures { IfOk result (λ text. string_bytes text ≡ codes "part " ++ tag_text tag.now ++ (codes " is nested deeper than " ++ decimal most)) }
+    ensures { IfOk result (λ text. string_bytes text ≡ codes "part " ++ tag_text tag.now
+        ++ (codes " is nested deeper than " ++ decimal most)) }
 {
     format!(in alloc; "part {tag} is nested deeper than {most}")
 }
 
 fn too_large(alloc: Global, tag: &Tag, most: usize) -> Result<String, AllocError>
-    ensures { IfOk result (λ text. string_bytes text ≡ codes "expression of " ++ tag_text tag.now ++ (codes " has more than " ++ decimal most ++ codes " operators")) }
+    ensures { IfOk result (λ text. string_bytes text ≡ codes "expression of " ++ tag_text tag.now
+        ++ (codes " has more than " ++ decimal most ++ codes " operators")) }
 {
     format!(in alloc; "expression of {tag} has more than {most} operators")
 }

@@ -40,7 +40,8 @@ fn conflict_text(alloc: Global, conflict: &Conflict) -> Result<String, NoMemory>
 
 /// Puts the point and the edge of a conflict behind a text.
 fn put_point(alloc: Global, text: &mut String, conflict: &Conflict) -> Result<(), NoMemory>
-    ensures { OnOk result (string_bytes text.new ≡ string_bytes text.old ++ (codes " " ++ vertex_text conflict.now.point ++ codes ": " ++ edge_text conflict.now.edge)) }
+    ensures { OnOk result (string_bytes text.new ≡ string_bytes text.old
+        ++ (codes " " ++ vertex_text conflict.now.point ++ codes ": " ++ edge_text conflict.now.edge)) }
 {
     put_behind(alloc, text, " ", &conflict.point)?;
     text.push_str(": ")?;

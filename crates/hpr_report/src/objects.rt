@@ -72,7 +72,8 @@ fn push_row(
 ) -> Result<(), NoMemory>
     requires ascend { Ascends vertex_cmp graph.now.vertices }
     requires to { to < length graph.now.vertices }
-    ensures { OnOk result (map view values.new.items ≡ map view values.old.items ++ map (edge_data graph.now.vertices) (row_edges graph.now to)) }
+    ensures { OnOk result (map view values.new.items ≡ map view values.old.items
+        ++ map (edge_data graph.now.vertices) (row_edges graph.now to)) }
 {
     for link in graph.edges_into(to) {
         values.push(edge_value(alloc, graph, to, *link)?)?;

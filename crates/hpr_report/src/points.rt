@@ -27,7 +27,8 @@ pub fn affected_text(alloc: Global, variant: &Graph, points: &[usize]) -> Result
 fn marks_of(alloc: Global, graph: &Graph, points: &[usize]) -> Result<Vec<bool>, NoMemory>
     requires { All (λ p. p < length graph.now.vertices) points.now }
     ensures count { IfOk result (λ marks. length marks.items ≡ length graph.now.vertices) }
-    ensures marks { IfOk result (λ marks. (v : Vertex) → IsMarkedVertex graph.now marks.items v ↔ IsOneOf graph.now points.now v) }
+    ensures marks { IfOk result (λ marks. (v : Vertex) → IsMarkedVertex graph.now marks.items v
+        ↔ IsOneOf graph.now points.now v) }
 {
     let mut marks = vec![in alloc; false; graph.vertex_count()]?;
     for point in points {

@@ -46,7 +46,8 @@ fn names_in_order(
     merged: &[(Name, Value)],
 ) -> Result<Vec<Name>, NoMemory>
     ensures names { IfOk result (λ names. (x : List ℕ)
-        → Contains names.items x ↔ Contains (names_in base.now ++ names_in a.now ++ names_in b.now ++ names_in merged.now) x) }
+        → Contains names.items x ↔ Contains (names_in base.now ++ names_in a.now ++ names_in b.now
+        ++ names_in merged.now) x) }
     ensures ascending { IfOk result (λ names. Ascends name_cmp names.items) }
 {
     let mut names = Vec::new(alloc);
@@ -63,7 +64,8 @@ fn push_all(
     b: &[(Name, Value)],
     merged: &[(Name, Value)],
 ) -> Result<(), NoMemory>
-    ensures { OnOk result (names.new.items ≡ names.old.items ++ (names_in base.now ++ names_in a.now ++ names_in b.now ++ names_in merged.now)) }
+    ensures { OnOk result (names.new.items ≡ names.old.items
+        ++ (names_in base.now ++ names_in a.now ++ names_in b.now ++ names_in merged.now)) }
 {
     push_names(alloc, names, base)?;
     push_names(alloc, names, a)?;
@@ -72,7 +74,11 @@ fn push_all(
 }
 
 /// Pushes a copy of each name of a list.
-fn push_names(alloc: Global, names: &mut Vec<Name>, values: &[(Name, Value)]) -> Result<(), NoMemory>
+fn push_names(
+    alloc: Global,
+    names: &mut Vec<Name>,
+    values: &[(Name, Value)],
+) -> Result<(), NoMemory>
     ensures { OnOk result (names.new.items ≡ names.old.items ++ names_in values.now) }
 {
     for (name, _) in values {
@@ -94,7 +100,8 @@ fn table_line(
     requires a { IsSingleValued a.now }
     requires b { IsSingleValued b.now }
     requires merged { IsSingleValued merged.now }
-    ensures { IfOk result (λ text. (row : Row) × (row.name ≡ name.now) × IsRow base.now a.now b.now merged.now row × (string_bytes text ≡ table_line row)) }
+    ensures { IfOk result (λ text. (row : Row) × (row.name ≡ name.now) × IsRow base.now a.now b.now merged.now row
+        × (string_bytes text ≡ table_line row)) }
 {
     let mut line = name.to_string(alloc)?;
     put_cells(
@@ -115,7 +122,9 @@ fn put_cells(
     b: Option<Value>,
     merged: Option<Value>,
 ) -> Result<(), AllocError>
-    ensures { OnOk result (string_bytes line.new ≡ string_bytes line.old ++ (codes ": " ++ cell_text base ++ codes " " ++ cell_text a ++ codes " " ++ cell_text b ++ codes " " ++ cell_text merged)) }
+    ensures { OnOk result (string_bytes line.new ≡ string_bytes line.old
+        ++ (codes ": " ++ cell_text base ++ codes " " ++ cell_text a ++ codes " " ++ cell_text b ++ codes " "
+        ++ cell_text merged)) }
 {
     put_cell(line, ": ", base)?;
     put_cell(line, " ", a)?;

@@ -1,5 +1,5 @@
 -- Laws of observed runs: an observer changes nothing, and what the code does with a block and a loop, part by part and turn by turn.
-use Rattle.std.proofs.Common.{subst, sym, ◌≡◌, ℕ, zero, suc, ◌+◌, ◌-◌, ◌≤◌, ◌<◌, ◌∷◌, List, length, get_or, drop, drop-cons, ℤ, Bool, true, false, refl, ap, ◌∙◌, arith, add-one, if◌then◌else◌, Ok, Err}
+use Rattle.std.proofs.Common.{subst, sym, ◌≡◌, ℕ, zero, suc, ◌+◌, ◌-◌, ◌<◌, ◌∷◌, List, length, get_or, drop, drop-cons, ℤ, Bool, true, false, refl, ap, ◌∙◌, arith, add-one, if◌then◌else◌, Ok, Err}
 use Rattle.std.specs.FinMap.{insert}
 use Rattle.hpr_terms.specs.declared.tag.Tag.{Tag}
 use Rattle.hpr_terms.specs.declared.expr.Expr.{Expr}
@@ -139,7 +139,7 @@ module _ {O A : Type 0} (w : Observing O A) where
           let m = most - (k + 1) in
           let next : k + 1 ≡ suc k = omega arith in
           let first : walk_turns w k (suc m) t e (walk w b) a o s l
-              ≡ then_way (walk w b (w.in_turn a k) (w.told (w.in_turn a k) t e v s o) s l') (walk_turns w (suc k) m t e (walk w b) a) = rw (one, is, holds) refl in
+          ≡ then_way (walk w b (w.in_turn a k) (w.told (w.in_turn a k) t e v s o) s l') (walk_turns w (suc k) m t e (walk w b) a) = rw (one, is, holds) refl in
           one_more
           ∙ first
           ∙ ap (λ (x : O). then_way (walk w b (w.in_turn a k) x s l') (walk_turns w (suc k) m t e (walk w b) a)) (sym seen)

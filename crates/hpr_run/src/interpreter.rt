@@ -7,8 +7,8 @@ ghost use Rattle.hpr_syntax.specs.Run.{run, final_values};
 ghost use Rattle.hpr_run.specs.Observed.{observing, walk, walk_turns, known_in};
 ghost use Rattle.hpr_run.specs.Outcomes.{outcome_of, Stepped, Did};
 
-use crate::observer::{Nobody, Observer};
 use crate::Value;
+use crate::observer::{Nobody, Observer};
 use crate::state::State;
 use crate::values::{Fault, eval};
 use hpr_syntax::{Block, Expr, Name, NoMemory, Program, Stmt, Tag};
@@ -95,11 +95,19 @@ pub fn run_observed<O: Observer>(
 ) -> Result<Outcome, NoMemory>
     ensures outcome { IfOk result (λ o. outcome_of o ≡ run program.now state.now most) }
     ensures known { OnOk result (observer.new
-        ≡ known_in (walk (observing O.in_turn O.told O.assigned) program.now.body around.now observer.old state.now most)) }
+        ≡ known_in (walk (observing O.in_turn O.told O.assigned) program.now.body around.now observer.old
+        state.now most)) }
 {
     let mut state = state.copy(alloc)?;
     let mut left = most;
-    match walk_block(alloc, program.body(), around, &mut state, &mut left, observer) {
+    match walk_block(
+        alloc,
+        program.body(),
+        around,
+        &mut state,
+        &mut left,
+        observer,
+    ) {
         Ok(()) => Ok(Outcome::Ends {
             finals: final_values(alloc, program.finals(), &state)?,
             steps: most - left,
@@ -154,7 +162,8 @@ fn walk_stmt<O: Observer>(
     observer: &mut O,
 ) -> Result<(), Stop>
     ensures did { let w = observing O.in_turn O.told O.assigned in
-        Did result (walk w (before stmt.now done) around.now observer.old state.old left.old) observer.new state.new left.new }
+        Did result (walk w (before stmt.now done) around.now observer.old state.old left.old)
+        observer.new state.new left.new }
     ensures fewer { left.new ≤ left.old }
 {
     match stmt {
@@ -190,7 +199,8 @@ fn walk_loop<O: Observer>(
     observer: &mut O,
 ) -> Result<(), Stop>
     ensures did { let w = observing O.in_turn O.told O.assigned in
-        Did result (walk_turns w 0 (left.old + 1) tag test.now (walk w body.now) around.now observer.old state.old left.old)
+        Did result (walk_turns w 0 (left.old + 1) tag test.now (walk w body.now) around.now observer.old
+        state.old left.old)
         observer.new state.new left.new }
     ensures fewer { left.new ≤ left.old }
 {

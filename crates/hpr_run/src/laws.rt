@@ -7,5 +7,6 @@ ghost use Rattle.hpr_syntax.specs.Value.{value};
 
 /// The value of an expression depends on the names that it uses alone.
 pub fn value_by_uses()
-    ensures { (e : Expr) (s t : Values) → ((x : List ℕ) → Uses e x → value_at s x ≡ value_at t x) → value e s ≡ value e t }
+    ensures { (e : Expr) (s t : Values) → ((x : List ℕ) → Uses e x → value_at s x ≡ value_at t x)
+        → value e s ≡ value e t }
 {}

@@ -24,12 +24,7 @@ pub trait Observer {
     ghost assigned: { List ℕ → Self → Self };
 
     /// The turns in the turn with this number, from 0, of a loop under these turns.
-    fn enter(
-        &self,
-        alloc: Global,
-        around: &Self::Turns,
-        turn: u64,
-    ) -> Result<Self::Turns, NoMemory>
+    fn enter(&self, alloc: Global, around: &Self::Turns, turn: u64) -> Result<Self::Turns, NoMemory>
         ensures { IfOk result (λ turns. turns ≡ in_turn around.now turn) };
 
     /// A step of the part with this tag is done: its expression gave the number in the state.

@@ -65,7 +65,12 @@ impl State {
 
     // The same as `set`. The name is copied only where the state doesn't list it yet; else nothing
     // is allocated.
-    pub(crate) fn assign(&mut self, alloc: Global, name: &Name, value: Value) -> Result<(), NoMemory>
+    pub(crate) fn assign(
+        &mut self,
+        alloc: Global,
+        name: &Name,
+        value: Value,
+    ) -> Result<(), NoMemory>
         ensures ok { OnOk result (self.new ≡ put self.old name.now value) }
         ensures err { OnErr result (self.new ≡ self.old) }
     {

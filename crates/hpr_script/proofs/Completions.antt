@@ -6,10 +6,9 @@ use Rattle.std.proofs.lemmas.List.{append-nil}
 use Rattle.hpr_terms.specs.declared.expr.Expr.TheVariants.{Num}
 use Rattle.hpr_terms.specs.declared.tag.Tag.{Tag}
 use Rattle.hpr_terms.specs.declared.keyword.Keyword.{Keyword}
-use Rattle.hpr_terms.specs.declared.keyword.Keyword.TheVariants.{Fi, Do, End}
 use Rattle.hpr_terms.specs.declared.token.Sign.TheVariants.{Becomes, Dot, Semicolon, Open, Close}
 use Rattle.hpr_terms.specs.declared.token.Token.{Token}
-use Rattle.hpr_terms.specs.declared.token.Token.TheVariants.{Word, Name, Number, Mark}
+use Rattle.hpr_terms.specs.declared.token.Token.TheVariants.{Name, Number, Mark}
 use Rattle.hpr_terms.specs.Keywords.{keyword_text, keyword_of}
 use Rattle.hpr_terms.specs.Names.{is_name_byte, is_name_like}
 use Rattle.hpr_terms.specs.Tokens.{IsToken, is_word, token}

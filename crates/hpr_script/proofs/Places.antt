@@ -16,7 +16,7 @@ use Rattle.hpr_scan.specs.declared.scanner.Lex.TheVariants as lex
 use Rattle.hpr_scan.specs.declared.scanner.Scanner.{Scanner}
 use Rattle.hpr_scan.specs.Place.{IsViable, IsPlace, BeginsWith}
 use Rattle.hpr_scan.specs.Steps.{and_then}
-use Rattle.hpr_scan.specs.Scanner.{sign_of, longer, after_sign, feed_sign, feed_gap, feed_half, finish, feed, scan, feeds}
+use Rattle.hpr_scan.specs.Scanner.{sign_of, longer, after_sign, feed_gap, feed_half, finish, feed, scan, feeds}
 use Rattle.hpr_scan.specs.Scanner as scanner
 use Rattle.hpr_scan.proofs.Words.{none_some}
 use Rattle.hpr_scan.proofs.WholeText.{text_scan}

@@ -30,7 +30,7 @@ use Rattle.hpr_script.specs.declared.stage.Stage.TheVariants.{AtCommand, AtTag, 
 use Rattle.hpr_script.specs.declared.word.ScriptWord.{ScriptWord}
 use Rattle.hpr_script.specs.declared.word.ScriptWord.TheVariants as words
 use Rattle.hpr_script.specs.ScriptGrammar as script
-use Rattle.hpr_script.specs.ScriptGrammar.{word, tag_then, IsCount, place_at, SpellsPlace, SpellsCommand, SpellsScript}
+use Rattle.hpr_script.specs.ScriptGrammar.{word, tag_then, place_at, SpellsPlace, SpellsCommand, SpellsScript}
 use Rattle.hpr_script.specs.Stages.{is_count, is_serial, tagged, at_place, word_stage, wants_word, takes_name, number_turn}
 use Rattle.hpr_script.specs.Machine.{State, head, inside, turned, with_command, with_plain, filled, name_turn, number_after, sign_after, next, start}
 use Rattle.hpr_script.proofs.Bytes.{word_found}

@@ -105,7 +105,8 @@ fn step_content(
     requires { at ≤ length bytes.now }
     ensures within { IfOk result (λ (_, end). (at < end) × (end ≤ length bytes.now)) }
     ensures feeds { let start = machine.inside found holder Start in
-        IfOk result (λ (r, end). feeds machine.next Gap start (slice_range bytes.now at end) ≡ Some (reading.scanner_of r)) }
+        IfOk result (λ (r, end). feeds machine.next Gap start (slice_range bytes.now at end)
+        ≡ Some (reading.scanner_of r)) }
     ensures sound { IfOk result (λ (r, _). reading.IsSound r) }
     ensures syntax { IfSyntax result (λ n. IsPlaceFrom at (BeginsWith HasContent) bytes.now n) }
 {
@@ -156,8 +157,10 @@ fn end_word(
     requires inside { at < length bytes.now }
     requires ends { reading.IsOutside bytes.now at }
     requires begun { reading.begins stage letters.now ≡ true }
-    ensures leads { IfOk result (λ (r, end). Leads (reading.in_word letters.now) (machine.head found stage) bytes.now at r end) }
-    ensures syntax { IfSyntax result (λ n. IsPlaceFrom at (Ends (reading.in_word letters.now) (machine.head found stage)) bytes.now n) }
+    ensures leads { IfOk result (λ (r, end). Leads (reading.in_word letters.now)
+        (machine.head found stage) bytes.now at r end) }
+    ensures syntax { IfSyntax result (λ n. IsPlaceFrom at (Ends (reading.in_word letters.now)
+        (machine.head found stage)) bytes.now n) }
 {
     let (found, turn) = step_word(alloc, found, stage, letters, at)?;
     after_turn(alloc, found, turn, bytes, at)
@@ -172,8 +175,10 @@ fn advance(
 ) -> Result<(Reader, usize), ScriptError>
     requires inside { at < length bytes.now }
     requires sound { reading.IsSound reader }
-    ensures leads { IfOk result (λ (r, end). Leads (reading.lex_of reader.begun) (reading.state_of reader) bytes.now at r end) }
-    ensures syntax { IfSyntax result (λ n. IsPlaceFrom at (Ends (reading.lex_of reader.begun) (reading.state_of reader)) bytes.now n) }
+    ensures leads { IfOk result (λ (r, end). Leads (reading.lex_of reader.begun)
+        (reading.state_of reader) bytes.now at r end) }
+    ensures syntax { IfSyntax result (λ n. IsPlaceFrom at (Ends (reading.lex_of reader.begun)
+        (reading.state_of reader)) bytes.now n) }
 {
     let byte = bytes[at];
     let Reader {

@@ -16,7 +16,8 @@ fn blank_row(alloc: Global, points: usize) -> Result<Vec<bool>, AllocError>
 fn visit(marks: &mut Vec<bool>, order: &mut Vec<usize>, points: &[usize]) -> Result<(), AllocError>
     requires row { IsRowOf marks.old.items order.old.items }
     requires within { All (λ p. p < length marks.old.items) points.now }
-    ensures { OnOk result (Visited order.old.items points.now (length marks.old.items) marks.new.items order.new.items) }
+    ensures { OnOk result (Visited order.old.items points.now
+        (length marks.old.items) marks.new.items order.new.items) }
 {
     for point in points {
         if !marks[*point] {
@@ -27,7 +28,8 @@ fn visit(marks: &mut Vec<bool>, order: &mut Vec<usize>, points: &[usize]) -> Res
     Ok(())
 }
 
-/// Marks the points to which a walk of edges leads from one of the starts. A walk may have no edge, so the starts are marked.
+/// Marks the points to which a walk of edges leads from one of the starts. A walk may have no edge, so the starts are
+/// marked.
 ///
 /// Looks once at each edge that leaves a marked point, and does not recurse. The starts are points of the graph.
 pub fn reachable<G: Digraph>(
@@ -37,8 +39,10 @@ pub fn reachable<G: Digraph>(
 ) -> Result<Vec<bool>, AllocError>
     requires { All (λ s. s < G.points graph.now) starts.now }
     ensures row { IfOk result (λ marks. length marks.items ≡ G.points graph.now) }
-    ensures sound { IfOk result (λ marks. (p : ℕ) → IsMarked marks.items p → IsReached (G.steps graph.now) starts.now p) }
-    ensures complete { IfOk result (λ marks. (p : ℕ) → IsReached (G.steps graph.now) starts.now p → IsMarked marks.items p) }
+    ensures sound { IfOk result (λ marks. (p : ℕ) → IsMarked marks.items p
+        → IsReached (G.steps graph.now) starts.now p) }
+    ensures complete { IfOk result (λ marks. (p : ℕ) → IsReached (G.steps graph.now) starts.now p
+        → IsMarked marks.items p) }
 {
     let mut marks = blank_row(alloc, graph.point_count())?;
     let mut order = Vec::new(alloc);

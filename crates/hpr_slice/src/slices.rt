@@ -26,7 +26,8 @@ pub fn slice(alloc: Global, graph: &Graph, points: &[usize]) -> Result<Graph, No
 /// number of times.
 pub fn forward(alloc: Global, graph: &Graph, points: &[usize]) -> Result<Vec<bool>, NoMemory>
     requires { All (λ p. p < length graph.now.vertices) points.now }
-    ensures { IfOk result (λ marks. MarksExactly graph.now (IsReached (graph_in graph.now) (IsOneOf graph.now points.now)) marks.items) }
+    ensures { IfOk result (λ marks. MarksExactly graph.now (IsReached (graph_in graph.now)
+        (IsOneOf graph.now points.now)) marks.items) }
 {
     Sources::of(alloc, graph)?.reached_from(points)
 }

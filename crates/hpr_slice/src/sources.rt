@@ -66,7 +66,8 @@ impl Sources<'_> {
     /// control or flow edge into a marked vertex at most once.
     pub fn reaching(&self, numbers: &[usize]) -> Result<Vec<bool>, NoMemory>
         requires { All (λ n. n < length self.now.vertices) numbers.now }
-        ensures { IfOk result (λ marks. MarksExactly self.now (ReachesOne (graph_in self.now) (IsOneOf self.now numbers.now)) marks.items) }
+        ensures { IfOk result (λ marks. MarksExactly self.now
+            (ReachesOne (graph_in self.now) (IsOneOf self.now numbers.now)) marks.items) }
     {
         Ok(reachable(self.alloc, &self.rows, numbers)?)
     }
@@ -75,7 +76,8 @@ impl Sources<'_> {
     /// numbers are those of vertices. Looks at each control or flow edge at most twice.
     pub(crate) fn reached_from(&self, numbers: &[usize]) -> Result<Vec<bool>, NoMemory>
         requires { All (λ n. n < length self.now.vertices) numbers.now }
-        ensures { IfOk result (λ marks. MarksExactly self.now (IsReached (graph_in self.now) (IsOneOf self.now numbers.now)) marks.items) }
+        ensures { IfOk result (λ marks. MarksExactly self.now
+            (IsReached (graph_in self.now) (IsOneOf self.now numbers.now)) marks.items) }
     {
         let targets = self.rows.turned()?;
         Ok(reachable(self.alloc, &targets, numbers)?)
@@ -105,7 +107,8 @@ fn sources_in(alloc: Global, links: &[Link]) -> Result<Vec<usize>, NoMemory>
 
 /// Puts the source of the link behind the others, if a slice follows it.
 fn push_source(sources: &mut Vec<usize>, link: Link) -> Result<(), NoMemory>
-    ensures { OnOk result ((n : ℕ) → Contains sources.new.items n ↔ (Contains sources.old.items n ⊎ (Follows link.kind × (link.from ≡ n)))) }
+    ensures { OnOk result ((n : ℕ) → Contains sources.new.items n
+        ↔ (Contains sources.old.items n ⊎ (Follows link.kind × (link.from ≡ n)))) }
 {
     if !is_followed(link.kind) {
         return Ok(());

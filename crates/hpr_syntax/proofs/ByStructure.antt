@@ -1,7 +1,7 @@
 -- Contents and parts by their structure: what holds of an action holds whatever it does.
 --
 -- SaysBy c == what a part says is an action, or the test of a conditional or of a loop
-use Rattle.std.proofs.Common.{◌≡◌, List, refl, sym, ap, ◌∙◌}
+use Rattle.std.proofs.Common.{◌≡◌, refl, sym, ap, ◌∙◌}
 use Rattle.hpr_terms.specs.declared.tag.Tag.{Tag}
 use Rattle.hpr_terms.specs.declared.expr.Expr.{Expr}
 use Rattle.hpr_syntax.specs.declared.tree.Stmt.{Stmt}

@@ -8,7 +8,7 @@ use Rattle.hpr_syntax.specs.Contents.{answer_of, next_state}
 use Rattle.hpr_syntax.specs.Body.{Body, done, action, branch, loop}
 use Rattle.hpr_syntax.specs.Run.{FinalValues, ends, final_values, run, outcome, After, goes, stops, spent, step, then_go, turns, run_body}
 use Rattle.hpr_syntax.specs.Tree.{Tree}
-use Rattle.hpr_syntax.specs.Value.{Answer, Fault, value, is_true}
+use Rattle.hpr_syntax.specs.Value.{Answer, Fault, is_true}
 use Rattle.hpr_syntax.specs.Values.{Values}
 use Rattle.hpr_syntax.proofs.Runs.{LeavesAtMost, then_leaves, if_leaves, turns_leaves, run_body_leaves}
 

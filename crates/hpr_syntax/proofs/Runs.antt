@@ -1,5 +1,5 @@
 -- Laws of runs.
-use Rattle.std.proofs.Common.{subst, ◌≡◌, ℕ, zero, suc, ◌+◌, ◌≤◌, ◌<◌, ℤ, Bool, true, false, refl, ap, ◌∙◌, arith, add-one, if◌then◌else◌, Ok, Err}
+use Rattle.std.proofs.Common.{ℕ, zero, suc, ◌+◌, ◌≤◌, ℤ, Bool, true, false, arith, if◌then◌else◌, Ok, Err}
 use Rattle.hpr_terms.specs.declared.tag.Tag.{Tag}
 use Rattle.hpr_terms.specs.declared.expr.Expr.{Expr}
 use Rattle.hpr_syntax.specs.declared.rows.Content.TheVariants.{If, While}
@@ -49,33 +49,3 @@ run_body_leaves (branch t e a b rest) s left =
     step_leaves t (answer_of (If e) s) left _ (λ v l. then_leaves _ l (run_body rest) (run_body_leaves rest) (if_leaves (is_true v) _ _ l (run_body_leaves a s l) (run_body_leaves b s l)))
 run_body_leaves (loop t e b rest) s left =
     then_leaves _ left (run_body rest) (run_body_leaves rest) (turns_leaves (left + 1) t e (run_body b) (run_body_leaves b) s left)
-
--- a loop that may make more turns than it has steps does the same with any such number
-then_same : (x : After) (n : ℕ) (k k' : Values → ℕ → After) → ((s : Values) (l : ℕ) → l ≤ n → k s l ≡ k' s l) → LeavesAtMost x n → then_go x k ≡ then_go x k'
-then_same (goes s l) n k k' h p = h s l p
-then_same (stops t f l) n k k' h p = refl
-then_same spent n k k' h p = refl
-
-pub turns_enough : (m n : ℕ) (t : Tag) (e : Expr) (k : Values → ℕ → After) → ((s : Values) (l : ℕ) → LeavesAtMost (k s l) l) → (s : Values) (left : ℕ) → left < m → left < n → turns m t e k s left ≡ turns n t e k s left
-turns_enough zero n t e k h s left p q = absurd (omega arith)
-turns_enough (suc m) zero t e k h s left p q = absurd (omega arith)
-turns_enough (suc m) (suc n) t e k h s zero p q = refl
-turns_enough (suc m) (suc n) t e k h s (suc l) p q =
-    let both : (s' : Values) (l' : ℕ) → l' ≤ l → turns m t e k s' l' ≡ turns n t e k s' l' =
-    λ s' l' r. turns_enough m n t e k h s' l' (omega arith) (omega arith) in
-    let a = then_same (k s l) l (turns m t e k) (turns n t e k) both (h s l) in
-    let answered : (a : Answer) → step t a (suc l) (λ v l'. if is_true v then then_go (k s l') (turns m t e k) else goes s l') ≡ step t a (suc l) (λ v l'. if is_true v then then_go (k s l') (turns n t e k) else goes s l') =
-    λ v. elim v as (λ v. step t v (suc l) (λ v l'. if is_true v then then_go (k s l') (turns m t e k) else goes s l') ≡ step t v (suc l) (λ v l'. if is_true v then then_go (k s l') (turns n t e k) else goes s l')) [
-      | Ok z ↦ ap (λ x. if is_true z then x else goes s l) a
-      | Err f ↦ refl
-    ] in
-    answered (answer_of (While e) s)
-
-module _ (t : Tag) (e : Expr) (k : Values → ℕ → After) (s : Values) (l l' : ℕ) (v : ℤ) (one : l ≡ suc l') (is : answer_of (While e) s ≡ Ok v) where
-  turn : is_true v ≡ true → turns (l + 1) t e k s l ≡ then_go (k s l') (turns l t e k)
-  turn holds = rw (add-one, one, is, holds) refl
-
-  pub turn_more : ((s : Values) (l : ℕ) → LeavesAtMost (k s l) l) → is_true v ≡ true → (s'' : Values) (l'' : ℕ) → k s l' ≡ goes s'' l'' → turns (l + 1) t e k s l ≡ turns (l'' + 1) t e k s'' l''
-  turn_more h holds s'' l'' did =
-      let le : LeavesAtMost (goes s'' l'') l' = subst (λ x. LeavesAtMost x l') did (h s l') in
-      turn holds ∙ rw (did, add-one) (turns_enough l (suc l'') t e k h s'' l'' (omega arith) (omega arith))

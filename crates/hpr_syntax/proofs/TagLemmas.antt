@@ -1,5 +1,5 @@
 -- What the test of two tags tells, and that a part's point tells its tag.
-use Rattle.std.proofs.Common.{◌≡◌, ◌==◌, Bool, true, refl}
+use Rattle.std.proofs.Common.{◌≡◌, ◌==◌, true, refl}
 use Rattle.std.proofs.lemmas.Bool.{eqb-true, eq-eqb}
 use Rattle.hpr_terms.specs.declared.tag.Tag.{Tag}
 use Rattle.hpr_terms.proofs.Facts.{and_both}

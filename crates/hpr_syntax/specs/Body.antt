@@ -3,7 +3,7 @@
 -- Body             == the parts of a block: `done` is none, and each other begins with a part
 -- depth body       == how many levels of blocks there are
 -- part_count body  == how many parts there are
-use Rattle.std.specs.Prelude.{ℕ, ◌+◌, List, max}
+use Rattle.std.specs.Prelude.{ℕ, ◌+◌, max}
 use Rattle.hpr_terms.specs.declared.tag.Tag.{Tag}
 use Rattle.hpr_terms.specs.declared.expr.Expr.{Expr}
 use Rattle.hpr_syntax.specs.Action.{Action}

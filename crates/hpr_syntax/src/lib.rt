@@ -13,6 +13,6 @@ mod tree;
 pub use hpr_terms::{Binary, Expr, Literal, Name, NameError, NoMemory, Operand, Tag, Unary};
 pub use issued::Issued;
 pub use program::Program;
-pub use rows::{Content, Structure, Row, content_of, structure_of, has_content, same_content};
+pub use rows::{Content, Row, Structure, content_of, has_content, same_content, structure_of};
 pub use shape::{ShapeError, is_large};
 pub use tree::{Block, Stmt, defines, expr_of, uses};

@@ -67,7 +67,8 @@ impl Program {
     ) -> Result<Program, ShapeError>
         ensures program { IfOk result (λ p. p ≡ record { issued = issued; body = body; finals = finals.items }) }
         ensures shape { IfOk result (λ p. IsProgram (record { issued = issued; body = body; finals = finals.items })) }
-        ensures refused { IfErr result (λ e. e ≢ ShapeError.Memory → shape (record { issued = issued; body = body; finals = finals.items }) ≡ Some e) }
+        ensures refused { IfErr result (λ e. e ≢ ShapeError.Memory
+            → shape (record { issued = issued; body = body; finals = finals.items }) ≡ Some e) }
     {
         match refusal(alloc, &issued, &body, &finals)? {
             Some(error) => Err(error),

@@ -260,7 +260,8 @@ fn push_row(
     at: usize,
     rows: &mut Vec<Row>,
 ) -> Result<(), NoMemory>
-    ensures { OnOk result (rows.new.items ≡ rows.old.items ++ row_of (tag_of stmt.now) parent at (content_of stmt.now) ∷ []) }
+    ensures { OnOk result (rows.new.items ≡ rows.old.items ++ row_of (tag_of stmt.now) parent at
+        (content_of stmt.now) ∷ []) }
 {
     let tag = stmt.tag();
     let content = content_of(alloc, stmt)?;

@@ -86,7 +86,8 @@ fn read_opened<R: Read + Drop>(
     ensures short { IfOk result (λ v. vec_len v ≤ most) }
     ensures front { IfOk opened (λ file. IfOk result (λ v. IfSome (R.remaining file) (λ xs. v.items ≡ take most xs))) }
     ensures unopened { IfErr opened (λ _. IsErr result) }
-    ensures cause { IfErr opened (λ error. IsErrOf result FetchError.Memory ↔ (error_kind error ≡ ErrorKind.OutOfMemory)) }
+    ensures cause { IfErr opened (λ error. IsErrOf result FetchError.Memory
+        ↔ (error_kind error ≡ ErrorKind.OutOfMemory)) }
 {
     match opened {
         Ok(mut file) => read_front(&mut file, alloc, most),

@@ -13,7 +13,7 @@ use Rattle.hpr_syntax.specs.Issued.{Issued, issued_to, raised, raised_by}
 use Rattle.hpr_syntax.specs.Tree.{Tree}
 use Rattle.hpr_syntax.specs.Shape.{shape, first_repeated, first_unissued, is_unissued, too_many}
 use Rattle.hpr_syntax.specs.Grammar as grammar
-use Rattle.hpr_syntax.specs.Grammar.{Form, SpellsExpr, SpellsParts, SpellsHeader, SpellsProgram, untagged, tag_pair, issued_of}
+use Rattle.hpr_syntax.specs.Grammar.{Form, SpellsParts, SpellsHeader, SpellsProgram, untagged, tag_pair, issued_of}
 use Rattle.hpr_syntax.specs.Spelling.{Spells}
 use Rattle.hpr_text.specs.Spelled.{tags_from, last_issued, IsInOrder}
 use Rattle.hpr_text.proofs.Shapes.{none_deep, none_large}

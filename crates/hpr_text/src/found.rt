@@ -91,7 +91,8 @@ impl Drop for Found {
 /// One more part stands behind these, unless more have begun than a program may have.
 #[tactic(auto, using(crate::proofs::Parts::pushed_body))]
 fn push_kept(parts: &mut Block, begun: usize, part: Stmt) -> Result<(), NoMemory>
-    ensures { OnOk result (parts.new ≡ machine.then_kept (machine.keeps machine.limit begun) parts.old (before part done)) }
+    ensures { OnOk result (parts.new ≡ machine.then_kept (machine.keeps machine.limit begun) parts.old
+        (before part done)) }
 {
     if begun <= MAX_PARTS {
         parts.stmts.push(part)?;
@@ -252,7 +253,8 @@ impl Found {
 
     /// The conditional of these blocks stands behind the parts before it.
     fn end_branches(&mut self, around: Around, yes: Block, no: Block) -> Result<(), NoMemory>
-        ensures { OnOk result (self.new ≡ machine.block_ended machine.limit self.old.blocks around.before (branch around.tag around.test yes no done) self.old) }
+        ensures { OnOk result (self.new ≡ machine.block_ended machine.limit self.old.blocks around.before
+            (branch around.tag around.test yes no done) self.old) }
     {
         let (before, tag, test) = around.into_parts();
         self.parts = before;
@@ -274,7 +276,8 @@ impl Found {
 
     /// The loop of the parts so far stands behind the parts before it.
     fn end_rounds(&mut self, around: Around) -> Result<(), NoMemory>
-        ensures { OnOk result (self.new ≡ machine.block_ended machine.limit self.old.blocks around.before (loop around.tag around.test self.old.parts done) self.old) }
+        ensures { OnOk result (self.new ≡ machine.block_ended machine.limit self.old.blocks around.before
+            (loop around.tag around.test self.old.parts done) self.old) }
     {
         let (before, tag, test) = around.into_parts();
         let body = mem::replace(&mut self.parts, before);

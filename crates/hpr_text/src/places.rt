@@ -71,7 +71,8 @@ pub fn takes_expression_keyword(
     reading: &Reading,
     keyword: Keyword,
 ) -> bool
-    ensures { result ≡ is_some (machine.expression_next machine.limit found.now purpose.now reading.now (tokens.Word keyword)) }
+    ensures { result ≡ is_some (machine.expression_next machine.limit found.now purpose.now reading.now
+        (tokens.Word keyword)) }
 {
     match (purpose, keyword) {
         (Purpose::Test(_), Keyword::Then) => reading.can_end(),
@@ -88,7 +89,8 @@ pub fn takes_expression_sign(
     reading: &Reading,
     sign: Sign,
 ) -> bool
-    ensures { result ≡ is_some (machine.expression_next machine.limit found.now purpose.now reading.now (tokens.Mark sign)) }
+    ensures { result ≡ is_some (machine.expression_next machine.limit found.now purpose.now reading.now
+        (tokens.Mark sign)) }
 {
     match (purpose, sign) {
         (Purpose::Assign(_, _), Sign::Semicolon) => reading.can_end(),
@@ -118,7 +120,8 @@ impl Found {
     }
 
     fn first_next(&mut self, alloc: Global, token: Token) -> Result<Place, Fault>
-        ensures { InPlace (machine.state_at self.new) (machine.first_next (machine.part_begun machine.limit self.old) token) result }
+        ensures { InPlace (machine.state_at self.new) (machine.first_next
+            (machine.part_begun machine.limit self.old) token) result }
     {
         let tag = self.begin()?;
         self.colon_next(alloc, tag, token)
@@ -142,21 +145,24 @@ impl Found {
     }
 
     fn fi_next(&mut self, alloc: Global) -> Result<Place, Fault>
-        ensures { InPlace (machine.state_at self.new) (machine.at_part (machine.fi_found machine.limit self.old)) result }
+        ensures { InPlace (machine.state_at self.new) (machine.at_part
+            (machine.fi_found machine.limit self.old)) result }
     {
         self.end_conditional(alloc)?;
         Ok(Place::AtPart)
     }
 
     fn od_next(&mut self) -> Result<Place, Fault>
-        ensures { InPlace (machine.state_at self.new) (machine.at_part (machine.od_found machine.limit self.old)) result }
+        ensures { InPlace (machine.state_at self.new) (machine.at_part
+            (machine.od_found machine.limit self.old)) result }
     {
         self.end_loop()?;
         Ok(Place::AtPart)
     }
 
     fn block_next(&mut self, alloc: Global, keyword: Keyword) -> Result<Place, Fault>
-        ensures { InPlace (machine.state_at self.new) (machine.part_next machine.limit self.old (tokens.Word keyword)) result }
+        ensures { InPlace (machine.state_at self.new) (machine.part_next machine.limit self.old
+            (tokens.Word keyword)) result }
     {
         match keyword {
             Keyword::If => self.first_next(alloc, Token::Word(keyword)),
@@ -316,7 +322,8 @@ impl Found {
         reading: Reading,
         token: Token,
     ) -> Result<Place, Fault>
-        ensures { InPlace (machine.state_at self.new) (machine.goes_on self.old purpose (expression.read reading token)) result }
+        ensures { InPlace (machine.state_at self.new) (machine.goes_on self.old purpose
+            (expression.read reading token)) result }
     {
         let reading = reading.step(alloc, token)?;
         Ok(Place::InExpression(purpose, reading))
@@ -328,7 +335,8 @@ impl Found {
         purpose: Purpose,
         reading: Reading,
     ) -> Result<Place, Fault>
-        ensures { InPlace (machine.state_at self.new) (machine.ends_here machine.limit self.old purpose (expression.ended reading)) result }
+        ensures { InPlace (machine.state_at self.new) (machine.ends_here machine.limit self.old purpose
+            (expression.ended reading)) result }
     {
         let value = reading.ended(alloc)?;
         match purpose {
@@ -354,7 +362,8 @@ impl Found {
         reading: Reading,
         token: Token,
     ) -> Result<Place, Fault>
-        ensures { InPlace (machine.state_at self.new) (machine.expression_next machine.limit self.old purpose reading token) result }
+        ensures { InPlace (machine.state_at self.new)
+            (machine.expression_next machine.limit self.old purpose reading token) result }
     {
         match (&purpose, &token) {
             (Purpose::Assign(_, _), Token::Mark(Sign::Semicolon)) => {

@@ -39,9 +39,12 @@ pub fn parse<'a>(
     words: &'a [String],
 ) -> Result<ArgMatches<'a>, WordsError>
     requires { is_simple_and_free (app_with name.now arguments.now) ≡ true }
-    ensures ok { IfOk result (λ m. (fault_of (app_with name.entry.now arguments.entry.now) (map string_bytes words.entry.now) ≡ [])
-        × (rows_of (found_of m) ≡ matches_of (app_with name.entry.now arguments.entry.now) (map string_bytes words.entry.now))) }
-    ensures refused { IsErrOf result WordsError.Refused → is_empty (fault_of (app_with name.entry.now arguments.entry.now) (map string_bytes words.entry.now)) ≡ false }
+    ensures ok { IfOk result (λ m. (fault_of (app_with name.entry.now arguments.entry.now)
+        (map string_bytes words.entry.now) ≡ [])
+        × (rows_of (found_of m) ≡ matches_of (app_with name.entry.now arguments.entry.now)
+        (map string_bytes words.entry.now))) }
+    ensures refused { IsErrOf result WordsError.Refused → is_empty
+        (fault_of (app_with name.entry.now arguments.entry.now) (map string_bytes words.entry.now)) ≡ false }
 {
     Ok(command_of(alloc, name, arguments)?.try_get_matches_from(words)?)
 }

@@ -16,13 +16,17 @@ pub fn plain_words_are_taken()
 pub fn integrate_words_are_plain()
     ensures alone { (base a b : Text) → is_name base ≡ true → is_name a ≡ true → is_name b ≡ true
         → plain (codes "integrate" ∷ base ∷ a ∷ b ∷ []) ≡ Some (integrate base a b DEFAULT_TRIES) }
-    ensures first { (base a b n : Text) (tries : ℕ) → is_name base ≡ true → is_name a ≡ true → is_name b ≡ true → number MAX_TRIES n ≡ Some tries
+    ensures first { (base a b n : Text) (tries : ℕ) → is_name base ≡ true → is_name a ≡ true → is_name b ≡ true
+        → number MAX_TRIES n ≡ Some tries
         → plain (codes "integrate" ∷ codes "--tries" ∷ n ∷ base ∷ a ∷ b ∷ []) ≡ Some (integrate base a b tries) }
-    ensures second { (base a b n : Text) (tries : ℕ) → is_name base ≡ true → is_name a ≡ true → is_name b ≡ true → number MAX_TRIES n ≡ Some tries
+    ensures second { (base a b n : Text) (tries : ℕ) → is_name base ≡ true → is_name a ≡ true → is_name b ≡ true
+        → number MAX_TRIES n ≡ Some tries
         → plain (codes "integrate" ∷ base ∷ codes "--tries" ∷ n ∷ a ∷ b ∷ []) ≡ Some (integrate base a b tries) }
-    ensures third { (base a b n : Text) (tries : ℕ) → is_name base ≡ true → is_name a ≡ true → is_name b ≡ true → number MAX_TRIES n ≡ Some tries
+    ensures third { (base a b n : Text) (tries : ℕ) → is_name base ≡ true → is_name a ≡ true → is_name b ≡ true
+        → number MAX_TRIES n ≡ Some tries
         → plain (codes "integrate" ∷ base ∷ a ∷ codes "--tries" ∷ n ∷ b ∷ []) ≡ Some (integrate base a b tries) }
-    ensures last { (base a b n : Text) (tries : ℕ) → is_name base ≡ true → is_name a ≡ true → is_name b ≡ true → number MAX_TRIES n ≡ Some tries
+    ensures last { (base a b n : Text) (tries : ℕ) → is_name base ≡ true → is_name a ≡ true → is_name b ≡ true
+        → number MAX_TRIES n ≡ Some tries
         → plain (codes "integrate" ∷ base ∷ a ∷ b ∷ codes "--tries" ∷ n ∷ []) ≡ Some (integrate base a b tries) }
 {}
 
@@ -30,11 +34,14 @@ pub fn integrate_words_are_plain()
 pub fn run_words_are_plain()
     ensures alone { (file : Text) (states : List Text) → is_name file ≡ true → list_all is_name states ≡ true
         → plain (codes "run" ∷ file ∷ states) ≡ Some (run file states DEFAULT_STEPS false) }
-    ensures first { (file n : Text) (states : List Text) (steps : ℕ) → is_name file ≡ true → list_all is_name states ≡ true → number MAX_STEPS n ≡ Some steps
+    ensures first { (file n : Text) (states : List Text) (steps : ℕ) → is_name file ≡ true
+        → list_all is_name states ≡ true → number MAX_STEPS n ≡ Some steps
         → plain (codes "run" ∷ codes "--steps" ∷ n ∷ file ∷ states) ≡ Some (run file states steps false) }
-    ensures second { (file n : Text) (states : List Text) (steps : ℕ) → is_name file ≡ true → list_all is_name states ≡ true → number MAX_STEPS n ≡ Some steps
+    ensures second { (file n : Text) (states : List Text) (steps : ℕ) → is_name file ≡ true
+        → list_all is_name states ≡ true → number MAX_STEPS n ≡ Some steps
         → plain (codes "run" ∷ file ∷ codes "--steps" ∷ n ∷ states) ≡ Some (run file states steps false) }
-    ensures last { (file n : Text) (states : List Text) (steps : ℕ) → is_name file ≡ true → list_all is_name states ≡ true → number MAX_STEPS n ≡ Some steps
+    ensures last { (file n : Text) (states : List Text) (steps : ℕ) → is_name file ≡ true
+        → list_all is_name states ≡ true → number MAX_STEPS n ≡ Some steps
         → plain (codes "run" ∷ file ∷ (states ++ codes "--steps" ∷ n ∷ [])) ≡ Some (run file states steps false) }
     ensures traced_first { (file : Text) (states : List Text) → is_name file ≡ true → list_all is_name states ≡ true
         → plain (codes "run" ∷ codes "--trace" ∷ file ∷ states) ≡ Some (run file states DEFAULT_STEPS true) }
@@ -42,17 +49,23 @@ pub fn run_words_are_plain()
         → plain (codes "run" ∷ file ∷ codes "--trace" ∷ states) ≡ Some (run file states DEFAULT_STEPS true) }
     ensures traced_last { (file : Text) (states : List Text) → is_name file ≡ true → list_all is_name states ≡ true
         → plain (codes "run" ∷ file ∷ (states ++ codes "--trace" ∷ [])) ≡ Some (run file states DEFAULT_STEPS true) }
-    ensures both { (file n : Text) (states : List Text) (steps : ℕ) → is_name file ≡ true → list_all is_name states ≡ true → number MAX_STEPS n ≡ Some steps
-        → plain (codes "run" ∷ file ∷ (states ++ codes "--steps" ∷ n ∷ codes "--trace" ∷ [])) ≡ Some (run file states steps true) }
-    ensures both_apart { (file n : Text) (states : List Text) (steps : ℕ) → is_name file ≡ true → list_all is_name states ≡ true → number MAX_STEPS n ≡ Some steps
-        → plain (codes "run" ∷ codes "--trace" ∷ file ∷ codes "--steps" ∷ n ∷ states) ≡ Some (run file states steps true) }
+    ensures both { (file n : Text) (states : List Text) (steps : ℕ) → is_name file ≡ true
+        → list_all is_name states ≡ true → number MAX_STEPS n ≡ Some steps
+        → plain (codes "run" ∷ file ∷ (states ++ codes "--steps" ∷ n ∷ codes "--trace" ∷ []))
+        ≡ Some (run file states steps true) }
+    ensures both_apart { (file n : Text) (states : List Text) (steps : ℕ) → is_name file ≡ true
+        → list_all is_name states ≡ true → number MAX_STEPS n ≡ Some steps
+        → plain (codes "run" ∷ codes "--trace" ∷ file ∷ codes "--steps" ∷ n ∷ states)
+        ≡ Some (run file states steps true) }
 {}
 
 /// The words of `graph` are plain, with the flag in each of its places or with none.
 pub fn graph_words_are_plain()
     ensures alone { (file : Text) → is_name file ≡ true → plain (codes "graph" ∷ file ∷ []) ≡ Some (graph file false) }
-    ensures first { (file : Text) → is_name file ≡ true → plain (codes "graph" ∷ codes "--json" ∷ file ∷ []) ≡ Some (graph file true) }
-    ensures last { (file : Text) → is_name file ≡ true → plain (codes "graph" ∷ file ∷ codes "--json" ∷ []) ≡ Some (graph file true) }
+    ensures first { (file : Text) → is_name file ≡ true → plain (codes "graph" ∷ codes "--json" ∷ file ∷ [])
+        ≡ Some (graph file true) }
+    ensures last { (file : Text) → is_name file ≡ true → plain (codes "graph" ∷ file ∷ codes "--json" ∷ [])
+        ≡ Some (graph file true) }
 {}
 
 /// A file and at least one point behind `slice` are plain.
@@ -63,32 +76,47 @@ pub fn slice_words_are_plain()
 
 /// Two names behind `affected` are plain.
 pub fn affected_words_are_plain()
-    ensures { (base a : Text) → is_name base ≡ true → is_name a ≡ true → plain (codes "affected" ∷ base ∷ a ∷ []) ≡ Some (affected base a) }
+    ensures { (base a : Text) → is_name base ≡ true → is_name a ≡ true
+        → plain (codes "affected" ∷ base ∷ a ∷ []) ≡ Some (affected base a) }
 {}
 
 /// The words of `trial` are plain, with the option in each of its places or with none.
 pub fn trial_words_are_plain()
-    ensures alone { (base a b : Text) (states : List Text) → is_name base ≡ true → is_name a ≡ true → is_name b ≡ true → list_all is_name states ≡ true
+    ensures alone { (base a b : Text) (states : List Text) → is_name base ≡ true → is_name a ≡ true → is_name b ≡ true
+        → list_all is_name states ≡ true
         → plain (codes "trial" ∷ base ∷ a ∷ b ∷ states) ≡ Some (trial base a b states DEFAULT_STEPS) }
-    ensures first { (base a b n : Text) (states : List Text) (steps : ℕ) → is_name base ≡ true → is_name a ≡ true → is_name b ≡ true → list_all is_name states ≡ true
-        → number MAX_STEPS n ≡ Some steps → plain (codes "trial" ∷ codes "--steps" ∷ n ∷ base ∷ a ∷ b ∷ states) ≡ Some (trial base a b states steps) }
-    ensures second { (base a b n : Text) (states : List Text) (steps : ℕ) → is_name base ≡ true → is_name a ≡ true → is_name b ≡ true → list_all is_name states ≡ true
-        → number MAX_STEPS n ≡ Some steps → plain (codes "trial" ∷ base ∷ codes "--steps" ∷ n ∷ a ∷ b ∷ states) ≡ Some (trial base a b states steps) }
-    ensures third { (base a b n : Text) (states : List Text) (steps : ℕ) → is_name base ≡ true → is_name a ≡ true → is_name b ≡ true → list_all is_name states ≡ true
-        → number MAX_STEPS n ≡ Some steps → plain (codes "trial" ∷ base ∷ a ∷ codes "--steps" ∷ n ∷ b ∷ states) ≡ Some (trial base a b states steps) }
-    ensures fourth { (base a b n : Text) (states : List Text) (steps : ℕ) → is_name base ≡ true → is_name a ≡ true → is_name b ≡ true → list_all is_name states ≡ true
-        → number MAX_STEPS n ≡ Some steps → plain (codes "trial" ∷ base ∷ a ∷ b ∷ codes "--steps" ∷ n ∷ states) ≡ Some (trial base a b states steps) }
-    ensures last { (base a b n : Text) (states : List Text) (steps : ℕ) → is_name base ≡ true → is_name a ≡ true → is_name b ≡ true → list_all is_name states ≡ true
-        → number MAX_STEPS n ≡ Some steps → plain (codes "trial" ∷ base ∷ a ∷ b ∷ (states ++ codes "--steps" ∷ n ∷ [])) ≡ Some (trial base a b states steps) }
+    ensures first { (base a b n : Text) (states : List Text) (steps : ℕ) → is_name base ≡ true → is_name a ≡ true
+        → is_name b ≡ true → list_all is_name states ≡ true
+        → number MAX_STEPS n ≡ Some steps → plain (codes "trial" ∷ codes "--steps" ∷ n ∷ base ∷ a ∷ b ∷ states)
+        ≡ Some (trial base a b states steps) }
+    ensures second { (base a b n : Text) (states : List Text) (steps : ℕ) → is_name base ≡ true → is_name a ≡ true
+        → is_name b ≡ true → list_all is_name states ≡ true
+        → number MAX_STEPS n ≡ Some steps → plain (codes "trial" ∷ base ∷ codes "--steps" ∷ n ∷ a ∷ b ∷ states)
+        ≡ Some (trial base a b states steps) }
+    ensures third { (base a b n : Text) (states : List Text) (steps : ℕ) → is_name base ≡ true → is_name a ≡ true
+        → is_name b ≡ true → list_all is_name states ≡ true
+        → number MAX_STEPS n ≡ Some steps → plain (codes "trial" ∷ base ∷ a ∷ codes "--steps" ∷ n ∷ b ∷ states)
+        ≡ Some (trial base a b states steps) }
+    ensures fourth { (base a b n : Text) (states : List Text) (steps : ℕ) → is_name base ≡ true → is_name a ≡ true
+        → is_name b ≡ true → list_all is_name states ≡ true
+        → number MAX_STEPS n ≡ Some steps → plain (codes "trial" ∷ base ∷ a ∷ b ∷ codes "--steps" ∷ n ∷ states)
+        ≡ Some (trial base a b states steps) }
+    ensures last { (base a b n : Text) (states : List Text) (steps : ℕ) → is_name base ≡ true → is_name a ≡ true
+        → is_name b ≡ true → list_all is_name states ≡ true
+        → number MAX_STEPS n ≡ Some steps → plain (codes "trial" ∷ base ∷ a ∷ b ∷
+        (states ++ codes "--steps" ∷ n ∷ [])) ≡ Some (trial base a b states steps) }
 {}
 
 /// The words of `edit` are plain, with the option in each of its places.
 pub fn edit_words_are_plain()
-    ensures first { (file script n : Text) (author : ℕ) → is_name file ≡ true → is_name script ≡ true → number 4294967295 n ≡ Some author
+    ensures first { (file script n : Text) (author : ℕ) → is_name file ≡ true → is_name script ≡ true
+        → number 4294967295 n ≡ Some author
         → plain (codes "edit" ∷ codes "--author" ∷ n ∷ file ∷ script ∷ []) ≡ Some (edit file script author) }
-    ensures second { (file script n : Text) (author : ℕ) → is_name file ≡ true → is_name script ≡ true → number 4294967295 n ≡ Some author
+    ensures second { (file script n : Text) (author : ℕ) → is_name file ≡ true → is_name script ≡ true
+        → number 4294967295 n ≡ Some author
         → plain (codes "edit" ∷ file ∷ codes "--author" ∷ n ∷ script ∷ []) ≡ Some (edit file script author) }
-    ensures last { (file script n : Text) (author : ℕ) → is_name file ≡ true → is_name script ≡ true → number 4294967295 n ≡ Some author
+    ensures last { (file script n : Text) (author : ℕ) → is_name file ≡ true → is_name script ≡ true
+        → number 4294967295 n ≡ Some author
         → plain (codes "edit" ∷ file ∷ script ∷ codes "--author" ∷ n ∷ []) ≡ Some (edit file script author) }
 {}
 

@@ -1,5 +1,5 @@
 use Rattle.std.proofs.Common.{◌≡◌, string_bytes, refl, append_assoc}
-use Rattle.hpr_report.specs.TableText.{Row, cell_text, table_line}
+use Rattle.hpr_report.specs.TableText.{Row, table_line}
 use Rattle.hpr_report.proofs.table.table_line.Goals as goal
 
 pub returns : goal.returns

@@ -20,5 +20,5 @@ walk_loop-loop-turn-preserved g t c =
     let holds : is_true c.in_ok-take_step.field-0 ≡ true = rw to_z-of_z at (sym c.is_true.ensures ∙ c.if-not-is_true.false) in
     let below : c.loop-turn.turn < c.args.left.now + 1 = omega (arith, c.loop-turn-test.true) in
     let more = turn_done w c.args.tag c.args.test.now c.args.body.now c.args.around.now (c.args.left.now + 1) c.loop-turn.turn below _ c.loop-turn.observer c.loop-turn.state c.loop-turn.left
-        c.loop-turn.invariant.0 c.in_ok-turns.turns c.in_ok-turns.ensures c.in_ok-take_step.field-0 _ _ a.0 a.1 a.2 holds _ _ _ c.in_ok-walk_block.ensures.did in
+    c.loop-turn.invariant.0 c.in_ok-turns.turns c.in_ok-turns.ensures c.in_ok-take_step.field-0 _ _ a.0 a.1 a.2 holds _ _ _ c.in_ok-walk_block.ensures.did in
     (more, omega (arith, c.loop-turn.invariant.1, a.0, c.in_ok-walk_block.ensures.fewer))

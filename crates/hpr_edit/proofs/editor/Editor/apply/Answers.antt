@@ -1,5 +1,5 @@
-use Rattle.std.proofs.Common.{◌≡◌, ◌∙◌, ap, refl}
-use Rattle.hpr_edit.specs.Edited.{edited, becomes, new_tag}
+use Rattle.std.proofs.Common.{◌∙◌, ap, refl}
+use Rattle.hpr_edit.specs.Edited.{edited, new_tag}
 use Rattle.hpr_edit.proofs.Back.{ready}
 use Rattle.hpr_edit.proofs.Ends.{refused_by}
 use Rattle.hpr_edit.proofs.editor.Editor.apply.Goals as goal

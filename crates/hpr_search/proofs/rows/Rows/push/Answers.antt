@@ -1,5 +1,5 @@
-use Rattle.std.proofs.Common.{◌≡◌, ◌<◌, ◌∙◌, ℕ, List, length, ap, subst, sym, arith}
-use Rattle.hpr_search.specs.Rows.{numbers_of, with_number, AreWithin, IsPushed}
+use Rattle.std.proofs.Common.{◌∙◌, ℕ, List, length, ap, subst, arith}
+use Rattle.hpr_search.specs.Rows.{numbers_of, IsPushed}
 use Rattle.hpr_search.proofs.RowLists.{length_rows}
 use Rattle.hpr_search.proofs.RowLaws.{pushed_at, length_with, within_with}
 use Rattle.hpr_search.proofs.rows.Rows.push.Goals as goal

@@ -1,4 +1,4 @@
-use Rattle.std.proofs.Common.{◌≡◌, ◌∙◌, ◌<◌, ℕ, List, Vec, Global, Contains, length, ap, arith, subst, sym}
+use Rattle.std.proofs.Common.{◌≡◌, ◌∙◌, ℕ, List, Vec, Global, Contains, length, ap, arith, subst, sym}
 use Rattle.hpr_search.specs.Rows.{numbers_of, AreTurned, AreWithin, ArePushed}
 use Rattle.hpr_search.proofs.RowLists.{read_slice, length_rows}
 use Rattle.hpr_search.proofs.RowLaws.{turned_none, turned_more, turned_whole}
