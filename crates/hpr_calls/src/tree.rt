@@ -6,8 +6,8 @@ use hpr_rows::{
     put_tag, truth,
 };
 use hpr_syntax::{
-    Block, Content, Issued, Program, Row as Place, Stmt, content_of, defines, expr_of, has_content,
-    is_large, same_content, uses,
+    Block, Content, Issued, Program, Row as Place, Stmt, Structure, content_of, defines, expr_of,
+    has_content, is_large, same_content, structure_of, uses,
 };
 use hpr_terms::{Binary, Expr, Literal, Name, Operand, Tag};
 use std::alloc::Global;
@@ -18,6 +18,7 @@ pub(crate) fn call(row: Row<'_>, out: &mut Out) -> Option<()> {
         "rows" => rows(row, out),
         "find" => find(row, out),
         "uses" => part_uses(row, out),
+        "structure" => structure(row, out),
         "compare" => compare(row, out),
         "sum" => sum(row, out),
         _ => None,
@@ -131,6 +132,47 @@ fn used(row: Row<'_>, out: &mut Out, program: &Program) -> Option<()> {
 fn part_uses(row: Row<'_>, out: &mut Out) -> Option<()> {
     let program = row.program(2)?;
     used(row, out, &program)
+}
+
+fn structure_word(structure: Structure) -> &'static str {
+    match structure {
+        Structure::Simple => "simple",
+        Structure::Conditional => "conditional",
+        Structure::Loop => "loop",
+    }
+}
+
+fn assigned(content: &Content) -> &str {
+    match content.assigned() {
+        Some(name) => name.text(),
+        None => "nothing",
+    }
+}
+
+fn put_structure(out: &mut Out, stmt: &Stmt, content: &Content) {
+    let own = structure_of(stmt);
+    let same = truth(content.structure().is_same(own));
+    let large = truth(is_large(content.expr()));
+    put(
+        out,
+        &[structure_word(own), ", simple ", truth(own.is_simple())],
+    );
+    put(out, &[", same ", same, ", assigns ", assigned(content)]);
+    put(out, &[", large ", large, "\n"]);
+}
+
+fn put_known(alloc: Global, out: &mut Out, stmt: &Stmt) {
+    match content_of(alloc, stmt) {
+        Ok(content) => put_structure(out, stmt, &content),
+        Err(_) => out.cut(),
+    }
+}
+
+// `structure PROGRAM TAG`: which blocks the part with the tag has, and what it assigns.
+fn structure(row: Row<'_>, out: &mut Out) -> Option<()> {
+    let program = row.program(2)?;
+    put_known(row.alloc, out, program.find(row.tag(3)?)?);
+    Some(())
 }
 
 fn is_program_copied(alloc: Global, program: &Program) -> bool {

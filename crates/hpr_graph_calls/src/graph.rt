@@ -3,7 +3,8 @@ ghost use Rattle.std.specs.Prelude.{◌<◌, length};
 
 use crate::spelled::{graph, graphs, link, vertex};
 use hpr_build::{BuildError, graph_of};
-use hpr_graph::{Graph, Link, LinkKind, Vertex, compare_vertices, same_vertex};
+use hpr_graph::links::is_inside;
+use hpr_graph::{Graph, Link, LinkKind, Vertex, compare_vertices, place_of, same_vertex};
 use hpr_report::{graph_json, graph_text};
 use hpr_rows::{
     Out, Row, order_word, put, put_content, put_count, put_counted, put_made, put_tag, truth,
@@ -29,6 +30,8 @@ fn one(row: Row<'_>, out: &mut Out) -> Option<()> {
     match row.word(1)? {
         "links" => are_links(row, out, &graph),
         "keep" => keep(row, out, &graph),
+        "places" => places(row, out, &graph),
+        "inside" => are_inside(row, out),
         _ => shown(row, out, &graph),
     }
 }
@@ -187,6 +190,43 @@ pub(crate) fn put_new(alloc: Global, out: &mut Out, made: Result<Graph, NoMemory
         Ok(graph) => put_graph(alloc, out, &graph),
         Err(_) => out.cut(),
     }
+}
+
+fn put_place(alloc: Global, out: &mut Out, graph: &Graph, line: &str) -> Option<()> {
+    match place_of(graph.vertices(), &vertex(alloc, line)?) {
+        Some(at) => put_counted(out, " ", at),
+        None => out.put_piece(" none"),
+    }
+    Some(())
+}
+
+// `places GRAPH VERTICES`: where vertices stand in the list of those of the graph.
+fn places(row: Row<'_>, out: &mut Out, graph: &Graph) -> Option<()> {
+    let lines = row.text(3)?;
+    out.put_piece("places");
+    for line in lines.lines() {
+        put_place(row.alloc, out, graph, line)?;
+    }
+    out.put_piece("\n");
+    Some(())
+}
+
+fn put_inside(out: &mut Out, line: &str, marks: &[bool]) -> Option<()> {
+    let (_, link) = link(line)?;
+    put(out, &[" ", truth(is_inside(link, marks))]);
+    Some(())
+}
+
+// `inside GRAPH LINKS MARKS`: whether all vertices of the links but their targets are marked.
+fn are_inside(row: Row<'_>, out: &mut Out) -> Option<()> {
+    let lines = row.text(3)?;
+    let marks = marks(row.alloc, row.word(4)?)?;
+    out.put_piece("inside");
+    for line in lines.lines() {
+        put_inside(out, line, &marks)?;
+    }
+    out.put_piece("\n");
+    Some(())
 }
 
 // `keep GRAPH MARKS`: the graph of the marked vertices.

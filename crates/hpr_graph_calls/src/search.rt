@@ -1,7 +1,9 @@
-//! Calls of hpr_search, where each point leads to its half.
-use hpr_rows::{Out, Row, put_marked};
-use hpr_search::{Digraph, reachable};
-use std::alloc::AllocError;
+//! Calls of hpr_search: where each point leads to its half, and over rows.
+ghost use Rattle.std.specs.Prelude.{◌≡◌, IfOk, length};
+
+use hpr_rows::{Out, Row, put, put_marked, truth};
+use hpr_search::{Digraph, Rows, is_marked, reachable};
+use std::alloc::{AllocError, Global};
 
 /// The points 0 to 7.
 #[derive(Drop)]
@@ -24,11 +26,51 @@ impl Digraph for Halves {
     }
 }
 
-/// `POINT POINT`: the points that are reached from these.
+/// Answers the call.
 pub(crate) fn call(row: Row<'_>, out: &mut Out) -> Option<()> {
+    match row.word(1)? {
+        "turned" => turned(row, out),
+        _ => reached(row, out),
+    }
+}
+
+// `POINT POINT`: the points that are reached from these.
+fn reached(row: Row<'_>, out: &mut Out) -> Option<()> {
     let first = row.number(1)?.min(7);
     let second = row.number(2)?.min(7);
     let marks = reachable(row.alloc, &Halves, &[first, second]).ok()?;
     put_marked(out, "reached", &marks);
+    Some(())
+}
+
+// The rows of the edges from 0 to 1, from 1 to 2 and from 3 to 1.
+fn edges(alloc: Global) -> Result<Rows, AllocError>
+    ensures { IfOk result (λ rows. length rows ≡ 4) }
+{
+    let mut rows = Rows::blank(alloc, 4)?;
+    rows.push(0, 1)?;
+    rows.push(1, 2)?;
+    rows.push(3, 1)?;
+    Ok(rows)
+}
+
+// The same rows turned round.
+fn turned_edges(alloc: Global) -> Result<Rows, AllocError>
+    ensures { IfOk result (λ rows. length rows ≡ 4) }
+{
+    edges(alloc)?.turned()
+}
+
+// `turned POINT`: the points from which these edges lead to the point, and whether 3 and 4 are marked.
+fn turned(row: Row<'_>, out: &mut Out) -> Option<()> {
+    let point = row.number(2)?.min(3);
+    let rows = turned_edges(row.alloc).ok()?;
+    let marks = reachable(row.alloc, &rows, &[point]).ok()?;
+    put_marked(out, "reached", &marks);
+    let three = truth(is_marked(&marks, 3));
+    put(
+        out,
+        &["3 ", three, ", 4 ", truth(is_marked(&marks, 4)), "\n"],
+    );
     Some(())
 }
