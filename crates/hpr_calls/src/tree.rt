@@ -151,14 +151,16 @@ fn assigned(content: &Content) -> &str {
 
 fn put_structure(out: &mut Out, stmt: &Stmt, content: &Content) {
     let own = structure_of(stmt);
-    let same = truth(content.structure().is_same(own));
-    let large = truth(is_large(content.expr()));
-    put(
-        out,
-        &[structure_word(own), ", simple ", truth(own.is_simple())],
-    );
-    put(out, &[", same ", same, ", assigns ", assigned(content)]);
-    put(out, &[", large ", large, "\n"]);
+    out.put_piece(structure_word(own));
+    out.put_piece(", simple ");
+    out.put_piece(truth(own.is_simple()));
+    out.put_piece(", same ");
+    out.put_piece(truth(content.structure().is_same(own)));
+    out.put_piece(", assigns ");
+    out.put_piece(assigned(content));
+    out.put_piece(", large ");
+    out.put_piece(truth(is_large(content.expr())));
+    out.put_piece("\n");
 }
 
 fn put_known(alloc: Global, out: &mut Out, stmt: &Stmt) {
