@@ -1,4 +1,4 @@
-//! The control edges.
+//! The control edges of a graph: one from the part around it into each vertex but Entry.
 ghost use Rattle.std.specs.Prelude.{◌≡◌, ◌↔◌, ◌≤◌, ◌<◌, ℕ, Contains, IfOk, OnOk, IsErrOf};
 ghost use Rattle.hpr_graph.specs.declared.link.Link.{Link};
 ghost use Rattle.hpr_graph.specs.Numbered.{HasLink};

@@ -1,4 +1,4 @@
-//! Lists that grow.
+//! An item put at the end of a list where a test holds.
 ghost use Rattle.std.specs.Prelude.{◌≡◌, ◌↔◌, ◌⊎◌, Contains, OnOk, IsTrue};
 ghost use Rattle.hpr_graph.specs.Graphs.{IsOnce};
 

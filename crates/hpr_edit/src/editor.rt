@@ -1,4 +1,4 @@
-//! The editor.
+//! The editor: a program that commands change, and the inverses that take them back.
 ghost use Rattle.std.specs.Prelude.{◌≡◌, ◌≢◌, ◌≤◌, IfOk, IfErr, OnOk, OnErr};
 ghost use Rattle.hpr_syntax.specs.Tree.{Tree};
 ghost use Rattle.hpr_edit.specs.Edited.{edited, becomes, refused};

@@ -1,4 +1,4 @@
-//! The orders one by one.
+//! The orders of a forest, one by one.
 
 ghost use Rattle.std.specs.Prelude.{◌≡◌, ℕ, List, vec_len, replicate, false, [], ◌∷◌, IfOk, IfSome, IfNone, OnErr};
 ghost use Rattle.hpr_forest.specs.Choices.{IsWhole};

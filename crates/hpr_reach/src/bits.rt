@@ -1,4 +1,4 @@
-//! Rows of bits.
+//! The points that a search marked, one bit each.
 ghost use Rattle.std.specs.Prelude.{◌≡◌, ◌↔◌, IsTrue};
 ghost use Rattle.hpr_search.specs.Marks.{IsMarked};
 

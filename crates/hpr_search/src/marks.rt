@@ -1,4 +1,4 @@
-//! Rows of marks.
+//! Whether a point is marked.
 ghost use Rattle.std.specs.Prelude.{◌↔◌, IsTrue};
 ghost use Rattle.hpr_search.specs.Marks.{IsMarked};
 

@@ -1,4 +1,4 @@
-//! The search.
+//! What walks lead to: a search that looks once at each edge.
 ghost use Rattle.std.specs.Prelude.{◌≡◌, ℕ, ◌<◌, false, length, replicate, All, IfOk, OnOk};
 ghost use Rattle.hpr_search.specs.Walks.{IsReached};
 ghost use Rattle.hpr_search.specs.Marks.{IsMarked, IsRowOf, Visited};
