@@ -1,6 +1,8 @@
--- The answer of an integration (Horwitz, Prins and Reps 1989, who have no budget of tries).
+-- The answer of an integration of any number of variants, and of two (Horwitz, Prins and Reps 1989, of two, who have no budget of tries).
 --
--- Answer                == all conflicts; a program; no program has the merged graph, which has so many parts; or the budget is spent
+-- AnswerBy X            == all conflicts, each told by an X; a program; no program has the merged graph, which has so many parts; or the
+--                          budget is spent
+-- Answer                == the same, where conflicts tell a side of two
 -- Fits g p              == the graph of p is g
 -- NoneFits g ps         == no program of the list fits
 -- IsFirstFit g ps m     == m fits, and none before it in the list does
@@ -12,34 +14,39 @@
 -- graphs_of ts          == the graphs of these programs
 -- merged_of_all base vs == the merged graph of a base and its variants
 -- issued_all base is    == each author has the greatest of these issued numbers
--- merged_of base a b    == the merged graph of three programs
--- issued_of base a b    == each author has the greatest of the three issued numbers
--- searched_graph base a b   == what is searched: the graph that a program is to have
--- IsSearchedRank base a b r == the rank by which its arrangements are tried
--- searched_issued base a b  == the issued numbers that a program gets
--- IsWithoutConflict base a b == the list of conflicts is empty
--- IsAnswer base a b tries r == all conflicts where there is one; else what is found for what is searched
-use Rattle.std.specs.Prelude.{◌≡◌, ℕ, ◌<◌, ◌↔◌, List, [], ◌∷◌, ◌++◌, Contains, length, take}
+-- issued_of_all base vs == each author has the greatest of the issued numbers of a base and its variants
+-- searched_graph_of base vs    == what is searched: the graph that a program is to have
+-- IsSearchedRankOf base vs r   == the rank by which its arrangements are tried
+-- searched_issued_of base vs   == the issued numbers that a program gets
+-- AreWithoutConflict at base vs == the list of conflicts is empty, where `at` tells their variant, point and edge
+-- IsAnswerBy at base vs tries r == all conflicts where there is one; else what is found for what is searched
+-- merged_of base a b, issued_of base a b, searched_graph base a b, IsSearchedRank base a b r, searched_issued base a b,
+-- IsWithoutConflict base a b, IsAnswer base a b tries r == these of two variants
+use Rattle.std.specs.Prelude.{◌≡◌, ℕ, ◌<◌, ◌↔◌, List, [], ◌∷◌, ◌++◌, map, Contains, length, take}
 use Rattle.hpr_terms.specs.declared.tag.Tag.{Tag}
 use Rattle.hpr_syntax.specs.declared.rows.Content.{Content}
 use Rattle.hpr_syntax.specs.Issued.{Issued, raised_by}
 use Rattle.hpr_syntax.specs.Tree.{Tree}
 use Rattle.hpr_syntax.specs.Shape.{IsProgram}
 use Rattle.hpr_graph.specs.declared.conflict.Conflict.{Conflict}
+use Rattle.hpr_graph.specs.declared.edge.Edge.{Edge}
 use Rattle.hpr_graph.specs.declared.vertex.Vertex.{Vertex}
 use Rattle.hpr_graph.specs.declared.vertex.Vertex.TheVariants.{Part}
 use Rattle.hpr_graph.specs.Graphs.{Graph, Same, IsOnce}
 use Rattle.hpr_graph.specs.ProgramGraph.{graph_of}
 use Rattle.hpr_graph.specs.Points.{merged_all}
-use Rattle.hpr_graph.specs.Conflicts.{AreConflicts}
-use Rattle.hpr_graph.specs.Rank.{IsRank}
+use Rattle.hpr_graph.specs.Conflicts.{AreConflictsBy, told_as}
+use Rattle.hpr_graph.specs.Rank.{IsRankOf}
 use Rattle.hpr_graph.specs.Arrangements.{AreArrangements}
 
-pub data Answer : Type 0 where
-  interference : (conflicts : List Conflict) → Answer
-  printed : (program : Tree) → Answer
-  no_program : (parts : ℕ) → Answer
-  spent : Answer
+pub data AnswerBy (X : Type 0) : Type 0 where
+  interference : (conflicts : List X) → AnswerBy X
+  printed : (program : Tree) → AnswerBy X
+  no_program : (parts : ℕ) → AnswerBy X
+  spent : AnswerBy X
+
+abbrev pub Answer : Type 0
+Answer = AnswerBy Conflict
 
 abbrev pub Fits : Graph → Tree → Type 0
 Fits g p = Same (graph_of p) g
@@ -59,7 +66,7 @@ IsPart v = (t : Tag) × (c : Content) × (v ≡ Part t c)
 abbrev pub HasParts : Graph → ℕ → Type 0
 HasParts g n = (vs : List Vertex) × IsOnce vs × ((v : Vertex) → Contains vs v ↔ (g.vertex v × IsPart v)) × (length vs ≡ n)
 
-abbrev pub IsFound : Graph → List Vertex → Issued → ℕ → Answer → Type 0
+abbrev pub IsFound : {X : Type 0} → Graph → List Vertex → Issued → ℕ → AnswerBy X → Type 0
 IsFound g rank issued tries (interference cs) = ⊥
 IsFound g rank issued tries (printed m) = (ps : List Tree) × AreArrangements g rank issued ps × IsFirstFit g ps m
 IsFound g rank issued tries (no_program n) = HasNoProgram g × HasParts g n
@@ -77,33 +84,51 @@ abbrev pub issued_all : Issued → List Issued → Issued
 issued_all base [] = base
 issued_all base (i ∷ is) = issued_all (raised_by i base) is
 
+abbrev pub issued_of_all : Tree → List Tree → Issued
+issued_of_all base vs = issued_all base.issued (map (λ v. v.issued) vs)
+
+abbrev pub searched_graph_of : Tree → List Tree → Graph
+searched_graph_of base vs = merged_of_all base vs
+
+abbrev pub IsSearchedRankOf : Tree → List Tree → List Vertex → Type 0
+IsSearchedRankOf base vs r = IsRankOf base vs r
+
+abbrev pub searched_issued_of : Tree → List Tree → Issued
+searched_issued_of base vs = issued_of_all base vs
+
+abbrev pub AreWithoutConflict : {X : Type 0} → (X → ℕ × Vertex × Edge) → Tree → List Tree → Type 0
+AreWithoutConflict at base vs = AreConflictsBy at (graph_of base) (graphs_of vs) []
+
+abbrev pub IsAnswerBy : {X : Type 0} → (X → ℕ × Vertex × Edge) → Tree → List Tree → ℕ → AnswerBy X → Type 0
+IsAnswerBy {X} at base vs tries (interference cs) = AreConflictsBy at (graph_of base) (graphs_of vs) cs × ¬ (cs ≡ [])
+IsAnswerBy {X} at base vs tries (printed m) =
+    AreWithoutConflict at base vs
+    × ((rank : List Vertex) × IsSearchedRankOf base vs rank
+    × IsFound {X = X} (searched_graph_of base vs) rank (searched_issued_of base vs) tries (printed m))
+IsAnswerBy {X} at base vs tries (no_program n) =
+    AreWithoutConflict at base vs × HasNoProgram (searched_graph_of base vs) × HasParts (searched_graph_of base vs) n
+IsAnswerBy {X} at base vs tries spent =
+    AreWithoutConflict at base vs
+    × ((rank : List Vertex) × IsSearchedRankOf base vs rank
+    × IsFound {X = X} (searched_graph_of base vs) rank (searched_issued_of base vs) tries spent)
+
 abbrev pub merged_of : Tree → Tree → Tree → Graph
 merged_of base a b = merged_of_all base (a ∷ b ∷ [])
 
 abbrev pub issued_of : Tree → Tree → Tree → Issued
-issued_of base a b = issued_all base.issued (a.issued ∷ b.issued ∷ [])
+issued_of base a b = issued_of_all base (a ∷ b ∷ [])
 
 abbrev pub searched_graph : Tree → Tree → Tree → Graph
-searched_graph base a b = merged_of base a b
+searched_graph base a b = searched_graph_of base (a ∷ b ∷ [])
 
 abbrev pub IsSearchedRank : Tree → Tree → Tree → List Vertex → Type 0
-IsSearchedRank base a b r = IsRank a b base r
+IsSearchedRank base a b r = IsSearchedRankOf base (a ∷ b ∷ []) r
 
 abbrev pub searched_issued : Tree → Tree → Tree → Issued
-searched_issued base a b = issued_of base a b
+searched_issued base a b = searched_issued_of base (a ∷ b ∷ [])
 
 abbrev pub IsWithoutConflict : Tree → Tree → Tree → Type 0
-IsWithoutConflict base a b = AreConflicts (graph_of base) (graph_of a) (graph_of b) []
+IsWithoutConflict base a b = AreWithoutConflict told_as base (a ∷ b ∷ [])
 
 abbrev pub IsAnswer : Tree → Tree → Tree → ℕ → Answer → Type 0
-IsAnswer base a b tries (interference cs) = AreConflicts (graph_of base) (graph_of a) (graph_of b) cs × ¬ (cs ≡ [])
-IsAnswer base a b tries (printed m) =
-    IsWithoutConflict base a b
-    × ((rank : List Vertex) × IsSearchedRank base a b rank
-    × IsFound (searched_graph base a b) rank (searched_issued base a b) tries (printed m))
-IsAnswer base a b tries (no_program n) =
-    IsWithoutConflict base a b × HasNoProgram (searched_graph base a b) × HasParts (searched_graph base a b) n
-IsAnswer base a b tries spent =
-    IsWithoutConflict base a b
-    × ((rank : List Vertex) × IsSearchedRank base a b rank
-    × IsFound (searched_graph base a b) rank (searched_issued base a b) tries spent)
+IsAnswer base a b tries r = IsAnswerBy told_as base (a ∷ b ∷ []) tries r

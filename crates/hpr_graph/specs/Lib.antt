@@ -12,3 +12,5 @@ pub mod InOrder
 pub mod Rank
 pub mod Arrangements
 pub mod Answer
+pub mod Direct
+pub mod Whole
