@@ -1,12 +1,14 @@
--- What the rank of three programs has: each of their parts, once.
+-- What the rank of a base and its variants has: each of their parts, once.
 use Rattle.std.proofs.Common.{◌≡◌, ℕ, zero, suc, ◌+◌, ◌-◌, ◌<◌, Bool, true, false, ◌↔◌, ◌⊎◌, inl, inr, Option, Some, None, IfSome, IsNone, Bor, List, [], ◌∷◌, ◌++◌, map, length, take, drop, get_or, Contains, slice_get, refl, sym, ap, ap₂, ◌∙◌, subst, append_assoc, arith}
-use Rattle.std.specs.List.{insert}
+use Rattle.std.specs.List.{AllByRecursion, insert}
 use Rattle.std.proofs.lemmas.List.{append-nil, map-append, take_more}
+use Rattle.std.proofs.lemmas.List.Elements.{All-contains, All-from_recursion, Contains-append_left, Contains-append_right, Contains-append_cases}
 use Rattle.std.specs.Option.{is_some, option_copied}
 use Rattle.std.specs.Slice.{IsItemAt}
 use Rattle.std.proofs.lemmas.Bool.{ltb-true, ltb-false}
 use Rattle.std.proofs.lemmas.Option.{slice_get-get_or, slice_get_past, slice_get_within, get_or_from_slice_get}
 use Rattle.hpr_terms.specs.declared.tag.Tag.{Tag}
+use Rattle.hpr_terms.proofs.Facts.{in_map, map_in}
 use Rattle.hpr_syntax.specs.declared.rows.Row.{Row}
 use Rattle.hpr_syntax.specs.Body.{Body, done, action, branch, loop}
 use Rattle.hpr_syntax.specs.Parts.{same_tag, tags_of}
@@ -21,7 +23,7 @@ use Rattle.hpr_graph.specs.declared.vertex.Vertex.{Vertex}
 use Rattle.hpr_graph.specs.declared.vertex.Vertex.TheVariants.{Entry, Init, Part, Final}
 use Rattle.hpr_graph.specs.Graphs.{IsOnce}
 use Rattle.hpr_graph.proofs.Lists.{some_inj, in_none, in_cons, in_here, in_later}
-use Rattle.hpr_graph.specs.Rank.{parts_of, IsAddedAt, IsPutIn, IsJoined, AreJoined, IsRankOf, IsRank}
+use Rattle.hpr_graph.specs.Rank.{parts_of, IsAddedAt, IsPutIn, IsJoined, AreJoined, IsFirstChanged, IsRankOf, IsRank}
 use Rattle.hpr_order.proofs.Lists.{split_at, put_has, put_once}
 
 -- the tags of the rows are those of the parts
@@ -117,57 +119,96 @@ joined_once : (vs xs ys : List Vertex) → IsJoined vs xs ys → IsOnce xs → I
 joined_once [] xs ys is once = subst (λ (l : List Vertex). IsOnce l) (sym is) once
 joined_once (v ∷ vs) xs ys (zs, joined, put) once = put_in_once v (slice_get vs 0) zs ys put (joined_once vs xs zs joined once)
 
--- several lists joined
-abbrev pub InOne : List (List Vertex) → Vertex → Type 0
-InOne [] w = ⊥
-InOne (vs ∷ []) w = Contains vs w
-InOne (vs ∷ us ∷ ls) w = Contains vs w ⊎ InOne (us ∷ ls) w
+-- vertices that are listed already
+joined_listed : (vs xs : List Vertex) → ((w : Vertex) → Contains vs w → Contains xs w) → IsJoined vs xs xs
+joined_listed [] xs all = refl
+joined_listed (v ∷ vs) xs all = (xs, joined_listed vs xs (λ w h. all w (in_later v w vs h)), inl (all v (in_here v vs), refl))
 
-pub all_joined_has : (ls : List (List Vertex)) (xs ys : List Vertex) → AreJoined ls xs ys → (w : Vertex) → Contains ys w ↔ (Contains xs w ⊎ InOne ls w)
+-- several lists joined
+abbrev HasOne : List (List Vertex) → Vertex → Type 0
+HasOne ls w = (vs : List Vertex) × Contains ls vs × Contains vs w
+
+all_joined_has : (ls : List (List Vertex)) (xs ys : List Vertex) → AreJoined ls xs ys → (w : Vertex) → Contains ys w ↔ (Contains xs w ⊎ HasOne ls w)
 all_joined_has [] xs ys is w = (
   λ h. inl (subst (λ (l : List Vertex). Contains l w) is h),
-  λ h. elim h [ inl there ↦ subst (λ (l : List Vertex). Contains l w) (sym is) there | inr none ↦ absurd none ],
+  λ h. elim h [ inl there ↦ subst (λ (l : List Vertex). Contains l w) (sym is) there | inr none ↦ absurd (in_none none.0 none.1) ],
 )
-all_joined_has (vs ∷ []) xs ys joined w = joined_has vs xs ys joined w
+all_joined_has (vs ∷ []) xs ys joined w =
+    let one = joined_has vs xs ys joined w in (
+      λ h. elim (one.0 h) [ inl x ↦ inl x | inr y ↦ inr (vs, in_here vs [], y) ],
+      λ h. elim h [
+        | inl x ↦ one.1 (inl x)
+        | inr some ↦ elim (in_cons vs some.0 [] some.1) [
+          | inl e ↦ one.1 (inr (subst (λ (l : List Vertex). Contains l w) (sym e) some.2))
+          | inr none ↦ absurd (in_none some.0 none)
+        ]
+      ],
+    )
 all_joined_has (vs ∷ us ∷ ls) xs ys (zs, first, rest) w =
     let one = joined_has vs xs zs first w in
     let more = all_joined_has (us ∷ ls) zs ys rest w in (
       λ h. elim (more.0 h) [
-        | inl x ↦ elim (one.0 x) [ inl y ↦ inl y | inr z ↦ inr (inl z) ]
-        | inr y ↦ inr (inr y)
+        | inl x ↦ elim (one.0 x) [ inl y ↦ inl y | inr z ↦ inr (vs, in_here vs (us ∷ ls), z) ]
+        | inr some ↦ inr (some.0, in_later vs some.0 (us ∷ ls) some.1, some.2)
       ],
       λ h. elim h [
         | inl x ↦ more.1 (inl (one.1 (inl x)))
-        | inr behind ↦ elim behind [ inl y ↦ more.1 (inl (one.1 (inr y))) | inr z ↦ more.1 (inr z) ]
+        | inr some ↦ elim (in_cons vs some.0 (us ∷ ls) some.1) [
+          | inl e ↦ more.1 (inl (one.1 (inr (subst (λ (l : List Vertex). Contains l w) (sym e) some.2))))
+          | inr later ↦ more.1 (inr (some.0, later, some.2))
+        ]
       ],
     )
 
-pub all_joined_once : (ls : List (List Vertex)) (xs ys : List Vertex) → AreJoined ls xs ys → IsOnce xs → IsOnce ys
+all_joined_once : (ls : List (List Vertex)) (xs ys : List Vertex) → AreJoined ls xs ys → IsOnce xs → IsOnce ys
 all_joined_once [] xs ys is once = subst (λ (l : List Vertex). IsOnce l) (sym is) once
 all_joined_once (vs ∷ []) xs ys joined once = joined_once vs xs ys joined once
 all_joined_once (vs ∷ us ∷ ls) xs ys (zs, first, rest) once = all_joined_once (us ∷ ls) zs ys rest (joined_once vs xs zs first once)
 
-rank_of_has : (a b base : Tree) (r : List Vertex) → IsRankOf a b base r → (w : Vertex)
-    → Contains r w ↔ (Contains (parts_of a) w ⊎ (Contains (parts_of b) w ⊎ Contains (parts_of base) w))
-rank_of_has a b base r is w = all_joined_has (parts_of b ∷ parts_of base ∷ []) (parts_of a) r is w
+-- the variant whose parts come first is one of the variants
+pub first_within : (base : Tree) (vs : List Tree) (first : Tree) → IsFirstChanged base vs first → Contains vs first
+first_within base [] first is = absurd is
+first_within base (v ∷ []) first is = subst (λ (t : Tree). Contains (v ∷ []) t) (sym is) (in_here v [])
+first_within base (v ∷ u ∷ vs) first (inl (same, later)) = in_later v first (u ∷ vs) (first_within base (u ∷ vs) first later)
+first_within base (v ∷ u ∷ vs) first (inr (other, is)) = subst (λ (t : Tree). Contains (v ∷ u ∷ vs) t) (sym is) (in_here v (u ∷ vs))
 
--- the rank has the parts of the three programs, and no others
-pub rank_has : (a b base : Tree) (r : List Vertex) → IsRank a b base r → (w : Vertex)
-    → Contains r w ↔ (Contains (parts_of a) w ⊎ (Contains (parts_of b) w ⊎ Contains (parts_of base) w))
-rank_has a b base r (inl (same, is)) w =
-    let swap = rank_of_has b a base r is w in (
-      λ h. elim (swap.0 h) [ inl x ↦ inr (inl x) | inr rest ↦ elim rest [ inl y ↦ inl y | inr z ↦ inr (inr z) ] ],
-      λ h. elim h [ inl x ↦ swap.1 (inr (inl x)) | inr rest ↦ elim rest [ inl y ↦ swap.1 (inl y) | inr z ↦ swap.1 (inr (inr z)) ] ],
+-- the rank has the parts of base and the variants, and no others
+pub rank_has : (base : Tree) (vs : List Tree) (r : List Vertex) → IsRankOf base vs r → (w : Vertex)
+    → Contains r w ↔ ((t : Tree) × Contains (base ∷ vs) t × Contains (parts_of t) w)
+rank_has base vs r (first, is_first, joined) w =
+    let all : List Tree = vs ++ base ∷ [] in
+    let joins = all_joined_has (map parts_of all) (parts_of first) r joined w in
+    let listed : (t : Tree) → Contains all t → Contains (base ∷ vs) t =
+    λ t h. elim (Contains-append_cases vs (base ∷ []) t h) [
+      | inl variant ↦ in_later base t vs variant
+      | inr rest ↦ elim (in_cons base t [] rest) [ inl e ↦ subst (λ (u : Tree). Contains (base ∷ vs) u) e (in_here base vs) | inr none ↦ absurd (in_none t none) ]
+    ] in
+    let among : (t : Tree) → Contains (base ∷ vs) t → Contains all t =
+    λ t h. elim (in_cons base t vs h) [
+      | inl e ↦ subst (λ (u : Tree). Contains all u) e (Contains-append_right vs (base ∷ []) base (in_here base []))
+      | inr variant ↦ Contains-append_left vs (base ∷ []) t variant
+    ] in (
+      λ h. elim (joins.0 h) [
+        | inl x ↦ (first, in_later base first vs (first_within base vs first is_first), x)
+        | inr some ↦ (let (t, there, is) = map_in parts_of all some.0 some.1 in
+            (t, listed t there, subst (λ (l : List Vertex). Contains l w) (sym is) some.2))
+      ],
+      λ h. joins.1 (inr (parts_of h.0, in_map parts_of all h.0 (among h.0 h.1), h.2)),
     )
-rank_has a b base r (inr (other, is)) w = rank_of_has a b base r is w
 
-rank_of_once : (a b base : Tree) (r : List Vertex) → IsRankOf a b base r → IsProgram a → IsOnce r
-rank_of_once a b base r is prog = all_joined_once (parts_of b ∷ parts_of base ∷ []) (parts_of a) r is (parts_once a prog)
+-- where the variants are programs, nothing stands twice in it
+pub rank_once : (base : Tree) (vs : List Tree) (r : List Vertex) → IsRankOf base vs r → AllByRecursion IsProgram vs → IsOnce r
+rank_once base vs r (first, is_first, joined) are =
+    all_joined_once (map parts_of (vs ++ base ∷ [])) (parts_of first) r joined
+    (parts_once first (All-contains IsProgram vs first (All-from_recursion IsProgram vs are) (first_within base vs first is_first)))
 
--- and each of them once
-pub rank_once : (a b base : Tree) (r : List Vertex) → IsRank a b base r → IsProgram a → IsProgram b → IsOnce r
-rank_once a b base r (inl (same, is)) prog prog_b = rank_of_once b a base r is prog_b
-rank_once a b base r (inr (other, is)) prog prog_b = rank_of_once a b base r is prog
+-- the rank of two variants, of which the first isn't base, and where it is
+pub rank_from_first : (a b base : Tree) (r : List Vertex) → ¬ (a ≡ base) → AreJoined (parts_of b ∷ parts_of base ∷ []) (parts_of a) r → IsRank a b base r
+rank_from_first a b base r other joined = (a, inr (other, refl), (parts_of a, joined_listed (parts_of a) (parts_of a) (λ w h. h), joined))
+
+pub rank_from_second : (a b base : Tree) (r : List Vertex) → a ≡ base → AreJoined (parts_of a ∷ parts_of base ∷ []) (parts_of b) r → IsRank a b base r
+rank_from_second a b base r same (zs, first, rest) =
+    (b, inl (same, refl), (zs, first, (zs, joined_listed (parts_of b) zs (λ w h. (joined_has (parts_of a) (parts_of b) zs first w).1 (inl h)), rest)))
 
 -- the steps of the code
 pub put_new : (xs : List Vertex) (i : ℕ) (v next : Vertex) → slice_get xs i ≡ Some next → IsAddedAt v (Some next) xs (insert xs i v)

@@ -1,9 +1,9 @@
--- Three programs have a rank.
-use Rattle.std.proofs.Common.{◌≡◌, inl, inr, Option, Some, None, List, [], ◌∷◌, ◌++◌, Contains, slice_get, refl}
+-- A base and its variants have a rank.
+use Rattle.std.proofs.Common.{◌≡◌, ◌≢◌, inl, inr, Option, Some, None, List, [], ◌∷◌, ◌++◌, map, Contains, slice_get, refl}
 use Rattle.hpr_terms.proofs.Facts.{by_both}
 use Rattle.hpr_syntax.specs.Tree.{Tree}
 use Rattle.hpr_graph.specs.declared.vertex.Vertex.{Vertex}
-use Rattle.hpr_graph.specs.Rank.{parts_of, IsAddedAt, IsPutIn, IsJoined, IsRankOf, IsRank}
+use Rattle.hpr_graph.specs.Rank.{parts_of, IsAddedAt, IsPutIn, IsJoined, AreJoined, IsFirstChanged, IsRankOf}
 use Rattle.hpr_graph.proofs.Lists.{in_here, split}
 use Rattle.hpr_order.proofs.Ranks.{joined_has}
 
@@ -33,11 +33,22 @@ join (v ∷ vs) xs n =
     put v (slice_get vs 0) rest.0 (next_stands vs xs rest.0 rest.1) (λ more.
     n (more.0, (rest.0, rest.1, more.1))))
 
-rank_of : (a b base : Tree) → ¬ (¬ ((r : List Vertex) × IsRankOf a b base r))
-rank_of a b base n = join (parts_of b) (parts_of a) (λ xs. join (parts_of base) xs.0 (λ r. n (r.0, (xs.0, xs.1, r.1))))
+join_all : (ls : List (List Vertex)) (xs : List Vertex) → ¬ (¬ ((ys : List Vertex) × AreJoined ls xs ys))
+join_all [] xs n = n (xs, refl)
+join_all (vs ∷ []) xs n = join vs xs n
+join_all (vs ∷ us ∷ ls) xs n = join vs xs (λ zs. join_all (us ∷ ls) zs.0 (λ ys. n (ys.0, (zs.0, zs.1, ys.1))))
 
-pub some_rank : (a b base : Tree) → ¬ (¬ ((r : List Vertex) × IsRank a b base r))
-some_rank a b base =
-    by_both (a ≡ base) ((r : List Vertex) × IsRank a b base r)
-    (λ same n. rank_of b a base (λ r. n (r.0, inl (same, r.1))))
-    (λ other n. rank_of a b base (λ r. n (r.0, inr (other, r.1))))
+some_first : (base v : Tree) (vs : List Tree) → ¬ (¬ ((first : Tree) × IsFirstChanged base (v ∷ vs) first))
+some_first base v [] n = n (v, refl)
+some_first base v (u ∷ vs) n =
+    by_both (v ≡ base) ((first : Tree) × IsFirstChanged base (v ∷ u ∷ vs) first)
+    (λ same k. some_first base u vs (λ first. k (first.0, inl (same, first.1))))
+    (λ other k. k (v, inr (other, refl)))
+    n
+
+pub some_rank : (base : Tree) (vs : List Tree) → vs ≢ [] → ¬ (¬ ((r : List Vertex) × IsRankOf base vs r))
+some_rank base [] some n = some refl
+some_rank base (v ∷ vs) some n =
+    some_first base v vs (λ first.
+    join_all (map parts_of (v ∷ vs ++ base ∷ [])) (parts_of first.0) (λ r.
+    n (r.0, (first.0, first.1, r.1))))

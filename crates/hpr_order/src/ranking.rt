@@ -3,7 +3,7 @@ ghost use Rattle.std.specs.Prelude.{◌≡◌, ◌↔◌, ◌≤◌, ◌∷◌, 
 ghost use Rattle.std.specs.List.{insert};
 ghost use Rattle.std.specs.Option.{option_copied};
 ghost use Rattle.hpr_graph.specs.declared.vertex.Vertex.{Vertex};
-ghost use Rattle.hpr_graph.specs.Rank.{parts_of, IsAddedAt, IsPutIn, IsJoined, IsRankOf, IsRank};
+ghost use Rattle.hpr_graph.specs.Rank.{parts_of, IsAddedAt, IsPutIn, IsJoined, AreJoined, IsRank};
 
 use hpr_graph::{NoMemory, Vertex, place_of};
 use hpr_syntax::{Program, Row};
@@ -37,7 +37,7 @@ fn rank_of(
     second: &Program,
     base: &Program,
 ) -> Result<Vec<Vertex>, NoMemory>
-    ensures { IfOk result (λ v. IsRankOf first.now second.now base.now v.items) }
+    ensures { IfOk result (λ v. AreJoined (parts_of second.now ∷ parts_of base.now ∷ []) (parts_of first.now) v.items) }
 {
     let mut list = parts(alloc, first)?;
     join_program(alloc, &mut list, second)?;
