@@ -33,10 +33,10 @@ module _ (base a b : List ℕ) (p q r : Tree) (tries : ℕ) (next : Decision →
   too_large : (w : Which) (d : Decision) → IsFirstTooLarge p q r w → d ≡ refuses (too_many_edges (file_of w base a b)) → Decided d
   too_large which.Base d many e = inl (many, e)
   too_large which.A d (few, many) e = inr (few, inl (many, e))
-  too_large which.B d (few, few_too, many) e = inr (few, inr (few_too, inl (many, e)))
+  too_large which.B d (few, (few_too, many)) e = inr (few, inr (few_too, inl (many, e)))
 
   within : (d : Decision) → AreInLimit p q r → next d → Decided d
-  within d (few, few_too, few_three) h = inr (few, inr (few_too, inr (few_three, h)))
+  within d (few, (few_too, few_three)) h = inr (few, inr (few_too, inr (few_three, h)))
 
   stop_decided : (s : engine.Stop) → IfTooManyEdges {X = Tree} (Err s) (IsFirstTooLarge p q r) → IfJudged {X = Tree} (Err s) (AreInLimit p q r)
       → IfInterference {X = Tree} (Err s) (λ cs. IsAnswer p q r tries (interference cs)) → IfNoProgram {X = Tree} (Err s) (λ n. IsAnswer p q r tries (no_program n))

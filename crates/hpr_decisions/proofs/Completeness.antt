@@ -56,7 +56,7 @@ of_program_graph file p next r few (inr (_, n)) = n
 
 pub of_program_graphs : (base : List ℕ) (p : Tree) (a : List ℕ) (q : Tree) (b : List ℕ) (r : Tree) (next : Type 0) (d : Decision) → AreInLimit p q r → OnGraphs base p a q b r next d → next
 of_program_graphs base p a q b r next d few o =
-    of_program_graph b r next d few.2 (of_program_graph a q (OnGraph b r next d) d few.1 (of_program_graph base p (OnGraph a q (OnGraph b r next d) d) d few.0 o))
+    of_program_graph b r next d few.1.1 (of_program_graph a q (OnGraph b r next d) d few.1.0 (of_program_graph base p (OnGraph a q (OnGraph b r next d) d) d few.0 o))
 
 -- what is known of the decision that reports an answer of three programs
 module _ (p q r : Tree) (tries : ℕ) (old new : Option (List ℕ)) (s : Status) where

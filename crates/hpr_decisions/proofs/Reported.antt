@@ -48,11 +48,11 @@ use Rattle.hpr_inputs.proofs.SpelledFiles.{of_programs}
 answer_outcome : (request : Request) (fs : Files) (cs : List Conflict) → HasAnswer request fs (interference cs)
     → RequestOutcome request fs (prints kind.Interference (conflicts_text cs))
 answer_outcome (integrate base a b tries) fs cs h =
-    inr (h.p, h.base_is, inr (h.q, h.a_is, inr (h.r, h.b_is, inr (h.within.0, inr (h.within.1, inr (h.within.2, (interference cs, h.answer, refl)))))))
+    inr (h.p, h.base_is, inr (h.q, h.a_is, inr (h.r, h.b_is, inr (h.within.0, inr (h.within.1.0, inr (h.within.1.1, (interference cs, h.answer, refl)))))))
 answer_outcome (trial base a b words steps) fs cs (state, told, h) =
     let d = prints kind.Interference (conflicts_text cs) in
     on_state (states_of words) state told (λ t d. OnFiles fs base a b (λ p q r. Tried base p a q b r t steps d) d) d
-    (inr (h.p, h.base_is, inr (h.q, h.a_is, inr (h.r, h.b_is, inr (h.within.0, inr (h.within.1, inr (h.within.2, (interference cs, h.answer, refl))))))))
+    (inr (h.p, h.base_is, inr (h.q, h.a_is, inr (h.r, h.b_is, inr (h.within.0, inr (h.within.1.0, inr (h.within.1.1, (interference cs, h.answer, refl))))))))
 answer_outcome _ fs cs h = absurd h
 
 -- the statuses that only an answer without a program has
@@ -125,7 +125,7 @@ module _ (fs : Files) (d : Decision) (is : IsReport (status_of d)) where
       let (few, on_a) = past_graph base p _ o in
       let (few_too, on_b) = past_graph a q _ on_a in
       let (few_three, h) = past_graph b r _ on_b in
-      ((few, few_too, few_three), h)
+      ((few, (few_too, few_three)), h)
 
   abbrev Reports : Request → Type 0
   Reports request = (x : Answer) × HasAnswer request fs x × (d ≡ report (tries_of request) x)

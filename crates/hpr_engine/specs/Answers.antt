@@ -1,24 +1,28 @@
 -- What a merge of programs answers.
 --
+-- number_of which                == the place of that program among base, A and B
 -- IsFirstTooLarge base a b which == this is the first of the three programs, in this order, whose graph has too many edges
 -- IfTooManyEdges result P        == P of the program that is named, where its graph has too many edges
 -- IfInterference result P        == P of the list of conflicts, where the variants interfere
 -- IfNoProgram result P           == P of the number of parts, where no program has the merged graph
 -- IfJudged result P              == P, where no graph has too many edges and memory was found
 -- IsUnsearched stop              == it isn't the search for a program that stopped
-use Rattle.std.specs.Prelude.{ℕ, List, Result, Ok, Err}
+use Rattle.std.specs.Prelude.{ℕ, List, [], ◌∷◌, Result, Ok, Err}
 use Rattle.hpr_syntax.specs.Tree.{Tree}
 use Rattle.hpr_graph.specs.declared.conflict.Conflict.{Conflict}
 use Rattle.hpr_engine.specs.declared.stop.Stop.{Stop}
 use Rattle.hpr_engine.specs.declared.stop.Stop.TheVariants.{TooManyEdges, Interference, NoProgram, Spent, Memory}
 use Rattle.hpr_engine.specs.declared.stop.Which.{Which}
 use Rattle.hpr_engine.specs.declared.stop.Which.TheVariants.{Base, A, B}
-use Rattle.hpr_engine.specs.Limit.{HasTooManyEdges}
+use Rattle.hpr_engine.specs.Limit.{IsFirstTooLargeOf}
+
+abbrev pub number_of : Which → ℕ
+number_of Base = 0
+number_of A = 1
+number_of B = 2
 
 abbrev pub IsFirstTooLarge : Tree → Tree → Tree → Which → Type 0
-IsFirstTooLarge base a b Base = HasTooManyEdges base
-IsFirstTooLarge base a b A = (¬ HasTooManyEdges base) × HasTooManyEdges a
-IsFirstTooLarge base a b B = (¬ HasTooManyEdges base) × (¬ HasTooManyEdges a) × HasTooManyEdges b
+IsFirstTooLarge base a b which = IsFirstTooLargeOf (base ∷ a ∷ b ∷ []) (number_of which)
 
 abbrev pub IfTooManyEdges : {X : Type 0} → Result X Stop → (Which → Type 0) → Type 0
 IfTooManyEdges (Ok x) P = Unit {0}
