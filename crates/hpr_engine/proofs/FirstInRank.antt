@@ -1,14 +1,14 @@
 -- The program whose parts stand in the order of the rank is the first of the arrangements.
-use Rattle.std.proofs.Common.{◌≡◌, ℕ, zero, suc, ◌<◌, inl, inr, ◌⊎◌, Option, Some, None, List, [], ◌∷◌, ◌++◌, length, Contains, slice_get, refl, sym, ap, ◌∙◌, subst, arith}
+use Rattle.std.proofs.Common.{◌≡◌, ℕ, zero, suc, ◌<◌, inl, inr, ◌⊎◌, Option, Some, None, List, [], ◌∷◌, ◌++◌, map, length, Contains, slice_get, sym, ap, ◌∙◌, subst, arith}
 use Rattle.hpr_terms.proofs.Facts.{compared}
 use Rattle.hpr_syntax.specs.Issued.{Issued}
 use Rattle.hpr_syntax.specs.Tree.{Tree}
 use Rattle.hpr_graph.specs.declared.vertex.Vertex.{Vertex}
 use Rattle.hpr_graph.specs.Graphs.{Graph, IsOnce}
-use Rattle.hpr_graph.specs.Rank.{parts_of, StandsBefore, IsAddedAt, IsPutIn, IsJoined, AreJoined, IsRankOf, IsRank}
+use Rattle.hpr_graph.specs.Rank.{parts_of, StandsBefore, IsAddedAt, IsPutIn, IsJoined, AreJoined, IsFirstChanged, IsRankOf}
 use Rattle.hpr_graph.specs.Arrangements.{IsArrangement, IsEarlier, AreArrangements}
-use Rattle.hpr_graph.proofs.Lists.{contains_at, place_of, get_longer}
-use Rattle.hpr_order.proofs.Ranks.{parts_once}
+use Rattle.hpr_graph.proofs.Lists.{contains_at, place_of, in_none, in_cons, in_here, in_later, get_longer}
+use Rattle.hpr_order.proofs.Ranks.{first_within, parts_once}
 use Rattle.hpr_rebuild.proofs.First.{at_middle, first_listed, in_front}
 use Rattle.hpr_rebuild.proofs.Parts.{part_says, says_part}
 
@@ -51,17 +51,23 @@ all_joined_keeps [] xs ys is v w before = subst (λ (l : List Vertex). StandsBef
 all_joined_keeps (vs ∷ []) xs ys joined v w before = joined_keeps vs xs ys joined v w before
 all_joined_keeps (vs ∷ us ∷ ls) xs ys (zs, first, rest) v w before = all_joined_keeps (us ∷ ls) zs ys rest v w (joined_keeps vs xs zs first v w before)
 
-rank_of_keeps : (a b base : Tree) (r : List Vertex) → IsRankOf a b base r → KeepsOrder (parts_of a) r
-rank_of_keeps a b base r is v w before = all_joined_keeps (parts_of b ∷ parts_of base ∷ []) (parts_of a) r is v w before
+-- where each variant is the base or p, p is the first that isn't base, or each is base
+only_changed : (base p : Tree) (vs : List Tree) (first : Tree) → ((v : Tree) → Contains vs v → (v ≡ base) ⊎ (v ≡ p)) → Contains vs p → IsFirstChanged base vs first → first ≡ p
+only_changed base p [] first each there is = absurd is
+only_changed base p (v ∷ []) first each there is = elim (in_cons v p [] there) [ inl e ↦ is ∙ e | inr none ↦ absurd (in_none p none) ]
+only_changed base p (v ∷ u ∷ vs) first each there (inl (same, later)) =
+    elim (in_cons v p (u ∷ vs) there) [
+      | inl e ↦ elim (each first (in_later v first (u ∷ vs) (first_within base (u ∷ vs) first later))) [ inl is_base ↦ is_base ∙ sym same ∙ e | inr is ↦ is ]
+      | inr behind ↦ only_changed base p (u ∷ vs) first (λ w h. each w (in_later v w (u ∷ vs) h)) behind later
+    ]
+only_changed base p (v ∷ u ∷ vs) first each there (inr (other, is)) =
+    elim (each v (in_here v (u ∷ vs))) [ inl same ↦ absurd (other same) | inr e ↦ is ∙ e ]
 
--- A's parts stand in the rank as in A, and B's as in B where A is the base
-pub rank_keeps_a : (a base : Tree) (r : List Vertex) → IsRank a base base r → KeepsOrder (parts_of a) r
-rank_keeps_a a base r (inl (same, is)) = subst (λ (p : Tree). KeepsOrder (parts_of p) r) (sym same) (rank_of_keeps base a base r is)
-rank_keeps_a a base r (inr (other, is)) = rank_of_keeps a base base r is
-
-pub rank_keeps_b : (b base : Tree) (r : List Vertex) → IsRank base b base r → KeepsOrder (parts_of b) r
-rank_keeps_b b base r (inl (same, is)) = rank_of_keeps b base base r is
-rank_keeps_b b base r (inr (other, is)) = absurd (other refl)
+-- where each variant is the base or p, the parts of p stand in the rank as in p
+pub rank_keeps : (base p : Tree) (vs : List Tree) (r : List Vertex) → ((v : Tree) → Contains vs v → (v ≡ base) ⊎ (v ≡ p)) → Contains vs p → IsRankOf base vs r → KeepsOrder (parts_of p) r
+rank_keeps base p vs r each there (first, is, joined) =
+    subst (λ (q : Tree). KeepsOrder (parts_of q) r) (only_changed base p vs first each there is)
+    (λ v w before. all_joined_keeps (map parts_of (vs ++ base ∷ [])) (parts_of first) r joined v w before)
 
 -- two arrangements have the same parts
 same_parts : (g : Graph) (issued : Issued) (p q : Tree) → IsArrangement g issued p → IsArrangement g issued q → (v : Vertex) → Contains (parts_of p) v → Contains (parts_of q) v

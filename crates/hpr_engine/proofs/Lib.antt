@@ -2,6 +2,7 @@ pub mod OneSide
 pub mod OneList
 mod SameConflicts
 mod Merge
+mod Raised
 mod Premises
 mod OneSideWhole
 mod FirstInRank

@@ -1,19 +1,20 @@
--- Three programs have one rank, and one list of arrangements in its order.
-use Rattle.std.proofs.Common.{◌≡◌, suc, ◌<◌, inl, inr, Option, Some, None, List, [], ◌∷◌, ◌++◌, length, Contains, slice_get, refl, sym, ap, ◌∙◌, subst, arith}
+-- A base and its variants have one rank, and one list of arrangements in its order.
+use Rattle.std.proofs.Common.{◌≡◌, suc, ◌<◌, inl, inr, Option, Some, None, List, [], ◌∷◌, ◌++◌, map, length, Contains, slice_get, refl, sym, ap, ◌∙◌, subst, arith}
+use Rattle.std.specs.List.{AllByRecursion}
 use Rattle.std.proofs.lemmas.List.{append-nil}
 use Rattle.hpr_terms.proofs.Facts.{compared}
 use Rattle.hpr_syntax.specs.Issued.{Issued}
 use Rattle.hpr_syntax.specs.Shape.{IsProgram}
 use Rattle.hpr_syntax.specs.Tree.{Tree}
 use Rattle.hpr_graph.specs.declared.vertex.Vertex.{Vertex}
-use Rattle.hpr_graph.specs.Answer.{merged_of, issued_of}
+use Rattle.hpr_graph.specs.Answer.{merged_of_all, issued_of_all}
 use Rattle.hpr_graph.specs.Graphs.{Graph, IsOnce}
-use Rattle.hpr_graph.specs.Rank.{parts_of, StandsBefore, IsAddedAt, IsPutIn, IsJoined, AreJoined, IsRankOf, IsRank}
+use Rattle.hpr_graph.specs.Rank.{parts_of, StandsBefore, IsAddedAt, IsPutIn, IsJoined, AreJoined, IsFirstChanged, IsRankOf}
 use Rattle.hpr_graph.specs.Arrangements.{IsEarlier, AreArrangements}
 use Rattle.hpr_graph.proofs.Lists.{contains_at, once_tail, once_head, some_inj}
 use Rattle.hpr_graph.proofs.PutInOrder.{one_list}
 use Rattle.hpr_order.proofs.Ranks.{rank_once}
-use Rattle.hpr_engine.specs.Budget.{AreTried}
+use Rattle.hpr_engine.specs.Budget.{AreTriedOf}
 use Rattle.hpr_rebuild.proofs.First.{at_middle}
 use Rattle.hpr_engine.proofs.FirstInRank.{moved, never_both, never_itself}
 
@@ -95,24 +96,21 @@ one_all_joined (vs ∷ us ∷ ls) xs ys zs once once' (before, first, rest) (bef
     (once_before_all (us ∷ ls) before' zs rest' once') first first' in
     one_all_joined (us ∷ ls) before ys zs once once' rest (subst (λ (l : List Vertex). AreJoined (us ∷ ls) l zs) (sym same) rest')
 
-one_rank_of : (a b base : Tree) (r s : List Vertex) → IsOnce r → IsOnce s → IsRankOf a b base r → IsRankOf a b base s → r ≡ s
-one_rank_of a b base r s once once' is so = one_all_joined (parts_of b ∷ parts_of base ∷ []) (parts_of a) r s once once' is so
+one_changed : (base : Tree) (vs : List Tree) (p q : Tree) → IsFirstChanged base vs p → IsFirstChanged base vs q → p ≡ q
+one_changed base [] p q is so = absurd is
+one_changed base (v ∷ []) p q is so = is ∙ sym so
+one_changed base (v ∷ u ∷ vs) p q (inl (same, later)) (inl (same', later')) = one_changed base (u ∷ vs) p q later later'
+one_changed base (v ∷ u ∷ vs) p q (inl (same, later)) (inr (other, so)) = absurd (other same)
+one_changed base (v ∷ u ∷ vs) p q (inr (other, is)) (inl (same, later)) = absurd (other same)
+one_changed base (v ∷ u ∷ vs) p q (inr (other, is)) (inr (other', so)) = is ∙ sym so
 
-pub one_rank : (a b base : Tree) (r s : List Vertex) → IsProgram a → IsProgram b → IsRank a b base r → IsRank a b base s → r ≡ s
-one_rank a b base r s is_a is_b h k =
-    by_cases h k
-  where
-    once : IsOnce r
-    once = rank_once a b base r h is_a is_b
-
-    once_too : IsOnce s
-    once_too = rank_once a b base s k is_a is_b
-
-    by_cases : IsRank a b base r → IsRank a b base s → r ≡ s
-    by_cases (inl (same, is)) (inl (same', so)) = one_rank_of b a base r s once once_too is so
-    by_cases (inl (same, is)) (inr (other, so)) = absurd (other same)
-    by_cases (inr (other, is)) (inl (same, so)) = absurd (other same)
-    by_cases (inr (other, is)) (inr (other', so)) = one_rank_of a b base r s once once_too is so
+pub one_rank : (base : Tree) (vs : List Tree) (r s : List Vertex) → AllByRecursion IsProgram vs → IsRankOf base vs r → IsRankOf base vs s → r ≡ s
+one_rank base vs r s are (first, is, joined) (first', so, joined') =
+    let once : IsOnce r = rank_once base vs r (first, is, joined) are in
+    let once_too : IsOnce s = rank_once base vs s (first', so, joined') are in
+    let same : first ≡ first' = one_changed base vs first first' is so in
+    one_all_joined (map parts_of (vs ++ base ∷ [])) (parts_of first) r s once once_too joined
+    (subst (λ (p : Tree). AreJoined (map parts_of (vs ++ base ∷ [])) (parts_of p) s) (sym same) joined')
 
 -- no two programs are each earlier than the other
 module _ (rank : List Vertex) (once : IsOnce rank) where
@@ -160,8 +158,8 @@ module _ (rank : List Vertex) (once : IsOnce rank) where
       one_list (IsEarlier rank) never_earlier_both ps qs h.1 k.1 (λ p. (λ there. (k.0 p).1 ((h.0 p).0 there), λ there. (h.0 p).1 ((k.0 p).0 there)))
 
 -- the arrangements that are tried are one list
-pub one_tried : (base a b : Tree) (ps qs : List Tree) → IsProgram a → IsProgram b → AreTried base a b ps → AreTried base a b qs → ps ≡ qs
-one_tried base a b ps qs is_a is_b (rank, is, are) (rank', is', are') =
-    let same : rank ≡ rank' = one_rank a b base rank rank' is_a is_b is is' in
-    one_arrangements rank (rank_once a b base rank is is_a is_b) (merged_of base a b) (issued_of base a b) ps qs are
-    (subst (λ (r : List Vertex). AreArrangements (merged_of base a b) r (issued_of base a b) qs) (sym same) are')
+pub one_tried : (base : Tree) (vs ps qs : List Tree) → AllByRecursion IsProgram vs → AreTriedOf base vs ps → AreTriedOf base vs qs → ps ≡ qs
+one_tried base vs ps qs all (rank, is, are) (rank', is', are') =
+    let same : rank ≡ rank' = one_rank base vs rank rank' all is is' in
+    one_arrangements rank (rank_once base vs rank is all) (merged_of_all base vs) (issued_of_all base vs) ps qs are
+    (subst (λ (r : List Vertex). AreArrangements (merged_of_all base vs) r (issued_of_all base vs) qs) (sym same) are')

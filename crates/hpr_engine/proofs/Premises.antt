@@ -1,9 +1,9 @@
 -- What the search for a program is given: the rank has the parts, and their serials were issued.
-use Rattle.std.proofs.Common.{◌≡◌, ℕ, ◌≤◌, ◌==◌, ◌||◌, nat_lt, false, inl, inr, ◌⊎◌, None, List, [], refl, sym, subst, arith}
+use Rattle.std.proofs.Common.{◌≡◌, ℕ, ◌≤◌, ◌==◌, ◌||◌, nat_lt, false, inl, inr, None, List, [], ◌∷◌, Contains, sym, subst, arith}
+use Rattle.std.specs.List.{AllByRecursion}
 use Rattle.std.proofs.lemmas.Bool.Decides.{nat_tests}
-use Rattle.std.proofs.lemmas.List.Sorted.{IsPermutation-refl}
 use Rattle.hpr_terms.specs.declared.tag.Tag.{Tag}
-use Rattle.hpr_terms.proofs.Facts.{if_none}
+use Rattle.hpr_terms.proofs.Facts.{if_none, in_here, in_later}
 use Rattle.hpr_syntax.specs.declared.rows.Content.{Content}
 use Rattle.hpr_syntax.specs.Body.{Body, done, action, branch, loop}
 use Rattle.hpr_syntax.specs.Issued.{Issued, issued_to}
@@ -12,17 +12,18 @@ use Rattle.hpr_syntax.specs.Parts.{tags_of}
 use Rattle.hpr_syntax.specs.Shape.{IsProgram, is_unissued, first_unissued}
 use Rattle.hpr_syntax.specs.Tree.{Tree}
 use Rattle.hpr_syntax.proofs.NoRefusal.{no_refusal}
-use Rattle.hpr_syntax.proofs.Raises.{one_side_spelled}
 use Rattle.hpr_graph.specs.declared.vertex.Vertex.{Vertex}
 use Rattle.hpr_graph.specs.declared.vertex.Vertex.TheVariants.{Part}
 use Rattle.hpr_graph.specs.Graphs.{Graph, Same}
+use Rattle.hpr_graph.specs.Points.{changed}
 use Rattle.hpr_graph.specs.ProgramGraph.{graph_of}
-use Rattle.hpr_graph.specs.Rank.{IsRank}
-use Rattle.hpr_graph.specs.Answer.{merged_of, issued_of}
+use Rattle.hpr_graph.specs.Rank.{IsRankOf}
+use Rattle.hpr_graph.specs.Answer.{graphs_of, merged_of_all, issued_of_all}
 use Rattle.hpr_order.specs.Arranging.{IsRanking, AreIssued}
 use Rattle.hpr_order.proofs.Ranks.{rank_has, rank_once}
 use Rattle.hpr_rebuild.specs.Settled.{AreProperIssued}
 use Rattle.hpr_rebuild.proofs.Parts.{says_part}
+use Rattle.hpr_engine.proofs.Raised.{with_issued, program_raised}
 
 -- where no part is found that wasn't issued, each was
 each_issued : (issued : Issued) (b : Body) (after : List Tag) → first_unissued issued (tags_of b after) ≡ None
@@ -63,38 +64,33 @@ in_range s n h = (grind (arith, nat_tests), grind (arith, nat_tests))
 serial_of : (p : Tree) → IsProgram p → (t : Tag) (c : Content) → Says p.body t c → (1 ≤ t.serial) × (t.serial ≤ issued_to t.author p.issued)
 serial_of p is t c says = in_range t.serial (issued_to t.author p.issued) ((each_issued p.issued p.body [] (no_refusal p is.shape).issued).1 t c says)
 
-module _ (base a b : Tree) where
-  -- each vertex of the merged graph is one of a variant's
-  pub of_variant : (v : Vertex) → (merged_of base a b).vertex v → (graph_of a).vertex v ⊎ (graph_of b).vertex v
-  of_variant v (inl (inl h)) = inl h.0
-  of_variant v (inl (inr h)) = inr h.0
-  of_variant v (inr (has, (s, es, p, leads))) = inl (((p.2.0.1.0 v).0 (has, (s, es, refl, leads))).0)
+-- each vertex of what variants changed is one of a variant's
+of_variant : (base : Graph) (vs : List Tree) (v : Vertex) → (changed base (graphs_of vs)).vertex v → (p : Tree) × Contains vs p × (graph_of p).vertex v
+of_variant base [] v h = absurd h
+of_variant base (p ∷ []) v h = (p, in_here p [], h.0)
+of_variant base (p ∷ q ∷ vs) v (inl h) = (p, in_here p (q ∷ vs), h.0)
+of_variant base (p ∷ q ∷ vs) v (inr h) = let (r, there, has) = of_variant base (q ∷ vs) v h in (r, in_later p r (q ∷ vs) there, has)
 
-  pub ranking : (r : List Vertex) → IsRank a b base r → IsProgram a → IsProgram b → IsRanking (merged_of base a b) r
-  ranking r is ha hb = record {
-    all = λ t c h. (rank_has a b base r is (Part t c)).1 (elim (of_variant (Part t c) h) [
-      | inl says ↦ inl (says_part a t c says)
-      | inr says ↦ inr (inl (says_part b t c says))
-    ]);
-    once = rank_once a b base r is ha hb;
+module _ (base : Tree) (vs : List Tree) where
+  -- each vertex of the merged graph is one of base's or of a variant's
+  pub of_program : (v : Vertex) → (merged_of_all base vs).vertex v → (p : Tree) × Contains (base ∷ vs) p × (graph_of p).vertex v
+  of_program v (inl h) = let (p, there, has) = of_variant (graph_of base) vs v h in (p, in_later base p vs there, has)
+  of_program v (inr h) = (base, in_here base vs, h.0)
+
+  pub ranking : (r : List Vertex) → IsRankOf base vs r → AllByRecursion IsProgram vs → IsRanking (merged_of_all base vs) r
+  ranking r is all = record {
+    all = λ t c h. (let (p, there, says) = of_program (Part t c) h in (rank_has base vs r is (Part t c)).1 (p, there, says_part p t c says));
+    once = rank_once base vs r is all;
   }
 
-  module _ (hbase : IsProgram base) (ha : IsProgram a) (hb : IsProgram b) where
-    -- a variant with the issued numbers of all three
-    abbrev numbered : Tree → Tree
-    numbered o = record { issued = issued_of base a b; body = o.body; finals = o.finals }
+  module _ (is : IsProgram base) (all : AllByRecursion IsProgram vs) where
+    pub proper_issued : AreProperIssued (issued_of_all base vs)
+    proper_issued = let raised = program_raised base vs base is all (in_here base vs) in (raised.proper.ascending, raised.proper.numbers)
 
-    with_all : (o : Tree) → (o ≡ a) ⊎ (o ≡ b) → IsProgram (numbered o)
-    with_all o which = (one_side_spelled base a b o (numbered o) hbase ha hb which refl refl (IsPermutation-refl o.finals)).0
-
-    pub proper_issued : AreProperIssued (issued_of base a b)
-    proper_issued = let is = with_all a (inl refl) in (is.proper.ascending, is.proper.numbers)
-
-    pub parts_issued : AreIssued (merged_of base a b) (issued_of base a b)
-    parts_issued t c h = elim (of_variant (Part t c) h) [
-      | inl says ↦ serial_of (numbered a) (with_all a (inl refl)) t c says
-      | inr says ↦ serial_of (numbered b) (with_all b (inr refl)) t c says
-    ]
+    pub parts_issued : AreIssued (merged_of_all base vs) (issued_of_all base vs)
+    parts_issued t c h =
+        let (p, there, says) = of_program (Part t c) h in
+        serial_of (with_issued (issued_of_all base vs) p) (program_raised base vs p is all there) t c says
 
 -- the same of the same graph
 pub ranking_same : (g h : Graph) → Same g h → (r : List Vertex) → IsRanking h r → IsRanking g r

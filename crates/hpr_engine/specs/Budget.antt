@@ -1,24 +1,28 @@
 -- The budget of tries: where answers may differ, and which arrangements are tried. The 1989 paper has no budget.
 --
--- AreTried base a b ps == the list has the arrangements of what is searched, each once, in the order of the rank
--- HasSearched r        == the answer is a program, or that no program has the merged graph
--- Agree r s            == the answers are the same; or one is that the budget is spent, and the other comes of a search that went on
-use Rattle.std.specs.Prelude.{◌≡◌, ◌⊎◌, List}
+-- AreTriedOf base vs ps == the list has the arrangements of what is searched, each once, in the order of the rank
+-- AreTried base a b ps  == the same of two variants
+-- HasSearched r         == the answer is a program, or that no program has the merged graph
+-- Agree r s             == the answers are the same; or one is that the budget is spent, and the other comes of a search that went on
+use Rattle.std.specs.Prelude.{◌≡◌, ◌⊎◌, List, [], ◌∷◌}
 use Rattle.hpr_syntax.specs.Tree.{Tree}
 use Rattle.hpr_graph.specs.declared.vertex.Vertex.{Vertex}
-use Rattle.hpr_graph.specs.Answer.{Answer, interference, printed, no_program, spent, searched_graph, IsSearchedRank, searched_issued}
+use Rattle.hpr_graph.specs.Answer.{AnswerBy, interference, printed, no_program, spent, searched_graph_of, IsSearchedRankOf, searched_issued_of}
 use Rattle.hpr_graph.specs.Arrangements.{AreArrangements}
 
-abbrev pub AreTried : Tree → Tree → Tree → List Tree → Type 0
-AreTried base a b ps =
-    (rank : List Vertex) × IsSearchedRank base a b rank
-    × AreArrangements (searched_graph base a b) rank (searched_issued base a b) ps
+abbrev pub AreTriedOf : Tree → List Tree → List Tree → Type 0
+AreTriedOf base vs ps =
+    (rank : List Vertex) × IsSearchedRankOf base vs rank
+    × AreArrangements (searched_graph_of base vs) rank (searched_issued_of base vs) ps
 
-abbrev pub HasSearched : Answer → Type 0
+abbrev pub AreTried : Tree → Tree → Tree → List Tree → Type 0
+AreTried base a b ps = AreTriedOf base (a ∷ b ∷ []) ps
+
+abbrev pub HasSearched : {X : Type 0} → AnswerBy X → Type 0
 HasSearched (interference cs) = ⊥
 HasSearched (printed m) = Unit {0}
 HasSearched (no_program n) = Unit {0}
 HasSearched spent = ⊥
 
-abbrev pub Agree : Answer → Answer → Type 0
+abbrev pub Agree : {X : Type 0} → AnswerBy X → AnswerBy X → Type 0
 Agree r s = (r ≡ s) ⊎ (((r ≡ spent) × HasSearched s) ⊎ (HasSearched r × (s ≡ spent)))

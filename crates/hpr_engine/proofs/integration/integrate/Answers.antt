@@ -1,4 +1,4 @@
-use Rattle.std.proofs.Common.{◌≡◌, ℕ, List, Err, ap, sym, subst}
+use Rattle.std.proofs.Common.{◌≡◌, ℕ, List, [], ◌∷◌, Err, ap, sym, subst}
 use Rattle.std.proofs.lemmas.Result.{err_from_is_err_and}
 use Rattle.hpr_syntax.specs.Issued.{Issued}
 use Rattle.hpr_syntax.specs.Tree.{Tree}
@@ -38,7 +38,7 @@ rebuild-requires-clause-rank c =
     let a = c.args.a.now in
     let b = c.args.b.now in
     ranking_same (graph_in c.in_ok-graph.graph) (merged_of base a b) c.in_ok-graph.ensures.graph c.deref.result.now
-    (ranking base a b c.deref.result.now (subst (IsRank a b base) (sym c.deref.ensures.value) c.in_ok-rank.ensures) c.in_ok-issued.ensures.a c.in_ok-issued.ensures.b)
+    (ranking base (a ∷ b ∷ []) c.deref.result.now (subst (IsRank a b base) (sym c.deref.ensures.value) c.in_ok-rank.ensures) (c.in_ok-issued.ensures.a, (c.in_ok-issued.ensures.b, tt)))
 
 pub rebuild-requires-clause-issued : goal.rebuild-requires-clause-issued
 rebuild-requires-clause-issued c =
@@ -47,7 +47,7 @@ rebuild-requires-clause-issued c =
     let b = c.args.b.now in
     let were = c.in_ok-issued.ensures in
     subst (λ (i : Issued). AreIssued (graph_in c.in_ok-graph.graph) i) (sym were.numbers)
-    (issued_same (graph_in c.in_ok-graph.graph) (merged_of base a b) c.in_ok-graph.ensures.graph _ (parts_issued base a b were.base were.a were.b))
+    (issued_same (graph_in c.in_ok-graph.graph) (merged_of base a b) c.in_ok-graph.ensures.graph _ (parts_issued base (a ∷ b ∷ []) were.base (were.a, (were.b, tt))))
 
 -- a program that is found is the answer
 answered : (base a b : Tree) (g : Graph) (rank : List Vertex) (issued : Issued) (tries : ℕ) (m : Tree) → Same g (merged_of base a b) → IsWithoutConflict base a b → IsRank a b base rank
