@@ -1,108 +1,162 @@
--- Three programs have a list of all conflicts.
-use Rattle.std.proofs.Common.{◌≡◌, ◌<◌, ◌⊎◌, inl, inr, List, [], ◌∷◌, refl, sym, ap, ◌∙◌, subst, arith}
+-- A base and any number of variants have a list of all conflicts, and so have three programs.
+--
+-- IsTellingOnce at == no two things tell the same variant, point and edge
+use Rattle.std.proofs.Common.{◌≡◌, ℕ, zero, suc, ◌<◌, ◌⊎◌, inl, inr, List, [], ◌∷◌, length, Contains, refl, sym, ap, ◌∙◌, subst, arith}
+use Rattle.hpr_terms.proofs.Facts.{by_both, compared}
 use Rattle.hpr_syntax.specs.Tree.{Tree}
 use Rattle.hpr_graph.specs.declared.conflict.Conflict.{Conflict}
 use Rattle.hpr_graph.specs.declared.conflict.Side.{Side}
 use Rattle.hpr_graph.specs.declared.conflict.Side.TheVariants.{A, B}
 use Rattle.hpr_graph.specs.declared.edge.Edge.{Edge}
 use Rattle.hpr_graph.specs.declared.vertex.Vertex.{Vertex}
-use Rattle.hpr_graph.specs.Answer.{merged_of}
-use Rattle.hpr_graph.specs.Conflicts.{number_of, graph_on, IsAdded, IsLeast, IsConflict, ComesBefore, AreConflicts}
+use Rattle.hpr_graph.specs.Answer.{graphs_of, merged_of_all}
+use Rattle.hpr_graph.specs.Conflicts.{number_of, graph_at, told_as, IsAdded, IsLeast, IsConflictOf, ComesFirst, AreConflicts, AreConflictsBy}
 use Rattle.hpr_graph.specs.Graphs.{Graph}
 use Rattle.hpr_graph.specs.Order.{vertex_cmp, edge_cmp}
 use Rattle.hpr_graph.specs.ProgramGraph.{graph_of, IsVertexOf}
 use Rattle.hpr_graph.proofs.VertexOrder.{vertex_total, edge_total, vertex_tied}
-use Rattle.hpr_graph.proofs.Bounded.{Bounded, of_one, of_within, of_either, of_each}
+use Rattle.hpr_graph.proofs.Bounded.{Bounded, of_none, of_one, of_within, of_either, of_each}
 use Rattle.hpr_graph.proofs.EdgeOrder.{edge_tied}
-use Rattle.hpr_graph.proofs.PutInOrder.{compared, in_order}
+use Rattle.hpr_graph.proofs.Lists.{in_here}
+use Rattle.hpr_graph.proofs.PutInOrder as order
 use Rattle.hpr_merge.proofs.BoundedGraph.{vertices_bounded}
 use Rattle.hpr_merge.proofs.ProgramRegular.{merged_listed}
 
-abbrev conflict : Side → Vertex → Edge → Conflict
-conflict s v e = record { side = s; point = v; edge = e }
+through : (i j k : ℕ) (u v w : Vertex) → ComesFirst i u j v → ComesFirst j v k w → ComesFirst i u k w
+through i j k u v w (inl less) (inl less') = inl (omega (arith, less, less'))
+through i j k u v w (inl less) (inr (same, below)) = inl (omega (arith, less, same))
+through i j k u v w (inr (same, below)) (inl less) = inl (omega (arith, less, same))
+through i j k u v w (inr (same, below)) (inr (same', below')) = inr (same ∙ same', vertex_total.trans u v w below below')
 
--- one side comes first, or they are the same
-sides : (s t : Side) → (s ≡ t) ⊎ ((number_of s < number_of t) ⊎ (number_of t < number_of s))
-sides A A = inl refl
-sides A B = inr (inl (omega arith))
-sides B A = inr (inr (omega arith))
-sides B B = inl refl
+-- within bounds
+below_bounded : (n : ℕ) → Bounded {X = ℕ} (λ i. i < n)
+below_bounded zero = of_within (λ i. i < 0) (λ i. ⊥) (λ i less. omega (arith, less)) (of_none {X = ℕ})
+below_bounded (suc n) =
+    of_within (λ i. i < suc n) (λ i. (i ≡ n) ⊎ (i < n)) (λ i less. either i less) (of_either (λ i. i ≡ n) (λ i. i < n) (of_one n) (below_bounded n))
+  where
+    either : (i : ℕ) → i < suc n → (i ≡ n) ⊎ (i < n)
+    either i less = elim (compared i n) [
+      | inl low ↦ inr low
+      | inr rest ↦ elim rest [ inl same ↦ inl same | inr high ↦ absurd (omega (arith, less, high)) ]
+    ]
 
-through : (c d e : Conflict) → ComesBefore c d → ComesBefore d e → ComesBefore c e
-through c d e (inl less) (inl less') = inl (omega (arith, less, less'))
-through c d e (inl less) (inr (same, below)) = inl (omega (arith, less, same))
-through c d e (inr (same, below)) (inl less) = inl (omega (arith, less, same))
-through c d e (inr (same, below)) (inr (same', below')) = inr (same ∙ same', vertex_total.trans c.point d.point e.point below below')
+-- the vertices of one of these programs
+abbrev pub OfSome : List Tree → Vertex → Type 0
+OfSome [] v = ⊥
+OfSome (t ∷ ts) v = IsVertexOf t v ⊎ OfSome ts v
 
-module _ (base a b : Tree) where
+pub some_bounded : (ts : List Tree) → Bounded (OfSome ts)
+some_bounded [] = of_none {X = Vertex}
+some_bounded (t ∷ ts) = of_either (IsVertexOf t) (OfSome ts) (vertices_bounded t) (some_bounded ts)
+
+pub of_number : (ts : List Tree) (i : ℕ) (v : Vertex) → (graph_at (graphs_of ts) i).vertex v → OfSome ts v
+of_number [] i v h = absurd h
+of_number (t ∷ ts) zero v h = inl h
+of_number (t ∷ ts) (suc i) v h = inr (of_number ts i v h)
+
+pub number_within : (gs : List Graph) (i : ℕ) (v : Vertex) → (graph_at gs i).vertex v → i < length gs
+number_within [] i v h = absurd h
+number_within (g ∷ gs) zero v h = omega arith
+number_within (g ∷ gs) (suc i) v h = let less = number_within gs i v h in omega (arith, less)
+
+one_least : (P : Edge → Type 0) (e f : Edge) → IsLeast P e → IsLeast P f → e ≡ f
+one_least P e f (has, least) (has', least') = elim (order.compared edge_cmp edge_total edge_tied e f) [
+  | inl same ↦ same
+  | inr apart ↦ elim apart [ inl before ↦ absurd (least' e has before) | inr after ↦ absurd (least f has' after) ]
+]
+
+abbrev pub IsTellingOnce : {X : Type 0} → (X → ℕ × Vertex × Edge) → Type 0
+IsTellingOnce {X} at = (x y : X) → at x ≡ at y → x ≡ y
+
+module _ {X : Type 0} (at : X → ℕ × Vertex × Edge) (once : IsTellingOnce at) (base : Tree) (vs : List Tree) where
   abbrev M : Graph
-  M = merged_of base a b
+  M = merged_of_all base vs
 
-  abbrev Own : Side → Graph
-  Own side = graph_on side (graph_of a) (graph_of b)
+  abbrev Own : ℕ → Graph
+  Own i = graph_at (graphs_of vs) i
 
-  abbrev Is : Conflict → Type 0
-  Is = IsConflict (graph_of base) (graph_of a) (graph_of b)
+  abbrev Is : X → Type 0
+  Is x = IsConflictOf (graph_of base) (graphs_of vs) (at x).0 (at x).1 (at x).2
+
+  abbrev Before : X → X → Type 0
+  Before x y = ComesFirst (at x).0 (at x).1 (at y).0 (at y).1
 
   -- within bounds
-  abbrev OfEither : Vertex → Type 0
-  OfEither v = IsVertexOf a v ⊎ IsVertexOf b v
+  abbrev Tells : ℕ → Vertex → Edge → X → Type 0
+  Tells i v e x = at x ≡ (i, v, e)
 
-  abbrev OnSide : Vertex → Edge → Conflict → Type 0
-  OnSide v e c = (c ≡ conflict A v e) ⊎ (c ≡ conflict B v e)
+  abbrev AtPoint : ℕ → Vertex → X → Type 0
+  AtPoint i v x = (e : Edge) × M.edge e × Tells i v e x
 
-  abbrev AtPoint : Vertex → Conflict → Type 0
-  AtPoint v c = (e : Edge) × M.edge e × OnSide v e c
+  abbrev OfVariant : ℕ → X → Type 0
+  OfVariant i x = (v : Vertex) × OfSome vs v × AtPoint i v x
 
-  abbrev MayBe : Conflict → Type 0
-  MayBe c = (v : Vertex) × OfEither v × AtPoint v c
+  abbrev MayBe : X → Type 0
+  MayBe x = (i : ℕ) × (i < length (graphs_of vs)) × OfVariant i x
 
-  on_side : (s : Side) (v : Vertex) (e : Edge) → OnSide v e (conflict s v e)
-  on_side A v e = inl refl
-  on_side B v e = inr refl
+  may_be : (x : X) → Is x → MayBe x
+  may_be x (stands, least) = (
+    (at x).0,
+    number_within (graphs_of vs) (at x).0 (at x).1 stands.0.0,
+    ((at x).1, of_number vs (at x).0 (at x).1 stands.0.0, ((at x).2, least.0.0.0, refl)),
+  )
 
-  of_side : (s : Side) (v : Vertex) → (Own s).vertex v → OfEither v
-  of_side A v h = inl h
-  of_side B v h = inr h
-
-  may_be : (c : Conflict) → Is c → MayBe c
-  may_be c (stands, least) = (c.point, of_side c.side c.point stands.0.0, (c.edge, least.0.0.0, on_side c.side c.point c.edge))
+  one_told : (i : ℕ) (v : Vertex) (e : Edge) → Bounded (Tells i v e)
+  one_told i v e =
+      by_both ((x : X) × Tells i v e x) ((xs : List X) × ((y : X) → Tells i v e y → Contains xs y))
+      (λ some n. n (some.0 ∷ [], λ y tells. subst (λ (z : X). Contains (some.0 ∷ []) z) (once some.0 y (some.1 ∙ sym tells)) (in_here some.0 [])))
+      (λ none n. n ([], λ y tells. absurd (none (y, tells))))
 
   merged_bounded : Bounded M.edge
-  merged_bounded n = merged_listed base (a ∷ b ∷ []) (λ list. n (list.0, λ e h. (list.1 e).1 h))
+  merged_bounded n = merged_listed base vs (λ list. n (list.0, λ e h. (list.1 e).1 h))
 
   bounded : Bounded Is
   bounded =
       of_within Is MayBe may_be
-      (of_each OfEither AtPoint (of_either (IsVertexOf a) (IsVertexOf b) (vertices_bounded a) (vertices_bounded b))
-      (λ v _. of_each M.edge (OnSide v) merged_bounded
-      (λ e _. of_either (λ c. c ≡ conflict A v e) (λ c. c ≡ conflict B v e) (of_one (conflict A v e)) (of_one (conflict B v e)))))
+      (of_each (λ i. i < length (graphs_of vs)) OfVariant (below_bounded (length (graphs_of vs)))
+      (λ i _. of_each (OfSome vs) (AtPoint i) (some_bounded vs)
+      (λ v _. of_each M.edge (Tells i v) merged_bounded
+      (λ e _. one_told i v e))))
 
-  -- two conflicts at one point of one side are the same
-  abbrev Added : Side → Vertex → Edge → Type 0
-  Added s v = IsAdded M (Own s) v
+  -- two conflicts at one point of one variant are the same
+  one_conflict : (x y : X) → Is x → Is y → (at x).0 ≡ (at y).0 → (at x).1 ≡ (at y).1 → x ≡ y
+  one_conflict x y is_x is_y number point =
+      let least : IsLeast (IsAdded M (Own (at y).0) (at y).1) (at x).2 =
+      subst (λ (v : Vertex). IsLeast (IsAdded M (Own (at y).0) v) (at x).2) point
+      (subst (λ (i : ℕ). IsLeast (IsAdded M (Own i) (at x).1) (at x).2) number is_x.1) in
+      let edge : (at x).2 ≡ (at y).2 = one_least (IsAdded M (Own (at y).0) (at y).1) (at x).2 (at y).2 least is_y.1 in
+      once x y (λ i. (number i, point i, edge i))
 
-  one_least : (P : Edge → Type 0) (e f : Edge) → IsLeast P e → IsLeast P f → e ≡ f
-  one_least P e f (has, least) (has', least') = elim (compared edge_cmp edge_total edge_tied e f) [
-    | inl same ↦ same
-    | inr apart ↦ elim apart [ inl before ↦ absurd (least' e has before) | inr after ↦ absurd (least f has' after) ]
-  ]
-
-  one_conflict : (c d : Conflict) → Is c → Is d → c.side ≡ d.side → c.point ≡ d.point → c ≡ d
-  one_conflict c d is_c is_d side point =
-      let least : IsLeast (Added d.side d.point) c.edge =
-      subst (λ (v : Vertex). IsLeast (Added d.side v) c.edge) point (subst (λ (s : Side). IsLeast (Added s c.point) c.edge) side is_c.1) in
-      let edge : c.edge ≡ d.edge = one_least (Added d.side d.point) c.edge d.edge least is_d.1 in
-      (λ i. record { side = side i; point = point i; edge = edge i })
-
-  which : (c d : Conflict) → Is c → Is d → (c ≡ d) ⊎ (ComesBefore c d ⊎ ComesBefore d c)
-  which c d is_c is_d = elim (sides c.side d.side) [
-    | inl same ↦ elim (compared vertex_cmp vertex_total vertex_tied c.point d.point) [
-      | inl point ↦ inl (one_conflict c d is_c is_d same point)
-      | inr apart ↦ elim apart [ inl before ↦ inr (inl (inr (ap number_of same, before))) | inr after ↦ inr (inr (inr (ap number_of (sym same), after))) ]
+  which : (x y : X) → Is x → Is y → (x ≡ y) ⊎ (Before x y ⊎ Before y x)
+  which x y is_x is_y = elim (compared (at x).0 (at y).0) [
+    | inl first ↦ inr (inl (inl first))
+    | inr rest ↦ elim rest [
+      | inl same ↦ elim (order.compared vertex_cmp vertex_total vertex_tied (at x).1 (at y).1) [
+        | inl point ↦ inl (one_conflict x y is_x is_y same point)
+        | inr apart ↦ elim apart [ inl before ↦ inr (inl (inr (same, before))) | inr after ↦ inr (inr (inr (sym same, after))) ]
+      ]
+      | inr second ↦ inr (inr (inl second))
     ]
-    | inr apart ↦ elim apart [ inl first ↦ inr (inl (inl first)) | inr second ↦ inr (inr (inl second)) ]
   ]
 
-  pub some_conflicts : ¬ (¬ ((cs : List Conflict) × AreConflicts (graph_of base) (graph_of a) (graph_of b) cs))
-  some_conflicts = in_order ComesBefore Is (λ c d e _ _ _ h k. through c d e h k) (λ c d is_c is_d n. n (which c d is_c is_d)) bounded
+  pub some_conflicts_by : ¬ (¬ ((xs : List X) × AreConflictsBy at (graph_of base) (graphs_of vs) xs))
+  some_conflicts_by =
+      order.in_order Before Is (λ x y z _ _ _ h k. through (at x).0 (at y).0 (at z).0 (at x).1 (at y).1 (at z).1 h k)
+      (λ x y is_x is_y n. n (which x y is_x is_y)) bounded
+
+-- conflicts of two variants are told once
+one_side : (s t : Side) → number_of s ≡ number_of t → s ≡ t
+one_side A A e = refl
+one_side A B e = absurd (omega (arith, e))
+one_side B A e = absurd (omega (arith, e))
+one_side B B e = refl
+
+pub told_once : IsTellingOnce told_as
+told_once c d e =
+    let side : c.side ≡ d.side = one_side c.side d.side (ap (λ (t : ℕ × Vertex × Edge). t.0) e) in
+    let point : c.point ≡ d.point = ap (λ (t : ℕ × Vertex × Edge). t.1) e in
+    let edge : c.edge ≡ d.edge = ap (λ (t : ℕ × Vertex × Edge). t.2) e in
+    (λ i. record { side = side i; point = point i; edge = edge i })
+
+pub some_conflicts : (base a b : Tree) → ¬ (¬ ((cs : List Conflict) × AreConflicts (graph_of base) (graph_of a) (graph_of b) cs))
+some_conflicts base a b = some_conflicts_by told_as told_once base (a ∷ b ∷ [])
