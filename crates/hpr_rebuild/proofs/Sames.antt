@@ -8,7 +8,7 @@ use Rattle.hpr_graph.specs.declared.edge.Kind.TheVariants.{Control}
 use Rattle.hpr_graph.specs.Graphs.{Graph, Same}
 use Rattle.hpr_graph.specs.ProgramGraph.{graph_of}
 use Rattle.hpr_graph.specs.Arrangements.{edge_into, IsArrangement, AreArrangements}
-use Rattle.hpr_graph.specs.Answer.{Answer, interference, printed, no_program, spent, Fits, NoneFits, HasNoProgram, HasParts, IsFound}
+use Rattle.hpr_graph.specs.Answer.{AnswerBy, interference, printed, no_program, spent, Fits, NoneFits, HasNoProgram, HasParts, IsFound}
 use Rattle.hpr_graph.proofs.Laws.{same_turned, same_then}
 
 module _ (g h : Graph) (s : Same g h) where
@@ -64,7 +64,7 @@ arrangements_same g h s rank issued ps are = (
   are.1,
 )
 
-pub found_same : (g h : Graph) → Same g h → (rank : List Vertex) (issued : Issued) (tries : ℕ) (r : Answer) → IsFound g rank issued tries r → IsFound h rank issued tries r
+pub found_same : {X : Type 0} (g h : Graph) → Same g h → (rank : List Vertex) (issued : Issued) (tries : ℕ) (r : AnswerBy X) → IsFound g rank issued tries r → IsFound h rank issued tries r
 found_same g h s rank issued tries (interference cs) found = found
 found_same g h s rank issued tries (printed m) (ps, are, (front, back, is, fits, none)) =
     (ps, arrangements_same g h s rank issued ps are, (front, back, is, fits_too g h s m fits, none_too g h s front none))

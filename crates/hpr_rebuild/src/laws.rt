@@ -14,7 +14,9 @@ ghost use Rattle.hpr_graph.specs.Numbered.{Numbered, graph_in};
 ghost use Rattle.hpr_graph.specs.ProgramGraph.{graph_of};
 ghost use Rattle.hpr_graph.specs.Rank.{parts_of};
 ghost use Rattle.hpr_graph.specs.Arrangements.{IsArrangement, AreArrangements};
-ghost use Rattle.hpr_graph.specs.Answer.{Answer, printed, Fits, NoneFits, HasNoProgram, HasParts, IsFound, merged_of};
+ghost use Rattle.hpr_graph.specs.declared.edge.Edge.{Edge};
+ghost use Rattle.hpr_graph.specs.Answer.{Answer, AnswerBy, printed, Fits, NoneFits, HasNoProgram, HasParts, IsFound};
+ghost use Rattle.hpr_graph.specs.Answer.{merged_of, merged_of_all};
 ghost use Rattle.hpr_order.specs.Arranging.{AreIssued};
 ghost use Rattle.hpr_rebuild.specs.Settled.{AreProperIssued, IsSettled};
 
@@ -55,12 +57,15 @@ pub fn first_by_rank()
         → (qs : List Tree) × (ps ≡ q ∷ qs) }
 {}
 
-/// What is found for a graph is found for the same graph with other numbers, or for the merged graph of
-/// three programs that it is.
+/// What is found for a graph is found for the same graph with other numbers, or for the merged graph that
+/// it is, of a base and any number of variants, and so of three programs.
 pub fn same_graphs_find_the_same()
     ensures numbered { (g h : Numbered) (rank : List Vertex) (issued : Issued) (tries : ℕ) (r : Answer)
         → Same (graph_in g) (graph_in h)
         → IsFound (graph_in g) rank issued tries r → IsFound (graph_in h) rank issued tries r }
+    ensures all { (g : Numbered) (base : Tree) (vs : List Tree) (rank : List Vertex) (issued : Issued) (tries : ℕ)
+        → (r : AnswerBy (ℕ × Vertex × Edge)) → Same (graph_in g) (merged_of_all base vs)
+        → IsFound (graph_in g) rank issued tries r → IsFound (merged_of_all base vs) rank issued tries r }
     ensures merged { (g : Numbered) (base a b : Tree) (rank : List Vertex) (issued : Issued) (tries : ℕ) (r : Answer)
         → Same (graph_in g) (merged_of base a b)
         → IsFound (graph_in g) rank issued tries r → IsFound (merged_of base a b) rank issued tries r }

@@ -1,6 +1,7 @@
 //! The first arrangement that has the graph.
 ghost use Rattle.std.specs.Prelude.{◌≡◌, ◌≢◌, ◌<◌, ◌≤◌, ◌↔◌, All, IfOk, IsErrOf, IsTrue, length, take};
 ghost use Rattle.hpr_graph.specs.Numbered.{graph_in};
+ghost use Rattle.hpr_graph.specs.declared.conflict.Conflict.{Conflict};
 ghost use Rattle.hpr_graph.specs.Answer.{printed, spent, Fits, NoneFits, IsFirstFit, HasNoProgram, IsFound};
 ghost use Rattle.hpr_order.specs.Regions.{AreRegionsOf};
 ghost use Rattle.hpr_order.specs.Arranging.{IsRanking, AreIssued};
@@ -97,9 +98,10 @@ pub fn rebuild(
     requires rank { IsRanking (graph_in graph.now) rank.now }
     requires issued { AreIssued (graph_in graph.now) issued.now }
     requires tries { 1 ≤ tries }
-    ensures found { IfOk result (λ p. IsFound (graph_in graph.now) rank.now issued.now tries (printed p)) }
+    ensures found { IfOk result (λ p. IsFound {X = Conflict} (graph_in graph.now) rank.now issued.now tries (printed p)) }
     ensures no_program { IsErrOf result RebuildError.NoProgram → HasNoProgram (graph_in graph.now) }
-    ensures spent { IsErrOf result RebuildError.Spent → IsFound (graph_in graph.now) rank.now issued.now tries spent }
+    ensures spent { IsErrOf result RebuildError.Spent
+        → IsFound {X = Conflict} (graph_in graph.now) rank.now issued.now tries spent }
 {
     read_issued(issued);
     let tree = regions_of(alloc, graph)?;
