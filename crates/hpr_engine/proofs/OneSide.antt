@@ -1,5 +1,6 @@
--- A variant that is the base interferes with no other.
-use Rattle.std.proofs.Common.{◌≡◌, zero, suc, inl, inr, List, ◌∷◌, refl, sym, subst}
+-- A change that is the only one interferes with nothing.
+use Rattle.std.proofs.Common.{◌≡◌, ℕ, zero, suc, ◌⊎◌, inl, inr, List, [], ◌∷◌, Contains, refl, sym, subst}
+use Rattle.std.specs.List.{AllByRecursion}
 use Rattle.hpr_syntax.specs.Shape.{IsProgram}
 use Rattle.hpr_syntax.specs.Tree.{Tree}
 use Rattle.hpr_graph.specs.declared.vertex.Vertex.{Vertex}
@@ -7,19 +8,19 @@ use Rattle.hpr_graph.specs.declared.edge.Kind.{Kind}
 use Rattle.hpr_graph.specs.declared.edge.Kind.TheVariants as kind
 use Rattle.hpr_graph.specs.declared.edge.Edge.{Edge}
 use Rattle.hpr_graph.specs.Graphs.{Graph, IsWithin, Same, OnThird, HasVertices, union_of}
-use Rattle.hpr_graph.specs.Points.{IsShared, IsAffected, IsPreserved, merged}
+use Rattle.hpr_graph.specs.Points.{IsShared, IsAffected, AllShare, IsPreservedBy, changed}
 use Rattle.hpr_graph.specs.ProgramGraph.{graph_of}
 use Rattle.hpr_graph.specs.Slices.{Leads, LeadsTo, ReachesOne, slice_of, slice_at}
-use Rattle.hpr_graph.specs.Answer.{IsWithoutConflict}
-use Rattle.hpr_graph.specs.Conflicts.{number_of}
+use Rattle.hpr_graph.specs.Answer.{graphs_of, merged_of_all, AreWithoutConflict}
 use Rattle.hpr_graph.proofs.Laws.{same_itself, same_from_within, reaches_within, slice_within, vertices_map}
-use Rattle.hpr_graph.proofs.Lists.{in_none}
-use Rattle.hpr_merge.specs.Loops.{HasLoops}
-use Rattle.hpr_merge.proofs.EdgeStands.{edge_inside, point_within}
+use Rattle.hpr_graph.proofs.Lists.{in_none, in_cons, in_here, in_later}
+use Rattle.hpr_merge.specs.Loops.{AreAll, HasLoops}
+use Rattle.hpr_merge.proofs.EdgeStands.{edge_inside, point_within, variant_within}
 use Rattle.hpr_merge.proofs.ProgramLoops.{program_loops}
-use Rattle.hpr_meaning.specs.UnionLaw.{KeepsSides}
+use Rattle.hpr_meaning.specs.UnionLaw.{variant_at, affected_of, KeepsEach, KeepsSides}
 use Rattle.hpr_meaning.proofs.Unions.{LeadsRight, HasUses, program_uses}
 use Rattle.hpr_merge.proofs.OneContent.{says_once}
+use Rattle.hpr_engine.specs.OneSide.{IsOnlyChange}
 
 -- where both graphs have the vertices of P with the same slices, the other has the slice of P
 module _ (base g : Graph) (loops : HasLoops base) (uses : HasUses base) (P : Vertex → Type 0) (shared : (v : Vertex) → P v → IsShared base g v) where
@@ -81,44 +82,107 @@ within_keeps : (base g m : Graph) → HasLoops g → IsWithin m g → IsWithin (
 within_keeps base g m loops within has v affected =
     same_from_within (slice_at m v) (slice_at g v) (slice_at_within m g v within) (point_within g loops (IsAffected g base) m has v affected)
 
-module _ (base other : Tree) (is : IsProgram base) (is_too : IsProgram other) where
+-- what all variants changed lies within a graph where what each of them changed does
+changed_in : (base h : Graph) (gs : List Graph) → AreAll (λ g. IsWithin (slice_of g (IsAffected g base)) h) gs → IsWithin (changed base gs) h
+changed_in base h [] all = (λ v x. absurd x, λ e x. absurd x)
+changed_in base h (g ∷ []) all = all.0
+changed_in base h (g ∷ f ∷ gs) all = union_within (slice_of g (IsAffected g base)) (changed base (f ∷ gs)) h all.0 (changed_in base h (f ∷ gs) all.1)
+
+module _ (base v : Tree) where
   abbrev G : Graph
   G = graph_of base
 
   abbrev H : Graph
-  H = graph_of other
+  H = graph_of v
 
-  pub loops_of : HasLoops G
-  loops_of = program_loops base (says_once base is)
+  abbrev IsEither : Tree → Type 0
+  IsEither w = (w ≡ base) ⊎ (w ≡ v)
 
-  pub other_loops : HasLoops H
-  other_loops = program_loops other (says_once other is_too)
+  abbrev Mine : Graph → Graph
+  Mine g = slice_of g (IsAffected g G)
 
-  pub b_within : IsWithin (merged G H G) H
-  b_within =
-      union_within (union_of (slice_of H (IsAffected H G)) (slice_of G (IsAffected G G))) (slice_of G (IsPreserved G H G)) H
-      (union_within (slice_of H (IsAffected H G)) (slice_of G (IsAffected G G)) H (slice_within H (IsAffected H G)) (none_within G H))
-      (shared_within G H loops_of (program_uses base) (IsPreserved G H G) (λ v p. p.2.0))
+  own_within : (w : Tree) → IsEither w → IsWithin (Mine (graph_of w)) H
+  own_within w (inl is) = subst (λ (t : Tree). IsWithin (Mine (graph_of t)) H) (sym is) (none_within G H)
+  own_within w (inr is) = subst (λ (t : Tree). IsWithin (Mine (graph_of t)) H) (sym is) (slice_within H (IsAffected H G))
 
-  pub a_within : IsWithin (merged G G H) H
-  a_within =
-      union_within (union_of (slice_of G (IsAffected G G)) (slice_of H (IsAffected H G))) (slice_of G (IsPreserved G G H)) H
-      (union_within (slice_of G (IsAffected G G)) (slice_of H (IsAffected H G)) H (none_within G H) (slice_within H (IsAffected H G)))
-      (shared_within G H loops_of (program_uses base) (IsPreserved G G H) (λ v p. p.2.1))
+  each_within : (vs : List Tree) → AllByRecursion IsEither vs → AreAll (λ g. IsWithin (Mine g) H) (graphs_of vs)
+  each_within [] all = tt
+  each_within (w ∷ ws) all = (own_within w all.0, each_within ws all.1)
 
-  pub b_is_base : KeepsSides base other base
-  b_is_base zero v affected = within_keeps G H (merged G H G) other_loops b_within (λ w h. inl (inl h), λ e h. inl (inl h)) v affected
-  b_is_base (suc zero) v affected = absurd (unaffected G v affected)
-  b_is_base (suc (suc i)) v affected = absurd affected.0
+  -- what all variants share, v shares
+  v_shares : (vs : List Tree) → Contains vs v → (s : Vertex) → AllShare G (graphs_of vs) s → IsShared G H s
+  v_shares [] there s share = absurd (in_none v there)
+  v_shares (w ∷ []) there s share = elim (in_cons w v [] there) [
+    | inl e ↦ subst (λ (t : Tree). IsShared G (graph_of t) s) e share
+    | inr none ↦ absurd (in_none v none)
+  ]
+  v_shares (w ∷ u ∷ ws) there s share = elim (in_cons w v (u ∷ ws) there) [
+    | inl e ↦ subst (λ (t : Tree). IsShared G (graph_of t) s) e share.0
+    | inr later ↦ v_shares (u ∷ ws) later s share.1
+  ]
 
-  pub a_is_base : KeepsSides base base other
-  a_is_base zero v affected = absurd (unaffected G v affected)
-  a_is_base (suc zero) v affected = within_keeps G H (merged G G H) other_loops a_within (λ w h. inl (inr h), λ e h. inl (inr h)) v affected
-  a_is_base (suc (suc i)) v affected = absurd affected.0
+  -- and what v shares, all do
+  either_shares : (w : Tree) → IsEither w → (s : Vertex) → G.vertex s → IsShared G H s → IsShared G (graph_of w) s
+  either_shares w (inl is) s there share = subst (λ (t : Tree). IsShared G (graph_of t) s) (sym is) (there, same_itself (slice_at G s))
+  either_shares w (inr is) s there share = subst (λ (t : Tree). IsShared G (graph_of t) s) (sym is) share
+
+  pub all_share : (vs : List Tree) → AllByRecursion IsEither vs → (s : Vertex) → G.vertex s → IsShared G H s → AllShare G (graphs_of vs) s
+  all_share [] all s there share = tt
+  all_share (w ∷ []) all s there share = either_shares w all.0 s there share
+  all_share (w ∷ u ∷ ws) all s there share = (either_shares w all.0 s there share, all_share (u ∷ ws) all.1 s there share)
+
+  -- v has a number, and a variant with an affected point is v
+  of_v : (vs : List Tree) → Contains vs v → (P : Graph → Type 0) → ((i : ℕ) → P (variant_at vs i)) → P H
+  of_v [] there P each = absurd (in_none v there)
+  of_v (w ∷ ws) there P each = elim (in_cons w v ws there) [
+    | inl e ↦ subst (λ (t : Tree). P (graph_of t)) e (each zero)
+    | inr later ↦ of_v ws later P (λ i. each (suc i))
+  ]
+
+  affected_v : (vs : List Tree) → AllByRecursion IsEither vs → (i : ℕ) (s : Vertex) → affected_of i base vs s → (P : Graph → Type 0) → P H → P (variant_at vs i)
+  affected_v [] all i s affected P h = absurd affected.0
+  affected_v (w ∷ ws) all zero s affected P h = elim all.0 [
+    | inl is ↦ absurd (unaffected G s (subst (λ (t : Tree). IsAffected (graph_of t) G s) is affected))
+    | inr is ↦ subst (λ (t : Tree). P (graph_of t)) (sym is) h
+  ]
+  affected_v (w ∷ ws) all (suc i) s affected P h = affected_v ws all.1 i s affected P h
+
+  module _ (vs : List Tree) (only : IsOnlyChange base vs v) where
+    abbrev M : Graph
+    M = merged_of_all base vs
+
+    pub mine_within : IsWithin (Mine H) M
+    mine_within = of_v vs only.1 (λ g. IsWithin (Mine g) M) (variant_within G (graphs_of vs))
+
+    module _ (is : IsProgram base) (is_v : IsProgram v) where
+      pub loops_of_v : HasLoops H
+      loops_of_v = program_loops v (says_once v is_v)
+
+      pub merged_within : IsWithin M H
+      merged_within =
+          union_within (changed G (graphs_of vs)) (slice_of G (IsPreservedBy G (graphs_of vs))) H (changed_in G H (graphs_of vs) (each_within vs only.0))
+          (shared_within G H (program_loops base (says_once base is)) (program_uses base) (IsPreservedBy G (graphs_of vs)) (λ s p. v_shares vs only.1 s p.2))
+
+      pub only_keeps : KeepsEach base vs
+      only_keeps i s affected =
+          affected_v vs only.0 i s affected (λ g. IsAffected g G s → Same (slice_at M s) (slice_at g s)) (within_keeps G H M loops_of_v merged_within mine_within s) affected
+
+-- of two variants, one of which is the base
+pub a_alone : (base a : Tree) → IsOnlyChange base (a ∷ base ∷ []) a
+a_alone base a = ((inr refl, (inl refl, tt)), in_here a (base ∷ []))
+
+pub b_alone : (base b : Tree) → IsOnlyChange base (base ∷ b ∷ []) b
+b_alone base b = ((inl refl, (inr refl, tt)), in_later base b (b ∷ []) (in_here b []))
+
+pub b_is_base : (base a : Tree) → IsProgram base → IsProgram a → KeepsSides base a base
+b_is_base base a is is_a = only_keeps base a (a ∷ base ∷ []) (a_alone base a) is is_a
+
+pub a_is_base : (base b : Tree) → IsProgram base → IsProgram b → KeepsSides base base b
+a_is_base base b is is_b = only_keeps base b (base ∷ b ∷ []) (b_alone base b) is is_b
 
 -- where each affected point keeps its slice, there is no conflict
-pub free_when_kept : (base a b : Tree) → KeepsSides base a b → IsWithoutConflict base a b
-free_when_kept base a b kept = (
-  λ c. (λ h. absurd (in_none c h), λ ((affected, differs), least). absurd (differs (kept (number_of c.side) c.point affected))),
-  λ i j c d less at at_too. absurd cc,
+pub free_when_kept : {X : Type 0} (at : X → ℕ × Vertex × Edge) (base : Tree) (vs : List Tree) → KeepsEach base vs → AreWithoutConflict at base vs
+free_when_kept {X} at base vs kept = (
+  λ x. (λ h. absurd (in_none x h), λ ((affected, differs), least). absurd (differs (kept (at x).0 (at x).1 affected))),
+  λ i j x y less first second. absurd cc,
 )

@@ -1,5 +1,7 @@
--- Where one variant is the base, the answer is the other one.
-use Rattle.std.proofs.Common.{◌≡◌, ℕ, zero, suc, ◌≤◌, Bool, true, false, IsTrue, ◌↔◌, List, [], ◌∷◌, ◌++◌, take, Contains, refl, sym, ◌∙◌, subst, arith}
+-- Where a change is the only one, the answer is the changed program; so where one of two variants is the base, it is the other one.
+use Rattle.std.proofs.Common.{◌≡◌, ℕ, zero, suc, ◌≤◌, Bool, true, false, IsTrue, ◌↔◌, ◌⊎◌, inl, inr, List, [], ◌∷◌, ◌++◌, take, Contains, refl, sym, ◌∙◌, subst, arith}
+use Rattle.std.specs.List.{AllByRecursion}
+use Rattle.std.proofs.lemmas.List.Elements.{All-contains, All-from_recursion}
 use Rattle.hpr_syntax.specs.Body.{Body}
 use Rattle.hpr_syntax.specs.Comparisons.{same_tree}
 use Rattle.hpr_syntax.specs.Issued.{Issued}
@@ -8,18 +10,21 @@ use Rattle.hpr_syntax.specs.Tree.{Tree}
 use Rattle.hpr_syntax.proofs.Same.{tree_equal}
 use Rattle.hpr_graph.specs.declared.vertex.Vertex.{Vertex}
 use Rattle.hpr_graph.specs.Graphs.{Graph}
-use Rattle.hpr_graph.specs.Rank.{parts_of, IsRank}
+use Rattle.hpr_graph.specs.declared.edge.Edge.{Edge}
+use Rattle.hpr_graph.specs.Conflicts.{told_as}
+use Rattle.hpr_graph.specs.Rank.{parts_of, IsRankOf}
 use Rattle.hpr_graph.specs.Arrangements.{AreArrangements}
-use Rattle.hpr_graph.specs.Answer.{Answer, interference, printed, no_program, spent, Fits, NoneFits, IsWithoutConflict, merged_of, issued_of, IsAnswer}
+use Rattle.hpr_graph.specs.Answer.{AnswerBy, Answer, interference, printed, no_program, spent, Fits, NoneFits, AreWithoutConflict, graphs_of, merged_of_all, issued_of, issued_of_all, IsAnswer, IsAnswerBy}
 use Rattle.hpr_graph.specs.ProgramGraph.{graph_of}
 use Rattle.hpr_graph.proofs.Lists.{in_here}
 use Rattle.hpr_order.proofs.Ranks.{rank_once}
 use Rattle.hpr_rebuild.specs.Settled.{IsSettled}
 use Rattle.hpr_rebuild.proofs.Member.{settled, settled_fits, member}
-use Rattle.hpr_engine.proofs.FirstInRank.{KeepsOrder, first_in_rank, rank_keeps_a, rank_keeps_b}
-use Rattle.hpr_engine.proofs.OneList.{one_conflicts}
-use Rattle.hpr_engine.proofs.OneSide.{a_is_base, b_is_base, free_when_kept}
-use Rattle.hpr_engine.proofs.OneSideWhole.{whole_a, whole_b}
+use Rattle.hpr_engine.specs.OneSide.{IsOnlyChange}
+use Rattle.hpr_engine.proofs.FirstInRank.{KeepsOrder, first_in_rank, rank_keeps}
+use Rattle.hpr_engine.proofs.OneList.{all_conflicts_one}
+use Rattle.hpr_engine.proofs.OneSide.{a_alone, b_alone, free_when_kept, only_keeps}
+use Rattle.hpr_engine.proofs.OneSideWhole.{only_whole}
 use Rattle.hpr_engine.proofs.Premises.{proper_issued, parts_issued}
 
 -- what can't be refuted of two trees is so
@@ -43,28 +48,28 @@ first_is g q qs ps (f ∷ front) back m is split none fits =
     absurd (none f (in_here f front) (subst (Fits g) same fits))
 
 -- the program p, settled, has the graph or that can't be refuted, and its parts stand in the order of each rank
-module _ (base a b p : Tree) (is : IsProgram base) (is_a : IsProgram a) (is_b : IsProgram b) (is_p : IsProgram p) (free : IsWithoutConflict base a b) (whole : ¬ (¬ Fits (merged_of base a b) p))
-    (keeps : (r : List Vertex) → IsRank a b base r → KeepsOrder (parts_of p) r) where
+module _ {X : Type 0} (at : X → ℕ × Vertex × Edge) (base : Tree) (vs : List Tree) (p : Tree) (is : IsProgram base) (all : AllByRecursion IsProgram vs) (is_p : IsProgram p)
+    (free : AreWithoutConflict at base vs) (whole : ¬ (¬ Fits (merged_of_all base vs) p)) (keeps : (r : List Vertex) → IsRankOf base vs r → KeepsOrder (parts_of p) r) where
   abbrev M : Graph
-  M = merged_of base a b
+  M = merged_of_all base vs
 
   abbrev I : Issued
-  I = issued_of base a b
+  I = issued_of_all base vs
 
-  abbrev Unchanged : Answer → Type 0
+  abbrev Unchanged : AnswerBy X → Type 0
   Unchanged r = (m : Tree) × (r ≡ printed m) × IsSettled I p m
 
   module _ (q : Tree) (s : IsSettled I p q) where
     order : (r : List Vertex) → KeepsOrder (parts_of p) r → KeepsOrder (parts_of q) r
     order r keeps_p = subst (λ (body : Body). KeepsOrder (parts_of (record { issued = q.issued; body = body; finals = q.finals })) r) s.body keeps_p
 
-    first : (rank : List Vertex) (ps : List Tree) → IsRank a b base rank → AreArrangements M rank I ps → Fits M p → (qs : List Tree) × (ps ≡ q ∷ qs)
+    first : (rank : List Vertex) (ps : List Tree) → IsRankOf base vs rank → AreArrangements M rank I ps → Fits M p → (qs : List Tree) × (ps ≡ q ∷ qs)
     first rank ps is_rank are fits =
-        first_in_rank M rank I q (rank_once a b base rank is_rank is_a is_b)
-        (member M I p q is_p fits (proper_issued base a b is is_a is_b) (parts_issued base a b is is_a is_b) s) (order rank (keeps rank is_rank)) ps are
+        first_in_rank M rank I q (rank_once base vs rank is_rank all)
+        (member M I p q is_p fits (proper_issued base vs is all) (parts_issued base vs is all) s) (order rank (keeps rank is_rank)) ps are
 
-    pub unchanged : (tries : ℕ) (r : Answer) → 1 ≤ tries → IsAnswer base a b tries r → Unchanged r
-    unchanged tries (interference cs) one (are, some) = absurd (some (one_conflicts (graph_of base) (graph_of a) (graph_of b) cs [] are free))
+    unchanged : (tries : ℕ) (r : AnswerBy X) → 1 ≤ tries → IsAnswerBy at base vs tries r → Unchanged r
+    unchanged tries (interference xs) one (are, some) = absurd (some (all_conflicts_one at (graph_of base) (graphs_of vs) xs [] are free))
     unchanged tries (no_program n) one (none_free, none, parts) = absurd (whole (λ fits. none p is_p fits))
     unchanged tries spent one (none_free, (rank, is_rank, (ps, are, more, none))) =
         absurd (whole (λ fits. (
@@ -78,15 +83,31 @@ module _ (base a b p : Tree) (is : IsProgram base) (is_a : IsProgram a) (is_b : 
         ))) in
         (m, refl, subst (IsSettled I p) (sym same) s)
 
-  pub answer_is : (tries : ℕ) (r : Answer) → 1 ≤ tries → IsAnswer base a b tries r → Unchanged r
+  answer_is : (tries : ℕ) (r : AnswerBy X) → 1 ≤ tries → IsAnswerBy at base vs tries r → Unchanged r
   answer_is tries r one answer = let (q, s) = settled I p is_p in unchanged q s tries r one answer
+
+-- where v is the only change, each variant is a program, and v's parts stand in each rank as in v
+module _ (base v : Tree) where
+  abbrev IsEither : Tree → Type 0
+  IsEither w = (w ≡ base) ⊎ (w ≡ v)
+
+  programs : (vs : List Tree) → AllByRecursion IsEither vs → IsProgram base → IsProgram v → AllByRecursion IsProgram vs
+  programs [] each is is_v = tt
+  programs (w ∷ ws) each is is_v = (elim each.0 [ inl same ↦ subst IsProgram (sym same) is | inr same ↦ subst IsProgram (sym same) is_v ], programs ws each.1 is is_v)
+
+  order_kept : (vs : List Tree) → IsOnlyChange base vs v → (r : List Vertex) → IsRankOf base vs r → KeepsOrder (parts_of v) r
+  order_kept vs (each, there) r is = rank_keeps base v vs r (λ w h. All-contains IsEither vs w (All-from_recursion IsEither vs each) h) there is
+
+pub only_answer : {X : Type 0} (at : X → ℕ × Vertex × Edge) (base v : Tree) (vs : List Tree) (tries : ℕ) (r : AnswerBy X) → IsProgram base → IsProgram v → IsOnlyChange base vs v → 1 ≤ tries
+    → IsAnswerBy at base vs tries r → (m : Tree) × (r ≡ printed m) × IsSettled (issued_of_all base vs) v m
+only_answer at base v vs tries r is is_v only one answer =
+    answer_is at base vs v is (programs base v vs only.0 is is_v) is_v (free_when_kept at base vs (only_keeps base v vs only is is_v))
+    (only_whole base v vs only is is_v) (order_kept base v vs only) tries r one answer
 
 pub b_unchanged : (base a : Tree) (tries : ℕ) (r : Answer) → IsProgram base → IsProgram a → 1 ≤ tries → IsAnswer base a base tries r
     → (m : Tree) × (r ≡ printed m) × IsSettled (issued_of base a base) a m
-b_unchanged base a tries r is is_a one answer =
-    answer_is base a base a is is_a is is_a (free_when_kept base a base (b_is_base base a is is_a)) (whole_b base a is is_a) (rank_keeps_a a base) tries r one answer
+b_unchanged base a tries r is is_a one answer = only_answer told_as base a (a ∷ base ∷ []) tries r is is_a (a_alone base a) one answer
 
 pub a_unchanged : (base b : Tree) (tries : ℕ) (r : Answer) → IsProgram base → IsProgram b → 1 ≤ tries → IsAnswer base base b tries r
     → (m : Tree) × (r ≡ printed m) × IsSettled (issued_of base base b) b m
-a_unchanged base b tries r is is_b one answer =
-    answer_is base base b b is is is_b is_b (free_when_kept base base b (a_is_base base b is is_b)) (whole_a base b is is_b) (rank_keeps_b b base) tries r one answer
+a_unchanged base b tries r is is_b one answer = only_answer told_as base b (base ∷ b ∷ []) tries r is is_b (b_alone base b) one answer

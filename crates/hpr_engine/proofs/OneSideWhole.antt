@@ -1,4 +1,4 @@
--- Where one variant is the base, it can't be refuted that the other's graph is the merged graph.
+-- Where a change is the only one, it can't be refuted that the changed program's graph is the merged graph.
 use Rattle.std.proofs.Common.{◌≡◌, ℕ, inl, inr, Option, List, [], ◌∷◌, refl, sym, subst}
 use Rattle.hpr_terms.specs.declared.tag.Tag.{Tag}
 use Rattle.hpr_syntax.specs.Initial.{UsedBy}
@@ -12,10 +12,11 @@ use Rattle.hpr_graph.specs.declared.edge.Kind.{Kind}
 use Rattle.hpr_graph.specs.declared.edge.Kind.TheVariants as kind
 use Rattle.hpr_graph.specs.declared.edge.Edge.{Edge}
 use Rattle.hpr_graph.specs.Graphs.{Graph, IsWithin, Same, OnThird}
-use Rattle.hpr_graph.specs.Points.{IsInit, IsShared, IsAffected, IsPreserved, merged}
+use Rattle.hpr_graph.specs.Answer.{graphs_of, merged_of_all}
+use Rattle.hpr_graph.specs.Points.{IsInit, IsShared, IsAffected, IsPreservedBy, changed}
 use Rattle.hpr_graph.specs.ProgramGraph.{Reads, IsEdgeBy, IsIndependent, graph_of}
 use Rattle.hpr_graph.specs.Slices.{Leads, ReachesOne, slice_of, slice_at}
-use Rattle.hpr_graph.proofs.Laws.{same_itself, same_turned, same_from_within, within_from_same, within_then, reaches_within, vertices_map}
+use Rattle.hpr_graph.proofs.Laws.{same_itself, same_turned, same_from_within, within_from_same, within_then, second_within, reaches_within, vertices_map}
 use Rattle.hpr_paths.proofs.DirectWays.{encloses_in}
 use Rattle.hpr_paths.proofs.Programs.{enter_outside}
 use Rattle.hpr_merge.specs.Loops.{HasLoops}
@@ -23,7 +24,8 @@ use Rattle.hpr_merge.proofs.EdgeStands.{edge_inside}
 use Rattle.hpr_graph.proofs.Bounded.{all_of}
 use Rattle.hpr_merge.proofs.BoundedGraph.{vertices_bounded, edges_bounded, read_is, flow_at, control_to}
 use Rattle.hpr_meaning.proofs.Unions.{program_uses}
-use Rattle.hpr_engine.proofs.OneSide.{other_loops, a_within, b_within}
+use Rattle.hpr_engine.specs.OneSide.{IsOnlyChange}
+use Rattle.hpr_engine.proofs.OneSide.{all_share, loops_of_v, merged_within, mine_within}
 
 -- each vertex leads to one that is no Init vertex
 abbrev IsReader : Tree → Vertex → Vertex → Type 0
@@ -111,20 +113,17 @@ module _ (t : Tree) (loops : HasLoops (graph_of t)) (g m : Graph) (mine : IsWith
       all_of H.vertex (vertices_bounded t) m.vertex vertex_there (λ vertices.
       all_of H.edge (edges_bounded t) m.edge (λ e h. target e e.kind refl h) (λ edges. n (vertices, edges)))
 
-module _ (base other : Tree) (is : IsProgram base) (is_too : IsProgram other) where
+-- where only v was changed, its graph is the merged graph
+module _ (base v : Tree) (vs : List Tree) (only : IsOnlyChange base vs v) (is : IsProgram base) (is_v : IsProgram v) where
   abbrev G : Graph
   G = graph_of base
 
-  pub whole_b : ¬ (¬ Same (graph_of other) (merged G (graph_of other) G))
-  whole_b n =
-      whole other (other_loops base other is is_too) G (merged G (graph_of other) G) (λ v h. inl (inl h), λ e h. inl (inl h))
-      (λ v (init, there, same). within_then (slice_at G v) (slice_of G (IsPreserved G (graph_of other) G)) (merged G (graph_of other) G)
-      (one_of G (IsPreserved G (graph_of other) G) v (init, there, (same, (there, same_itself (slice_at G v))))) (λ w h. inr h, λ e h. inr h))
-      (λ within. n (same_from_within (graph_of other) (merged G (graph_of other) G) within (b_within base other is is_too)))
+  abbrev Preserved : Graph
+  Preserved = slice_of G (IsPreservedBy G (graphs_of vs))
 
-  pub whole_a : ¬ (¬ Same (graph_of other) (merged G G (graph_of other)))
-  whole_a n =
-      whole other (other_loops base other is is_too) G (merged G G (graph_of other)) (λ v h. inl (inr h), λ e h. inl (inr h))
-      (λ v (init, there, same). within_then (slice_at G v) (slice_of G (IsPreserved G G (graph_of other))) (merged G G (graph_of other))
-      (one_of G (IsPreserved G G (graph_of other)) v (init, there, ((there, same_itself (slice_at G v)), same))) (λ w h. inr h, λ e h. inr h))
-      (λ within. n (same_from_within (graph_of other) (merged G G (graph_of other)) within (a_within base other is is_too)))
+  pub only_whole : ¬ (¬ Same (graph_of v) (merged_of_all base vs))
+  only_whole n =
+      whole v (loops_of_v base v vs only is is_v) G (merged_of_all base vs) (mine_within base v vs only)
+      (λ s (init, there, share). within_then (slice_at G s) Preserved (merged_of_all base vs)
+      (one_of G (IsPreservedBy G (graphs_of vs)) s (init, there, all_share base v vs only.0 s there share)) (second_within (changed G (graphs_of vs)) Preserved))
+      (λ within. n (same_from_within (graph_of v) (merged_of_all base vs) within (merged_within base v vs only is is_v)))

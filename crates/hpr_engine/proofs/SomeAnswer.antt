@@ -1,25 +1,28 @@
--- Three programs have an answer.
-use Rattle.std.proofs.Common.{◌⊎◌, ℕ, inl, inr, List, [], ◌∷◌, length, Contains, refl, sym, ap, subst}
+-- A base and its variants have an answer, and so have three programs.
+use Rattle.std.proofs.Common.{ℕ, inl, inr, List, [], ◌∷◌, length, Contains, refl, sym, ap, subst}
+use Rattle.std.specs.List.{AllByRecursion}
 use Rattle.hpr_terms.proofs.Facts.{by_both}
+use Rattle.hpr_syntax.specs.Issued.{Issued}
 use Rattle.hpr_syntax.specs.Shape.{IsProgram}
 use Rattle.hpr_syntax.specs.Tree.{Tree}
-use Rattle.hpr_graph.specs.declared.conflict.Conflict.{Conflict}
 use Rattle.hpr_graph.specs.declared.vertex.Vertex.{Vertex}
-use Rattle.hpr_graph.specs.Answer.{Answer, interference, printed, no_program, Fits, IsFirstFit, IsPart, HasParts, merged_of, issued_of, IsWithoutConflict, IsAnswer}
-use Rattle.hpr_graph.specs.Conflicts.{AreConflicts}
+use Rattle.hpr_graph.specs.declared.edge.Edge.{Edge}
+use Rattle.hpr_graph.specs.Answer.{AnswerBy, Answer, interference, printed, no_program, Fits, IsFirstFit, IsPart, HasParts, graphs_of, merged_of_all, issued_of_all, AreWithoutConflict, IsAnswerBy, IsAnswer}
+use Rattle.hpr_graph.specs.Conflicts.{told_as, AreConflictsBy}
 use Rattle.hpr_graph.specs.Graphs.{Graph}
 use Rattle.hpr_graph.specs.Order.{vertex_cmp}
-use Rattle.hpr_graph.specs.ProgramGraph.{graph_of, IsVertexOf}
+use Rattle.hpr_graph.specs.ProgramGraph.{graph_of}
+use Rattle.hpr_graph.specs.Rank.{IsRankOf}
 use Rattle.hpr_graph.proofs.Lists.{in_none, in_cons}
 use Rattle.hpr_graph.proofs.VertexOrder.{vertex_total, vertex_tied, vertex_never}
-use Rattle.hpr_graph.proofs.Bounded.{Bounded, of_within, of_either}
+use Rattle.hpr_graph.proofs.Bounded.{Bounded, of_within}
 use Rattle.hpr_rebuild.proofs.Member.{member, settled, settled_fits}
 use Rattle.hpr_rebuild.proofs.SomeArrangements.{some_arrangements}
-use Rattle.hpr_merge.proofs.SomeConflicts.{some_conflicts}
+use Rattle.hpr_merge.proofs.EdgeStands.{changed_by}
+use Rattle.hpr_merge.proofs.SomeConflicts.{IsTellingOnce, OfSome, of_number, some_bounded, some_conflicts_by, told_once}
 use Rattle.hpr_graph.proofs.PutInOrder.{ascending, once_ascending}
 use Rattle.hpr_order.proofs.SomeRank.{some_rank}
-use Rattle.hpr_merge.proofs.BoundedGraph.{vertices_bounded}
-use Rattle.hpr_engine.proofs.Premises.{of_variant, ranking, proper_issued, parts_issued}
+use Rattle.hpr_engine.proofs.Premises.{ranking, proper_issued, parts_issued}
 
 -- where some program of a list fits, one is the first
 module _ (g : Graph) where
@@ -49,24 +52,28 @@ module _ (g : Graph) where
       ])
       n
 
-module _ (base a b : Tree) (is_base : IsProgram base) (is_a : IsProgram a) (is_b : IsProgram b) (tries : ℕ) where
+-- where there is a rank, there is an answer
+module _ {X : Type 0} (at : X → ℕ × Vertex × Edge) (once : IsTellingOnce at) (base : Tree) (vs : List Tree) (is : IsProgram base) (all : AllByRecursion IsProgram vs)
+    (ranked : ¬ (¬ ((r : List Vertex) × IsRankOf base vs r))) (tries : ℕ) where
   abbrev M : Graph
-  M = merged_of base a b
+  M = merged_of_all base vs
+
+  abbrev I : Issued
+  I = issued_of_all base vs
 
   abbrev Has : Type 0
-  Has = (x : Answer) × IsAnswer base a b tries x
+  Has = (r : AnswerBy X) × IsAnswerBy at base vs tries r
 
   -- the parts of the merged graph are so many
   abbrev IsPartOf : Vertex → Type 0
   IsPartOf v = M.vertex v × IsPart v
 
-  abbrev OfVariant : Vertex → Type 0
-  OfVariant v = IsVertexOf a v ⊎ IsVertexOf b v
+  of_one : (v : Vertex) → M.vertex v → OfSome (base ∷ vs) v
+  of_one v (inl h) = let more = changed_by (graph_of base) (graphs_of vs) v h in inr (of_number vs more.0 v more.1.0)
+  of_one v (inr h) = inl h.0
 
   parts_bounded : Bounded IsPartOf
-  parts_bounded =
-      of_within IsPartOf OfVariant (λ v h. of_variant base a b v h.0)
-      (of_either (IsVertexOf a) (IsVertexOf b) (vertices_bounded a) (vertices_bounded b))
+  parts_bounded = of_within IsPartOf (OfSome (base ∷ vs)) (λ v h. of_one v h.0) (some_bounded (base ∷ vs))
 
   some_count : ¬ (¬ ((n : ℕ) × HasParts M n))
   some_count n =
@@ -74,25 +81,29 @@ module _ (base a b : Tree) (is_base : IsProgram base) (is_a : IsProgram a) (is_b
       n (length vs.0, (vs.0, once_ascending vertex_cmp vertex_never vs.0 vs.1, vs.2, refl)))
 
   -- where a program fits, an arrangement does
-  some_printed : IsWithoutConflict base a b → (p : Tree) → IsProgram p → Fits M p → ¬ (¬ Has)
-  some_printed free p is fits n =
-      some_rank a b base (λ rank.
-      (let ranks = ranking base a b rank.0 rank.1 is_a is_b in
-      some_arrangements rank.0 ranks.once M (issued_of base a b) ranks.all (λ ps.
-      (let q = settled (issued_of base a b) p is in
-      let is_q = member M (issued_of base a b) p q.0 is fits (proper_issued base a b is_base is_a is_b) (parts_issued base a b is_base is_a is_b) q.1 in
-      first_fit M ps.0 q.0 ((ps.1.0 q.0).1 is_q) (settled_fits M (issued_of base a b) p q.0 fits q.1) (λ first.
+  some_printed : AreWithoutConflict at base vs → (p : Tree) → IsProgram p → Fits M p → ¬ (¬ Has)
+  some_printed free p is_p fits n =
+      ranked (λ rank.
+      (let ranks = ranking base vs rank.0 rank.1 all in
+      some_arrangements rank.0 ranks.once M I ranks.all (λ ps.
+      (let q = settled I p is_p in
+      let is_q = member M I p q.0 is_p fits (proper_issued base vs is all) (parts_issued base vs is all) q.1 in
+      first_fit M ps.0 q.0 ((ps.1.0 q.0).1 is_q) (settled_fits M I p q.0 fits q.1) (λ first.
       n (printed first.0, (free, (rank.0, rank.1, (ps.0, ps.1, first.1)))))))))
 
-  without_conflict : IsWithoutConflict base a b → ¬ (¬ Has)
+  without_conflict : AreWithoutConflict at base vs → ¬ (¬ Has)
   without_conflict free =
       by_both ((p : Tree) × IsProgram p × Fits M p) Has
       (λ some. some_printed free some.0 some.1 some.2)
-      (λ none n. some_count (λ count. n (no_program count.0, (free, (λ p is fits. none (p, is, fits)), count.1))))
+      (λ none n. some_count (λ count. n (no_program count.0, (free, (λ p is_p fits. none (p, is_p, fits)), count.1))))
 
-  pub some_answer : ¬ (¬ Has)
-  some_answer n = some_conflicts base a b (λ found. at found.0 found.1)
+  pub some_answer_by : ¬ (¬ Has)
+  some_answer_by n = some_conflicts_by at once base vs (λ found. of_list found.0 found.1)
     where
-      at : (cs : List Conflict) → AreConflicts (graph_of base) (graph_of a) (graph_of b) cs → ⊥
-      at [] are = without_conflict are n
-      at (c ∷ cs) are = n (interference (c ∷ cs), (are, λ e. absurd cc))
+      of_list : (xs : List X) → AreConflictsBy at (graph_of base) (graphs_of vs) xs → ⊥
+      of_list [] are = without_conflict are n
+      of_list (x ∷ xs) are = n (interference (x ∷ xs), (are, λ e. absurd cc))
+
+pub some_answer : (base a b : Tree) → IsProgram base → IsProgram a → IsProgram b → (tries : ℕ) → ¬ (¬ ((r : Answer) × IsAnswer base a b tries r))
+some_answer base a b is is_a is_b tries =
+    some_answer_by told_as told_once base (a ∷ b ∷ []) is (is_a, (is_b, tt)) (some_rank base (a ∷ b ∷ []) (λ e. absurd cc)) tries

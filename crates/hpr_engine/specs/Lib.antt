@@ -2,3 +2,4 @@ pub mod Limit
 pub mod Answers
 pub mod Budget
 pub mod Made
+pub mod OneSide

@@ -3,6 +3,7 @@ use Rattle.std.proofs.lemmas.Result.{err_from_is_err_and}
 use Rattle.hpr_syntax.specs.Issued.{Issued}
 use Rattle.hpr_syntax.specs.Tree.{Tree}
 use Rattle.hpr_syntax.specs.declared.program.Program.{Program}
+use Rattle.hpr_graph.specs.declared.conflict.Conflict.{Conflict}
 use Rattle.hpr_graph.specs.declared.vertex.Vertex.{Vertex}
 use Rattle.hpr_graph.specs.Answer.{no_program, printed, spent, issued_of, merged_of, IsAnswer, IsFound, IsWithoutConflict}
 use Rattle.hpr_graph.specs.Graphs.{Graph, Same}
@@ -51,14 +52,14 @@ rebuild-requires-clause-issued c =
 
 -- a program that is found is the answer
 answered : (base a b : Tree) (g : Graph) (rank : List Vertex) (issued : Issued) (tries : ℕ) (m : Tree) → Same g (merged_of base a b) → IsWithoutConflict base a b → IsRank a b base rank
-    → issued ≡ issued_of base a b → IsFound g rank issued tries (printed m) → IsAnswer base a b tries (printed m)
+    → issued ≡ issued_of base a b → IsFound {X = Conflict} g rank issued tries (printed m) → IsAnswer base a b tries (printed m)
 answered base a b g rank issued tries m same free is numbers found = (
   free,
   (
     rank,
     is,
-    subst (λ (i : Issued). IsFound (merged_of base a b) rank i tries (printed m)) numbers
-        (found_same g (merged_of base a b) same rank issued tries (printed m) found),
+    subst (λ (i : Issued). IsFound {X = Conflict} (merged_of base a b) rank i tries (printed m)) numbers
+        (found_same {X = Conflict} g (merged_of base a b) same rank issued tries (printed m) found),
   ),
 )
 
@@ -79,7 +80,7 @@ returns-in-Ok-clause-keeps c =
 pub returns-in-Err-NoProgram-clause-no_program : goal.returns-in-Err-NoProgram-clause-no_program
 returns-in-Err-NoProgram-clause-no_program c =
     let (none, parts) =
-    found_same (graph_in c.in_ok-graph.graph) (merged_of c.args.base.now c.args.a.now c.args.b.now) c.in_ok-graph.ensures.graph c.deref.result.now c.in_ok-issued.issued c.args.tries
+    found_same {X = Conflict} (graph_in c.in_ok-graph.graph) (merged_of c.args.base.now c.args.a.now c.args.b.now) c.in_ok-graph.ensures.graph c.deref.result.now c.in_ok-issued.issued c.args.tries
     (no_program c.part_count.result) (c.in-Err-NoProgram.ensures.no_program (ap (λ (e : RebuildError). Err e) c.in-Err-NoProgram.field-0-is), c.part_count.ensures) in
     (c.in_ok-graph.ensures.no_conflict, none, parts)
 
@@ -88,6 +89,6 @@ returns-in-Err-Spent-clause-spent c = λ _.
     (let rank = c.deref.result.now in
     let is = subst (IsRank c.args.a.now c.args.b.now c.args.base.now) (sym c.deref.ensures.value) c.in_ok-rank.ensures in
     let found =
-    found_same (graph_in c.in_ok-graph.graph) (merged_of c.args.base.now c.args.a.now c.args.b.now) c.in_ok-graph.ensures.graph rank c.in_ok-issued.issued c.args.tries spent
+    found_same {X = Conflict} (graph_in c.in_ok-graph.graph) (merged_of c.args.base.now c.args.a.now c.args.b.now) c.in_ok-graph.ensures.graph rank c.in_ok-issued.issued c.args.tries spent
     (c.in-Err-Spent.ensures.spent (ap (λ (e : RebuildError). Err e) c.in-Err-Spent.field-0-is)) in
-    (c.in_ok-graph.ensures.no_conflict, (rank, is, subst (λ (i : Issued). IsFound (merged_of c.args.base.now c.args.a.now c.args.b.now) rank i c.args.tries spent) c.in_ok-issued.ensures.numbers found)))
+    (c.in_ok-graph.ensures.no_conflict, (rank, is, subst (λ (i : Issued). IsFound {X = Conflict} (merged_of c.args.base.now c.args.a.now c.args.b.now) rank i c.args.tries spent) c.in_ok-issued.ensures.numbers found)))
