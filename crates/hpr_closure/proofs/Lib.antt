@@ -1,0 +1,13 @@
+pub mod Decided
+pub mod Decisions
+pub mod ProgramLoops
+pub mod WholeSlices
+pub mod Reached
+pub mod FiniteGraphs
+pub mod ProgramWhole
+pub mod Ways
+pub mod TreeDecided
+pub mod Gathered
+pub mod EdgesDecided
+pub mod ProgramFinite
+pub mod Counterexamples
