@@ -5,6 +5,7 @@
 mod comparison;
 mod kept;
 mod lacking;
+pub mod laws;
 mod lists;
 mod points;
 

@@ -1,5 +1,6 @@
 -- Graphs by numbers are finite, and so are slices and unions of finite graphs.
 use Rattle.std.proofs.Common.{◌≡◌, ◌↔◌, ◌⊎◌, inl, inr, ℕ, List, [], ◌∷◌, ◌++◌, Contains, refl, sym, subst}
+use Rattle.std.specs.List.{AllByRecursion}
 use Rattle.std.proofs.lemmas.List.Elements.{Contains-append_left, Contains-append_right, Contains-append_cases}
 use Rattle.hpr_graph.specs.declared.vertex.Vertex.{Vertex}
 use Rattle.hpr_graph.specs.declared.vertex.Vertex.TheVariants.{Entry, Init, Part, Final}
@@ -7,7 +8,7 @@ use Rattle.hpr_graph.specs.declared.edge.Kind.{Kind}
 use Rattle.hpr_graph.specs.declared.edge.Kind.TheVariants as kind
 use Rattle.hpr_graph.specs.declared.edge.Edge.{Edge}
 use Rattle.hpr_graph.specs.Graphs.{Graph, OnThird, HasVertices, union_of, nothing, restrict_to}
-use Rattle.hpr_graph.specs.Numbered.{Numbered, IsNumbered, graph_in}
+use Rattle.hpr_graph.specs.Numbered.{Numbered, IsNumbered, graph_in, graphs_in}
 use Rattle.hpr_graph.specs.Slices.{LeadsTo, ReachesOne, IsReached, slice_of}
 use Rattle.hpr_graph.specs.Points.{IsShared, IsInit, IsAffected, AllShare, IsPreservedBy, changed, merged_all}
 use Rattle.hpr_graph.specs.Conflicts.{graph_at, IsConflictAt}
@@ -25,6 +26,10 @@ finite_by_numbers g k = record {
   edges = let (es, (once, all), count) = edges_counted g k in (es, all);
   vertices = (g.vertices, λ v. (λ h. h, λ h. h));
 }
+
+pub all_finite_by_numbers : (gs : List Numbered) → AllByRecursion IsNumbered gs → AreAll IsFinite (graphs_in gs)
+all_finite_by_numbers [] all = tt
+all_finite_by_numbers (g ∷ gs) all = (finite_by_numbers g all.0, all_finite_by_numbers gs all.1)
 
 third_decided : (P : Vertex → Type 0) → ((v : Vertex) → Decided (P v)) → (k : Kind) → Decided (OnThird P k)
 third_decided P p (kind.Control label) = inl tt

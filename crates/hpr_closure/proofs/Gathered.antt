@@ -1,33 +1,33 @@
 -- Lists that have whatever has some property.
 --
--- Bounded P == a list that has each x with P
+-- IsGathered P == a list that has each x with P
 use Rattle.std.proofs.Common.{◌≡◌, ℕ, ◌⊎◌, inl, inr, List, [], ◌∷◌, ◌++◌, Contains, sym, subst}
 use Rattle.std.proofs.lemmas.List.Elements.{Contains-append_left, Contains-append_right}
 use Rattle.hpr_terms.specs.Term.{Term, num, var, prefix, infix'}
 use Rattle.hpr_terms.specs.Uses.{TermUses}
 use Rattle.hpr_terms.proofs.Facts.{in_none, in_cons, in_here}
 
-abbrev pub Bounded : {X : Type 0} → (X → Type 0) → Type 0
-Bounded {X} P = (xs : List X) × ((x : X) → P x → Contains xs x)
+abbrev pub IsGathered : {X : Type 0} → (X → Type 0) → Type 0
+IsGathered {X} P = (xs : List X) × ((x : X) → P x → Contains xs x)
 
 module _ {X : Type 0} where
-  pub of_none : Bounded {X = X} (λ x. ⊥)
+  pub of_none : IsGathered {X = X} (λ x. ⊥)
   of_none = ([], λ x p. absurd p)
 
-  pub of_one : (y : X) → Bounded {X = X} (λ x. x ≡ y)
+  pub of_one : (y : X) → IsGathered {X = X} (λ x. x ≡ y)
   of_one y = (y ∷ [], λ x e. subst (λ (z : X). Contains (y ∷ []) z) (sym e) (in_here y []))
 
-  pub of_within : (P R : X → Type 0) → ((x : X) → P x → R x) → Bounded R → Bounded P
+  pub of_within : (P R : X → Type 0) → ((x : X) → P x → R x) → IsGathered R → IsGathered P
   of_within P R i (xs, all) = (xs, λ x p. all x (i x p))
 
-  pub of_either : (P R : X → Type 0) → Bounded P → Bounded R → Bounded (λ x. P x ⊎ R x)
+  pub of_either : (P R : X → Type 0) → IsGathered P → IsGathered R → IsGathered (λ x. P x ⊎ R x)
   of_either P R (xs, all) (ys, more) = (xs ++ ys, λ x e. elim e [ inl h ↦ Contains-append_left xs ys x (all x h) | inr h ↦ Contains-append_right xs ys x (more x h) ])
 
-  pub of_list : (xs : List X) → Bounded (λ (x : X). Contains xs x)
+  pub of_list : (xs : List X) → IsGathered (λ (x : X). Contains xs x)
   of_list xs = (xs, λ x h. h)
 
 module _ {X Y : Type 0} where
-  gathered : (ys : List Y) (B : Y → X → Type 0) → ((y : Y) → Bounded (B y)) → (zs : List X) × ((y : Y) → Contains ys y → (x : X) → B y x → Contains zs x)
+  gathered : (ys : List Y) (B : Y → X → Type 0) → ((y : Y) → IsGathered (B y)) → (zs : List X) × ((y : Y) → Contains ys y → (x : X) → B y x → Contains zs x)
   gathered [] B b = ([], λ y there x at. absurd (in_none y there))
   gathered (y ∷ ys) B b =
       let (zs, all) = gathered ys B b in
@@ -39,10 +39,10 @@ module _ {X Y : Type 0} where
         ],
       )
 
-  pub of_each : (A : Y → Type 0) (B : Y → X → Type 0) → Bounded A → ((y : Y) → Bounded (B y)) → Bounded (λ (x : X). (y : Y) × A y × B y x)
+  pub of_each : (A : Y → Type 0) (B : Y → X → Type 0) → IsGathered A → ((y : Y) → IsGathered (B y)) → IsGathered (λ (x : X). (y : Y) × A y × B y x)
   of_each A B (ys, listed) b = let (zs, all) = gathered ys B b in (zs, λ x (y, there, at). all y (listed y there) x at)
 
-pub of_term : (t : Term) → Bounded (λ (x : List ℕ). TermUses t x)
+pub of_term : (t : Term) → IsGathered (λ (x : List ℕ). TermUses t x)
 of_term (num n) = of_none
 of_term (var y) = of_one y
 of_term (prefix op a) = of_term a

@@ -21,13 +21,14 @@ use Rattle.hpr_graph.specs.Graphs.{OnThird}
 use Rattle.hpr_graph.specs.ProgramGraph.{HasFlow, IsVertexOf, IsEdgeBy, IsEdgeOf, graph_of}
 use Rattle.hpr_paths.proofs.Says.{standing_of_says}
 use Rattle.hpr_graph.specs.Whole.{AreAll, IsFinite}
+use Rattle.hpr_graph.proofs.Laws.{used_by_reads}
 use Rattle.hpr_closure.proofs.Decisions.{listed_by}
 use Rattle.hpr_closure.proofs.EdgesDecided.{vertex_of_decided, edge_of_decided}
-use Rattle.hpr_closure.proofs.Gathered.{Bounded, of_one, of_within, of_either, of_list, of_each, of_term}
-use Rattle.hpr_closure.proofs.ProgramWhole.{used_by, program_ends}
+use Rattle.hpr_closure.proofs.Gathered.{IsGathered, of_one, of_within, of_either, of_list, of_each, of_term}
+use Rattle.hpr_closure.proofs.ProgramWhole.{program_ends}
 use Rattle.hpr_closure.proofs.TreeDecided.{Stood, standings, stands_listed}
 
-of_content : (c : Content) → Bounded (UsesIn c)
+of_content : (c : Content) → IsGathered (UsesIn c)
 of_content c = of_within (UsesIn c) (Uses (expr_in c)) (λ x h. (uses_in c x).1 h) (of_term (term_of (expr_in c)))
 
 module _ (t : Tree) where
@@ -44,7 +45,7 @@ module _ (t : Tree) where
   abbrev Used : List ℕ → Type 0
   Used x = UsedAtPart x ⊎ Contains t.finals x
 
-  used_bounded : Bounded Used
+  used_bounded : IsGathered Used
   used_bounded =
       of_either UsedAtPart (λ x. Contains t.finals x)
       (of_each (λ r. Contains (standings [] None t.body) r) UsedAt (of_list (standings [] None t.body)) (λ r. of_content r.1.content)) (of_list t.finals)
@@ -72,7 +73,7 @@ module _ (t : Tree) where
   abbrev MayBe : Vertex → Type 0
   MayBe v = (v ≡ Entry) ⊎ (IsPartOf v ⊎ (IsFinalOf v ⊎ IsInitOf v))
 
-  may_bounded : Bounded MayBe
+  may_bounded : IsGathered MayBe
   may_bounded =
       of_either (λ v. v ≡ Entry) (λ v. IsPartOf v ⊎ (IsFinalOf v ⊎ IsInitOf v)) (of_one Entry)
       (of_either IsPartOf (λ v. IsFinalOf v ⊎ IsInitOf v)
@@ -91,7 +92,7 @@ module _ (t : Tree) where
   may_be (Part l c) h = inr (inl (part_is l c h))
   may_be (Final x) h = inr (inr (inl (x, h, refl)))
 
-  vertices_bounded : Bounded V
+  vertices_bounded : IsGathered V
   vertices_bounded = of_within V MayBe may_be may_bounded
 
   -- kinds
@@ -110,7 +111,7 @@ module _ (t : Tree) where
   abbrev IsKindOf : Kind → Type 0
   IsKindOf k = (k ≡ Control true) ⊎ ((k ≡ Control false) ⊎ (IsIndependentOf k ⊎ (IsCarriedOf k ⊎ IsOrderOf k)))
 
-  kinds_bounded : Bounded IsKindOf
+  kinds_bounded : IsGathered IsKindOf
   kinds_bounded =
       of_either (λ k. k ≡ Control true) (λ k. (k ≡ Control false) ⊎ (IsIndependentOf k ⊎ (IsCarriedOf k ⊎ IsOrderOf k))) (of_one (Control true))
       (of_either (λ k. k ≡ Control false) (λ k. IsIndependentOf k ⊎ (IsCarriedOf k ⊎ IsOrderOf k)) (of_one (Control false))
@@ -124,8 +125,8 @@ module _ (t : Tree) where
   control_kind false = inr (inl refl)
 
   read_used : (x : List ℕ) (from to : Vertex) → HasFlow t x from to → Used x
-  read_used x from to (inl (a, z, marks, (defines, reads, path), avoids)) = used_is x z (used_by t x to z reads)
-  read_used x from to (inr (w, (a, z, marks, l, c, (defines, reads, path), loop_is, says, around, carries))) = used_is x z (used_by t x to z reads)
+  read_used x from to (inl (a, z, marks, (defines, reads, path), avoids)) = used_is x z (used_by_reads t x to z reads)
+  read_used x from to (inr (w, (a, z, marks, l, c, (defines, reads, path), loop_is, says, around, carries))) = used_is x z (used_by_reads t x to z reads)
 
   kind_is : (k : Kind) (from to : Vertex) → IsEdgeBy t k from to → OnThird V k → IsKindOf k
   kind_is (Control label) from to h third = control_kind label
@@ -146,7 +147,7 @@ module _ (t : Tree) where
   abbrev MayJoin : Edge → Type 0
   MayJoin e = (to : Vertex) × V to × HasSource to e
 
-  edges_may : Bounded MayJoin
+  edges_may : IsGathered MayJoin
   edges_may =
       of_each V HasSource vertices_bounded (λ to. of_each V (HasKind to) vertices_bounded (λ from. of_each IsKindOf (λ k e. e ≡ edge to from k) kinds_bounded (λ k. of_one (edge to from k))))
 

@@ -3,7 +3,6 @@ use Rattle.std.proofs.Common.{ℕ, Bool, inl, inr, Option, None, List, [], ◌�
 use Rattle.std.specs.List.{AllByRecursion}
 use Rattle.hpr_terms.specs.declared.tag.Tag.{Tag}
 use Rattle.hpr_syntax.specs.declared.rows.Content.{Content}
-use Rattle.hpr_syntax.specs.Initial.{UsedBy}
 use Rattle.hpr_syntax.specs.Nests.{Says}
 use Rattle.hpr_syntax.specs.Paths.{IsUndisturbed}
 use Rattle.hpr_syntax.specs.Shape.{IsProgram}
@@ -16,6 +15,7 @@ use Rattle.hpr_graph.specs.declared.edge.Kind.TheVariants.{Control, Independent,
 use Rattle.hpr_graph.specs.Answer.{graphs_of}
 use Rattle.hpr_graph.specs.Graphs.{OnThird}
 use Rattle.hpr_graph.specs.ProgramGraph.{Defines, Reads, IsTop, HasFlow, IsVertexOf, IsEdgeBy, graph_of}
+use Rattle.hpr_graph.proofs.Laws.{used_by_reads}
 use Rattle.hpr_paths.proofs.Different.{distinct_program}
 use Rattle.hpr_paths.proofs.Says.{says_one, says_of_standing}
 use Rattle.hpr_graph.specs.Whole.{LeadsRight, HasUses, HasEnds, IsWhole, AreAll, SaysOnce}
@@ -38,17 +38,11 @@ module _ (t : Tree) where
   abbrev V : Vertex → Type 0
   V = IsVertexOf t
 
-  pub used_by : (x : List ℕ) (v : Vertex) (z : Point) → Reads t x v z → UsedBy t x z
-  used_by x Entry z h = absurd h
-  used_by x (Init y) z h = absurd h
-  used_by x (Part l c) z (uses, says, is) = subst (UsedBy t x) (sym is) (c, says, uses)
-  used_by x (Final y) z (same, named, is) = subst (UsedBy t x) (sym is) named
-
   source_is : (x : List ℕ) (from to : Vertex) (a z : Point) (marks : List (Option Tag)) → Defines t x from a → Reads t x to z → IsUndisturbed t.body x a z marks → V from
   source_is x Entry to a z marks h reads path = absurd h
   source_is x (Init y) to a z marks (same, is) reads path =
       subst (λ (w : List ℕ). V (Init w)) (sym same)
-      (z, marks, subst (λ (p : Point). IsUndisturbed t.body x p z marks) is path, used_by x to z reads)
+      (z, marks, subst (λ (p : Point). IsUndisturbed t.body x p z marks) is path, used_by_reads t x to z reads)
   source_is x (Part l c) to a z marks (sets, says, is) reads path = says
   source_is x (Final y) to a z marks h reads path = absurd h
 
@@ -65,6 +59,13 @@ module _ (t : Tree) where
   flow_target : (x : List ℕ) (from to : Vertex) → HasFlow t x from to → V to
   flow_target x from to (inl (a, z, marks, (defines, reads, path), avoids)) = read_is x to z reads
   flow_target x from to (inr (w, (a, z, marks, l, c, (defines, reads, path), loop_is, says, around, carries))) = read_is x to z reads
+
+  abbrev pub FlowsAt : List ℕ → Vertex → Vertex → Type 0
+  FlowsAt x from to = (a z : Point) × Defines t x from a × Reads t x to z
+
+  pub flow_at : (x : List ℕ) (from to : Vertex) → HasFlow t x from to → FlowsAt x from to
+  flow_at x from to (inl (a, z, marks, (defines, reads, path), avoids)) = (a, z, defines, reads)
+  flow_at x from to (inr (w, (a, z, marks, l, c, (defines, reads, path), loop_is, says, around, carries))) = (a, z, defines, reads)
 
   top_is : (v : Vertex) → IsTop t v → V v
   top_is Entry h = absurd h

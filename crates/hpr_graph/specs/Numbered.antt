@@ -8,6 +8,7 @@
 -- IsEdgeAt vs to l e == the link l into the vertex number `to` is the edge e
 -- HasEdge g e        == some link is the edge e
 -- graph_in g         == the set of the vertices and the set of the edges
+-- graphs_in gs       == the graphs by these numbers
 -- IsLink g to l      == the link is an edge: its numbers are vertices, and the source of a flow edge defines a name
 -- IsNumbered g       == no vertex stands twice, each has its links, none twice, and each link is an edge
 -- link_count g       == how many links there are
@@ -15,7 +16,7 @@
 -- rows_of rows       == the rows as lists
 -- IsGrown g h        == each vertex of g keeps its number in h, and both have the same links
 -- IsMarkedVertex g keep v == the vertex v is marked
-use Rattle.std.specs.Prelude.{◌≡◌, ℕ, Bool, List, [], Option, Some, None, Contains, Vec, slice_get, length, map, sum_by}
+use Rattle.std.specs.Prelude.{◌≡◌, ℕ, Bool, List, [], ◌∷◌, Option, Some, None, Contains, Vec, slice_get, length, map, sum_by}
 use Rattle.std.specs.Global.{Global}
 use Rattle.hpr_search.specs.Marks.{IsMarked}
 use Rattle.hpr_graph.specs.declared.vertex.Vertex.{Vertex}
@@ -61,6 +62,10 @@ HasEdge g e = (to : ℕ) × (l : Link) × HasLink g to l × IsEdgeAt g.vertices 
 
 abbrev pub graph_in : Numbered → Graph
 graph_in g = record { vertex = HasVertex g; edge = HasEdge g }
+
+abbrev pub graphs_in : List Numbered → List Graph
+graphs_in [] = []
+graphs_in (g ∷ gs) = graph_in g ∷ graphs_in gs
 
 abbrev pub IsLink : Numbered → ℕ → Link → Type 0
 IsLink g to l = (e : Edge) × IsEdgeAt g.vertices to l e
