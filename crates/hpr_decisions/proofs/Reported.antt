@@ -205,7 +205,7 @@ module _ (request : Request) (fs : Files) (d : Decision) (o : RequestOutcome req
 module _ (p q r : Tree) (is_p : IsProgram p) (is_q : IsProgram q) (is_r : IsProgram r) (side : Side) (point : Vertex)
     (conflict : IsConflictAt (merged_of p q r) (graph_on side (graph_of q) (graph_of r)) (graph_of p) point) where
   not_free : IsWithoutConflict p q r → ⊥
-  not_free free = sides_kept p q r is_p is_q is_r free (λ kept. conflict.1 (kept (number_of side) point conflict.0))
+  not_free free = conflict.1 (sides_kept p q r is_p is_q is_r free (number_of side) point conflict.0)
 
   conflicting : (tries : ℕ) (x : Answer) → IsAnswer p q r tries x → (cs : List Conflict) × (x ≡ interference cs)
   conflicting tries (interference cs) answer = (cs, refl)

@@ -10,16 +10,15 @@ use Rattle.hpr_graph.specs.declared.edge.Edge.{Edge}
 use Rattle.hpr_graph.specs.Graphs.{Graph, IsWithin, Same, OnThird, HasVertices, union_of}
 use Rattle.hpr_graph.specs.Points.{IsShared, IsAffected, AllShare, IsPreservedBy, changed}
 use Rattle.hpr_graph.specs.ProgramGraph.{graph_of}
-use Rattle.hpr_graph.specs.Slices.{Leads, LeadsTo, ReachesOne, slice_of, slice_at}
+use Rattle.hpr_graph.specs.Slices.{Leads, ReachesOne, slice_of, slice_at}
 use Rattle.hpr_graph.specs.Answer.{graphs_of, merged_of_all, AreWithoutConflict}
 use Rattle.hpr_graph.proofs.Laws.{same_itself, same_from_within, reaches_within, slice_within, vertices_map}
 use Rattle.hpr_graph.proofs.Lists.{in_none, in_cons, in_here, in_later}
-use Rattle.hpr_merge.specs.Loops.{AreAll, HasLoops}
-use Rattle.hpr_merge.proofs.EdgeStands.{edge_inside, point_within, variant_within}
-use Rattle.hpr_merge.proofs.ProgramLoops.{program_loops}
+use Rattle.hpr_graph.specs.Whole.{AreAll, HasLoops, HasUses}
+use Rattle.hpr_closure.proofs.ProgramLoops.{program_loops}
+use Rattle.hpr_closure.proofs.ProgramWhole.{program_uses, says_once}
+use Rattle.hpr_closure.proofs.WholeSlices.{edge_inside, use_inside, point_within, variant_within}
 use Rattle.hpr_meaning.specs.UnionLaw.{variant_at, affected_of, KeepsEach, KeepsSides}
-use Rattle.hpr_meaning.proofs.Unions.{LeadsRight, HasUses, program_uses}
-use Rattle.hpr_merge.proofs.OneContent.{says_once}
 use Rattle.hpr_engine.specs.OneSide.{IsOnlyChange}
 
 -- where both graphs have the vertices of P with the same slices, the other has the slice of P
@@ -33,14 +32,8 @@ module _ (base g : Graph) (loops : HasLoops base) (uses : HasUses base) (P : Ver
   leading_edge : (e : Edge) → base.edge e → Leads e.kind → ReachesOne base P e.to → g.edge e
   leading_edge e has l (s, es, p, leads) = edge_at s p e has (edge_inside base loops (λ v. v ≡ s) e has l (s, es, refl, leads))
 
-  one_before : (s u w : Vertex) (es : List Edge) → LeadsTo base u es s → LeadsRight base w u → Reaches s w
-  one_before s u w es leads (f, has, l, from, to) = (s, f ∷ es, refl, (has, l, from, subst (λ (z : Vertex). LeadsTo base z es s) (sym to) leads))
-
   order_edge : (e : Edge) (u : Vertex) → base.edge e → e.kind ≡ kind.Order u → ReachesOne base P u → g.edge e
-  order_edge e u has is (s, es, p, leads) =
-      let (from, to) = uses e u has is in
-      let at_u : Reaches s u = (s, es, refl, leads) in
-      edge_at s p e has (one_before s u e.to es leads to, one_before s u e.from es leads from, subst (OnThird (Reaches s)) (sym is) at_u)
+  order_edge e u has is (s, es, p, leads) = edge_at s p e has (use_inside base loops (λ v. v ≡ s) uses e u has is (s, es, refl, leads))
 
   by_kind : (e : Edge) (k : Kind) → e.kind ≡ k → base.edge e → ReachesOne base P e.to → OnThird (ReachesOne base P) k → g.edge e
   by_kind e (kind.Control label) is has to third = leading_edge e has (subst Leads (sym is) tt) to
@@ -155,7 +148,7 @@ module _ (base v : Tree) where
     mine_within = of_v vs only.1 (λ g. IsWithin (Mine g) M) (variant_within G (graphs_of vs))
 
     module _ (is : IsProgram base) (is_v : IsProgram v) where
-      pub loops_of_v : HasLoops H
+      loops_of_v : HasLoops H
       loops_of_v = program_loops v (says_once v is_v)
 
       pub merged_within : IsWithin M H

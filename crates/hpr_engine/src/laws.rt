@@ -12,7 +12,7 @@ ghost use Rattle.hpr_graph.specs.Answer.{searched_graph, searched_graph_of, sear
 ghost use Rattle.hpr_graph.specs.Answer.{AreWithoutConflict, IsAnswer, IsAnswerBy, Fits, IsFirstFit, IsWithoutConflict};
 ghost use Rattle.hpr_graph.specs.Conflicts.{AreConflicts, AreConflictsBy, HasNoConflict};
 ghost use Rattle.hpr_graph.specs.ProgramGraph.{graph_of};
-ghost use Rattle.hpr_merge.specs.Loops.{SaysOnce};
+ghost use Rattle.hpr_graph.specs.Whole.{SaysOnce};
 ghost use Rattle.hpr_rebuild.specs.Settled.{IsSettled};
 ghost use Rattle.hpr_engine.specs.Budget.{Agree, AreTried, AreTriedOf};
 ghost use Rattle.hpr_engine.specs.OneSide.{IsOnlyChange};

@@ -23,8 +23,8 @@ use Rattle.hpr_meaning.proofs.Ordered.{flow_order, use_order}
 use Rattle.hpr_meaning.proofs.Items.{Spot}
 use Rattle.hpr_meaning.proofs.RunRecords.{language, vertex_at, IsTopSpot, CallsFor, HasAllTurns, run_record, known}
 use Rattle.hpr_meaning.proofs.TwoRuns.{Shares}
-use Rattle.hpr_merge.proofs.EdgeStands.{edge_inside}
-use Rattle.hpr_merge.proofs.ProgramLoops.{program_loops}
+use Rattle.hpr_closure.proofs.WholeSlices.{edge_inside}
+use Rattle.hpr_closure.proofs.ProgramLoops.{program_loops}
 use Rattle.hpr_graph.proofs.Laws.{same_turned}
 
 no_part : {A : Type 0} {t : Tag} {c : Content} → Part t c ≡ Entry → A

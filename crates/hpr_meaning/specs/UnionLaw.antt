@@ -8,8 +8,8 @@
 --                           graph that it has in its side's graph
 -- LiesInOne base vs v    == v is a vertex of one of the slices whose union the merged graph is
 -- IsUnionKept base vs    == the law: each preserved point has the slice that it has in base's graph; where each affected
---                           point keeps its slice, so do a variant's taken together (`AreKept`); where there is no
---                           conflict, that they don't can't be; each vertex lies in one of the slices
+--                           point keeps its slice, so do a variant's taken together (`AreKept`); so they do where there
+--                           is no conflict; each vertex lies in one of the slices
 -- AreKept i base vs      == the slice of the variant's affected points, taken together, is that of its graph
 use Rattle.std.specs.Prelude.{◌⊎◌, ℕ, List, [], ◌∷◌}
 use Rattle.hpr_syntax.specs.Tree.{Tree}
@@ -50,5 +50,5 @@ pub record IsUnionKept (base : Tree) (vs : List Tree) : Type 0 where
   pub preserved : (v : Vertex) → IsPreservedBy (graph_of base) (graphs_of vs) v
       → Same (slice_at (merged_of_all base vs) v) (slice_at (graph_of base) v)
   pub affected : KeepsEach base vs → (i : ℕ) → AreKept i base vs
-  pub free : HasNoConflict (graph_of base) (graphs_of vs) → (i : ℕ) → ¬ (¬ AreKept i base vs)
+  pub free : HasNoConflict (graph_of base) (graphs_of vs) → (i : ℕ) → AreKept i base vs
   pub covered : (v : Vertex) → (merged_of_all base vs).vertex v → LiesInOne base vs v

@@ -63,8 +63,8 @@ pub fn shared_slices()
 
 /// The law of the union: each preserved point has in the merged graph of a base and its variants the slice
 /// that it has in base's graph. Where each variant's affected points keep its slices, so do they together;
-/// and where there is no conflict, that they don't can't be. Each vertex of the merged graph lies in one of
-/// the slices that it is made of.
+/// and so they do where there is no conflict. Each vertex of the merged graph lies in one of the slices that
+/// it is made of.
 pub fn union_kept()
     ensures { (base : Tree) (vs : List Tree) → IsProgram base → AllByRecursion IsProgram vs → IsUnionKept base vs }
 {}

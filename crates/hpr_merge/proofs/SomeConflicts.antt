@@ -19,8 +19,8 @@ use Rattle.hpr_graph.proofs.Bounded.{Bounded, of_none, of_one, of_within, of_eit
 use Rattle.hpr_graph.proofs.EdgeOrder.{edge_tied}
 use Rattle.hpr_graph.proofs.Lists.{in_here}
 use Rattle.hpr_graph.proofs.PutInOrder as order
-use Rattle.hpr_merge.proofs.BoundedGraph.{vertices_bounded}
-use Rattle.hpr_merge.proofs.ProgramRegular.{merged_listed}
+use Rattle.hpr_merge.proofs.BoundedGraph.{vertices_bounded, merged_bounded}
+use Rattle.hpr_merge.proofs.NoneListed.{number_within}
 
 through : (i j k : ℕ) (u v w : Vertex) → ComesFirst i u j v → ComesFirst j v k w → ComesFirst i u k w
 through i j k u v w (inl less) (inl less') = inl (omega (arith, less, less'))
@@ -53,11 +53,6 @@ pub of_number : (ts : List Tree) (i : ℕ) (v : Vertex) → (graph_at (graphs_of
 of_number [] i v h = absurd h
 of_number (t ∷ ts) zero v h = inl h
 of_number (t ∷ ts) (suc i) v h = inr (of_number ts i v h)
-
-pub number_within : (gs : List Graph) (i : ℕ) (v : Vertex) → (graph_at gs i).vertex v → i < length gs
-number_within [] i v h = absurd h
-number_within (g ∷ gs) zero v h = omega arith
-number_within (g ∷ gs) (suc i) v h = let less = number_within gs i v h in omega (arith, less)
 
 one_least : (P : Edge → Type 0) (e f : Edge) → IsLeast P e → IsLeast P f → e ≡ f
 one_least P e f (has, least) (has', least') = elim (order.compared edge_cmp edge_total edge_tied e f) [
@@ -107,15 +102,12 @@ module _ {X : Type 0} (at : X → ℕ × Vertex × Edge) (once : IsTellingOnce a
       (λ some n. n (some.0 ∷ [], λ y tells. subst (λ (z : X). Contains (some.0 ∷ []) z) (once some.0 y (some.1 ∙ sym tells)) (in_here some.0 [])))
       (λ none n. n ([], λ y tells. absurd (none (y, tells))))
 
-  merged_bounded : Bounded M.edge
-  merged_bounded n = merged_listed base vs (λ list. n (list.0, λ e h. (list.1 e).1 h))
-
   bounded : Bounded Is
   bounded =
       of_within Is MayBe may_be
       (of_each (λ i. i < length (graphs_of vs)) OfVariant (below_bounded (length (graphs_of vs)))
       (λ i _. of_each (OfSome vs) (AtPoint i) (some_bounded vs)
-      (λ v _. of_each M.edge (Tells i v) merged_bounded
+      (λ v _. of_each M.edge (Tells i v) (merged_bounded base vs)
       (λ e _. one_told i v e))))
 
   -- two conflicts at one point of one variant are the same
@@ -145,7 +137,7 @@ module _ {X : Type 0} (at : X → ℕ × Vertex × Edge) (once : IsTellingOnce a
       (λ x y is_x is_y n. n (which x y is_x is_y)) bounded
 
 -- conflicts of two variants are told once
-one_side : (s t : Side) → number_of s ≡ number_of t → s ≡ t
+pub one_side : (s t : Side) → number_of s ≡ number_of t → s ≡ t
 one_side A A e = refl
 one_side A B e = absurd (omega (arith, e))
 one_side B A e = absurd (omega (arith, e))

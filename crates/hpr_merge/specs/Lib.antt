@@ -1,4 +1,3 @@
-pub mod Loops
 pub mod Added
 pub mod Beside
 pub mod SideConflicts
