@@ -1,5 +1,5 @@
--- For graphs that are not whole the law is false: a vertex is reached from a directly affected one, and isn't affected.
-use Rattle.std.proofs.Common.{◌≡◌, List, [], ◌∷◌, refl, sym, ap, ◌∙◌, subst}
+-- Of graphs that are not whole the law of affected points is false: a vertex is reached from a directly affected one, and isn't affected.
+use Rattle.std.proofs.Common.{◌≡◌, ◌↔◌, List, [], ◌∷◌, refl, sym, ap, ◌∙◌, subst}
 use Rattle.hpr_graph.specs.declared.vertex.Vertex.{Vertex}
 use Rattle.hpr_graph.specs.declared.vertex.Vertex.TheVariants.{Entry, Init, Final}
 use Rattle.hpr_graph.specs.declared.edge.Kind.TheVariants as kind
@@ -8,6 +8,7 @@ use Rattle.hpr_graph.specs.Graphs.{Graph}
 use Rattle.hpr_graph.specs.Slices.{Leads, LeadsTo, ReachesOne, IsReached}
 use Rattle.hpr_graph.specs.Points.{IsShared, IsAffected}
 use Rattle.hpr_graph.specs.Direct.{IsDirectlyAffected}
+use Rattle.hpr_graph.specs.Whole.{IsWhole}
 
 -- three vertices, and in one of the graphs an order edge whose ends don't lead to its shared use
 abbrev lone : Edge
@@ -53,5 +54,11 @@ use_shared = (
   ),
 )
 
-pub not_affected : ¬ IsAffected one_edge no_edge (Final [])
+not_affected : ¬ IsAffected one_edge no_edge (Final [])
 not_affected (there, differs) = differs use_shared
+
+pub not_whole : ¬ IsWhole one_edge
+not_whole whole = let (f, is, leads, from, to) = (whole.uses lone (Final []) refl refl).0 in subst Leads (ap (λ (x : Edge). x.kind) is) leads
+
+pub law_fails : ¬ ((v : Vertex) → IsAffected one_edge no_edge v ↔ IsReached one_edge (IsDirectlyAffected one_edge no_edge) v)
+law_fails law = not_affected ((law (Final [])).1 use_direct)

@@ -6,7 +6,7 @@ use Rattle.hpr_graph.specs.declared.vertex.Vertex.{Vertex}
 use Rattle.hpr_graph.specs.declared.edge.Kind.{Kind}
 use Rattle.hpr_graph.specs.declared.edge.Kind.TheVariants as kind
 use Rattle.hpr_graph.specs.declared.edge.Edge.{Edge}
-use Rattle.hpr_graph.specs.Graphs.{Graph, OnThird}
+use Rattle.hpr_graph.specs.Graphs.{Graph, OnThird, HasVertices}
 use Rattle.hpr_graph.specs.Order.{vertex_cmp, edge_cmp}
 use Rattle.hpr_graph.specs.Slices.{Leads, LeadsTo, ReachesOne, slice_at}
 use Rattle.hpr_terms.proofs.Facts.{in_none, in_cons, in_here, in_later}
@@ -54,6 +54,19 @@ leads_decided (kind.Control label) = inl tt
 leads_decided (kind.Independent x) = inl tt
 leads_decided (kind.Carried x w) = inl tt
 leads_decided (kind.Order u) = inr (λ h. h)
+
+-- whether all vertices of an edge have a property
+third_decided : (P : Vertex → Type 0) → ((v : Vertex) → Decided (P v)) → (k : Kind) → Decided (OnThird P k)
+third_decided P p (kind.Control label) = inl tt
+third_decided P p (kind.Independent x) = inl tt
+third_decided P p (kind.Carried x w) = p w
+third_decided P p (kind.Order u) = p u
+
+pub inside_decided : (P : Vertex → Type 0) → ((v : Vertex) → Decided (P v)) → (e : Edge) → Decided (HasVertices P e)
+inside_decided P p e = elim (both (P e.to) (P e.from) (p e.to) (p e.from)) [
+  | inr far ↦ inr (λ h. far (h.0, h.1))
+  | inl ends ↦ elim (third_decided P p e.kind) [ inl third ↦ inl (ends.0, ends.1, third) | inr far ↦ inr (λ h. far h.2) ]
+]
 
 -- the graph with these edges, and a walk in it
 abbrev edges_graph : List Edge → Graph
@@ -122,24 +135,13 @@ module _ (g : Graph) (listed : IsListed g) where
     | inr none ↦ inr (λ (s, ws, is, x). none (ws, subst (λ (z : Vertex). LeadsTo (edges_graph listed.0) w ws z) is (leads_listed ws w s x)))
   ]
 
-  third_decided : (v : Vertex) (k : Kind) → Decided (OnThird (ReachesOne g (λ s. s ≡ v)) k)
-  third_decided v (kind.Control label) = inl tt
-  third_decided v (kind.Independent x) = inl tt
-  third_decided v (kind.Carried x w) = reach_decided v w
-  third_decided v (kind.Order u) = reach_decided v u
+  pub edge_listed : (e : Edge) → Decided (g.edge e)
+  edge_listed e = elim (listed_decided listed.0 e) [ inl has ↦ inl ((listed.1 e).0 has) | inr stranger ↦ inr (λ h. stranger ((listed.1 e).1 h)) ]
 
   -- whether an edge is one of a slice
   pub slice_edge_decided : (v : Vertex) (e : Edge) → Decided ((slice_at g v).edge e)
-  slice_edge_decided v e = elim (listed_decided listed.0 e) [
-    | inr stranger ↦ inr (λ h. stranger ((listed.1 e).1 h.0))
-    | inl has ↦ elim (reach_decided v e.to) [
-      | inr far ↦ inr (λ h. far h.1.0)
-      | inl to ↦ elim (reach_decided v e.from) [
-        | inr far ↦ inr (λ h. far h.1.1)
-        | inl from ↦ elim (third_decided v e.kind) [ inr far ↦ inr (λ h. far h.1.2) | inl third ↦ inl ((listed.1 e).0 has, (to, from, third)) ]
-      ]
-    ]
-  ]
+  slice_edge_decided v e =
+      both (g.edge e) (HasVertices (ReachesOne g (λ s. s ≡ v)) e) (edge_listed e) (inside_decided (ReachesOne g (λ s. s ≡ v)) (reach_decided v) e)
 
 -- the least of the listed edges with a property that is decided
 abbrev LeastOf : (Edge → Type 0) → List Edge → Type 0

@@ -2,6 +2,7 @@
 use Rattle.std.proofs.Common.{◌≡◌, inl, inr, ℕ, Bool, true, Option, Some, None, List, [], Contains, refl, sym, ap, ◌∙◌, subst}
 use Rattle.hpr_terms.specs.declared.tag.Tag.{Tag}
 use Rattle.hpr_syntax.specs.Contents.{UsesIn}
+use Rattle.hpr_terms.proofs.Facts.{some_inj}
 use Rattle.hpr_syntax.specs.declared.rows.Content.{Content}
 use Rattle.hpr_syntax.specs.Initial.{IsInitial, UsedBy}
 use Rattle.hpr_syntax.specs.Nests.{Standing, StandsAsIn, Says}
@@ -21,7 +22,7 @@ use Rattle.hpr_graph.specs.ProgramGraph.{Defines, Reads, IsFlowPath, AvoidsCommo
 use Rattle.hpr_paths.proofs.Says.{standing_of_says}
 use Rattle.hpr_closure.proofs.Decided.{Decided, both, vertex_decided}
 use Rattle.hpr_closure.proofs.Decisions.{denied, either, turned, some_decided}
-use Rattle.hpr_closure.proofs.TreeDecided.{Hop, name_decided, tag_decided, content_decided, truth_decided, point_decided, some_tag, assigned_decided, top_decided, parent_decided, mark_decided, names_decided, uses_decided, left_decided, parted_decided, encloses_decided, pairs_of, pairs_exact, SomePart, part_decided, says_decided, used_decided, defines_decided}
+use Rattle.hpr_closure.proofs.TreeDecided.{Hop, name_decided, tag_decided, content_decided, truth_decided, point_decided, assigned_decided, top_decided, parent_decided, mark_decided, names_decided, uses_decided, left_decided, parted_decided, encloses_decided, pairs_of, pairs_exact, SomePart, part_decided, says_decided, used_decided, defines_decided}
 use Rattle.hpr_closure.proofs.Ways.{path_decided, marked_decided}
 
 -- where a vertex defines, and where it uses
@@ -76,7 +77,7 @@ module _ (t : Tree) where
   may_pass a z None = inl (λ w h e. cc)
   may_pass a z (Some l) = elim (encloses_decided a z sk l) [
     | inl h ↦ inr (λ all. all l h refl)
-    | inr n ↦ inl (λ w h e. n (subst (λ (v : Tag). EnclosesBoth sk a z v) (sym (some_tag l w e)) h))
+    | inr n ↦ inl (λ w h e. n (subst (λ (v : Tag). EnclosesBoth sk a z v) (sym (some_inj l w e)) h))
   ]
 
   abbrev DirectAt : List ℕ → Vertex → Vertex → Point → Point → Type 0
@@ -200,15 +201,12 @@ module _ (t : Tree) where
   named x (Part l c) a (sets, says, is) = sets
   named x (Final y) a h = absurd h
 
-  some_name : (x y : List ℕ) → Some x ≡ Some y → x ≡ y
-  some_name x y e = cc
-
   order_named : (u from to : Vertex) (n : Option (List ℕ)) → name_of from ≡ n → Decided (IsOrder t u from to)
   order_named u from to None none = inr (λ (x, a, b, sets, rest, f, g, l, n). (let e : Some x ≡ None = sym (named x from a sets) ∙ none in cc))
   order_named u from to (Some y) is =
       turned (OrderAt u from to y (source_point from) (source_point to)) (IsOrder t u from to)
       (λ (p, q, r, s, l, n). (y, source_point from, source_point to, p, q, r, s, l, n))
-      (λ (x, a, b, p, q, r, s, l, n). (let same : x ≡ y = some_name x y (sym (named x from a p) ∙ is) in
+      (λ (x, a, b, p, q, r, s, l, n). (let same : x ≡ y = some_inj x y (sym (named x from a p) ∙ is) in
       subst (λ (c : Point). OrderAt u from to y c (source_point to)) (defined_at x from a p)
       (subst (λ (c : Point). OrderAt u from to y a c) (defined_at x to b q)
       (subst (λ (w : List ℕ). OrderAt u from to w a b) same (p, q, r, s, l, n)))))

@@ -4,10 +4,8 @@ use Rattle.std.specs.List.{AllByRecursion}
 use Rattle.std.proofs.lemmas.List.Elements.{Contains-append_left, Contains-append_right, Contains-append_cases}
 use Rattle.hpr_graph.specs.declared.vertex.Vertex.{Vertex}
 use Rattle.hpr_graph.specs.declared.vertex.Vertex.TheVariants.{Entry, Init, Part, Final}
-use Rattle.hpr_graph.specs.declared.edge.Kind.{Kind}
-use Rattle.hpr_graph.specs.declared.edge.Kind.TheVariants as kind
 use Rattle.hpr_graph.specs.declared.edge.Edge.{Edge}
-use Rattle.hpr_graph.specs.Graphs.{Graph, OnThird, HasVertices, union_of, nothing, restrict_to}
+use Rattle.hpr_graph.specs.Graphs.{Graph, HasVertices, union_of, nothing, restrict_to}
 use Rattle.hpr_graph.specs.Numbered.{Numbered, IsNumbered, graph_in, graphs_in}
 use Rattle.hpr_graph.specs.Slices.{LeadsTo, ReachesOne, IsReached, slice_of}
 use Rattle.hpr_graph.specs.Points.{IsShared, IsInit, IsAffected, AllShare, IsPreservedBy, changed, merged_all}
@@ -15,7 +13,7 @@ use Rattle.hpr_graph.specs.Conflicts.{graph_at, IsConflictAt}
 use Rattle.hpr_graph.specs.Direct.{IsDirectlyAffected}
 use Rattle.hpr_graph.proofs.EdgeList.{edges_counted}
 use Rattle.hpr_graph.specs.Whole.{IsWhole, AreAll, IsFinite}
-use Rattle.hpr_closure.proofs.Decided.{Decided, both, reach_decided}
+use Rattle.hpr_closure.proofs.Decided.{Decided, both, inside_decided, reach_decided}
 use Rattle.hpr_closure.proofs.Decisions.{denied, turned, some_decided, listed_by}
 use Rattle.hpr_closure.proofs.Reached.{vertex_there, edge_there, affected_decided, shared_decided, conflict_reached, Before}
 use Rattle.hpr_closure.proofs.WholeSlices.{at_number}
@@ -30,17 +28,6 @@ finite_by_numbers g k = record {
 pub all_finite_by_numbers : (gs : List Numbered) → AllByRecursion IsNumbered gs → AreAll IsFinite (graphs_in gs)
 all_finite_by_numbers [] all = tt
 all_finite_by_numbers (g ∷ gs) all = (finite_by_numbers g all.0, all_finite_by_numbers gs all.1)
-
-third_decided : (P : Vertex → Type 0) → ((v : Vertex) → Decided (P v)) → (k : Kind) → Decided (OnThird P k)
-third_decided P p (kind.Control label) = inl tt
-third_decided P p (kind.Independent x) = inl tt
-third_decided P p (kind.Carried x w) = p w
-third_decided P p (kind.Order u) = p u
-
-inside_decided : (P : Vertex → Type 0) → ((v : Vertex) → Decided (P v)) → (e : Edge) → Decided (HasVertices P e)
-inside_decided P p e =
-    turned (P e.to × (P e.from × OnThird P e.kind)) (HasVertices P e) (λ (a, (b, c)). (a, b, c)) (λ (a, b, c). (a, (b, c)))
-    (both (P e.to) (P e.from × OnThird P e.kind) (p e.to) (both (P e.from) (OnThird P e.kind) (p e.from) (third_decided P p e.kind)))
 
 pub restrict_finite : (g : Graph) → IsFinite g → (P : Vertex → Type 0) → ((v : Vertex) → Decided (P v)) → IsFinite (restrict_to g P)
 restrict_finite g fin P p = record {

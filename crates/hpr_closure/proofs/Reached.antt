@@ -12,7 +12,7 @@ use Rattle.hpr_graph.specs.Conflicts.{graph_at, IsConflictAt}
 use Rattle.hpr_graph.proofs.Laws.{vertices_map}
 use Rattle.hpr_graph.specs.Direct.{AreAlikeInto, AreAlikeFor, IsAlike, IsDirectlyAffected}
 use Rattle.hpr_graph.specs.Whole.{HasEnds, IsWhole, AreAll, IsFinite}
-use Rattle.hpr_closure.proofs.Decided.{Decided, both, vertex_decided, edge_decided, listed_decided, leads_decided, reach_decided}
+use Rattle.hpr_closure.proofs.Decided.{Decided, both, vertex_decided, edge_decided, edge_listed, leads_decided, reach_decided}
 use Rattle.hpr_closure.proofs.Decisions.{implied, denied, each_decided, some_decided, turned}
 use Rattle.hpr_closure.proofs.WholeSlices.{edge_inside, use_inside, merged_whole, whole_at, variant_within, point_within}
 
@@ -102,7 +102,7 @@ pub vertex_there : (k : Graph) → IsFinite k → (w : Vertex) → Decided (k.ve
 vertex_there k f w = turned (Contains f.vertices.0 w) (k.vertex w) (f.vertices.1 w).0 (f.vertices.1 w).1 (contained f.vertices.0 w)
 
 pub edge_there : (k : Graph) → IsFinite k → (e : Edge) → Decided (k.edge e)
-edge_there k f e = turned (Contains f.edges.0 e) (k.edge e) (f.edges.1 e).0 (f.edges.1 e).1 (listed_decided f.edges.0 e)
+edge_there k f e = edge_listed k f.edges e
 
 -- whether the edges of one graph with a property are edges of another
 abbrev Kept : (Edge → Type 0) → Graph → Graph → Type 0

@@ -18,7 +18,7 @@ use Rattle.hpr_syntax.specs.Rows.{Parent, content_by, assigned, expr_in}
 use Rattle.hpr_syntax.specs.Skeleton.{Skeleton, nil, act, fork, round, Point, enter, at, exit, StandsIn, skeleton}
 use Rattle.hpr_syntax.specs.Tree.{Tree}
 use Rattle.hpr_graph.specs.declared.vertex.Vertex.TheVariants.{Init, Part}
-use Rattle.hpr_terms.proofs.Facts.{in_none, in_cons, in_here, in_later}
+use Rattle.hpr_terms.proofs.Facts.{some_inj, in_none, in_cons, in_here, in_later}
 use Rattle.hpr_syntax.proofs.ActByUses.{uses_in}
 use Rattle.hpr_paths.proofs.Says.{says_of_standing, standing_of_says}
 use Rattle.hpr_paths.proofs.SkeletonTags.{tag_discrete, same_at}
@@ -67,14 +67,8 @@ bool_decided false false = inl refl
 pub truth_decided : (a : Bool) → Decided (a ≡ true)
 truth_decided a = bool_decided a true
 
-some_name : (x y : List ℕ) → Some x ≡ Some y → x ≡ y
-some_name x y e = cc
-
-pub some_tag : (v w : Tag) → Some v ≡ Some w → v ≡ w
-some_tag v w e = cc
-
 pub assigned_decided : (c : Content) (x : List ℕ) → Decided (assigned c ≡ Some x)
-assigned_decided (Assign y e) x = turned (y ≡ x) (Some y ≡ Some x) (ap (λ (z : List ℕ). Some z)) (some_name y x) (name_decided y x)
+assigned_decided (Assign y e) x = turned (y ≡ x) (Some y ≡ Some x) (ap (λ (z : List ℕ). Some z)) (some_inj y x) (name_decided y x)
 assigned_decided (If e) x = inr (λ e. cc)
 assigned_decided (While e) x = inr (λ e. cc)
 
@@ -107,7 +101,7 @@ parent_decided (Some (u, c)) t b =
 
 pub mark_decided : (m : Option Tag) (t : Tag) → Decided (m ≡ Some t)
 mark_decided None t = inr (λ e. cc)
-mark_decided (Some u) t = turned (u ≡ t) (Some u ≡ Some t) (ap (λ (v : Tag). Some v)) (some_tag u t) (tag_decided u t)
+mark_decided (Some u) t = turned (u ≡ t) (Some u ≡ Some t) (ap (λ (v : Tag). Some v)) (some_inj u t) (tag_decided u t)
 
 pub names_decided : (xs : List (List ℕ)) (x : List ℕ) → Decided (Contains xs x)
 names_decided xs x = elim (some_decided (λ (y : List ℕ). y ≡ x) (λ y. name_decided y x) xs) [

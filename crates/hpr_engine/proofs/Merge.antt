@@ -18,7 +18,7 @@ use Rattle.hpr_meaning.specs.UnionLaw.{KeepsEach, KeepsSides}
 use Rattle.hpr_engine.specs.Made.{IsGraphOf}
 use Rattle.hpr_engine.proofs.SameConflicts.{conflicts_same, keeps_same}
 
--- the graph of a program, by numbers, is whole and finite
+-- the graph of a program, by numbers, is whole
 whole : (t : Tree) (g : Numbered) → IsGraphOf t g → IsWhole (graph_in g)
 whole t g is = whole_same (graph_in g) (graph_of t) is.same (program_whole t is.program)
 

@@ -14,9 +14,9 @@ use Rattle.hpr_graph.specs.Answer.{graphs_of, merged_of_all}
 use Rattle.hpr_graph.specs.ProgramGraph.{graph_of}
 use Rattle.hpr_graph.specs.Slices.{Leads, LeadsTo, ReachesOne, slice_of, slice_at}
 use Rattle.hpr_graph.proofs.Laws.{same_turned, same_from_within, vertices_map}
-use Rattle.hpr_graph.specs.Whole.{HasLoops, LeadsRight, HasUses, HasEnds, IsWhole, AreAll}
+use Rattle.hpr_graph.specs.Whole.{HasLoops, HasUses, HasEnds, IsWhole, AreAll}
 use Rattle.hpr_closure.proofs.ProgramWhole.{program_ends, program_whole, programs_whole}
-use Rattle.hpr_closure.proofs.WholeSlices.{edge_inside, point_within, merged_whole, whole_at}
+use Rattle.hpr_closure.proofs.WholeSlices.{edge_inside, use_inside, point_within, merged_whole, whole_at}
 use Rattle.hpr_merge.proofs.EdgeStands.{changed_by}
 use Rattle.hpr_meaning.specs.UnionLaw.{variant_at, affected_of, AreKept, KeepsEach, LiesInOne, IsUnionKept}
 use Rattle.hpr_meaning.proofs.SidesKept.{each_kept}
@@ -88,9 +88,6 @@ module _ (g : Graph) (loops : HasLoops g) (uses : HasUses g) (S : Vertex → Typ
   abbrev InPoint : Edge → Type 0
   InPoint e = (s : Vertex) × S s × HasVertices (ReachesOne g (λ z. z ≡ s)) e
 
-  before_use : (s u w : Vertex) (es : List Edge) → LeadsTo g u es s → LeadsRight g w u → ReachesOne g (λ z. z ≡ s) w
-  before_use s u w es leads (f, has, l, from, to) = (s, f ∷ es, refl, (has, l, from, subst (λ z. LeadsTo g z es s) (sym to) leads))
-
   leading_point : (e : Edge) → g.edge e → Leads e.kind → ReachesOne g S e.to → InPoint e
   leading_point e h l (s, es, one, leads) = (s, one, edge_inside g loops (λ z. z ≡ s) e h l (s, es, refl, leads))
 
@@ -98,10 +95,7 @@ module _ (g : Graph) (loops : HasLoops g) (uses : HasUses g) (S : Vertex → Typ
   point_by e (Control label) is h to third = leading_point e h (subst Leads (sym is) tt) to
   point_by e (Independent x) is h to third = leading_point e h (subst Leads (sym is) tt) to
   point_by e (Carried x w) is h to third = leading_point e h (subst Leads (sym is) tt) to
-  point_by e (Order u) is h to (s, es, one, leads) =
-      let both = uses e u h is in
-      let at_u : ReachesOne g (λ z. z ≡ s) u = (s, es, refl, leads) in
-      (s, one, (before_use s u e.to es leads both.1, before_use s u e.from es leads both.0, subst (OnThird (ReachesOne g (λ z. z ≡ s))) (sym is) at_u))
+  point_by e (Order u) is h to (s, es, one, leads) = (s, one, use_inside g loops (λ z. z ≡ s) uses e u h is (s, es, refl, leads))
 
   pub slice_point : (e : Edge) → (slice_of g S).edge e → InPoint e
   slice_point e (h, inside) = point_by e e.kind refl h inside.0 inside.2

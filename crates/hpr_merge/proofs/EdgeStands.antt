@@ -7,16 +7,15 @@ use Rattle.hpr_graph.specs.Graphs.{Graph, IsWithin, Same}
 use Rattle.hpr_graph.specs.Slices.{LeadsTo, ReachesOne, slice_of, slice_at}
 use Rattle.hpr_graph.specs.Points.{IsAffected, changed, merged_all}
 use Rattle.hpr_graph.proofs.Lists.{in_none}
-use Rattle.hpr_graph.proofs.Laws.{IsClosed}
 use Rattle.hpr_graph.specs.Conflicts.{graph_at, IsAdded, IsLeast, IsConflictAt, HasNoConflict, AreConflicts}
-use Rattle.hpr_graph.specs.Whole.{HasLoops, IsListed, IsWhole, IsFinite, AreAll}
+use Rattle.hpr_graph.specs.Whole.{HasLoops, HasEnds, IsListed, IsWhole, IsFinite, AreAll}
 use Rattle.hpr_closure.proofs.Decided.{Decided, both, reach_decided, slice_edge_decided, least_decided}
 use Rattle.hpr_closure.proofs.FiniteGraphs.{finite_at, merged_finite}
 use Rattle.hpr_closure.proofs.Reached.{Before, vertex_there}
 use Rattle.hpr_closure.proofs.WholeSlices.{edge_inside, point_within, merged_whole, whole_at, variant_within}
 
 -- where each edge of a slice that ends in a smaller one is the smaller one's, the two are the same
-module _ (m g : Graph) (v : Vertex) (loops : HasLoops m) (closed : IsClosed g) (there : g.vertex v) (within : IsWithin (slice_at g v) (slice_at m v)) (all : (e : Edge) → (slice_at m v).edge e → (slice_at g v).vertex e.to → (slice_at g v).edge e) where
+module _ (m g : Graph) (v : Vertex) (loops : HasLoops m) (closed : HasEnds g) (there : g.vertex v) (within : IsWithin (slice_at g v) (slice_at m v)) (all : (e : Edge) → (slice_at m v).edge e → (slice_at g v).vertex e.to → (slice_at g v).edge e) where
   from_own : (w : Vertex) (es : List Edge) → LeadsTo m w es v → (slice_at g v).vertex w
   from_own w [] is = subst (slice_at g v).vertex (sym is) (there, (v, [], refl, refl))
   from_own w (e ∷ es) (has, l, from, rest) =
@@ -31,7 +30,7 @@ module _ (m g : Graph) (v : Vertex) (loops : HasLoops m) (closed : IsClosed g) (
   same_when_own = (λ w. (λ x. own_vertex w x.1, within.0 w), λ e. (λ x. all e x (own_vertex e.to x.1.0), within.1 e))
 
 -- in finite graphs either the two slices are the same, or a least added edge stands
-module _ (m g : Graph) (v : Vertex) (loops : HasLoops m) (closed : IsClosed g) (listed : IsListed m) (fin : IsFinite g) (there : g.vertex v) (within : IsWithin (slice_at g v) (slice_at m v)) where
+module _ (m g : Graph) (v : Vertex) (loops : HasLoops m) (closed : HasEnds g) (listed : IsListed m) (fin : IsFinite g) (there : g.vertex v) (within : IsWithin (slice_at g v) (slice_at m v)) where
   own_decided : (w : Vertex) → Decided ((slice_at g v).vertex w)
   own_decided w = both (g.vertex w) (Before g v w) (vertex_there g fin w) (reach_decided g fin.edges v w)
 
