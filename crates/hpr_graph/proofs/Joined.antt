@@ -11,7 +11,7 @@ use Rattle.hpr_graph.specs.declared.link.LinkKind.{LinkKind}
 use Rattle.hpr_graph.specs.declared.link.LinkKind.TheVariants.{Control, Independent, Carried, Order}
 use Rattle.hpr_graph.specs.declared.link.Link.{Link}
 use Rattle.hpr_graph.specs.Graphs.{IsOnce, Same, OnThird, HasVertices, union_of, restrict_to}
-use Rattle.hpr_graph.specs.Numbered.{Numbered, HasVertex, HasEdge, IsKindAt, IsGrown, IsMarkedVertex, graph_in, row_items}
+use Rattle.hpr_graph.specs.Numbered.{Numbered, HasVertex, HasLink, HasEdge, IsKindAt, IsGrown, IsMarkedVertex, graph_in, row_items}
 use Rattle.hpr_graph.specs.Moves.{number_at, HasNumber, moved_kind, IsMoved, ArePlaced, MovesEdge}
 use Rattle.hpr_graph.proofs.Lists.{some_of, contains_at, place_of, in_none}
 
@@ -50,13 +50,17 @@ module _ (g : Numbered) (ns : List (Option ℕ)) (P : Vertex → Type 0) (number
         (at, l, has, ((numbers at e.to is.0).1 to, (moved_both ns l).1 ((numbers l.from e.from is.1).1 from, third_out l.kind e.from e.kind is.2 third), is)),
   )
 
-no_edge : (g : Numbered) → g.links ≡ [] → (e : Edge) → ¬ HasEdge g e
-no_edge g none e (i, l, has, is) = in_none l (subst (λ (rows : List (List Link)). Contains (row_items (slice_get rows i)) l) none has)
+pub no_link : (g : Numbered) → g.links ≡ [] → (at : ℕ) (l : Link) → ¬ HasLink g at l
+no_link g none at l has = in_none l (subst (λ (rows : List (List Link)). Contains (row_items (slice_get rows at)) l) none has)
+
+-- a graph that has grown from one with no link has the links of any graph with none
+pub no_more_links : (empty g none : Numbered) → empty.links ≡ [] → IsGrown empty g → none.links ≡ [] → (at : ℕ) (l : Link) → HasLink none at l ↔ HasLink g at l
+no_more_links empty g none begun grown is at l = (λ h. absurd (no_link none is at l h), λ h. absurd (no_link empty begun at l (grown.only at l h)))
 
 pub restricted_same : (g : Numbered) (keep : List Bool) (ns : List (Option ℕ)) (empty placed whole : Numbered) → IsOnce g.vertices → empty.links ≡ [] → ArePlaced g.vertices ns placed.vertices → ((i : ℕ) → HasNumber ns i ↔ IsMarked keep i)
-    → ((e : Edge) → HasEdge placed e ↔ HasEdge empty e) → ((v : Vertex) → HasVertex placed v → IsMarkedVertex g keep v) → whole.vertices ≡ placed.vertices → ((e : Edge) → HasEdge whole e ↔ (HasEdge placed e ⊎ MovesEdge g ns e))
+    → IsGrown empty placed → ((v : Vertex) → HasVertex placed v → IsMarkedVertex g keep v) → whole.vertices ≡ placed.vertices → ((e : Edge) → HasEdge whole e ↔ (HasEdge placed e ⊎ MovesEdge g ns e))
     → Same (graph_in whole) (restrict_to (graph_in g) (IsMarkedVertex g keep))
-restricted_same g keep ns empty placed whole once none are_placed marked begun only same moved_in =
+restricted_same g keep ns empty placed whole once none are_placed marked grown only same moved_in =
     let numbers : (i : ℕ) (v : Vertex) → slice_get g.vertices i ≡ Some v → HasNumber ns i ↔ IsMarkedVertex g keep v =
     λ i v at. (λ h. (i, at, (marked i).0 h), λ (j, at', m). (marked i).1 (subst (IsMarked keep) (once j i v at' at) m)) in (
       λ v. (
@@ -71,7 +75,7 @@ restricted_same g keep ns empty placed whole once none are_placed marked begun o
       ),
       λ e. (
         λ h. elim ((moved_in e).0 h) [
-          | inl was ↦ absurd (no_edge empty none e ((begun e).0 was))
+          | inl was ↦ absurd (no_link empty none was.0 was.1 (grown.only was.0 was.1 was.2))
           | inr now ↦ (moved_edges g ns (IsMarkedVertex g keep) numbers e).0 now
         ],
         λ h. (moved_in e).1 (inr ((moved_edges g ns (IsMarkedVertex g keep) numbers e).1 h)),

@@ -14,6 +14,7 @@ mod Twinned
 mod Linked
 mod Ascending
 pub mod VertexOrder
+mod Indexed
 pub mod EdgeOrder
 pub mod InOrder
 mod Reordered

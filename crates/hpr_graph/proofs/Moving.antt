@@ -1,5 +1,5 @@
 -- Links put into another graph under its numbers: they are the same edges there.
-use Rattle.std.proofs.Common.{◌≡◌, ℕ, ◌+◌, ◌<◌, ◌≤◌, ◌↔◌, ◌⊎◌, inl, inr, Option, Some, None, List, [], length, get_or, take, Contains, slice_get, refl, sym, ap, ◌∙◌, subst, arith}
+use Rattle.std.proofs.Common.{◌≡◌, ◌≢◌, ℕ, ◌+◌, ◌<◌, ◌≤◌, ◌↔◌, ◌⊎◌, inl, inr, Option, Some, None, List, [], length, get_or, take, Contains, slice_get, refl, sym, ap, ◌∙◌, subst, arith}
 use Rattle.std.specs.Option.{option_map, option_and_then}
 use Rattle.std.proofs.lemmas.Bool.{cases_eq}
 use Rattle.std.proofs.lemmas.List.{take_all}
@@ -13,7 +13,7 @@ use Rattle.hpr_graph.specs.declared.link.LinkKind.TheVariants.{Control, Independ
 use Rattle.hpr_graph.specs.declared.link.Link.{Link}
 use Rattle.hpr_graph.specs.Graphs.{IsOnce}
 use Rattle.hpr_graph.specs.Numbered.{Numbered, IsKindAt, IsEdgeAt, HasLink, HasEdge, IsLink, IsNumbered, row_of, row_items}
-use Rattle.hpr_graph.specs.Moves.{number_at, moved_kind, moved, ArePlaced, MovesLink, MovesEdge, MovesEdgeBelow, MovesEdgeIn}
+use Rattle.hpr_graph.specs.Moves.{number_at, moved_kind, moved, ArePlaced, MovesLink, MovesEdge, MovesEdgeBelow, MovesEdgeIn, IsKeptElsewhere}
 use Rattle.hpr_graph.proofs.Lists.{some_inj, some_of, is_some_at, in_none, in_taken, not_taken}
 use Rattle.hpr_graph.proofs.EdgeList.{link_once, edge_link}
 use Rattle.hpr_graph.proofs.Laws.{link_edges}
@@ -142,16 +142,13 @@ module _ (source old : Numbered) (ns : List (Option ℕ)) (placed : ArePlaced so
 
 module _ (source old : Numbered) (ns : List (Option ℕ)) (placed : ArePlaced source.vertices ns old.vertices) (at to : ℕ) (number : number_at ns at ≡ Some to) where
   -- the link by its numbers there is known exactly where it is there
-  pub row_known : (row there known : List Link) (i : ℕ) (d : Link) (new : Numbered) → i < length row → RowMoved source old ns at (take i row) new → IsNumbered source → IsNumbered old → slice_get source.links at ≡ Some row → slice_get old.links to ≡ Some there
-      → ((l : Link) → Contains row l → IsLink source at l) → ((m : Link) → Contains known m ↔ Contains there m) → (m : Link) → moved ns (get_or row i d) ≡ Some m → Contains known m ↔ HasLink new to m
-  row_known row there known i d new within so_far k_source k_old row_is there_is links same m is =
+  pub row_known : (row known : List Link) (i : ℕ) (d : Link) (new : Numbered) → i < length row → RowMoved source old ns at (take i row) new → IsNumbered source → IsNumbered old → slice_get source.links at ≡ Some row
+      → ((l : Link) → Contains row l → IsLink source at l) → ((m : Link) → Contains known m ↔ HasLink old to m) → (m : Link) → moved ns (get_or row i d) ≡ Some m → Contains known m ↔ HasLink new to m
+  row_known row known i d new within so_far k_source k_old row_is links same m is =
       let r : row_of source at ≡ row = ap row_items row_is in
-      let t : row_of old to ≡ there = ap row_items there_is in
       let once_row : IsOnce row = subst (λ (xs : List Link). IsOnce xs) r (k_source.links_once at) in
-      let fresh = row_fresh source old ns placed at to number row i d within new so_far k_source.once k_old.once once_row (links (get_or row i d) (Contains-get_or row i d within)) m is in (
-        λ h. fresh.0 (subst (λ (xs : List Link). Contains xs m) (sym t) ((same m).0 h)),
-        λ h. (same m).1 (subst (λ (xs : List Link). Contains xs m) t (fresh.1 h)),
-      )
+      let fresh = row_fresh source old ns placed at to number row i d within new so_far k_source.once k_old.once once_row (links (get_or row i d) (Contains-get_or row i d within)) m is in
+      (λ h. fresh.0 ((same m).0 h), λ h. (same m).1 (fresh.1 h))
 
   pub row_whole : (row : List Link) (i : ℕ) (new : Numbered) → length row ≤ i → RowMoved source old ns at (take i row) new → slice_get source.links at ≡ Some row → (e : Edge) → HasEdge new e ↔ (HasEdge old e ⊎ MovesEdgeIn source ns at (row_of source at) e)
   row_whole row i new past so_far row_is e =
@@ -163,6 +160,9 @@ pub record RowsMoved (source : Numbered) (ns : List (Option ℕ)) (old new : Num
   pub edges : (e : Edge) → HasEdge new e ↔ (HasEdge old e ⊎ MovesEdgeBelow source ns n e)
 
 module _ (source : Numbered) (ns : List (Option ℕ)) (old : Numbered) where
+  pub rows_begun : RowsMoved source ns old old 0
+  rows_begun = record { vertices = refl; edges = λ e. (λ h. inl h, λ h. elim h [ inl was ↦ was | inr (i, l, lt, has, is) ↦ absurd (omega (arith, lt)) ]) }
+
   module _ (new : Numbered) (at : ℕ) (so_far : RowsMoved source ns old new at) where
     step_in : (e : Edge) → MovesEdgeBelow source ns (at + 1) e → MovesEdgeBelow source ns at e ⊎ MovesEdgeIn source ns at (row_of source at) e
     step_in e (i, l, lt, has, is) = elim (cases_eq i at) [
@@ -212,3 +212,31 @@ module _ (source : Numbered) (ns : List (Option ℕ)) (old : Numbered) where
           (so_far.edges e).1 (inr (i, l, omega (arith, past, slice_get_within source.vertices i e.to is.0), has, (number, mo, is)))
     ],
   )
+
+-- rows that were left alone
+pub elsewhere_itself : (g : Numbered) (to : ℕ) → IsKeptElsewhere g g to
+elsewhere_itself g to i l ne = (λ h. h, λ h. h)
+
+pub elsewhere_then : (g h k : Numbered) (to : ℕ) → IsKeptElsewhere g h to → IsKeptElsewhere h k to → IsKeptElsewhere g k to
+elsewhere_then g h k to first second i l ne = (λ has. (first i l ne).0 ((second i l ne).0 has), λ has. (second i l ne).1 ((first i l ne).1 has))
+
+pub elsewhere_added : (old new : Numbered) (to : ℕ) (m : Link) → ((i : ℕ) (x : Link) → HasLink old i x → HasLink new i x) → ((i : ℕ) (x : Link) → HasLink new i x → HasLink old i x ⊎ ((i ≡ to) × (x ≡ m))) → IsKeptElsewhere old new to
+elsewhere_added old new to m kept only i l ne = (λ h. elim (only i l h) [ inl was ↦ was | inr now ↦ absurd (ne now.0) ], kept i l)
+
+-- the rows that are still to come have the links that are known
+abbrev pub AreKnown : Numbered → List (Option ℕ) → Numbered → ℕ → Type 0
+AreKnown known ns new at = (i to : ℕ) (l : Link) → at ≤ i → number_at ns i ≡ Some to → HasLink known to l ↔ HasLink new to l
+
+pub known_more : (source known old new : Numbered) (ns : List (Option ℕ)) (at to : ℕ) → IsOnce source.vertices → ArePlaced source.vertices ns old.vertices → number_at ns at ≡ Some to → IsKeptElsewhere old new to → AreKnown known ns old at → AreKnown known ns new (at + 1)
+known_more source known old new ns at to once placed number elsewhere so_far i j l later here =
+    let apart : j ≢ to = λ same.
+    (let (v, at_i, at_j) = placed i j here in
+    let (w, at_at, at_to) = placed at to number in
+    let one : Some v ≡ Some w = sym at_j ∙ ap (slice_get old.vertices) same ∙ at_to in
+    let is : i ≡ at = once i at v at_i (at_at ∙ sym one) in
+    omega (arith, later, is)) in
+    let known_before = so_far i j l (omega (arith, later)) here in
+    (λ h. (elsewhere j l apart).1 (known_before.0 h), λ h. known_before.1 ((elsewhere j l apart).0 h))
+
+pub known_past : (known new : Numbered) (ns : List (Option ℕ)) (at : ℕ) → AreKnown known ns new at → AreKnown known ns new (at + 1)
+known_past known new ns at so_far i j l later here = so_far i j l (omega (arith, later)) here

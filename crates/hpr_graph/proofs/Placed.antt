@@ -81,7 +81,7 @@ pub record MarkedPlaced (source : Numbered) (keep : List Bool) (old new : Number
   pub len : length ns ≡ at
   pub placed : ArePlaced source.vertices ns new.vertices
   pub marked : (i : ℕ) → i < at → HasNumber ns i ↔ IsMarked keep i
-  pub edges : (e : Edge) → HasEdge new e ↔ HasEdge old e
+  pub grown : IsGrown old new
   pub only : (v : Vertex) → HasVertex new v → (i : ℕ) × (i < at) × (slice_get source.vertices i ≡ Some v) × IsMarked keep i
 
 pub marked_begun : (source : Numbered) (keep : List Bool) (old : Numbered) (ns : List (Option ℕ)) → old.vertices ≡ [] → ns ≡ [] → MarkedPlaced source keep old old ns 0
@@ -89,7 +89,7 @@ marked_begun source keep old ns none e = rw e (record {
   len = refl;
   placed = none_placed source.vertices old.vertices;
   marked = λ i l. absurd (omega (arith, l));
-  edges = λ e. (λ h. h, λ h. h);
+  grown = grown_itself old;
   only = λ v h. absurd (let l : length old.vertices ≡ 0 = ap length none in omega (arith, h.1, l));
 })
 
@@ -100,15 +100,14 @@ marked_fresh source keep old new ns at v s once here h =
     let same : i ≡ at = once i at v there here in
     omega (arith, below, same)
 
-pub marked_more : (source : Numbered) (keep : List Bool) (old new next : Numbered) (ns ns' : List (Option ℕ)) (at : ℕ) (o : Option ℕ) (v : Vertex) → MarkedPlaced source keep old new ns at → slice_get source.vertices at ≡ Some v → IsGrown new next → ((e : Edge) → HasEdge next e ↔ HasEdge new e)
-    → (IsSome o ↔ IsMarked keep at) → IfSome o (λ j. slice_get next.vertices j ≡ Some v) → ((x : Vertex) → HasVertex next x → HasVertex new x ⊎ (IsMarked keep at × (x ≡ v))) → ns' ≡ ns ++ o ∷ [] → MarkedPlaced source keep old next ns' (at + 1)
-marked_more source keep old new next ns ns' at o v s here grown edges number there only is = rw is (record {
+pub marked_more : (source : Numbered) (keep : List Bool) (old new next : Numbered) (ns ns' : List (Option ℕ)) (at : ℕ) (o : Option ℕ) (v : Vertex) → MarkedPlaced source keep old new ns at → slice_get source.vertices at ≡ Some v → IsGrown new next → (IsSome o ↔ IsMarked keep at) → IfSome o (λ j. slice_get next.vertices j ≡ Some v) → ((x : Vertex) → HasVertex next x → HasVertex new x ⊎ (IsMarked keep at × (x ≡ v))) → ns' ≡ ns ++ o ∷ [] → MarkedPlaced source keep old next ns' (at + 1)
+marked_more source keep old new next ns ns' at o v s here grown number there only is = rw is (record {
   len = omega (arith, s.len, length-append ns (o ∷ []));
   placed = placed_more source.vertices new.vertices next.vertices ns o at v s.placed s.len here grown.vertices there;
   marked = below_more (λ i. HasNumber (ns ++ o ∷ []) i ↔ IsMarked keep i) at
       (λ i l. subst (λ (p : Option ℕ). IsSome p ↔ IsMarked keep i) (number_kept ns o i (omega (arith, l, s.len))) (s.marked i l))
       (subst (λ (p : Option ℕ). IsSome p ↔ IsMarked keep at) (sym (number_last ns o at s.len)) number);
-  edges = λ e. (λ h. (s.edges e).0 ((edges e).0 h), λ h. (edges e).1 ((s.edges e).1 h));
+  grown = grown_then old new next s.grown grown;
   only = λ x h. elim (only x h) [
     | inl was ↦ (let (i, below, at_i, m) = s.only x was in (i, omega (arith, below), at_i, m))
     | inr now ↦ (at, omega arith, here ∙ ap Some (sym now.1), now.0)

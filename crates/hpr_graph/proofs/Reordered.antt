@@ -16,19 +16,19 @@ use Rattle.hpr_graph.specs.contracts.vertex.VertexOrd.TheImpl as vertices
 use Rattle.hpr_graph.specs.contracts.vertex.VertexOrd.TheImpl.Laws as vertex_laws
 use Rattle.hpr_graph.specs.contracts.link.LinkOrd.TheImpl.Laws as link_laws
 use Rattle.hpr_graph.specs.Graphs.{Same, IsOnce, union_of}
-use Rattle.hpr_graph.specs.Numbered.{Numbered, HasLink, HasEdge, IsEdgeAt, IsCounted, graph_in, row_items}
+use Rattle.hpr_graph.specs.Numbered.{Numbered, HasLink, HasEdge, IsEdgeAt, IsCounted, graph_in, row_items, row_of}
 use Rattle.hpr_graph.specs.Moves.{HasNumber, ArePlaced, MovesEdge}
 use Rattle.hpr_graph.specs.Order.{vertex_cmp}
-use Rattle.hpr_graph.specs.InOrder.{Ascends, AreVerticesOf}
+use Rattle.hpr_graph.specs.InOrder.{Ascends, AreVerticesOf, RowsAscend}
 use Rattle.hpr_graph.proofs.Ascending.{ascends_by, ascending_sorted, ascending_once, once_permuted}
-use Rattle.hpr_graph.proofs.Joined.{united_same}
+use Rattle.hpr_graph.proofs.Joined.{no_link, united_same}
 use Rattle.hpr_graph.proofs.Laws.{same_then}
 use Rattle.hpr_graph.proofs.LinkOrder.{link_cmp, link_equal}
-use Rattle.hpr_graph.proofs.Lists.{get_set_same, get_set_other}
+use Rattle.hpr_graph.proofs.Lists.{contains_at, get_set_same, get_set_other}
 use Rattle.hpr_graph.proofs.Numbers.{numbered, grown_itself}
 use Rattle.hpr_graph.proofs.Orders.{vertex_order}
 use Rattle.hpr_graph.proofs.Placed.{AllPlaced, all_more}
-use Rattle.hpr_graph.proofs.Searches.{not_less, less_equal, greater_equal}
+use Rattle.hpr_graph.proofs.Searches.{not_less, less_equal, greater_equal, sorted_ascending}
 use Rattle.hpr_graph.proofs.VertexOrder.{vertex_never, vertex_itself, vertex_tied}
 
 -- vertices after a sort
@@ -39,6 +39,13 @@ vertices_sorted vs us once moved up =
 
 pub row_sorted : (row new : List Link) → IsOnce row → IsPermutation row new → IsSorted link_cmp new → Ascends link_cmp new
 row_sorted row new once moved up = ascending_sorted link_cmp link_laws.total-law link_equal new (once_permuted row new moved once) up
+
+pub row_in_order : (g : Numbered) (at : ℕ) (row : List Link) → RowsAscend link_cmp g → slice_get g.links at ≡ Some row → IsSorted link_cmp row
+row_in_order g at row up is =
+    subst (λ (xs : List Link). IsSorted link_cmp xs) (ap row_items is) (sorted_ascending link_cmp link_laws.total-law (row_of g at) (up at))
+
+pub no_rows_ascend : (g : Numbered) → g.links ≡ [] → RowsAscend link_cmp g
+no_rows_ascend g none at i j x y l p q = absurd (no_link g none at x (contains_at (row_of g at) i x p))
 
 -- what a search among ascending vertices finds
 module _ (vs : List Vertex) (v : Vertex) (up : Ascends vertex_cmp vs) where
@@ -86,6 +93,16 @@ found_more vs us ns ns' at (Some n) v s here there some is =
 pub ascending_vertices_once : (vs : List Vertex) → Ascends vertex_cmp vs → IsOnce vs
 ascending_vertices_once vs up = ascending_once vertex_cmp vertex_never vs up
 
+-- rows with the same links under the same numbers make the same graph
+pub same_links : (g h : Numbered) → h.vertices ≡ g.vertices → ((at : ℕ) (l : Link) → HasLink h at l ↔ HasLink g at l) → Same (graph_in h) (graph_in g)
+same_links g h c links = (
+  λ v. (λ has. subst (λ (us : List Vertex). Contains us v) c has, λ has. subst (λ (us : List Vertex). Contains us v) (sym c) has),
+  λ e. (
+    λ (i, l, has, is). (i, l, (links i l).0 has, subst (λ (us : List Vertex). IsEdgeAt us i l e) c is),
+    λ (i, l, has, is). (i, l, (links i l).1 has, subst (λ (us : List Vertex). IsEdgeAt us i l e) (sym c) is),
+  ),
+)
+
 -- the same graph, with its vertices and its rows in order
 module _ (g placed whole final : Numbered) (vs : List Vertex) (ns : List (Option ℕ)) where
   pub reordered_vertices : placed.vertices ≡ vs → whole.vertices ≡ placed.vertices → final.vertices ≡ whole.vertices → Ascends vertex_cmp vs → ((x : Vertex) → Contains vs x ↔ Contains g.vertices x) → AreVerticesOf (graph_in g) final.vertices
@@ -101,14 +118,7 @@ module _ (g placed whole final : Numbered) (vs : List Vertex) (ns : List (Option
         λ v. (λ h. elim h [ inl here ↦ (all v).0 (subst (λ (us : List Vertex). Contains us v) a here) | inr there ↦ there ], λ h. inr h),
         λ e. (λ h. elim h [ inl here ↦ absurd (none e here) | inr there ↦ there ], λ h. inr h),
       ) in
-      let final_same : Same (graph_in final) (graph_in whole) = (
-        λ v. (λ h. subst (λ (us : List Vertex). Contains us v) c h, λ h. subst (λ (us : List Vertex). Contains us v) (sym c) h),
-        λ e. (
-          λ (i, l, has, is). (i, l, (links i l).0 has, subst (λ (us : List Vertex). IsEdgeAt us i l e) c is),
-          λ (i, l, has, is). (i, l, (links i l).1 has, subst (λ (us : List Vertex). IsEdgeAt us i l e) (sym c) is),
-        ),
-      ) in
-      same_then (graph_in final) (graph_in whole) (graph_in g) final_same whole_same
+      same_then (graph_in final) (graph_in whole) (graph_in g) (same_links whole final c links) whole_same
 
 -- rows in another order
 lengths : (rows new : List (List Link)) → length new ≡ length rows → ((at : ℕ) → length (row_items (slice_get new at)) ≡ length (row_items (slice_get rows at))) → sum_by (λ row. length row) new ≡ sum_by (λ row. length row) rows

@@ -14,3 +14,4 @@ pub mod Arrangements
 pub mod Answer
 pub mod Direct
 pub mod Whole
+pub mod Hashed

@@ -10,9 +10,10 @@
 -- MovesEdge g ns e         == some link of g is so
 -- MovesEdgeBelow g ns n e  == some link of the first n rows is so
 -- MovesEdgeIn g ns at ls e == some link into the vertex `at` among these is so
+-- IsKeptElsewhere g h to   == all rows but that of the vertex number `to` have the same links in both
 -- with_link rows to l      == the rows with a link behind those of one row
 -- with_row rows            == the rows with an empty one behind them
-use Rattle.std.specs.Prelude.{◌≡◌, ℕ, ◌<◌, List, [], ◌∷◌, ◌++◌, Option, Some, None, IsSome, Contains, slice_get, slice_set, slice_index_or}
+use Rattle.std.specs.Prelude.{◌≡◌, ◌≢◌, ◌↔◌, ℕ, ◌<◌, List, [], ◌∷◌, ◌++◌, Option, Some, None, IsSome, Contains, slice_get, slice_set, slice_index_or}
 use Rattle.std.specs.Option.{option_map, option_and_then}
 use Rattle.hpr_graph.specs.declared.vertex.Vertex.{Vertex}
 use Rattle.hpr_graph.specs.declared.edge.Edge.{Edge}
@@ -53,6 +54,9 @@ MovesEdgeBelow g ns n e = (at : ℕ) × (l : Link) × (at < n) × HasLink g at l
 
 abbrev pub MovesEdgeIn : Numbered → List (Option ℕ) → ℕ → List Link → Edge → Type 0
 MovesEdgeIn g ns at ls e = (l : Link) × Contains ls l × MovesLink g ns at l e
+
+abbrev pub IsKeptElsewhere : Numbered → Numbered → ℕ → Type 0
+IsKeptElsewhere g h to = (i : ℕ) (l : Link) → i ≢ to → HasLink h i l ↔ HasLink g i l
 
 abbrev pub with_link : List (List Link) → ℕ → Link → List (List Link)
 with_link rows to l = slice_set rows to (row_items (slice_get rows to) ++ l ∷ [])

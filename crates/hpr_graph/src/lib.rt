@@ -7,6 +7,7 @@
 #![tactic(auto)]
 
 mod conflict;
+mod draft;
 mod edge;
 mod graph;
 mod link;
@@ -18,6 +19,7 @@ mod sets;
 mod vertex;
 
 pub use conflict::{Conflict, Side};
+pub use draft::Draft;
 pub use edge::{Edge, Kind};
 pub use graph::Graph;
 pub use hpr_syntax::{Content, Name, NoMemory, Tag};

@@ -9,9 +9,8 @@ ghost use Rattle.hpr_graph.specs.Moves.{HasNumber, ArePlaced};
 ghost use Rattle.hpr_graph.specs.Order.{vertex_cmp};
 ghost use Rattle.hpr_graph.specs.InOrder.{Ascends, AreVerticesOf, RowsAscend};
 
-use crate::graph::copy_vertices;
 use crate::sets::add_edges;
-use crate::{Edge, Graph, Kind, Link, LinkKind, Vertex};
+use crate::{Draft, Edge, Graph, Kind, Link, LinkKind, Vertex};
 use hpr_syntax::{Name, NoMemory};
 use std::alloc::Global;
 
@@ -23,11 +22,10 @@ pub(crate) fn ordered(alloc: Global, graph: &Graph) -> Result<Graph, NoMemory>
     ensures rows { IfOk result (λ g. RowsAscend ⟦<Link as Ord>⟧.cmp g) }
 {
     let vertices = sorted_vertices(alloc, graph.vertices())?;
-    let mut target = Graph::of_vertices(alloc, &vertices)?;
+    let mut draft = Draft::of_vertices(alloc, &vertices)?;
     let numbers = numbers_among(alloc, graph.vertices(), &vertices)?;
-    add_edges(alloc, &mut target, graph, &numbers)?;
-    target.sort_rows();
-    Ok(target)
+    add_edges(&mut draft, &Graph::empty(alloc), graph, &numbers)?;
+    Ok(draft.finish())
 }
 
 /// Copies of the vertices, in ascending order.
@@ -38,6 +36,16 @@ fn sorted_vertices(alloc: Global, vertices: &[Vertex]) -> Result<Vec<Vertex>, No
 {
     let mut copies = copy_vertices(alloc, vertices)?;
     copies.sort_unstable();
+    Ok(copies)
+}
+
+fn copy_vertices(alloc: Global, vertices: &[Vertex]) -> Result<Vec<Vertex>, NoMemory>
+    ensures { IfOk result (λ v. v.items ≡ vertices.now) }
+{
+    let mut copies = Vec::new(alloc);
+    for vertex in vertices {
+        copies.push(vertex.copy(alloc)?)?;
+    }
     Ok(copies)
 }
 

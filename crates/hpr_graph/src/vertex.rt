@@ -5,6 +5,7 @@ ghost use Rattle.hpr_graph.specs.Graphs.{name_of};
 
 use hpr_syntax::{Content, Name, NoMemory, Tag};
 use std::alloc::Global;
+use std::hash::{Hash, Hasher};
 
 /// A vertex of a dependence graph (Horwitz, Prins and Reps 1989). A part whose content changed under a kept
 /// tag is another vertex.
@@ -55,6 +56,27 @@ impl Vertex {
             Vertex::Init(name) => Ok(Vertex::Init(name.copy(alloc)?)),
             Vertex::Part(tag, content) => Ok(Vertex::Part(*tag, content.copy(alloc)?)),
             Vertex::Final(name) => Ok(Vertex::Final(name.copy(alloc)?)),
+        }
+    }
+}
+
+/// A vertex is hashed by its name, or by its tag without its content.
+impl Hash for Vertex {
+    ghost use Rattle.hpr_graph.specs.Hashed.{hash_input, same_input};
+
+    ghost hash_input = { hash_input };
+
+    ghost respects_eq = { same_input };
+
+    fn hash<H: Hasher>(&self, state: &mut H) {
+        match self {
+            Vertex::Entry => {}
+            Vertex::Init(name) => name.text().hash(state),
+            Vertex::Part(tag, _) => {
+                state.write_u32(tag.author);
+                state.write_u32(tag.serial);
+            }
+            Vertex::Final(name) => name.text().hash(state),
         }
     }
 }

@@ -1,7 +1,7 @@
 use Rattle.std.proofs.Common.{◌≡◌, Some, Result, Ok, Err, OnOk, sym}
 use Rattle.hpr_graph.specs.Moves.{moved}
 use Rattle.hpr_graph.proofs.Lists.{never}
-use Rattle.hpr_graph.proofs.Moving.{known_edges, added_edges, moved_link}
+use Rattle.hpr_graph.proofs.Moving.{known_edges, added_edges, moved_link, elsewhere_added}
 use Rattle.hpr_graph.proofs.sets.add_moved.Goals as goal
 
 pub returns-then-has_sorted-clause-edges : goal.returns-then-has_sorted-clause-edges
@@ -30,3 +30,8 @@ push_new_link-requires-clause-fresh c = λ there.
 pub push_new_link-requires-clause-link : goal.push_new_link-requires-clause-link
 push_new_link-requires-clause-link c =
     moved_link c.args.source.now c.args.target.now c.args.numbers.now c.requires.placed c.args.at c.args.to c.requires.number c.args.link c.in-Some.moved (sym c.in-Some.ensures) c.requires.link
+
+pub returns-clause-elsewhere : goal.returns-clause-elsewhere
+returns-clause-elsewhere c =
+    on_ok c.push_new_link.result _ _ _ _ c.push_new_link.ensures.there c.push_new_link.ensures.kept c.push_new_link.ensures.only
+    (λ there kept only. elsewhere_added c.args.target.now c.push_new_link.new.self c.args.to c.in-Some.moved kept only)

@@ -15,7 +15,7 @@ pub loop-at-preserved : goal.loop-at-preserved
 loop-at-preserved c =
     marked_more c.args.source.now c.args.keep.now c.args.target.now c.loop-at.target _ c.loop-at.numbers.items _ c.loop-at.at c.in_ok-push_if.field-0 c.vertex-item.result c.loop-at.invariant
     (read_at _ _ c.loop-at.at c.vertex-item.result c.vertices-vertex-items.ensures.vertices c.loop-at-test.true c.vertex-item.is)
-    c.in_ok-push_if.ensures.grown c.in_ok-push_if.ensures.edges c.in_ok-push_if.ensures.number c.in_ok-push_if.ensures.there c.in_ok-push_if.ensures.only c.in_ok-push.ensures.items
+    c.in_ok-push_if.ensures.grown c.in_ok-push_if.ensures.number c.in_ok-push_if.ensures.there c.in_ok-push_if.ensures.only c.in_ok-push.ensures.items
 
 pub returns-clause-placed : goal.returns-clause-placed
 returns-clause-placed c = c.loop-at.invariant.placed
@@ -25,8 +25,8 @@ returns-clause-marked c =
     let all : length c.vertices-vertex-items.result.now ≡ length c.args.source.now.vertices = ap length c.vertices-vertex-items.ensures.vertices in
     marked_all _ _ _ _ _ c.loop-at.at c.loop-at.invariant (omega (arith, all, c.requires.marks, c.loop-at-test.false))
 
-pub returns-clause-edges : goal.returns-clause-edges
-returns-clause-edges c = c.loop-at.invariant.edges
+pub returns-clause-grown : goal.returns-clause-grown
+returns-clause-grown c = c.loop-at.invariant.grown
 
 pub returns-clause-only : goal.returns-clause-only
 returns-clause-only c = marked_only _ _ _ _ _ c.loop-at.at c.loop-at.invariant
