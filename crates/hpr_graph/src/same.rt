@@ -1,18 +1,20 @@
 //! Graphs compared by their sets.
-ghost use Rattle.std.specs.Prelude.{◌≡◌, ◌↔◌, ◌<◌, IsTrue, Contains, length, slice_get};
+ghost use Rattle.std.specs.Prelude.{◌≡◌, ◌↔◌, ◌<◌, ℕ, IsTrue, Contains, Some, length, slice_get};
+ghost use Rattle.std.specs.List.Sorted.{IsSorted};
 ghost use Rattle.hpr_graph.specs.declared.link.Link.{Link};
-ghost use Rattle.hpr_graph.specs.Graphs.{IsWithin};
+ghost use Rattle.hpr_graph.specs.declared.link.LinkKind.{LinkKind};
+ghost use Rattle.hpr_graph.specs.Graphs.{IsOnce, IsWithin};
 ghost use Rattle.hpr_graph.specs.Numbered.{graph_in};
 ghost use Rattle.hpr_graph.specs.Twins.{IsSomeKind, IsSomeLink, SameKind, SameLink, HasTwin, HasTwins};
 
-use crate::{Graph, Link, LinkKind, Vertex, same_vertex};
+use crate::links::has_sorted;
+use crate::{Graph, Link, LinkKind, Vertex};
 
 /// Whether the other graph has all vertices and all edges of this one.
 pub(crate) fn is_within(graph: &Graph, other: &Graph) -> bool
     ensures { IsTrue result ↔ IsWithin (graph_in graph.now) (graph_in other.now) }
 {
     let vertices = graph.vertices();
-    let others = other.vertices();
     for at in 0..vertices.len() {
         let Some(there) = other.number_of(&vertices[at]) else {
             return false;
@@ -20,7 +22,7 @@ pub(crate) fn is_within(graph: &Graph, other: &Graph) -> bool
         if !is_row_within(
             vertices,
             graph.edges_into(at),
-            others,
+            other,
             other.edges_into(there),
         ) {
             return false;
@@ -29,63 +31,63 @@ pub(crate) fn is_within(graph: &Graph, other: &Graph) -> bool
     true
 }
 
-/// Whether each edge of a row is the same as one of a row of the other graph.
-fn is_row_within(vertices: &[Vertex], row: &[Link], others: &[Vertex], other_row: &[Link]) -> bool
+/// Whether each edge of a row is the same as one of a row of the other graph, which ascends.
+fn is_row_within(vertices: &[Vertex], row: &[Link], other: &Graph, other_row: &[Link]) -> bool
     requires row { (l : Link) → Contains row.now l → IsSomeLink vertices.now l }
-    requires other_row { (l : Link) → Contains other_row.now l → IsSomeLink others.now l }
-    ensures { IsTrue result ↔ HasTwins vertices.now row.now others.now other_row.now }
+    requires once { IsOnce other.now.vertices }
+    requires sorted { IsSorted ⟦<Link as Ord>⟧.cmp other_row.now }
+    ensures { IsTrue result ↔ HasTwins vertices.now row.now other.now.vertices other_row.now }
 {
     for link in row {
-        if !has_twin(vertices, *link, others, other_row) {
+        if !has_twin(vertices, *link, other, other_row) {
             return false;
         }
     }
     true
 }
 
-/// Whether the edge is the same as one of the row.
-fn has_twin(vertices: &[Vertex], link: Link, others: &[Vertex], row: &[Link]) -> bool
+/// Whether the edge is the same as one of the row, which ascends: looks the link by the numbers there up.
+fn has_twin(vertices: &[Vertex], link: Link, other: &Graph, row: &[Link]) -> bool
     requires link { IsSomeLink vertices.now link }
-    requires row { (l : Link) → Contains row.now l → IsSomeLink others.now l }
-    ensures { IsTrue result ↔ HasTwin vertices.now link others.now row.now }
+    requires once { IsOnce other.now.vertices }
+    requires sorted { IsSorted ⟦<Link as Ord>⟧.cmp row.now }
+    ensures { IsTrue result ↔ HasTwin vertices.now link other.now.vertices row.now }
 {
-    for one in row {
-        if is_same_link(vertices, link, others, *one) {
-            return true;
-        }
+    match link_there(vertices, link, other) {
+        Some(there) => has_sorted(row, there),
+        None => false,
     }
-    false
 }
 
-/// Whether two edges have the same source and the same kind.
-fn is_same_link(vertices: &[Vertex], link: Link, others: &[Vertex], one: Link) -> bool
+/// The link by the numbers of the other graph, or none where that lacks one of its vertices.
+fn link_there(vertices: &[Vertex], link: Link, other: &Graph) -> Option<Link>
     requires link { IsSomeLink vertices.now link }
-    requires one { IsSomeLink others.now one }
-    ensures { IsTrue result ↔ SameLink vertices.now link others.now one }
+    requires once { IsOnce other.now.vertices }
+    ensures { (l : Link) → SameLink vertices.now link other.now.vertices l ↔ (result ≡ Some l) }
 {
-    is_same_at(vertices, link.from, others, one.from)
-        && is_same_kind(vertices, link.kind, others, one.kind)
+    let from = number_there(vertices, link.from, other)?;
+    let kind = kind_there(vertices, link.kind, other)?;
+    Some(Link { from, kind })
 }
 
-fn is_same_kind(vertices: &[Vertex], kind: LinkKind, others: &[Vertex], one: LinkKind) -> bool
+fn kind_there(vertices: &[Vertex], kind: LinkKind, other: &Graph) -> Option<LinkKind>
     requires kind { IsSomeKind vertices.now kind }
-    requires one { IsSomeKind others.now one }
-    ensures { IsTrue result ↔ SameKind vertices.now kind others.now one }
+    requires once { IsOnce other.now.vertices }
+    ensures { (k : LinkKind) → SameKind vertices.now kind other.now.vertices k ↔ (result ≡ Some k) }
 {
-    match (kind, one) {
-        (LinkKind::Control(label), LinkKind::Control(other_label)) => label == other_label,
-        (LinkKind::Independent, LinkKind::Independent) => true,
-        (LinkKind::Carried(w), LinkKind::Carried(x)) => is_same_at(vertices, w, others, x),
-        (LinkKind::Order(u), LinkKind::Order(v)) => is_same_at(vertices, u, others, v),
-        _ => false,
+    match kind {
+        LinkKind::Control(label) => Some(LinkKind::Control(label)),
+        LinkKind::Independent => Some(LinkKind::Independent),
+        LinkKind::Carried(w) => Some(LinkKind::Carried(number_there(vertices, w, other)?)),
+        LinkKind::Order(u) => Some(LinkKind::Order(number_there(vertices, u, other)?)),
     }
 }
 
-/// Whether a vertex is the same as a vertex of the other graph.
-fn is_same_at(vertices: &[Vertex], at: usize, others: &[Vertex], there: usize) -> bool
+/// The number that a vertex has in the other graph.
+fn number_there(vertices: &[Vertex], at: usize, other: &Graph) -> Option<usize>
     requires at { at < length vertices.now }
-    requires there { there < length others.now }
-    ensures { IsTrue result ↔ (slice_get others.now there ≡ slice_get vertices.now at) }
+    requires once { IsOnce other.now.vertices }
+    ensures { (i : ℕ) → (slice_get other.now.vertices i ≡ slice_get vertices.now at) ↔ (result ≡ Some i) }
 {
-    same_vertex(&vertices[at], &others[there])
+    other.number_of(&vertices[at])
 }

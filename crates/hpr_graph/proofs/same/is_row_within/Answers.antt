@@ -11,7 +11,7 @@ returns-then-not-has_twin c = (
 
 pub loop-link-preserved : goal.loop-link-preserved
 loop-link-preserved c =
-    taken_more c.args.row.now c.loop-link.link-index _ (λ l. HasTwin c.args.vertices.now l c.args.others.now c.args.other_row.now) c.loop-link-test.true c.loop-link.invariant
+    taken_more c.args.row.now c.loop-link.link-index _ (λ l. HasTwin c.args.vertices.now l c.args.other.now.vertices c.args.other_row.now) c.loop-link-test.true c.loop-link.invariant
     (c.has_twin.ensures.0 c.if-not-has_twin.false)
 
 pub returns : goal.returns

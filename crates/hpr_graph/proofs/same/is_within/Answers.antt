@@ -10,10 +10,6 @@ pub is_row_within-requires-clause-row : goal.is_row_within-requires-clause-row
 is_row_within-requires-clause-row c = λ l h.
     subst (λ (vs : List Vertex). IsSomeLink vs l) (sym c.vertices-vertices.ensures.vertices) (let (e, is) = c.edges_into.ensures.links l h in (c.loop-at.at, e, is))
 
-pub is_row_within-requires-clause-other_row : goal.is_row_within-requires-clause-other_row
-is_row_within-requires-clause-other_row c = λ l h.
-    subst (λ (vs : List Vertex). IsSomeLink vs l) (sym c.vertices-others.ensures.vertices) (let (e, is) = c.edges_into-in-loop-at.ensures.links l h in (c.in-Some.there, e, is))
-
 here : (vs us ws : List Vertex) (i j : ℕ) (v : Vertex) → vs ≡ ws → i < length vs → v ≡ get_or vs i v → slice_get us j ≡ Some v → slice_get us j ≡ slice_get ws i
 here vs us ws i j v e l is there = there ∙ ap Some is ∙ sym (slice_get-get_or vs i v l) ∙ ap (λ (xs : List Vertex). slice_get xs i) e
 
@@ -22,8 +18,8 @@ returns-then-not-is_row_within c = (
   λ t. absurd (never _ t refl),
   λ w.
       (let same = here _ c.args.other.now.vertices _ c.loop-at.at c.in-Some.there _ c.vertices-vertices.ensures.vertices c.loop-at-test.true c.index-vertices-at.is c.in-Some.ensures.found in
-      let twins = twins_from_within c.args.graph.now c.args.other.now c.vertices-vertices.ensures.numbered c.vertices-others.ensures.numbered w c.loop-at.at c.in-Some.there same in
-      let read = read_twins c.args.graph.now c.args.other.now _ _ _ _ c.loop-at.at c.in-Some.there c.vertices-vertices.ensures.vertices c.vertices-others.ensures.vertices c.edges_into.ensures.row c.edges_into-in-loop-at.ensures.row in
+      let twins = twins_from_within c.args.graph.now c.args.other.now c.vertices-vertices.ensures.numbered c.edges_into-in-loop-at.ensures.numbered w c.loop-at.at c.in-Some.there same in
+      let read = read_twins c.args.graph.now c.args.other.now _ _ _ _ c.loop-at.at c.in-Some.there c.vertices-vertices.ensures.vertices refl c.edges_into.ensures.row c.edges_into-in-loop-at.ensures.row in
       let within : c.is_row_within.result ≡ true = c.is_row_within.ensures.1 (read.1 twins) in
       sym c.if-not-is_row_within.true ∙ within),
 )
@@ -33,7 +29,7 @@ loop-at-preserved c =
     below_more (λ i. IsVertexWithin c.args.graph.now c.args.other.now i) c.loop-at.at c.loop-at.invariant (
       c.in-Some.there,
       here _ c.args.other.now.vertices _ c.loop-at.at c.in-Some.there _ c.vertices-vertices.ensures.vertices c.loop-at-test.true c.index-vertices-at.is c.in-Some.ensures.found,
-      (read_twins c.args.graph.now c.args.other.now _ _ _ _ c.loop-at.at c.in-Some.there c.vertices-vertices.ensures.vertices c.vertices-others.ensures.vertices c.edges_into.ensures.row c.edges_into-in-loop-at.ensures.row).0
+      (read_twins c.args.graph.now c.args.other.now _ _ _ _ c.loop-at.at c.in-Some.there c.vertices-vertices.ensures.vertices refl c.edges_into.ensures.row c.edges_into-in-loop-at.ensures.row).0
           (c.is_row_within.ensures.0 c.if-not-is_row_within.false),
     )
 
