@@ -13,7 +13,7 @@ use crate::error::BuildError;
 use crate::places::{Parent, Place};
 use crate::pushes::{NewLink, push_links};
 use crate::tables::Tables;
-use hpr_graph::{Graph, Link, LinkKind};
+use hpr_graph::{Draft, Link, LinkKind};
 use hpr_paths::NoMemory;
 use std::alloc::Global;
 
@@ -66,7 +66,7 @@ fn control_links(alloc: Global, places: &[Place], count: usize) -> Result<Vec<Ne
 pub(crate) fn push_controls(
     alloc: Global,
     tables: &Tables,
-    graph: &mut Graph,
+    graph: &mut Draft,
 ) -> Result<(), BuildError>
     requires tables { AreTables tables.now }
     requires begun { IsBegun tables.now.program.now tables.now.inits.items tables.now.most graph.old }

@@ -13,7 +13,7 @@ use crate::error::BuildError;
 use crate::flows::{Flow, FlowKind, flows_from};
 use crate::pushes::{NewLink, push_links};
 use crate::tables::{Tables, Variable, variable_at};
-use hpr_graph::{Graph, Link, LinkKind};
+use hpr_graph::{Draft, Link, LinkKind};
 use hpr_paths::NoMemory;
 use hpr_terms::names::place_of;
 use std::alloc::Global;
@@ -146,7 +146,7 @@ fn push_flows_from(
     tables: &Tables,
     variable: &Variable,
     source: Source,
-    graph: &mut Graph,
+    graph: &mut Draft,
 ) -> Result<(), BuildError>
     requires tables { AreTables tables.now }
     requires variable { IsVariable tables.now.program.now variable.now }
@@ -171,7 +171,7 @@ fn push_flows_of(
     alloc: Global,
     tables: &Tables,
     variable: &Variable,
-    graph: &mut Graph,
+    graph: &mut Draft,
 ) -> Result<(), BuildError>
     requires tables { AreTables tables.now }
     requires variable { IsVariable tables.now.program.now variable.now }
@@ -195,7 +195,7 @@ fn push_flows_of(
 pub(crate) fn push_flows(
     alloc: Global,
     tables: &Tables,
-    graph: &mut Graph,
+    graph: &mut Draft,
 ) -> Result<(), BuildError>
     requires tables { AreTables tables.now }
     requires begun { IsBegun tables.now.program.now tables.now.inits.items tables.now.most graph.old }

@@ -12,12 +12,12 @@ use crate::error::BuildError;
 use crate::flow_links::push_flows;
 use crate::order_links::push_orders;
 use crate::tables::{Tables, tables_of};
-use hpr_graph::Graph;
+use hpr_graph::{Draft, Graph};
 use hpr_syntax::Program;
 use std::alloc::Global;
 
-/// Puts the edges of the program into a graph that has its vertices and no edge.
-fn push_edges(alloc: Global, tables: &Tables, graph: &mut Graph) -> Result<(), BuildError>
+/// Puts the edges of the program into a draft that has its vertices and no edge.
+fn push_edges(alloc: Global, tables: &Tables, graph: &mut Draft) -> Result<(), BuildError>
     requires tables { AreTables tables.now }
     requires begun { IsBegun tables.now.program.now tables.now.inits.items tables.now.most graph.old }
     requires none { (to : ℕ) (l : Link) → ¬ HasLink graph.old to l }
@@ -49,8 +49,8 @@ pub fn graph_of(alloc: Global, program: &Program, most_edges: usize) -> Result<G
     ensures too_many { IsErrOf result BuildError.TooManyEdges → HasMoreEdges (graph_of program.now) most_edges }
 {
     let tables = tables_of(alloc, program, most_edges)?;
-    let mut graph = Graph::of_vertices(alloc, &tables.vertices)?;
-    push_edges(alloc, &tables, &mut graph)?;
-    let _vertices = graph.vertices();
-    Ok(graph)
+    let mut draft = Draft::of_vertices(alloc, &tables.vertices)?;
+    push_edges(alloc, &tables, &mut draft)?;
+    let _vertices = draft.vertices();
+    Ok(draft.finish())
 }

@@ -16,7 +16,7 @@ use crate::lists::push_if;
 use crate::orders::{Ordered, order_of};
 use crate::pushes::{NewLink, push_links};
 use crate::tables::{Tables, Variable, variable_at};
-use hpr_graph::{Graph, Link, LinkKind};
+use hpr_graph::{Draft, Link, LinkKind};
 use hpr_paths::{Name, NoMemory, Succ};
 use hpr_reach::{BitRow, reach};
 use std::alloc::Global;
@@ -106,7 +106,7 @@ fn push_orders_at(
     variable: &Variable,
     rows: &[BitRow],
     user: usize,
-    graph: &mut Graph,
+    graph: &mut Draft,
 ) -> Result<(), BuildError>
     requires tables { AreTables tables.now }
     requires variable { IsVariable tables.now.program.now variable.now }
@@ -131,7 +131,7 @@ fn push_orders_of(
     alloc: Global,
     tables: &Tables,
     variable: &Variable,
-    graph: &mut Graph,
+    graph: &mut Draft,
 ) -> Result<(), BuildError>
     requires tables { AreTables tables.now }
     requires variable { IsVariable tables.now.program.now variable.now }
@@ -155,7 +155,7 @@ fn push_orders_of(
 pub(crate) fn push_orders(
     alloc: Global,
     tables: &Tables,
-    graph: &mut Graph,
+    graph: &mut Draft,
 ) -> Result<(), BuildError>
     requires tables { AreTables tables.now }
     requires begun { IsBegun tables.now.program.now tables.now.inits.items tables.now.most graph.old }

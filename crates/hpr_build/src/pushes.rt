@@ -9,7 +9,7 @@ ghost use Rattle.hpr_build.specs.Stages.{AreTables, IsBegun};
 
 use crate::error::BuildError;
 use crate::tables::Tables;
-use hpr_graph::{Graph, Link};
+use hpr_graph::{Draft, Link};
 
 /// A link with the number of its target.
 #[derive(Clone, Copy)]
@@ -20,7 +20,7 @@ pub(crate) struct NewLink {
 
 /// Puts a link that isn't there into the graph, and refuses where the graph has more than `most`
 /// links then.
-fn push_link(graph: &mut Graph, most: usize, new: NewLink) -> Result<(), BuildError>
+fn push_link(graph: &mut Draft, most: usize, new: NewLink) -> Result<(), BuildError>
     requires link { IsLink graph.old new.to new.link }
     requires fresh { ¬ HasLink graph.old new.to new.link }
     ensures vertices { graph.new.vertices ≡ graph.old.vertices }
@@ -44,7 +44,7 @@ fn push_link(graph: &mut Graph, most: usize, new: NewLink) -> Result<(), BuildEr
 pub(crate) fn push_links(
     tables: &Tables,
     links: &[NewLink],
-    graph: &mut Graph,
+    graph: &mut Draft,
 ) -> Result<(), BuildError>
     requires tables { AreTables tables.now }
     requires begun { IsBegun tables.now.program.now tables.now.inits.items tables.now.most graph.old }

@@ -5,6 +5,7 @@ use Rattle.hpr_graph.specs.declared.vertex.Vertex.{Vertex}
 use Rattle.hpr_graph.specs.Graphs.{Same, HasMoreEdges, IsOnce}
 use Rattle.hpr_graph.specs.Numbered.{graph_in}
 use Rattle.hpr_graph.specs.ProgramGraph.{graph_of}
+use Rattle.hpr_graph.proofs.Laws.{same_then}
 use Rattle.hpr_build.specs.declared.error.BuildError.{BuildError}
 use Rattle.hpr_build.specs.declared.error.BuildError.TheVariants.{TooManyEdges}
 use Rattle.hpr_build.proofs.Bridge.{once_vertices, same_graph, more_edges, no_more_edges}
@@ -20,9 +21,9 @@ of_vertices-requires c =
 
 pub push_edges-requires-clause-begun : goal.push_edges-requires-clause-begun
 push_edges-requires-clause-begun c = record {
-  vertices = c.in_ok-graph.ensures.vertices ∙ c.deref.ensures.value ∙ c.in_ok-tables.ensures.tables.vertices;
-  links = λ to l h. absurd (c.in_ok-graph.ensures.none to l h);
-  room = omega (arith, no_count c.in_ok-graph.graph c.in_ok-graph.ensures.none);
+  vertices = c.in_ok-draft.ensures.vertices ∙ c.deref.ensures.value ∙ c.in_ok-tables.ensures.tables.vertices;
+  links = λ to l h. absurd (c.in_ok-draft.ensures.none to l h);
+  room = omega (arith, no_count c.in_ok-draft.draft c.in_ok-draft.ensures.none);
 }
 
 pub returns-in_err-push_edges-clause-too_many : goal.returns-in_err-push_edges-clause-too_many
@@ -38,8 +39,9 @@ pub returns-clause-graph : goal.returns-clause-graph
 returns-clause-graph c =
     let t = c.in_ok-tables.tables in
     let are = c.in_ok-tables.ensures.tables in
-    subst (λ (tree : Tree). Same (graph_in c.push_edges.new.graph) (graph_of tree)) c.in_ok-tables.ensures.program
-    (same_graph t.program.now t.inits.items are.program are.inits c.push_edges.new.graph c.in_ok-push_edges.ensures.begun.vertices c.in_ok-push_edges.ensures.exact)
+    subst (λ (tree : Tree). Same (graph_in c.finish.result) (graph_of tree)) c.in_ok-tables.ensures.program
+    (same_then (graph_in c.finish.result) (graph_in c.push_edges.new.graph) (graph_of t.program.now) c.finish.ensures.same
+    (same_graph t.program.now t.inits.items are.program are.inits c.push_edges.new.graph c.in_ok-push_edges.ensures.begun.vertices c.in_ok-push_edges.ensures.exact))
 
 pub returns-clause-within : goal.returns-clause-within
 returns-clause-within c =
