@@ -121,3 +121,20 @@ module _ {X : Type 0} where
       stays l r e y (λ same. once_head e es once (subst (λ z. Contains es z) (sym same) h))
       (subst (λ zs. Contains zs y) is (all y (in_later e y es h))) in
       omega (arith, no_longer es (l ++ r) (once_tail e es once) rest, ap length is, length-append l (e ∷ r), length-append l r)
+
+  -- a list in which nothing stands twice has all members of one that has its members and is no longer
+  pub all_members : (xs ys : List X) → IsOnce xs → ((x : X) → Contains xs x → Contains ys x) → length ys ≤ length xs → (y : X) → Contains ys y → Contains xs y
+  all_members [] ys once into short y h = absurd (omega (arith, h.1, short))
+  all_members (x ∷ xs) ys once into short y h =
+      let (l, r, is) = split ys x (into x (in_here x xs)) in
+      let rest : (z : X) → Contains xs z → Contains (l ++ r) z =
+      λ z k. stays l r x z (λ same. once_head x xs once (subst (λ (w : X). Contains xs w) (sym same) k)) (subst (λ (zs : List X). Contains zs z) is (into z (in_later x z xs k))) in
+      let later : Contains (l ++ r) y → Contains (x ∷ xs) y =
+      λ k. in_later x y xs (all_members xs (l ++ r) (once_tail x xs once) rest (omega (arith, short, ap length is, length-append l (x ∷ r), length-append l r)) y k) in
+      elim (Contains-append_cases l (x ∷ r) y (subst (λ (zs : List X). Contains zs y) is h)) [
+        | inl a ↦ later (Contains-append_left l r y a)
+        | inr b ↦ elim (in_cons x y r b) [
+          | inl e ↦ subst (λ (w : X). Contains (x ∷ xs) w) e (in_here x xs)
+          | inr c ↦ later (Contains-append_right l r y c)
+        ]
+      ]

@@ -1,5 +1,5 @@
 -- A graph is within another where each vertex is there, and each link into it has its twin in the row there.
-use Rattle.std.proofs.Common.{◌≡◌, ℕ, Bool, false, ◌<◌, ◌↔◌, Option, Some, None, IfSome, IsNone, IsTrue, List, Contains, length, slice_get, refl, sym, ap, ap₂, ◌∙◌, subst}
+use Rattle.std.proofs.Common.{arith, ◌≡◌, ℕ, Bool, false, ◌<◌, ◌↔◌, Option, Some, None, IfSome, IsNone, IsTrue, List, Contains, length, slice_get, refl, sym, ap, ◌∙◌, subst}
 use Rattle.std.proofs.lemmas.Option.{slice_get_within}
 use Rattle.hpr_graph.specs.declared.vertex.Vertex.{Vertex}
 use Rattle.hpr_graph.specs.declared.edge.Kind.{Kind}
@@ -7,10 +7,12 @@ use Rattle.hpr_graph.specs.declared.edge.Kind.TheVariants as kind
 use Rattle.hpr_graph.specs.declared.link.LinkKind.{LinkKind}
 use Rattle.hpr_graph.specs.declared.link.LinkKind.TheVariants.{Control, Independent, Carried, Order}
 use Rattle.hpr_graph.specs.declared.link.Link.{Link}
-use Rattle.hpr_graph.specs.Graphs.{IsOnce, IsWithin}
-use Rattle.hpr_graph.specs.Numbered.{Numbered, IsKindAt, IsNumbered, graph_in, row_of, row_items}
-use Rattle.hpr_graph.specs.Twins.{IsSomeKind, IsSomeLink, SameKind, SameLink, HasTwin, HasTwins}
-use Rattle.hpr_graph.proofs.Lists.{some_inj, contains_at, place_of}
+use Rattle.hpr_graph.specs.Graphs.{IsOnce, IsWithin, Same}
+use Rattle.hpr_graph.specs.Numbered.{Numbered, IsKindAt, IsNumbered, graph_in, link_count, row_of, row_items}
+use Rattle.hpr_graph.specs.Twins.{SameKind, SameLink, HasTwin, HasTwins}
+use Rattle.hpr_graph.proofs.EdgeList.{edges_counted}
+use Rattle.hpr_graph.proofs.Laws.{same_from_within}
+use Rattle.hpr_graph.proofs.Lists.{all_members, no_longer, some_inj, contains_at, place_of}
 
 kind_twin : (vs us : List Vertex) (k m : LinkKind) (v : Vertex) (e : Kind) → SameKind vs k us m → IsKindAt vs k v e → IsKindAt us m v e
 kind_twin vs us (Control a) (Control b) v e same h = h ∙ ap kind.Control same
@@ -96,9 +98,6 @@ module _ (vs us : List Vertex) (once : IsOnce us) where
     λ e. (let is : n ≡ i = cc in ap (slice_get us) (sym is) ∙ found ∙ sym here),
   )
 
-  abbrev IsNumber : ℕ → Option ℕ → Type 0
-  IsNumber at r = (i : ℕ) → (slice_get us i ≡ slice_get vs at) ↔ (r ≡ Some i)
-
   abbrev IsKind : LinkKind → Option LinkKind → Type 0
   IsKind k r = (m : LinkKind) → SameKind vs k us m ↔ (r ≡ Some m)
 
@@ -114,50 +113,8 @@ module _ (vs us : List Vertex) (once : IsOnce us) where
   independent_there (Carried w) = (λ e. absurd e, λ e. absurd cc)
   independent_there (Order u) = (λ e. absurd e, λ e. absurd cc)
 
-  pub carried_there : (w n : ℕ) → IsNumber w (Some n) → IsKind (Carried w) (Some (Carried n))
-  carried_there w n is (Control b) = (λ e. absurd e, λ e. absurd cc)
-  carried_there w n is Independent = (λ e. absurd e, λ e. absurd cc)
-  carried_there w n is (Carried x) = (λ e. (let same : n ≡ x = some_inj n x ((is x).0 e) in ap (λ (i : ℕ). Some (Carried i)) same), λ e. (let same : n ≡ x = cc in (is x).1 (ap Some same)))
-  carried_there w n is (Order u) = (λ e. absurd e, λ e. absurd cc)
-
-  pub carried_nowhere : (w : ℕ) → IsNumber w None → IsKind (Carried w) None
-  carried_nowhere w is (Control b) = (λ e. absurd e, λ e. absurd cc)
-  carried_nowhere w is Independent = (λ e. absurd e, λ e. absurd cc)
-  carried_nowhere w is (Carried x) = (λ e. absurd (let n : None ≡ Some x = (is x).0 e in cc), λ e. absurd cc)
-  carried_nowhere w is (Order u) = (λ e. absurd e, λ e. absurd cc)
-
-  pub order_there : (u n : ℕ) → IsNumber u (Some n) → IsKind (Order u) (Some (Order n))
-  order_there u n is (Control b) = (λ e. absurd e, λ e. absurd cc)
-  order_there u n is Independent = (λ e. absurd e, λ e. absurd cc)
-  order_there u n is (Carried w) = (λ e. absurd e, λ e. absurd cc)
-  order_there u n is (Order x) = (λ e. (let same : n ≡ x = some_inj n x ((is x).0 e) in ap (λ (i : ℕ). Some (Order i)) same), λ e. (let same : n ≡ x = cc in (is x).1 (ap Some same)))
-
-  pub order_nowhere : (u : ℕ) → IsNumber u None → IsKind (Order u) None
-  order_nowhere u is (Control b) = (λ e. absurd e, λ e. absurd cc)
-  order_nowhere u is Independent = (λ e. absurd e, λ e. absurd cc)
-  order_nowhere u is (Carried w) = (λ e. absurd e, λ e. absurd cc)
-  order_nowhere u is (Order x) = (λ e. absurd (let n : None ≡ Some x = (is x).0 e in cc), λ e. absurd cc)
-
   abbrev IsThere : Link → Option Link → Type 0
   IsThere l r = (m : Link) → SameLink vs l us m ↔ (r ≡ Some m)
-
-  pub link_found : (l : Link) (n : ℕ) (k : LinkKind) → IsNumber l.from (Some n) → IsKind l.kind (Some k) → IsThere l (Some (record { from = n; kind = k }))
-  link_found l n k from kind m = (
-    λ (a, b).
-        (let i : n ≡ m.from = some_inj n m.from ((from m.from).0 a) in
-        let j : k ≡ m.kind = some_inj k m.kind ((kind m.kind).0 b) in
-        ap₂ (λ (x : ℕ) (y : LinkKind). let o : Link = record { from = x; kind = y } in Some o) i j),
-    λ e.
-        (let o : Link = record { from = n; kind = k } in
-        let same : o ≡ m = some_inj o m e in
-        ((from m.from).1 (ap (λ (x : Link). Some x.from) same), (kind m.kind).1 (ap (λ (x : Link). Some x.kind) same))),
-  )
-
-  pub link_sourceless : (l : Link) → IsNumber l.from None → IsThere l None
-  link_sourceless l from m = (λ (a, b). absurd (let n : None ≡ Some m.from = (from m.from).0 a in cc), λ e. absurd cc)
-
-  pub link_kindless : (l : Link) → IsKind l.kind None → IsThere l None
-  link_kindless l kind m = (λ (a, b). absurd (let n : None ≡ Some m.kind = (kind m.kind).0 b in cc), λ e. absurd cc)
 
   pub twin_found : (l m : Link) (row : List Link) (r : Bool) → IsThere l (Some m) → (IsTrue r ↔ Contains row m) → IsTrue r ↔ HasTwin vs l us row
   twin_found l m row r there has = (
@@ -168,19 +125,23 @@ module _ (vs us : List Vertex) (once : IsOnce us) where
   pub no_twin : (l : Link) (row : List Link) → IsThere l None → IsTrue false ↔ HasTwin vs l us row
   no_twin l row there = (λ t. absurd cc, λ (n, among, same). absurd (let e : None ≡ Some n = (there n).0 same in cc))
 
--- the third vertex of a kind of edge is there
-pub source_within : (vs : List Vertex) (l : Link) → IsSomeLink vs l → l.from < length vs
-source_within vs l (to, e, (at_to, at_from, kind)) = slice_get_within vs l.from e.from at_from
+-- graphs with as many vertices and as many edges, one of which is within the other, are the same
+module _ (g h : Numbered) (kg : IsNumbered g) (kh : IsNumbered h) where
+  pub same_by_counts : (length g.vertices ≡ length h.vertices) × (link_count g ≡ link_count h) → IsWithin (graph_in g) (graph_in h) → Same (graph_in g) (graph_in h)
+  same_by_counts (vertices, edges) within =
+      let (es, (once, all), len) = edges_counted g kg in
+      let (fs, (once', all'), len') = edges_counted h kh in
+      same_from_within (graph_in g) (graph_in h) within (
+        λ v there. all_members g.vertices h.vertices kg.once within.0 (omega (arith, vertices)) v there,
+        λ e there. (all e).0 (all_members es fs once (λ f k. (all' f).1 (within.1 f ((all f).0 k))) (omega (arith, edges, len, len')) e ((all' e).1 there)),
+      )
 
-pub some_kind : (vs : List Vertex) (l : Link) → IsSomeLink vs l → IsSomeKind vs l.kind
-some_kind vs l (to, e, (at_to, at_from, kind)) = (e.from, e.kind, kind)
-
-pub carried_within : (vs : List Vertex) (k : LinkKind) (w : ℕ) → k ≡ Carried w → IsSomeKind vs k → w < length vs
-carried_within vs k w is some =
-    let (from, e, (x, v, named, at, same)) = subst (λ (l : LinkKind). IsSomeKind vs l) is some in
-    slice_get_within vs w v at
-
-pub order_within : (vs : List Vertex) (k : LinkKind) (u : ℕ) → k ≡ Order u → IsSomeKind vs k → u < length vs
-order_within vs k u is some =
-    let (from, e, (v, at, same)) = subst (λ (l : LinkKind). IsSomeKind vs l) is some in
-    slice_get_within vs u v at
+  pub same_counts : Same (graph_in g) (graph_in h) → (length g.vertices ≡ length h.vertices) × (link_count g ≡ link_count h)
+  same_counts (vertices, edges) =
+      let (es, (once, all), len) = edges_counted g kg in
+      let (fs, (once', all'), len') = edges_counted h kh in
+      let a = no_longer es fs once (λ e k. (all' e).1 ((edges e).0 ((all e).0 k))) in
+      let b = no_longer fs es once' (λ e k. (all e).1 ((edges e).1 ((all' e).0 k))) in
+      let c = no_longer g.vertices h.vertices kg.once (λ v k. (vertices v).0 k) in
+      let d = no_longer h.vertices g.vertices kh.once (λ v k. (vertices v).1 k) in
+      (omega (arith, c, d), omega (arith, a, b, len, len'))

@@ -7,7 +7,7 @@ ghost use Rattle.hpr_graph.specs.Numbered.{HasVertex, HasLink, IsEdgeAt, IsLink,
 ghost use Rattle.hpr_graph.specs.InOrder.{AreVerticesOf, RowsAscend};
 
 use crate::ordered::{edge_at, ordered};
-use crate::same::is_within;
+use crate::same::{have_same_counts, is_within};
 use crate::sets::{restricted, united};
 use crate::{Draft, Edge, Link, Vertex};
 use hpr_syntax::NoMemory;
@@ -153,7 +153,8 @@ impl Graph {
     }
 
     /// The marked vertices, and the edges all of whose vertices are marked: both ends, the loop of a
-    /// carried edge, the shared use of an order edge. There are as many marks as vertices.
+    /// carried edge, the shared use of an order edge. There are as many marks as vertices. Takes a step for
+    /// each vertex and each edge of this graph, and sorts each row of the new one.
     pub fn restrict(&self, keep: &[bool]) -> Result<Graph, NoMemory>
         requires { length keep.now ≡ length self.now.vertices }
         ensures { IfOk result (λ g. Same (graph_in g) (restrict_to (graph_in self.now)
@@ -163,7 +164,8 @@ impl Graph {
     }
 
     /// The same graph with its vertices numbered in their order, and the edges into each in the order of
-    /// their links, which is that of the edges.
+    /// their links, which is that of the edges. Sorts the vertices, looks each one up among them by halving,
+    /// and sorts each row.
     pub fn in_order(&self) -> Result<Graph, NoMemory>
         ensures same { IfOk result (λ g. Same (graph_in g) (graph_in self.now)) }
         ensures vertices { IfOk result (λ g. AreVerticesOf (graph_in self.now) g.vertices) }
@@ -181,11 +183,12 @@ impl Graph {
     }
 
     /// Whether the graphs have the same vertices and the same edges, whatever their numbers. Takes no
-    /// memory. Looks each vertex up by hash, and for each edge its source and its loop or shared use; then
-    /// the edge by halving the row of its target.
+    /// memory. Graphs with as many vertices and as many edges are the same where one is within the other:
+    /// looks each vertex of this one up in the other by hash, and for each edge its source and its loop or
+    /// shared use; then the edge by halving the row of its target.
     pub fn same(&self, other: &Graph) -> bool
         ensures { IsTrue result ↔ Same (graph_in self.now) (graph_in other.now) }
     {
-        is_within(self, other) && is_within(other, self)
+        have_same_counts(self, other) && is_within(self, other)
     }
 }

@@ -4,11 +4,20 @@ ghost use Rattle.std.specs.List.Sorted.{IsSorted};
 ghost use Rattle.hpr_graph.specs.declared.link.Link.{Link};
 ghost use Rattle.hpr_graph.specs.declared.link.LinkKind.{LinkKind};
 ghost use Rattle.hpr_graph.specs.Graphs.{IsOnce, IsWithin};
-ghost use Rattle.hpr_graph.specs.Numbered.{graph_in};
+ghost use Rattle.hpr_graph.specs.Numbered.{IsNumbered, graph_in, link_count};
 ghost use Rattle.hpr_graph.specs.Twins.{IsSomeKind, IsSomeLink, SameKind, SameLink, HasTwin, HasTwins};
 
 use crate::links::has_sorted;
 use crate::{Graph, Link, LinkKind, Vertex};
+
+/// Whether the graphs have as many vertices as each other, and as many edges.
+pub(crate) fn have_same_counts(a: &Graph, b: &Graph) -> bool
+    ensures counts { IsTrue result ↔ ((length a.now.vertices ≡ length b.now.vertices)
+        × (link_count a.now ≡ link_count b.now)) }
+    ensures numbered { IsNumbered a.now × IsNumbered b.now }
+{
+    a.vertices().len() == b.vertices().len() && a.edge_count() == b.edge_count()
+}
 
 /// Whether the other graph has all vertices and all edges of this one.
 pub(crate) fn is_within(graph: &Graph, other: &Graph) -> bool

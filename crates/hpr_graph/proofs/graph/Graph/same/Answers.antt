@@ -1,17 +1,18 @@
-use Rattle.std.proofs.Common.{◌↔◌, Bool, IsTrue}
-use Rattle.hpr_graph.specs.Graphs.{Graph, IsWithin, Same}
 use Rattle.hpr_graph.specs.Numbered.{graph_in}
-use Rattle.hpr_graph.proofs.Laws.{same_from_within, within_from_same, same_turned}
+use Rattle.hpr_graph.proofs.Laws.{within_from_same}
+use Rattle.hpr_graph.proofs.Twinned.{same_by_counts, same_counts}
 use Rattle.hpr_graph.proofs.graph.Graph.same.Goals as goal
 
-same_if : (g h : Graph) (b : Bool) → IsWithin g h → (IsTrue b ↔ IsWithin h g) → IsTrue b ↔ Same g h
-same_if g h b up down = (λ t. same_from_within g h up (down.0 t), λ same. down.1 (within_from_same h g (same_turned g h same)))
+pub returns-then-have_same_counts : goal.returns-then-have_same_counts
+returns-then-have_same_counts c =
+    let g = c.args.self.now in
+    let h = c.args.other.now in
+    let (numbered, numbered') = c.have_same_counts.ensures.numbered in (
+      λ t. same_by_counts g h numbered numbered' (c.have_same_counts.ensures.counts.0 c.if-have_same_counts.true) (c.is_within.ensures.0 t),
+      λ same. c.is_within.ensures.1 (within_from_same (graph_in g) (graph_in h) same),
+    )
 
-pub returns-then-is_within : goal.returns-then-is_within
-returns-then-is_within c =
-    same_if (graph_in c.args.self.now) (graph_in c.args.other.now) c.is_within-then-is_within.result
-    (c.is_within.ensures.0 c.if-is_within.true) c.is_within-then-is_within.ensures
-
-pub returns-else-is_within : goal.returns-else-is_within
-returns-else-is_within c =
-    (λ t. absurd (let f = c.if-is_within.false in cc), λ same. c.is_within.ensures.1 (within_from_same (graph_in c.args.self.now) (graph_in c.args.other.now) same))
+pub returns-else-have_same_counts : goal.returns-else-have_same_counts
+returns-else-have_same_counts c =
+    let (numbered, numbered') = c.have_same_counts.ensures.numbered in
+    (λ t. absurd (let f = c.if-have_same_counts.false in cc), λ same. c.have_same_counts.ensures.counts.1 (same_counts c.args.self.now c.args.other.now numbered numbered' same))
