@@ -1,7 +1,9 @@
-mod MovedLinks
-mod NumberRows
 mod LinkRows
-pub mod SliceMarks
-mod PointLists
-mod SharedTests
+mod NumberRows
+mod MovedLinks
+pub mod PointLists
+mod MarkRows
+mod DirectTests
+mod ChangedPoints
 pub mod NumberedPoints
+pub mod SliceMarks

@@ -5,17 +5,11 @@
 -- IsKnown ns known l              == the link l by the numbers there is one of the known
 -- AreWithout K links lacks        == of these links those that have not K
 -- links_at rows at                == the row with this number, empty past the last
--- IsOneWay g h ns rows            == the numbers in h of the vertices of g, and for each the links into it that are not there
--- NoneInside marks links          == none of the links is so
--- IsMarkedThere ns others at      == the vertex has a number there, and that is marked among the others
--- IsKept ns rows marks others at  == where the vertex is marked, it is marked there, and no link into it that lies inside is lacking
--- AllKept ns rows marks others    == so is each vertex
-use Rattle.std.specs.Prelude.{◌≡◌, ℕ, ◌<◌, ◌⊎◌, Bool, Option, Some, None, List, [], Contains, slice_get, slice_index_or, length}
-use Rattle.hpr_search.specs.Marks.{IsMarked}
+-- AreLacking g h ns rows          == for each vertex of g, by these numbers in h, the links into it that are not there
+use Rattle.std.specs.Prelude.{◌≡◌, ℕ, ◌<◌, ◌⊎◌, Option, Some, None, List, [], Contains, slice_get, slice_index_or, length}
 use Rattle.hpr_graph.specs.declared.vertex.Vertex.{Vertex}
 use Rattle.hpr_graph.specs.declared.link.Link.{Link}
 use Rattle.hpr_graph.specs.Numbered.{Numbered, HasVertex, HasLink, row_of}
-use Rattle.hpr_graph.specs.Inside.{IsInside}
 use Rattle.hpr_graph.specs.Moves.{number_at, moved, ArePlaced}
 
 pub record AreNumbersIn (g h : Numbered) (ns : List (Option ℕ)) : Type 0 where
@@ -36,19 +30,6 @@ pub record AreWithout (K : Link → Type 0) (links lacks : List Link) : Type 0 w
 abbrev pub links_at : List (List Link) → ℕ → List Link
 links_at rows at = slice_index_or rows at []
 
-pub record IsOneWay (g h : Numbered) (ns : List (Option ℕ)) (rows : List (List Link)) : Type 0 where
-  pub numbers : AreNumbersIn g h ns
+pub record AreLacking (g h : Numbered) (ns : List (Option ℕ)) (rows : List (List Link)) : Type 0 where
   pub count : length rows ≡ length g.vertices
   pub lacking : (at : ℕ) → at < length g.vertices → AreWithout (IsThere h ns at) (row_of g at) (links_at rows at)
-
-abbrev pub NoneInside : List Bool → List Link → Type 0
-NoneInside marks links = (l : Link) → Contains links l → ¬ IsInside marks l
-
-abbrev pub IsMarkedThere : List (Option ℕ) → List Bool → ℕ → Type 0
-IsMarkedThere ns others at = (to : ℕ) × (number_at ns at ≡ Some to) × IsMarked others to
-
-abbrev pub IsKept : List (Option ℕ) → List (List Link) → List Bool → List Bool → ℕ → Type 0
-IsKept ns rows marks others at = IsMarked marks at → IsMarkedThere ns others at × NoneInside marks (links_at rows at)
-
-abbrev pub AllKept : List (Option ℕ) → List (List Link) → List Bool → List Bool → Type 0
-AllKept ns rows marks others = (at : ℕ) → IsKept ns rows marks others at

@@ -1,3 +1,4 @@
 pub mod Numbers
 pub mod Lacking
+pub mod Differing
 pub mod Comparison

@@ -1,37 +1,43 @@
 //! Two graphs side by side.
-ghost use Rattle.std.specs.Prelude.{◌≡◌, ◌↔◌, ◌<◌, Some, IfOk, IsTrue, slice_get, length};
+ghost use Rattle.std.specs.Prelude.{◌≡◌, ◌<◌, Some, IfOk, IfSome, IsNone, length, slice_get};
 ghost use Rattle.hpr_graph.specs.declared.vertex.Vertex.{Vertex};
-ghost use Rattle.hpr_graph.specs.Graphs.{Same};
-ghost use Rattle.hpr_graph.specs.Numbered.{graph_in};
-ghost use Rattle.hpr_graph.specs.Slices.{slice_at};
-ghost use Rattle.hpr_graph.specs.Points.{IsShared};
+ghost use Rattle.hpr_graph.specs.Direct.{IsDirectlyAffected};
+ghost use Rattle.hpr_graph.specs.Numbered.{HasVertex, graph_in};
+ghost use Rattle.hpr_graph.specs.Points.{IsAffected};
+ghost use Rattle.hpr_graph.specs.Whole.{IsWhole};
+ghost use Rattle.hpr_affected.specs.Comparison.{MarksAffected};
+ghost use Rattle.hpr_affected.specs.Numbers.{AreNumbersOf};
 
-use crate::kept::all_kept;
-use crate::lacking::{OneWay, one_way};
+use crate::differing::{Differences, differing, direct_points};
+use crate::lists::push_if;
 use hpr_graph::links::number_at;
 use hpr_graph::{Graph, NoMemory};
-use hpr_slice::Sources;
+use hpr_search::is_marked;
+use hpr_slice::forward;
 use std::alloc::Global;
 use std::marker::Model;
 
-/// A graph beside another, to compare their slices at many vertices.
+/// A graph beside another: what each of the two lacks of the other, looked up once for any number of
+/// questions.
 ///
 /// A contract sees the two graphs.
-pub(crate) struct Comparison<'a> {
-    sources: Sources<'a>,
-    others: Sources<'a>,
-    there: OneWay,
-    back: OneWay,
+pub struct Comparison<'a> {
+    graph: &'a Graph,
+    other: &'a Graph,
+    there: Differences,
+    back: Differences,
+    alloc: Global,
 }
 
 /// What was looked up is dropped in one call.
 impl Drop for Comparison<'_> {
     fn drop(self) {
         let Comparison {
-            sources: _,
-            others: _,
+            graph: _,
+            other: _,
             there: _,
             back: _,
+            alloc: _,
         } = self;
     }
 }
@@ -45,55 +51,116 @@ impl<'a> Model for Comparison<'a> {
 
     ghost coded = { Prim.hlevel (codes, graphs.the_row.coded) };
 
-    ghost view = { λ c. record { graph = c.sources; other = c.others } };
+    ghost view = { λ c. record { graph = c.graph.now; other = c.other.now } };
 
-    ghost invariant = { λ c. IsComparison c.sources c.others c.there c.back };
+    ghost invariant = { λ c. IsComparison c.graph.now c.other.now c.there c.back };
 }
 
 impl<'a> Comparison<'a> {
-    /// The graph beside the other. Looks each vertex of one up in the other, and sorts the links into
-    /// each vertex.
-    pub(crate) fn of(
-        alloc: Global,
-        graph: &'a Graph,
-        other: &'a Graph,
-    ) -> Result<Comparison<'a>, NoMemory>
+    /// The graph beside the other. Looks each vertex of one up once in the other, and each edge once among
+    /// those into its target there. Refuses for want of memory alone, as all that follows does.
+    pub fn of(alloc: Global, graph: &'a Graph, other: &'a Graph) -> Result<Comparison<'a>, NoMemory>
         ensures graph { IfOk result (λ c. c.graph ≡ graph.now) }
         ensures other { IfOk result (λ c. c.other ≡ other.now) }
     {
+        let _vertices = graph.vertices();
+        let _others = other.vertices();
         Ok(Comparison {
-            sources: Sources::of(alloc, graph)?,
-            others: Sources::of(alloc, other)?,
-            there: one_way(alloc, graph, other)?,
-            back: one_way(alloc, other, graph)?,
+            graph,
+            other,
+            there: differing(alloc, graph, other)?,
+            back: differing(alloc, other, graph)?,
+            alloc,
         })
     }
 
-    /// Whether the other graph has this vertex of the graph too, with the same slice. Looks at each edge
-    /// of the two slices a fixed number of times.
-    pub(crate) fn is_shared(&self, at: usize) -> Result<bool, NoMemory>
-        requires { at < length self.now.graph.vertices }
-        ensures { IfOk result (λ shared. (v : Vertex) → slice_get self.now.graph.vertices at ≡ Some v → IsTrue shared
-            ↔ IsShared (graph_in self.now.graph) (graph_in self.now.other) v) }
+    /// The other graph beside this one.
+    pub fn turned(self) -> Comparison<'a>
+        ensures graph { result.graph ≡ self.entry.other }
+        ensures other { result.other ≡ self.entry.graph }
     {
-        match number_at(&self.there.numbers, at) {
-            Some(to) => self.is_same_slice(at, to),
-            None => Ok(false),
+        let Comparison {
+            graph,
+            other,
+            there,
+            back,
+            alloc,
+        } = self;
+        Comparison {
+            graph: other,
+            other: graph,
+            there: back,
+            back: there,
+            alloc,
         }
     }
 
-    /// Whether the graphs have the same slice at this vertex, whose number in the other graph is `to`.
-    fn is_same_slice(&self, at: usize, to: usize) -> Result<bool, NoMemory>
-        requires at { at < length self.now.graph.vertices }
-        requires to { slice_get self.now.other.vertices to ≡ slice_get self.now.graph.vertices at }
-        ensures { IfOk result (λ same. (v : Vertex) → slice_get self.now.graph.vertices at ≡ Some v → IsTrue same
-            ↔ Same (slice_at (graph_in self.now.graph) v) (slice_at (graph_in self.now.other) v)) }
+    /// The number in this graph of the vertex with the number `at` in the other, or none where this graph
+    /// lacks it. Takes constant time.
+    pub fn number_here(&self, at: usize) -> Option<usize>
+        requires { at < length self.now.other.vertices }
+        ensures found { IfSome result (λ n.
+            slice_get self.now.graph.vertices n ≡ slice_get self.now.other.vertices at) }
+        ensures stranger { IsNone result → (v : Vertex) → slice_get self.now.other.vertices at ≡ Some v
+            → ¬ HasVertex self.now.graph v }
     {
-        let marks = self.sources.reaching(&[at])?;
-        let others = self.others.reaching(&[to])?;
-        if !all_kept(&self.there, &marks, &others) {
-            return Ok(false);
-        }
-        Ok(all_kept(&self.back, &others, &marks))
+        number_at(&self.back.numbers, at)
     }
+
+    /// The directly affected points of the graph beside the other, by their numbers in it, ascending: the
+    /// vertices that the other lacks, or into which it has other control or flow edges, or for which, as
+    /// their shared use, it has other order edges. Looks once at each vertex.
+    pub fn direct(&self) -> Result<Vec<usize>, NoMemory>
+        ensures { IfOk result (λ points. AreNumbersOf self.now.graph
+            (IsDirectlyAffected (graph_in self.now.graph) (graph_in self.now.other)) points.items) }
+    {
+        direct_points(self.alloc, self.graph, self.other, &self.there, &self.back)
+    }
+
+    /// Marks the affected points of the graph beside the other: the vertices that the other lacks or has
+    /// with another slice (Horwitz, Prins and Reps 1989). Both graphs are whole, as those of programs and
+    /// merged graphs are; then these are the vertices that are reached from the directly affected ones.
+    /// Looks at each edge of the graph a fixed number of times.
+    pub fn affected_marks(&self) -> Result<Vec<bool>, NoMemory>
+        requires graph { IsWhole (graph_in self.now.graph) }
+        requires other { IsWhole (graph_in self.now.other) }
+        ensures { IfOk result (λ marks. MarksAffected self.now.graph self.now.other marks.items) }
+    {
+        let points = self.direct()?;
+        reached_marks(self.alloc, self.graph, self.other, &points)
+    }
+
+    /// The affected points, as [`Comparison::affected_marks`] marks them, by their numbers in the graph,
+    /// ascending.
+    pub fn affected(&self) -> Result<Vec<usize>, NoMemory>
+        requires graph { IsWhole (graph_in self.now.graph) }
+        requires other { IsWhole (graph_in self.now.other) }
+        ensures { IfOk result (λ points. AreNumbersOf self.now.graph
+            (IsAffected (graph_in self.now.graph) (graph_in self.now.other)) points.items) }
+    {
+        let marks = self.affected_marks()?;
+        let mut points = Vec::new(self.alloc);
+        for at in 0..marks.len() {
+            push_if(is_marked(&marks, at), at, &mut points)?;
+        }
+        Ok(points)
+    }
+}
+
+/// Marks what is reached in the graph from the directly affected points.
+fn reached_marks(
+    alloc: Global,
+    graph: &Graph,
+    other: &Graph,
+    points: &[usize],
+) -> Result<Vec<bool>, NoMemory>
+    requires graph { IsWhole (graph_in graph.now) }
+    requires other { IsWhole (graph_in other.now) }
+    requires points { AreNumbersOf graph.now
+        (IsDirectlyAffected (graph_in graph.now) (graph_in other.now)) points.now }
+    ensures { IfOk result (λ marks. MarksAffected graph.now other.now marks.items) }
+{
+    let _vertices = graph.vertices();
+    let _others = other.vertices();
+    forward(alloc, graph, points)
 }

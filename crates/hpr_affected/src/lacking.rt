@@ -1,42 +1,20 @@
-//! What of a graph another lacks.
-ghost use Rattle.std.specs.Prelude.{◌≡◌, ◌↔◌, ◌<◌, ℕ, IfOk, IsTrue, length};
+//! What of a graph another lacks: the numbers there of its vertices, and the links that aren't there.
+ghost use Rattle.std.specs.Prelude.{◌↔◌, ◌<◌, IfOk, IsTrue, length};
 ghost use Rattle.std.specs.List.Sorted.{IsSorted};
 ghost use Rattle.hpr_graph.specs.Numbered.{row_of, rows_of};
-ghost use Rattle.hpr_affected.specs.Lacking.{AreNumbersIn, AreWithout, IsKnown, IsOneWay, IsThere, links_at};
+ghost use Rattle.hpr_affected.specs.Lacking.{AreLacking, AreNumbersIn, AreWithout, IsKnown, IsThere};
 
 use crate::lists::push_if;
 use hpr_graph::links::{has_sorted, moved, number_at, sorted};
 use hpr_graph::{Graph, Link, NoMemory};
 use std::alloc::Global;
 
-/// The vertices of a graph by their numbers in another, and for each the links into it that the other
-/// lacks.
-pub(crate) struct OneWay {
-    pub(crate) numbers: Vec<Option<usize>>,
-    pub(crate) rows: Vec<Vec<Link>>,
-}
-
-/// The numbers and the links are dropped in one call.
-impl Drop for OneWay {
-    fn drop(self) {
-        let OneWay {
-            numbers: _,
-            rows: _,
-        } = self;
-    }
-}
-
-/// What of the graph the other lacks. Looks each vertex up, and sorts the links into each.
-pub(crate) fn one_way(alloc: Global, graph: &Graph, other: &Graph) -> Result<OneWay, NoMemory>
-    ensures { IfOk result (λ way. IsOneWay graph.now other.now way.numbers.items (rows_of way.rows.items)) }
-{
-    let numbers = numbers_in(alloc, graph, other)?;
-    let rows = lacking_rows(alloc, graph, other, &numbers)?;
-    Ok(OneWay { numbers, rows })
-}
-
 /// The number of each vertex of the graph in the other, where it is there.
-fn numbers_in(alloc: Global, graph: &Graph, other: &Graph) -> Result<Vec<Option<usize>>, NoMemory>
+pub(crate) fn numbers_in(
+    alloc: Global,
+    graph: &Graph,
+    other: &Graph,
+) -> Result<Vec<Option<usize>>, NoMemory>
     ensures { IfOk result (λ ns. AreNumbersIn graph.now other.now ns.items) }
 {
     let mut numbers = Vec::new(alloc);
@@ -47,16 +25,14 @@ fn numbers_in(alloc: Global, graph: &Graph, other: &Graph) -> Result<Vec<Option<
 }
 
 /// For each vertex of the graph the links into it that the other lacks.
-fn lacking_rows(
+pub(crate) fn lacking_rows(
     alloc: Global,
     graph: &Graph,
     other: &Graph,
     numbers: &[Option<usize>],
 ) -> Result<Vec<Vec<Link>>, NoMemory>
     requires { AreNumbersIn graph.now other.now numbers.now }
-    ensures count { IfOk result (λ rows. length rows.items ≡ length graph.now.vertices) }
-    ensures lacking { IfOk result (λ rows. (at : ℕ) → at < length graph.now.vertices
-        → AreWithout (IsThere other.now numbers.now at) (row_of graph.now at) (links_at (rows_of rows.items) at)) }
+    ensures { IfOk result (λ rows. AreLacking graph.now other.now numbers.now (rows_of rows.items)) }
 {
     let mut rows = Vec::new(alloc);
     for at in 0..graph.vertex_count() {

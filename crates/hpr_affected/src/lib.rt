@@ -1,13 +1,14 @@
-//! What a variant of a program changed, and what three versions share: affected and preserved points
-//! (Horwitz, Prins and Reps 1989).
+//! What a variant of a program changed, and what three versions share: directly affected, affected and
+//! preserved points (the latter two after Horwitz, Prins and Reps 1989).
 #![tactic(auto)]
 
 mod comparison;
-mod kept;
+mod differing;
 mod lacking;
 pub mod laws;
 mod lists;
 mod points;
 
+pub use comparison::Comparison;
 pub use hpr_graph::{Graph, NoMemory};
-pub use points::{affected, preserved};
+pub use points::{affected, direct, preserved, preserved_beside};

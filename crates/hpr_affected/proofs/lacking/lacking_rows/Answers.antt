@@ -17,8 +17,8 @@ loop-at-preserved c =
           (omega (arith, length_rows c.loop-at.rows.items, c.loop-at.invariant.count)) c.loop-at.invariant.lacking c.in_ok-lacking_row.ensures k l);
     }
 
-pub returns-clause-count : goal.returns-clause-count
-returns-clause-count c = omega (arith, c.loop-at.invariant.count, c.loop-at-test.false, c.loop-at.auto.at-end)
-
-pub returns-clause-lacking : goal.returns-clause-lacking
-returns-clause-lacking c = λ k l. c.loop-at.invariant.lacking k (omega (arith, l, c.loop-at-test.false, c.vertex_count-at-end.ensures))
+pub returns : goal.returns
+returns c = record {
+  count = omega (arith, length_rows c.loop-at.rows.items, c.loop-at.invariant.count, c.loop-at-test.false, c.loop-at.auto.at-end, c.vertex_count-at-end.ensures);
+  lacking = λ k l. c.loop-at.invariant.lacking k (omega (arith, l, c.loop-at-test.false, c.vertex_count-at-end.ensures));
+}
