@@ -3,6 +3,7 @@ mod FirstLinks
 mod AddedLinks
 mod Widened
 mod ConflictLists
+mod ConflictPoints
 mod BothSides
 pub mod EdgeStands
 pub mod BoundedGraph

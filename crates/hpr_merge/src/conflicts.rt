@@ -1,24 +1,106 @@
 //! The conflicts of one variant.
-ghost use Rattle.std.specs.Prelude.{◌≡◌, ◌↔◌, Contains, IfOk, IsTrue, OnOk, Some, slice_get};
+ghost use Rattle.std.specs.Prelude.{◌≡◌, ◌↔◌, ◌<◌, ◌∷◌, ◌++◌, [], if◌then◌else◌, Contains, Some, length, slice_get};
+ghost use Rattle.std.specs.Prelude.{IfOk, IsTrue, OnOk};
 ghost use Rattle.std.specs.Ordering.{nat_cmp};
+ghost use Rattle.hpr_graph.specs.declared.vertex.Vertex.{Vertex};
 ghost use Rattle.hpr_graph.specs.Graphs.{IsOnce};
 ghost use Rattle.hpr_graph.specs.Numbered.{HasVertex, graph_in};
 ghost use Rattle.hpr_graph.specs.Order.{vertex_cmp};
 ghost use Rattle.hpr_graph.specs.InOrder.{Ascends};
+ghost use Rattle.hpr_graph.specs.Points.{IsAffected};
+ghost use Rattle.hpr_graph.specs.Whole.{IsWhole};
 ghost use Rattle.hpr_slice.specs.Vertices.{IsOneOf};
+ghost use Rattle.hpr_affected.specs.Comparison.{MarksAffected};
+ghost use Rattle.hpr_affected.specs.Numbers.{AreNumbersOf};
 ghost use Rattle.hpr_merge.specs.SideConflicts.{AreSideConflicts, IsEdgeOfPoint, with_conflict};
 
 use crate::beside::{Beside, widened};
+use hpr_affected::Comparison;
 use hpr_graph::{Conflict, Edge, Graph, NoMemory, Side, Vertex};
+use hpr_search::is_marked;
 use std::alloc::Global;
 
 /// The conflicts of a variant at some of its points, by their numbers in it, which ascend: those to whose
 /// slice the merged graph adds an edge that ends in a vertex of the slice, each with the least such edge.
-/// They are in the order of their points.
+/// They are in the order of their points. Both graphs are whole.
 ///
-/// Makes two searches for each point, looks each vertex up a fixed number of times, and puts both graphs
-/// in order.
+/// Goes forward once in the merged graph, to find the points in conflict. Only where there is one, puts
+/// both graphs in order, and makes two searches for each of them.
 pub(crate) fn conflicts_on(
+    alloc: Global,
+    side: Side,
+    variant: &Graph,
+    points: &[usize],
+    merged: &Graph,
+) -> Result<Vec<Conflict>, NoMemory>
+    requires points { Ascends nat_cmp points.now }
+    requires variant { IsWhole (graph_in variant.now) }
+    requires merged { IsWhole (graph_in merged.now) }
+    ensures { IfOk result (λ cs. AreSideConflicts (graph_in merged.now) (graph_in variant.now)
+        (IsOneOf variant.now points.now) side cs.items) }
+{
+    let kept = conflicting(alloc, variant, points, merged)?;
+    if kept.is_empty() {
+        return Ok(Vec::new(alloc));
+    }
+    conflicts_at(alloc, side, variant, &kept, merged)
+}
+
+/// Those of the points of a variant, by their numbers, which ascend, that the merged graph has with
+/// another slice: they are reached in it from what is directly affected beside the variant.
+fn conflicting(
+    alloc: Global,
+    variant: &Graph,
+    points: &[usize],
+    merged: &Graph,
+) -> Result<Vec<usize>, NoMemory>
+    requires points { Ascends nat_cmp points.now }
+    requires variant { IsWhole (graph_in variant.now) }
+    requires merged { IsWhole (graph_in merged.now) }
+    ensures { IfOk result (λ kept. AreNumbersOf variant.now (λ v. IsOneOf variant.now points.now v
+        × IsAffected (graph_in merged.now) (graph_in variant.now) v) kept.items) }
+{
+    let comparison = Comparison::of(alloc, merged, variant)?;
+    let reached = comparison.affected_marks()?;
+    let mut kept = Vec::new(alloc);
+    for at in 0..variant.vertices().len() {
+        let test = is_conflicting(&comparison, points, &reached, at);
+        push_if(test, at, &mut kept)?;
+    }
+    Ok(kept)
+}
+
+/// Whether the vertex of the variant with this number is one of the points, which ascend, and is marked in
+/// the merged graph that stands beside it.
+fn is_conflicting(comparison: &Comparison, points: &[usize], reached: &[bool], at: usize) -> bool
+    requires at { at < length comparison.now.other.vertices }
+    requires points { Ascends nat_cmp points.now }
+    requires reached { MarksAffected comparison.now.graph comparison.now.other reached.now }
+    ensures { (v : Vertex) → slice_get comparison.now.other.vertices at ≡ Some v → IsTrue result
+        ↔ (Contains points.now at × IsAffected (graph_in comparison.now.graph) (graph_in comparison.now.other) v) }
+{
+    if !has_number(points, at) {
+        return false;
+    }
+    match comparison.number_here(at) {
+        Some(to) => is_marked(reached, to),
+        None => false,
+    }
+}
+
+/// Puts the number behind the others where the test holds.
+fn push_if(test: bool, number: usize, into: &mut Vec<usize>) -> Result<(), NoMemory>
+    ensures { OnOk result (into.new.items
+        ≡ (if test then into.old.items ++ number ∷ [] else into.old.items)) }
+{
+    if test {
+        into.push(number)?;
+    }
+    Ok(())
+}
+
+/// The conflicts of a variant at some of its points, by their numbers in it, which ascend, of any graphs.
+fn conflicts_at(
     alloc: Global,
     side: Side,
     variant: &Graph,

@@ -6,15 +6,16 @@ ghost use Rattle.hpr_graph.specs.declared.conflict.Side.TheVariants as sides;
 ghost use Rattle.hpr_graph.specs.Graphs.{Same};
 ghost use Rattle.hpr_graph.specs.Numbered.{graph_in};
 ghost use Rattle.hpr_graph.specs.InOrder.{Ascends};
-ghost use Rattle.hpr_graph.specs.Slices.{slice_of};
 ghost use Rattle.hpr_graph.specs.Points.{IsAffected, IsPreserved, merged};
 ghost use Rattle.hpr_graph.specs.Conflicts.{AreConflicts};
+ghost use Rattle.hpr_graph.specs.Whole.{IsWhole};
 ghost use Rattle.hpr_affected.specs.Numbers.{AreNumbersOf};
 ghost use Rattle.hpr_slice.specs.Vertices.{IsOneOf};
 ghost use Rattle.hpr_merge.specs.SideConflicts.{AreSideConflicts};
+ghost use Rattle.hpr_merge.specs.ThreePoints.{ArePointsOf};
 
 use crate::conflicts::conflicts_on;
-use hpr_affected::{affected, preserved};
+use hpr_affected::{Comparison, preserved_beside};
 use hpr_graph::{Conflict, Graph, NoMemory, Side};
 use hpr_slice::slice;
 use std::alloc::Global;
@@ -35,10 +36,13 @@ pub struct Merged {
 /// The merged graph of two variants and their base, with the affected points of both and all conflicts
 /// (Horwitz, Prins and Reps 1989, who name no edge for a conflict).
 ///
-/// The graphs are those of programs; of other graphs the answer is by the same definitions. Beside what
-/// the affected and the preserved points take, makes two searches for each affected point, looks each
-/// vertex up a fixed number of times, and puts vertices and edges in order.
+/// The graphs are whole, as those of programs are. Refuses for want of memory alone. Looks at each edge
+/// and looks each vertex up a fixed number of times; only where there are conflicts, puts vertices and
+/// edges in order, and makes two searches for each of them.
 pub fn merge(alloc: Global, base: &Graph, a: &Graph, b: &Graph) -> Result<Merged, NoMemory>
+    requires base { IsWhole (graph_in base.now) }
+    requires a { IsWhole (graph_in a.now) }
+    requires b { IsWhole (graph_in b.now) }
     ensures graph { IfOk result (λ m. Same (graph_in m.graph)
         (merged (graph_in base.now) (graph_in a.now) (graph_in b.now))) }
     ensures affected_a { IfOk result (λ m. AreNumbersOf a.now
@@ -48,34 +52,80 @@ pub fn merge(alloc: Global, base: &Graph, a: &Graph, b: &Graph) -> Result<Merged
     ensures conflicts { IfOk result (λ m. AreConflicts (graph_in base.now) (graph_in a.now)
         (graph_in b.now) m.conflicts.items) }
 {
-    let affected_a = affected(alloc, a, base)?;
-    let affected_b = affected(alloc, b, base)?;
-    let graph = merged_graph(alloc, base, a, b, &affected_a, &affected_b)?;
-    let conflicts = both_conflicts(alloc, a, b, &affected_a, &affected_b, &graph)?;
+    let points = points_of(alloc, base, a, b)?;
+    let graph = merged_graph(alloc, base, a, b, &points)?;
+    let conflicts = both_conflicts(alloc, a, b, &points.a, &points.b, &graph)?;
     Ok(Merged {
         graph,
-        affected_a,
-        affected_b,
+        affected_a: points.a,
+        affected_b: points.b,
         conflicts,
     })
 }
 
-/// The merged graph, from the affected points of both variants.
+/// The affected points of both variants, by their numbers in their graphs, and the preserved points, by
+/// their numbers in the base.
+#[derive(Drop)]
+struct Points {
+    a: Vec<usize>,
+    b: Vec<usize>,
+    shared: Vec<usize>,
+}
+
+/// The points of three graphs. Compares each variant once with the base.
+fn points_of(alloc: Global, base: &Graph, a: &Graph, b: &Graph) -> Result<Points, NoMemory>
+    requires base { IsWhole (graph_in base.now) }
+    requires a { IsWhole (graph_in a.now) }
+    requires b { IsWhole (graph_in b.now) }
+    ensures { IfOk result (λ points. ArePointsOf base.now a.now b.now
+        points.a.items points.b.items points.shared.items) }
+{
+    let with_a = Comparison::of(alloc, a, base)?;
+    let with_b = Comparison::of(alloc, b, base)?;
+    let affected_a = with_a.affected()?;
+    let affected_b = with_b.affected()?;
+    let shared = shared_points(alloc, base, with_a, with_b)?;
+    Ok(Points {
+        a: affected_a,
+        b: affected_b,
+        shared,
+    })
+}
+
+/// The preserved points of the base with which the two graphs are compared.
+fn shared_points(
+    alloc: Global,
+    base: &Graph,
+    with_a: Comparison,
+    with_b: Comparison,
+) -> Result<Vec<usize>, NoMemory>
+    requires a { with_a.other ≡ base.now }
+    requires b { with_b.other ≡ base.now }
+    requires whole { IsWhole (graph_in base.now) }
+    requires whole_a { IsWhole (graph_in with_a.graph) }
+    requires whole_b { IsWhole (graph_in with_b.graph) }
+    ensures { IfOk result (λ points. AreNumbersOf base.now (IsPreserved (graph_in base.now)
+        (graph_in with_a.entry.graph) (graph_in with_b.entry.graph)) points.items) }
+{
+    let beside_a = with_a.turned();
+    let beside_b = with_b.turned();
+    preserved_beside(alloc, base, &beside_a, &beside_b)
+}
+
+/// The merged graph, from the affected and the preserved points.
 fn merged_graph(
     alloc: Global,
     base: &Graph,
     a: &Graph,
     b: &Graph,
-    affected_a: &[usize],
-    affected_b: &[usize],
+    points: &Points,
 ) -> Result<Graph, NoMemory>
-    requires a { AreNumbersOf a.now (IsAffected (graph_in a.now) (graph_in base.now)) affected_a.now }
-    requires b { AreNumbersOf b.now (IsAffected (graph_in b.now) (graph_in base.now)) affected_b.now }
+    requires { ArePointsOf base.now a.now b.now points.now.a.items points.now.b.items points.now.shared.items }
     ensures { IfOk result (λ g. Same (graph_in g) (merged (graph_in base.now) (graph_in a.now) (graph_in b.now))) }
 {
-    let part_a = slice(alloc, a, affected_a)?;
-    let part_b = slice(alloc, b, affected_b)?;
-    let shared = shared_part(alloc, base, a, b)?;
+    let part_a = slice(alloc, a, &points.a)?;
+    let part_b = slice(alloc, b, &points.b)?;
+    let shared = slice(alloc, base, &points.shared)?;
     part_a.union(&part_b)?.union(&shared)
 }
 
@@ -88,8 +138,11 @@ fn both_conflicts(
     points_b: &[usize],
     graph: &Graph,
 ) -> Result<Vec<Conflict>, NoMemory>
-    requires a { Ascends nat_cmp points_a.now }
-    requires b { Ascends nat_cmp points_b.now }
+    requires points_a { Ascends nat_cmp points_a.now }
+    requires points_b { Ascends nat_cmp points_b.now }
+    requires a { IsWhole (graph_in a.now) }
+    requires b { IsWhole (graph_in b.now) }
+    requires graph { IsWhole (graph_in graph.now) }
     ensures { IfOk result (λ v. (cs ds : List Conflict) × (v.items ≡ cs ++ ds)
         × AreSideConflicts (graph_in graph.now) (graph_in a.now) (IsOneOf a.now points_a.now) sides.A cs
         × AreSideConflicts (graph_in graph.now) (graph_in b.now) (IsOneOf b.now points_b.now) sides.B ds) }
@@ -98,13 +151,4 @@ fn both_conflicts(
     let mut others = conflicts_on(alloc, Side::B, b, points_b, graph)?;
     conflicts.append(&mut others)?;
     Ok(conflicts)
-}
-
-/// The slice of the base at the preserved points.
-fn shared_part(alloc: Global, base: &Graph, a: &Graph, b: &Graph) -> Result<Graph, NoMemory>
-    ensures { IfOk result (λ g. Same (graph_in g) (slice_of (graph_in base.now)
-        (IsPreserved (graph_in base.now) (graph_in a.now) (graph_in b.now)))) }
-{
-    let points = preserved(alloc, base, a, b)?;
-    slice(alloc, base, &points)
 }

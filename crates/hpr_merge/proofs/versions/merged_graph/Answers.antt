@@ -1,26 +1,31 @@
-use Rattle.std.proofs.Common.{refl}
 use Rattle.std.proofs.lemmas.Result.{IfOk-weaker}
 use Rattle.hpr_graph.specs.Graphs.{Same, union_of}
 use Rattle.hpr_graph.specs.Numbered.{graph_in}
-use Rattle.hpr_graph.specs.Points.{IsAffected, merged}
+use Rattle.hpr_graph.specs.Points.{IsAffected, IsPreserved, merged}
 use Rattle.hpr_merge.proofs.BothSides.{points_slice, points_within, merged_parts}
 use Rattle.hpr_merge.proofs.versions.merged_graph.Goals as goal
 
 pub slice-requires : goal.slice-requires
-slice-requires c = points_within c.args.a.now (IsAffected (graph_in c.args.a.now) (graph_in c.args.base.now)) c.args.affected_a.now c.requires.a c.args.affected_a.now refl
+slice-requires c = points_within c.args.a.now (IsAffected (graph_in c.args.a.now) (graph_in c.args.base.now)) c.args.points.now.a.items c.requires.on_a c.deref.result.now c.deref.ensures.value
 
 pub slice-requires-2 : goal.slice-requires-2
-slice-requires-2 c = points_within c.args.b.now (IsAffected (graph_in c.args.b.now) (graph_in c.args.base.now)) c.args.affected_b.now c.requires.b c.args.affected_b.now refl
+slice-requires-2 c = points_within c.args.b.now (IsAffected (graph_in c.args.b.now) (graph_in c.args.base.now)) c.args.points.now.b.items c.requires.on_b c.deref-2.result.now c.deref-2.ensures.value
+
+pub slice-requires-3 : goal.slice-requires-3
+slice-requires-3 c =
+    points_within c.args.base.now (IsPreserved (graph_in c.args.base.now) (graph_in c.args.a.now) (graph_in c.args.b.now)) c.args.points.now.shared.items c.requires.on_base c.deref-3.result.now c.deref-3.ensures.value
 
 pub returns : goal.returns
 returns c =
     let base = c.args.base.now in
     let a = c.args.a.now in
     let b = c.args.b.now in
+    let points = c.args.points.now in
     IfOk-weaker c.union-2.result (λ g. Same (graph_in g) (union_of (graph_in c.in_ok-union.field-0) (graph_in c.in_ok-shared.shared))) (λ g. Same (graph_in g) (merged (graph_in base) (graph_in a) (graph_in b)))
     (λ g same.
     merged_parts (graph_in base) (graph_in a) (graph_in b) (graph_in c.in_ok-part_a.part_a) (graph_in c.in_ok-part_b.part_b) (graph_in c.in_ok-shared.shared) (graph_in c.in_ok-union.field-0) (graph_in g)
-    (points_slice a (IsAffected (graph_in a) (graph_in base)) c.args.affected_a.now c.requires.a c.args.affected_a.now (graph_in c.in_ok-part_a.part_a) refl c.in_ok-part_a.ensures)
-    (points_slice b (IsAffected (graph_in b) (graph_in base)) c.args.affected_b.now c.requires.b c.args.affected_b.now (graph_in c.in_ok-part_b.part_b) refl c.in_ok-part_b.ensures)
-    c.in_ok-shared.ensures c.in_ok-union.ensures same)
+    (points_slice a (IsAffected (graph_in a) (graph_in base)) points.a.items c.requires.on_a c.deref.result.now (graph_in c.in_ok-part_a.part_a) c.deref.ensures.value c.in_ok-part_a.ensures)
+    (points_slice b (IsAffected (graph_in b) (graph_in base)) points.b.items c.requires.on_b c.deref-2.result.now (graph_in c.in_ok-part_b.part_b) c.deref-2.ensures.value c.in_ok-part_b.ensures)
+    (points_slice base (IsPreserved (graph_in base) (graph_in a) (graph_in b)) points.shared.items c.requires.on_base c.deref-3.result.now (graph_in c.in_ok-shared.shared) c.deref-3.ensures.value c.in_ok-shared.ensures)
+    c.in_ok-union.ensures same)
     c.union-2.ensures
