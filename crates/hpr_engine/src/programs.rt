@@ -6,6 +6,7 @@ ghost use Rattle.hpr_graph.specs.Conflicts.{AreConflicts};
 ghost use Rattle.hpr_graph.specs.Graphs.{Same};
 ghost use Rattle.hpr_graph.specs.Numbered.{IsNumbered, graph_in};
 ghost use Rattle.hpr_graph.specs.ProgramGraph.{graph_of};
+ghost use Rattle.hpr_graph.specs.Whole.{IsWhole};
 ghost use Rattle.hpr_engine.specs.Limit.{AreInLimit, HasTooManyEdges};
 ghost use Rattle.hpr_meaning.specs.UnionLaw.{KeepsSides};
 ghost use Rattle.hpr_engine.specs.Made.{IsGraphOf, IsMergeOf};
@@ -74,8 +75,11 @@ fn limited_graphs(alloc: Global, base: &Program, a: &Program, b: &Program) -> Re
     })
 }
 
-/// The merged graph of these graphs, where there is no conflict.
+/// The merged graph of these graphs, which are whole, where there is no conflict.
 fn merge_graphs(alloc: Global, base: &Graph, a: &Graph, b: &Graph) -> Result<Graph, Stop>
+    requires base { IsWhole (graph_in base.now) }
+    requires a { IsWhole (graph_in a.now) }
+    requires b { IsWhole (graph_in b.now) }
     ensures merged { IfOk result (λ g. IsMergeOf (graph_in base.now) (graph_in a.now) (graph_in b.now) g) }
     ensures within { IfTooManyEdges result (λ _. ⊥) }
     ensures conflicts { IfInterference result (λ cs. AreConflicts (graph_in base.now) (graph_in a.now)

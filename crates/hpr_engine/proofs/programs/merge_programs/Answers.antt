@@ -8,9 +8,18 @@ use Rattle.hpr_graph.specs.ProgramGraph.{graph_of}
 use Rattle.hpr_meaning.specs.UnionLaw.{KeepsSides}
 use Rattle.hpr_engine.specs.Limit.{AreInLimit}
 use Rattle.hpr_engine.specs.Made.{IsMergeOf}
-use Rattle.hpr_engine.proofs.Merge.{graph_merged, conflicts_of, kept}
+use Rattle.hpr_engine.proofs.Merge.{graph_merged, conflicts_of, kept, whole_graph}
 use Rattle.hpr_engine.proofs.Unsearched.{interference_weaker, judged_always, never_too_many}
 use Rattle.hpr_engine.proofs.programs.merge_programs.Goals as goal
+
+pub merge_graphs-requires-clause-base : goal.merge_graphs-requires-clause-base
+merge_graphs-requires-clause-base c = whole_graph c.args.base.now c.in_ok-graphs.graphs.base c.in_ok-graphs.ensures.base
+
+pub merge_graphs-requires-clause-a : goal.merge_graphs-requires-clause-a
+merge_graphs-requires-clause-a c = whole_graph c.args.a.now c.in_ok-graphs.graphs.a c.in_ok-graphs.ensures.a
+
+pub merge_graphs-requires-clause-b : goal.merge_graphs-requires-clause-b
+merge_graphs-requires-clause-b c = whole_graph c.args.b.now c.in_ok-graphs.graphs.b c.in_ok-graphs.ensures.b
 
 pub returns-clause-graph : goal.returns-clause-graph
 returns-clause-graph c =
