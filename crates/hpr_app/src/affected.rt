@@ -2,6 +2,7 @@
 ghost use Rattle.std.specs.Prelude.{IfOk, IsTrue};
 ghost use Rattle.hpr_graph.specs.Numbered.{graph_in};
 ghost use Rattle.hpr_graph.specs.Points.{IsAffected};
+ghost use Rattle.hpr_graph.specs.Whole.{IsWhole};
 ghost use Rattle.hpr_report.specs.AffectedText.{IsAffectedText};
 ghost use Rattle.hpr_words.specs.Request.{affected};
 ghost use Rattle.hpr_decisions.specs.Answered.{Answers};
@@ -44,6 +45,8 @@ fn show_affected(
 ) -> Result<Report, Stop>
     ensures { Merges (AffectedPoints base.now base_program.now a.now a_program.now) result }
 {
+    let _base_body = base_program.body();
+    let _a_body = a_program.body();
     let base_graph = make_graph(alloc, base, base_program)?;
     let a_graph = make_graph(alloc, a, a_program)?;
     let text = points_text(alloc, &base_graph, &a_graph)?;
@@ -53,8 +56,10 @@ fn show_affected(
     })
 }
 
-/// The text of the affected points of a graph.
+/// The text of the affected points of a graph. Both graphs are whole.
 fn points_text(alloc: Global, base: &Graph, a: &Graph) -> Result<Vec<u8>, NoMemory>
+    requires base { IsWhole (graph_in base.now) }
+    requires a { IsWhole (graph_in a.now) }
     ensures { IfOk result (λ text. IsAffectedText (IsAffected (graph_in a.now) (graph_in base.now)) text.items) }
 {
     let points = affected(alloc, a, base)?;

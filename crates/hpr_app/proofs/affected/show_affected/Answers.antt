@@ -1,5 +1,17 @@
+use Rattle.hpr_graph.specs.Numbered.{graph_in}
+use Rattle.hpr_graph.specs.ProgramGraph.{graph_of}
+use Rattle.hpr_closure.proofs.ProgramWhole.{program_whole}
+use Rattle.hpr_closure.proofs.WholeSlices.{whole_same}
 use Rattle.hpr_app.proofs.AffectedLemmas.{affected_points}
 use Rattle.hpr_app.proofs.affected.show_affected.Goals as goal
+
+pub points_text-requires-clause-base : goal.points_text-requires-clause-base
+points_text-requires-clause-base c =
+    whole_same (graph_in c.in_ok-base_graph.base_graph) (graph_of c.args.base_program.now) c.in_ok-base_graph.ensures.0 (program_whole c.args.base_program.now c.body-base_body.ensures.program)
+
+pub points_text-requires-clause-a : goal.points_text-requires-clause-a
+points_text-requires-clause-a c =
+    whole_same (graph_in c.in_ok-a_graph.a_graph) (graph_of c.args.a_program.now) c.in_ok-a_graph.ensures.0 (program_whole c.args.a_program.now c.body-a_body.ensures.program)
 
 pub returns : goal.returns
 returns c =
