@@ -1,10 +1,10 @@
 //! Calls of hpr_graph and hpr_build on graphs, with their reports.
 ghost use Rattle.std.specs.Prelude.{◌<◌, length};
 
-use crate::spelled::{graph, graphs, link, vertex};
+use crate::spelled::{draft, graph, graphs, link, vertex};
 use hpr_build::{BuildError, graph_of};
 use hpr_graph::links::is_inside;
-use hpr_graph::{Graph, Link, LinkKind, Vertex, compare_vertices, place_of, same_vertex};
+use hpr_graph::{Draft, Graph, Link, LinkKind, Vertex, compare_vertices, place_of, same_vertex};
 use hpr_report::{graph_json, graph_text};
 use hpr_rows::{
     Out, Row, order_word, put, put_content, put_count, put_counted, put_made, put_tag, truth,
@@ -18,6 +18,7 @@ pub(crate) fn call(row: Row<'_>, out: &mut Out) -> Option<()> {
     match row.word(1)? {
         "build" => build(row, out),
         "add" => add(row, out),
+        "draft" => finished(row, out),
         "compare" => compare(row, out),
         "union" | "same" => both(row, out),
         _ => one(row, out),
@@ -130,27 +131,27 @@ fn build(row: Row<'_>, out: &mut Out) -> Option<()> {
     Some(())
 }
 
-fn add_vertex(alloc: Global, out: &mut Out, graph: &mut Graph, line: &str) -> Option<()> {
-    let number = graph.add_vertex(vertex(alloc, line)?).ok()?;
+fn add_vertex(alloc: Global, out: &mut Out, draft: &mut Draft, line: &str) -> Option<()> {
+    let number = draft.add_vertex(vertex(alloc, line)?).ok()?;
     put_counted(out, " ", number);
     Some(())
 }
 
-fn add_vertices(alloc: Global, out: &mut Out, graph: &mut Graph, lines: &str) -> Option<()> {
+fn add_vertices(alloc: Global, out: &mut Out, draft: &mut Draft, lines: &str) -> Option<()> {
     out.put_piece("numbers");
     for line in lines.lines() {
-        add_vertex(alloc, out, graph, line)?;
+        add_vertex(alloc, out, draft, line)?;
     }
     out.put_piece(", ");
-    put_counts(out, graph);
+    put_draft_counts(out, draft);
     Some(())
 }
 
-// `add VERTICES`: the numbers of vertices that are added to an empty graph, and its size.
+// `add VERTICES`: the numbers of vertices that are added to an empty draft, and its size.
 fn add(row: Row<'_>, out: &mut Out) -> Option<()> {
     let lines = row.text(2)?;
-    let mut graph = Graph::empty(row.alloc);
-    add_vertices(row.alloc, out, &mut graph, lines)
+    let mut draft = Draft::empty(row.alloc);
+    add_vertices(row.alloc, out, &mut draft, lines)
 }
 
 fn is_link(out: &mut Out, graph: &Graph, line: &str) -> Option<()> {
@@ -167,6 +168,28 @@ fn are_links(row: Row<'_>, out: &mut Out, graph: &Graph) -> Option<()> {
         is_link(out, graph, line)?;
     }
     out.put_piece("\n");
+    Some(())
+}
+
+fn put_draft_counts(out: &mut Out, draft: &Draft) {
+    put_counted(out, "vertices ", draft.vertices().len());
+    put_count(out, ", edges ", draft.edge_count() as u64);
+}
+
+// Puts the size of a draft, and the edges into each vertex in the order of adding.
+fn put_draft(out: &mut Out, draft: &Draft) {
+    put_draft_counts(out, draft);
+    for at in 0..draft.vertex_count() {
+        put_counted(out, "into ", at);
+        put_links(out, draft.edges_into(at));
+    }
+}
+
+// `draft GRAPH`: the edges into each vertex in the order of adding, and as the finished graph has them.
+fn finished(row: Row<'_>, out: &mut Out) -> Option<()> {
+    let draft = draft(row.alloc, row.text(2)?)?;
+    put_draft(out, &draft);
+    put_rows(row.alloc, out, &draft.finish());
     Some(())
 }
 

@@ -3,12 +3,13 @@ ghost use Rattle.std.specs.Prelude.{◌≤◌, IsTrue, Contains, IfOk};
 ghost use Rattle.hpr_graph.specs.declared.vertex.Vertex.{Vertex};
 ghost use Rattle.hpr_graph.specs.Arrangements.{AreArrangements};
 ghost use Rattle.hpr_graph.specs.Numbered.{graph_in};
+ghost use Rattle.hpr_graph.specs.Whole.{IsWhole};
 ghost use Rattle.hpr_order.specs.Arranging.{IsPreorderOf};
 ghost use Rattle.hpr_order.specs.Regions.{AreRegionsOf};
 ghost use Rattle.hpr_rebuild.specs.Parts.{IsIssuedPart};
 
 use crate::graph::put_vertex;
-use crate::spelled::{graph, graphs};
+use crate::spelled::{graph, program_graph};
 use hpr_graph::{Graph, Vertex};
 use hpr_merge::merge;
 use hpr_order::{Arrangements, OrderError, RegionTree, arrange, rank, regions};
@@ -104,19 +105,22 @@ fn put_regions(alloc: Global, out: &mut Out, graph: &Graph) {
     }
 }
 
-fn merged_of(alloc: Global, out: &mut Out, graphs: &[Graph]) -> Option<()> {
-    let [base, a, b] = graphs else {
-        return None;
-    };
+fn merged_of(alloc: Global, out: &mut Out, base: &Graph, a: &Graph, b: &Graph) -> Option<()>
+    requires base { IsWhole (graph_in base.now) }
+    requires a { IsWhole (graph_in a.now) }
+    requires b { IsWhole (graph_in b.now) }
+{
     let merged = merge(alloc, base, a, b).ok()?;
     put_regions(alloc, out, &merged.graph);
     Some(())
 }
 
-// `merged BASE A B`: the same of the merged graph.
+// `merged BASE A B`: the same of the merged graph of three programs.
 fn merged(row: Row<'_>, out: &mut Out) -> Option<()> {
-    let graphs = graphs(row, 2, 5)?;
-    merged_of(row.alloc, out, &graphs)
+    let base = program_graph(row, 2)?;
+    let a = program_graph(row, 3)?;
+    let b = program_graph(row, 4)?;
+    merged_of(row.alloc, out, &base, &a, &b)
 }
 
 fn raise(issued: &mut Issued, vertex: &Vertex) -> Option<()> {

@@ -1,9 +1,11 @@
 //! Calls of hpr_slice, hpr_affected and hpr_merge on graphs.
 ghost use Rattle.std.specs.Prelude.{◌↔◌, ◌<◌, All, IsTrue, length};
+ghost use Rattle.hpr_graph.specs.Numbered.{graph_in};
+ghost use Rattle.hpr_graph.specs.Whole.{IsWhole};
 
 use crate::graph::{put_counts, put_new};
-use crate::spelled::{graph, graphs};
-use hpr_affected::{affected, preserved};
+use crate::spelled::{graph, graphs, program_graph};
+use hpr_affected::{affected, direct, preserved};
 use hpr_graph::Graph;
 use hpr_merge::{Merged, merge};
 use hpr_rebuild::part_count;
@@ -17,6 +19,7 @@ use std::alloc::Global;
 pub(crate) fn call(row: Row<'_>, out: &mut Out) -> Option<()> {
     match row.word(1)? {
         "affected" => changed(row, out),
+        "direct" => differing(row, out),
         "preserved" | "merge" => of_three(row, out),
         _ => at_points(row, out),
     }
@@ -79,16 +82,24 @@ fn at_points(row: Row<'_>, out: &mut Out) -> Option<()> {
     at(row, out, &graph)
 }
 
+// `affected BASE VARIANT`: the numbers of the affected points of the variant, both of them programs.
+fn changed(row: Row<'_>, out: &mut Out) -> Option<()> {
+    let base = program_graph(row, 2)?;
+    let variant = program_graph(row, 3)?;
+    put_found(out, "affected", affected(row.alloc, &variant, &base));
+    Some(())
+}
+
 fn of_two(row: Row<'_>, out: &mut Out, graphs: &[Graph]) -> Option<()> {
     let [base, variant] = graphs else {
         return None;
     };
-    put_found(out, "affected", affected(row.alloc, variant, base));
+    put_found(out, "direct", direct(row.alloc, variant, base));
     Some(())
 }
 
-// `affected BASE VARIANT`: the numbers of the variant's affected points.
-fn changed(row: Row<'_>, out: &mut Out) -> Option<()> {
+// `direct BASE VARIANT`: the numbers of the variant's directly affected points.
+fn differing(row: Row<'_>, out: &mut Out) -> Option<()> {
     let graphs = graphs(row, 2, 4)?;
     of_two(row, out, &graphs)
 }
@@ -108,10 +119,11 @@ fn put_merge(alloc: Global, out: &mut Out, merged: Result<Merged, NoMemory>) {
     }
 }
 
-fn of_all(row: Row<'_>, out: &mut Out, graphs: &[Graph]) -> Option<()> {
-    let [base, a, b] = graphs else {
-        return None;
-    };
+fn of_all(row: Row<'_>, out: &mut Out, base: &Graph, a: &Graph, b: &Graph) -> Option<()>
+    requires base { IsWhole (graph_in base.now) }
+    requires a { IsWhole (graph_in a.now) }
+    requires b { IsWhole (graph_in b.now) }
+{
     match row.word(1)? {
         "merge" => put_merge(row.alloc, out, merge(row.alloc, base, a, b)),
         _ => put_found(out, "preserved", preserved(row.alloc, base, a, b)),
@@ -120,8 +132,10 @@ fn of_all(row: Row<'_>, out: &mut Out, graphs: &[Graph]) -> Option<()> {
 }
 
 // `preserved BASE A B`: the numbers of base's preserved points; `merge BASE A B`: the conflicts, the
-// affected points, and the size of the merged graph.
+// affected points, and the size of the merged graph. All three are programs.
 fn of_three(row: Row<'_>, out: &mut Out) -> Option<()> {
-    let graphs = graphs(row, 2, 5)?;
-    of_all(row, out, &graphs)
+    let base = program_graph(row, 2)?;
+    let a = program_graph(row, 3)?;
+    let b = program_graph(row, 4)?;
+    of_all(row, out, &base, &a, &b)
 }

@@ -1,7 +1,12 @@
 //! Graphs that texts spell.
-use hpr_build::graph_of;
-use hpr_graph::{Graph, Link, LinkKind, Vertex};
+ghost use Rattle.std.specs.Prelude.{IfOk, IfSome};
+ghost use Rattle.hpr_graph.specs.Numbered.{graph_in};
+ghost use Rattle.hpr_graph.specs.Whole.{IsWhole};
+
+use hpr_build::{BuildError, graph_of};
+use hpr_graph::{Draft, Graph, Link, LinkKind, Vertex};
 use hpr_rows::{Row, tag_of};
+use hpr_syntax::Program;
 use hpr_terms::Name;
 use hpr_text::read_content;
 use std::alloc::Global;
@@ -58,37 +63,52 @@ pub(crate) fn link(line: &str) -> Option<(usize, Link)> {
     Some((to, Link { from, kind }))
 }
 
-fn add_link(graph: &mut Graph, line: &str) -> Option<()> {
+fn add_link(draft: &mut Draft, line: &str) -> Option<()> {
     let (to, link) = link(line)?;
-    if graph.is_link(to, link) {
-        return graph.add_link(to, link).ok();
+    if draft.is_link(to, link) {
+        return draft.add_link(to, link).ok();
     }
     None
 }
 
-fn add_vertex(graph: &mut Graph, vertex: Vertex) -> Option<()> {
-    graph.add_vertex(vertex).ok()?;
+fn add_vertex(draft: &mut Draft, vertex: Vertex) -> Option<()> {
+    draft.add_vertex(vertex).ok()?;
     Some(())
 }
 
-fn add_line(alloc: Global, graph: &mut Graph, line: &str) -> Option<()> {
+fn add_line(alloc: Global, draft: &mut Draft, line: &str) -> Option<()> {
     match vertex(alloc, line) {
-        Some(vertex) => add_vertex(graph, vertex),
-        None => add_link(graph, line),
+        Some(vertex) => add_vertex(draft, vertex),
+        None => add_link(draft, line),
     }
 }
 
-fn spelled(alloc: Global, text: &str) -> Option<Graph> {
-    let mut graph = Graph::empty(alloc);
+/// The draft that the lines of a text spell, a vertex or a link a line.
+pub(crate) fn draft(alloc: Global, text: &str) -> Option<Draft> {
+    let mut draft = Draft::empty(alloc);
     for line in text.lines() {
-        add_line(alloc, &mut graph, line)?;
+        add_line(alloc, &mut draft, line)?;
     }
-    Some(graph)
+    Some(draft)
 }
 
-fn of_program(row: Row<'_>, at: usize) -> Option<Graph> {
+// The graph of a program. That it is whole is learnt by looking at the program.
+fn whole_graph(alloc: Global, program: &Program) -> Result<Graph, BuildError>
+    ensures { IfOk result (λ g. IsWhole (graph_in g)) }
+{
+    let _body = program.body();
+    graph_of(alloc, program, 1000)
+}
+
+/// The graph of the program that the text spells whose name stands at this place.
+pub(crate) fn program_graph(row: Row<'_>, at: usize) -> Option<Graph>
+    ensures { IfSome result (λ g. IsWhole (graph_in g)) }
+{
     let program = row.program(at)?;
-    graph_of(row.alloc, &program, 1000).ok()
+    match whole_graph(row.alloc, &program) {
+        Ok(graph) => Some(graph),
+        Err(_) => None,
+    }
 }
 
 /// The graph of the text that the word at this place names: that of the program that it spells, or else
@@ -96,9 +116,9 @@ fn of_program(row: Row<'_>, at: usize) -> Option<Graph> {
 pub(crate) fn graph(row: Row<'_>, at: usize) -> Option<Graph> {
     let text = row.text(at)?;
     if text.starts_with("program") {
-        return of_program(row, at);
+        return program_graph(row, at);
     }
-    spelled(row.alloc, text)
+    Some(draft(row.alloc, text)?.finish())
 }
 
 fn push_graph(row: Row<'_>, graphs: &mut Vec<Graph>, at: usize) -> Option<()> {
