@@ -1,13 +1,11 @@
 -- Where the slice of a point isn't the same in the merged graph as on its side, an added edge stands.
 use Rattle.std.proofs.Common.{◌≡◌, ℕ, zero, suc, ◌⊎◌, inl, inr, List, [], ◌∷◌, refl, sym, subst}
-use Rattle.hpr_graph.specs.declared.conflict.Side.TheVariants.{A, B}
 use Rattle.hpr_graph.specs.declared.vertex.Vertex.{Vertex}
 use Rattle.hpr_graph.specs.declared.edge.Edge.{Edge}
 use Rattle.hpr_graph.specs.Graphs.{Graph, IsWithin, Same}
 use Rattle.hpr_graph.specs.Slices.{LeadsTo, ReachesOne, slice_of, slice_at}
 use Rattle.hpr_graph.specs.Points.{IsAffected, changed, merged_all}
-use Rattle.hpr_graph.proofs.Lists.{in_none}
-use Rattle.hpr_graph.specs.Conflicts.{graph_at, IsAdded, IsLeast, IsConflictAt, HasNoConflict, AreConflicts}
+use Rattle.hpr_graph.specs.Conflicts.{graph_at, IsAdded, IsLeast, IsConflictAt, HasNoConflict}
 use Rattle.hpr_graph.specs.Whole.{HasLoops, HasEnds, IsListed, IsWhole, IsFinite, AreAll}
 use Rattle.hpr_closure.proofs.Decided.{Decided, both, reach_decided, slice_edge_decided, least_decided}
 use Rattle.hpr_closure.proofs.FiniteGraphs.{finite_at, merged_finite}
@@ -89,9 +87,3 @@ module _ (base : Graph) (gs : List Graph) (whole : IsWhole base) (fin : IsFinite
     | inl same ↦ same
     | inr (e, least) ↦ absurd (free i v e ((affected, λ same. least.0.1 ((same.1 e).0 least.0.0)), least))
   ]
-
--- where the list of the conflicts of two variants is empty, nothing is a conflict
-pub none_of_two : (base a b : Graph) → AreConflicts base a b [] → HasNoConflict base (a ∷ b ∷ [])
-none_of_two base a b free zero v e h = in_none (record { side = A; point = v; edge = e }) ((free.0 (record { side = A; point = v; edge = e })).1 h)
-none_of_two base a b free (suc zero) v e h = in_none (record { side = B; point = v; edge = e }) ((free.0 (record { side = B; point = v; edge = e })).1 h)
-none_of_two base a b free (suc (suc i)) v e h = h.0.0.0

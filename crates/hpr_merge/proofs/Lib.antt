@@ -6,6 +6,7 @@ mod ConflictLists
 mod ConflictPoints
 mod BothSides
 pub mod EdgeStands
+pub mod NoneListed
 pub mod BoundedGraph
-mod ProgramStands
 pub mod SomeConflicts
+mod ProgramStands

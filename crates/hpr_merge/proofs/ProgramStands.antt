@@ -1,11 +1,10 @@
 -- At each conflict of programs an edge stands, and a list of the conflicts has the conflict.
-use Rattle.std.proofs.Common.{◌≡◌, ◌⊎◌, ℕ, List, [], ◌∷◌, Contains, refl, sym, ap, subst, arith}
+use Rattle.std.proofs.Common.{◌≡◌, ◌⊎◌, ℕ, List, [], ◌∷◌, Contains, refl, sym, ap, subst}
 use Rattle.std.specs.List.{AllByRecursion}
 use Rattle.hpr_syntax.specs.Shape.{IsProgram}
 use Rattle.hpr_syntax.specs.Tree.{Tree}
 use Rattle.hpr_graph.specs.declared.conflict.Conflict.{Conflict}
 use Rattle.hpr_graph.specs.declared.conflict.Side.{Side}
-use Rattle.hpr_graph.specs.declared.conflict.Side.TheVariants.{A, B}
 use Rattle.hpr_graph.specs.declared.edge.Edge.{Edge}
 use Rattle.hpr_graph.specs.declared.vertex.Vertex.{Vertex}
 use Rattle.hpr_graph.specs.Answer.{graphs_of, merged_of, merged_of_all}
@@ -17,6 +16,7 @@ use Rattle.hpr_graph.specs.Slices.{slice_at}
 use Rattle.hpr_closure.proofs.ProgramFinite.{program_finite, programs_finite}
 use Rattle.hpr_closure.proofs.ProgramWhole.{program_whole, programs_whole}
 use Rattle.hpr_merge.proofs.EdgeStands as of_graphs
+use Rattle.hpr_merge.proofs.SomeConflicts.{one_side}
 
 module _ (base : Tree) (vs : List Tree) (is : IsProgram base) (all : AllByRecursion IsProgram vs) (i : ℕ) (v : Vertex) where
   abbrev M : Graph
@@ -47,15 +47,9 @@ module _ (base : Tree) (vs : List Tree) (is : IsProgram base) (all : AllByRecurs
         (x, (exact.0 x).1 (subst Is (sym is_at) (conflict, least)), ap (λ (p : ℕ × Vertex × Edge). p.0) is_at, ap (λ (p : ℕ × Vertex × Edge). p.1) is_at)
 
 -- the same of two variants
-side_is : (s t : Side) → number_of s ≡ number_of t → s ≡ t
-side_is A A e = refl
-side_is A B e = absurd (omega (arith, e))
-side_is B A e = absurd (omega (arith, e))
-side_is B B e = refl
-
 pub told : (base a b : Tree) (cs : List Conflict) → IsProgram base → IsProgram a → IsProgram b → AreConflicts (graph_of base) (graph_of a) (graph_of b) cs → (side : Side) (v : Vertex)
     → IsConflictAt (merged_of base a b) (graph_on side (graph_of a) (graph_of b)) (graph_of base) v
     → (c : Conflict) × Contains cs c × (c.side ≡ side) × (c.point ≡ v)
 told base a b cs is is_a is_b exact side v conflict =
     let (c, there, number, point) = told_all base (a ∷ b ∷ []) is (is_a, (is_b, tt)) (number_of side) v told_as cs exact (λ e. (record { side = side; point = v; edge = e }, refl)) conflict in
-    (c, there, side_is c.side side number, point)
+    (c, there, one_side c.side side number, point)

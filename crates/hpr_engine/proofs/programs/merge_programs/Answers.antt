@@ -26,7 +26,7 @@ returns-clause-graph c =
     let g = c.in_ok-graphs.graphs in
     let made = c.in_ok-graphs.ensures in
     IfOk-weaker c.merge_graphs.result (λ m. IsMergeOf (graph_in g.base) (graph_in g.a) (graph_in g.b) m) (λ m. Same (graph_in m) (merged_of c.args.base.now c.args.a.now c.args.b.now))
-    (λ m is. graph_merged c.args.base.now c.args.a.now c.args.b.now g.base g.a g.b m made.base made.a made.b is.same)
+    (λ m is. graph_merged c.args.base.now c.args.a.now c.args.b.now g.base g.a g.b made.base made.a made.b m is.same)
     c.merge_graphs.ensures.merged
 
 pub returns-clause-no_conflict : goal.returns-clause-no_conflict
@@ -34,7 +34,7 @@ returns-clause-no_conflict c =
     let g = c.in_ok-graphs.graphs in
     let made = c.in_ok-graphs.ensures in
     IfOk-weaker c.merge_graphs.result (λ m. IsMergeOf (graph_in g.base) (graph_in g.a) (graph_in g.b) m) (λ m. IsWithoutConflict c.args.base.now c.args.a.now c.args.b.now)
-    (λ m is. conflicts_of c.args.base.now c.args.a.now c.args.b.now g.base g.a g.b m made.base made.a made.b [] is.free)
+    (λ m is. conflicts_of c.args.base.now c.args.a.now c.args.b.now g.base g.a g.b made.base made.a made.b [] is.free)
     c.merge_graphs.ensures.merged
 
 pub returns-clause-kept : goal.returns-clause-kept
@@ -42,7 +42,7 @@ returns-clause-kept c =
     let g = c.in_ok-graphs.graphs in
     let made = c.in_ok-graphs.ensures in
     IfOk-weaker c.merge_graphs.result (λ m. IsMergeOf (graph_in g.base) (graph_in g.a) (graph_in g.b) m) (λ m. KeepsSides c.args.base.now c.args.a.now c.args.b.now)
-    (λ m is. kept c.args.base.now c.args.a.now c.args.b.now g.base g.a g.b m made.base made.a made.b is.numbered is.same is.free)
+    (λ m is. kept c.args.base.now c.args.a.now c.args.b.now g.base g.a g.b made.base made.a made.b is.free)
     c.merge_graphs.ensures.merged
 
 pub returns-clause-within : goal.returns-clause-within
@@ -57,5 +57,5 @@ returns-clause-conflicts c =
     let made = c.in_ok-graphs.ensures in
     interference_weaker Numbered c.merge_graphs.result (λ cs. AreConflicts (graph_in g.base) (graph_in g.a) (graph_in g.b) cs)
     (λ cs. AreConflicts (graph_of c.args.base.now) (graph_of c.args.a.now) (graph_of c.args.b.now) cs)
-    (λ cs h. conflicts_of c.args.base.now c.args.a.now c.args.b.now g.base g.a g.b g.base made.base made.a made.b cs h)
+    (λ cs h. conflicts_of c.args.base.now c.args.a.now c.args.b.now g.base g.a g.b made.base made.a made.b cs h)
     c.merge_graphs.ensures.conflicts
