@@ -1,13 +1,11 @@
 -- Where a change is the only one, the answer is the changed program; so where one of two variants is the base, it is the other one.
-use Rattle.std.proofs.Common.{◌≡◌, ℕ, zero, suc, ◌≤◌, Bool, true, false, IsTrue, ◌↔◌, ◌⊎◌, inl, inr, List, [], ◌∷◌, ◌++◌, take, Contains, refl, sym, ◌∙◌, subst, arith}
+use Rattle.std.proofs.Common.{◌≡◌, ℕ, zero, suc, ◌≤◌, ◌⊎◌, inl, inr, List, [], ◌∷◌, ◌++◌, take, Contains, refl, sym, ◌∙◌, subst, arith}
 use Rattle.std.specs.List.{AllByRecursion}
 use Rattle.std.proofs.lemmas.List.Elements.{All-contains, All-from_recursion}
 use Rattle.hpr_syntax.specs.Body.{Body}
-use Rattle.hpr_syntax.specs.Comparisons.{same_tree}
 use Rattle.hpr_syntax.specs.Issued.{Issued}
 use Rattle.hpr_syntax.specs.Shape.{IsProgram}
 use Rattle.hpr_syntax.specs.Tree.{Tree}
-use Rattle.hpr_syntax.proofs.Same.{tree_equal}
 use Rattle.hpr_graph.specs.declared.vertex.Vertex.{Vertex}
 use Rattle.hpr_graph.specs.Graphs.{Graph}
 use Rattle.hpr_graph.specs.declared.edge.Edge.{Edge}
@@ -27,14 +25,6 @@ use Rattle.hpr_engine.proofs.OneSide.{a_alone, b_alone, free_when_kept, only_kee
 use Rattle.hpr_engine.proofs.OneSideWhole.{only_whole}
 use Rattle.hpr_engine.proofs.Premises.{proper_issued, parts_issued}
 
--- what can't be refuted of two trees is so
-stable_if : (b : Bool) (p q : Tree) → (IsTrue b ↔ (p ≡ q)) → ¬ (¬ (p ≡ q)) → p ≡ q
-stable_if true p q same n = same.0 refl
-stable_if false p q same n = absurd (n (λ e. (let no : IsTrue false = same.1 e in cc)))
-
-stable : (p q : Tree) → ¬ (¬ (p ≡ q)) → p ≡ q
-stable p q n = stable_if (same_tree p q) p q (tree_equal p q (same_tree p q) refl) n
-
 first_taken : (q : Tree) (qs : List Tree) (tries : ℕ) → 1 ≤ tries → Contains (take tries (q ∷ qs)) q
 first_taken q qs zero l = absurd (omega (arith, l))
 first_taken q qs (suc n) l = in_here q (take n qs)
@@ -47,9 +37,9 @@ first_is g q qs ps (f ∷ front) back m is split none fits =
     let same : q ≡ f = cc in
     absurd (none f (in_here f front) (subst (Fits g) same fits))
 
--- the program p, settled, has the graph or that can't be refuted, and its parts stand in the order of each rank
+-- the program p has the graph, and its parts stand in the order of each rank
 module _ {X : Type 0} (at : X → ℕ × Vertex × Edge) (base : Tree) (vs : List Tree) (p : Tree) (is : IsProgram base) (all : AllByRecursion IsProgram vs) (is_p : IsProgram p)
-    (free : AreWithoutConflict at base vs) (whole : ¬ (¬ Fits (merged_of_all base vs) p)) (keeps : (r : List Vertex) → IsRankOf base vs r → KeepsOrder (parts_of p) r) where
+    (free : AreWithoutConflict at base vs) (fits : Fits (merged_of_all base vs) p) (keeps : (r : List Vertex) → IsRankOf base vs r → KeepsOrder (parts_of p) r) where
   abbrev M : Graph
   M = merged_of_all base vs
 
@@ -63,24 +53,20 @@ module _ {X : Type 0} (at : X → ℕ × Vertex × Edge) (base : Tree) (vs : Lis
     order : (r : List Vertex) → KeepsOrder (parts_of p) r → KeepsOrder (parts_of q) r
     order r keeps_p = subst (λ (body : Body). KeepsOrder (parts_of (record { issued = q.issued; body = body; finals = q.finals })) r) s.body keeps_p
 
-    first : (rank : List Vertex) (ps : List Tree) → IsRankOf base vs rank → AreArrangements M rank I ps → Fits M p → (qs : List Tree) × (ps ≡ q ∷ qs)
-    first rank ps is_rank are fits =
+    first : (rank : List Vertex) (ps : List Tree) → IsRankOf base vs rank → AreArrangements M rank I ps → (qs : List Tree) × (ps ≡ q ∷ qs)
+    first rank ps is_rank are =
         first_in_rank M rank I q (rank_once base vs rank is_rank all)
         (member M I p q is_p fits (proper_issued base vs is all) (parts_issued base vs is all) s) (order rank (keeps rank is_rank)) ps are
 
     unchanged : (tries : ℕ) (r : AnswerBy X) → 1 ≤ tries → IsAnswerBy at base vs tries r → Unchanged r
     unchanged tries (interference xs) one (are, some) = absurd (some (all_conflicts_one at (graph_of base) (graphs_of vs) xs [] are free))
-    unchanged tries (no_program n) one (none_free, none, parts) = absurd (whole (λ fits. none p is_p fits))
+    unchanged tries (no_program n) one (none_free, none, parts) = absurd (none p is_p fits)
     unchanged tries spent one (none_free, (rank, is_rank, (ps, are, more, none))) =
-        absurd (whole (λ fits. (
-        let (qs, e) = first rank ps is_rank are fits in
-        none q (subst (λ (l : List Tree). Contains (take tries l) q) (sym e) (first_taken q qs tries one)) (settled_fits M I p q fits s)
-        )))
+        let (qs, e) = first rank ps is_rank are in
+        absurd (none q (subst (λ (l : List Tree). Contains (take tries l) q) (sym e) (first_taken q qs tries one)) (settled_fits M I p q fits s))
     unchanged tries (printed m) one (none_free, (rank, is_rank, (ps, are, (front, back, split, fits_m, none)))) =
-        let same : m ≡ q = stable m q (λ other. whole (λ fits. (
-        let (qs, e) = first rank ps is_rank are fits in
-        other (first_is M q qs ps front back m e split none (settled_fits M I p q fits s))
-        ))) in
+        let (qs, e) = first rank ps is_rank are in
+        let same : m ≡ q = first_is M q qs ps front back m e split none (settled_fits M I p q fits s) in
         (m, refl, subst (IsSettled I p) (sym same) s)
 
   answer_is : (tries : ℕ) (r : AnswerBy X) → 1 ≤ tries → IsAnswerBy at base vs tries r → Unchanged r
