@@ -17,7 +17,8 @@ use Rattle.hpr_graph.specs.Direct.{IsAlike, IsDirectlyAffected}
 use Rattle.hpr_closure.proofs.FiniteGraphs.{finite_by_numbers}
 use Rattle.hpr_closure.proofs.Reached.{edge_there}
 use Rattle.hpr_affected.specs.Lacking.{AreLacking, AreNumbersIn}
-use Rattle.hpr_affected.specs.Differing.{CountsIn, AreDiffering, Counts, HasOwn, IsDiffering, IsDirectBy, counts_at}
+use Rattle.hpr_closure.specs.Counts.{counts_at, Counts}
+use Rattle.hpr_affected.specs.Differing.{CountsIn, AreDiffering, HasOwn, IsDiffering, IsDirectBy}
 use Rattle.hpr_affected.proofs.MarkRows.{past_none, cases_lt}
 use Rattle.hpr_affected.proofs.MovedLinks.{same_at, edge_from_there, there_from_edge}
 

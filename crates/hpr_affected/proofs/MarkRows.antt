@@ -7,7 +7,8 @@ use Rattle.hpr_search.proofs.Marked.{no_marks}
 use Rattle.hpr_graph.specs.declared.link.Link.{Link}
 use Rattle.hpr_graph.proofs.Lists.{in_none, in_taken}
 use Rattle.hpr_affected.specs.Lacking.{links_at}
-use Rattle.hpr_affected.specs.Differing.{CountsAmong, AreDiffering, counts_at}
+use Rattle.hpr_closure.specs.Counts.{counts_at}
+use Rattle.hpr_affected.specs.Differing.{CountsAmong, AreDiffering}
 
 -- what is marked is what was and what has C
 pub record AreMarked (first marks : List Bool) (C : ℕ → Type 0) : Type 0 where

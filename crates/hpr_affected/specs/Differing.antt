@@ -1,11 +1,9 @@
 -- At which vertices a graph has edges that another lacks.
 --
--- counts_at k to                 == the vertex at which a link of this kind into the vertex `to` counts: its shared use if
 --                                   it is an order link, else `to`
 -- CountsAmong links to n         == one of these links into the vertex `to` counts at n
 -- CountsIn rows n                == one of the rows' links counts at n
 -- AreDiffering rows marks        == there is a mark for each row, and exactly those are marked at which some link counts
--- Counts k to v                  == an edge of this kind into `to` counts at v: at its shared use if it is an order edge,
 --                                   else at its target
 -- HasOwn g h v                   == some edge of g that h lacks counts at v
 -- IsDiffering g h ns marks       == the numbers in h of the vertices of g; exactly those of these are marked at which an
@@ -15,22 +13,13 @@ use Rattle.std.specs.Prelude.{◌≡◌, ℕ, ◌<◌, ◌⊎◌, ◌↔◌, Boo
 use Rattle.hpr_search.specs.Marks.{IsMarked}
 use Rattle.hpr_graph.specs.declared.vertex.Vertex.{Vertex}
 use Rattle.hpr_graph.specs.declared.edge.Edge.{Edge}
-use Rattle.hpr_graph.specs.declared.edge.Kind.{Kind}
-use Rattle.hpr_graph.specs.declared.edge.Kind.TheVariants as kind
-use Rattle.hpr_graph.specs.declared.link.LinkKind.{LinkKind}
-use Rattle.hpr_graph.specs.declared.link.LinkKind.TheVariants.{Control, Independent, Carried, Order}
 use Rattle.hpr_graph.specs.declared.link.Link.{Link}
 use Rattle.hpr_graph.specs.Graphs.{Graph}
 use Rattle.hpr_graph.specs.Numbered.{Numbered, graph_in}
 use Rattle.hpr_graph.specs.Moves.{number_at}
+use Rattle.hpr_closure.specs.Counts.{counts_at, Counts}
 use Rattle.hpr_slice.specs.Vertices.{MarksExactly}
 use Rattle.hpr_affected.specs.Lacking.{AreNumbersIn, links_at}
-
-abbrev pub counts_at : LinkKind → ℕ → ℕ
-counts_at (Control label) to = to
-counts_at Independent to = to
-counts_at (Carried w) to = to
-counts_at (Order u) to = u
 
 abbrev pub CountsAmong : List Link → ℕ → ℕ → Type 0
 CountsAmong links to n = (l : Link) × Contains links l × (counts_at l.kind to ≡ n)
@@ -41,12 +30,6 @@ CountsIn rows n = (to : ℕ) × CountsAmong (links_at rows to) to n
 pub record AreDiffering (rows : List (List Link)) (marks : List Bool) : Type 0 where
   pub count : length marks ≡ length rows
   pub exact : (n : ℕ) → n < length rows → IsMarked marks n ↔ CountsIn rows n
-
-abbrev pub Counts : Kind → Vertex → Vertex → Type 0
-Counts (kind.Control label) to v = to ≡ v
-Counts (kind.Independent x) to v = to ≡ v
-Counts (kind.Carried x w) to v = to ≡ v
-Counts (kind.Order u) to v = u ≡ v
 
 abbrev pub HasOwn : Graph → Graph → Vertex → Type 0
 HasOwn g h v = (e : Edge) × g.edge e × (¬ h.edge e) × Counts e.kind e.to v

@@ -4,12 +4,13 @@ ghost use Rattle.hpr_search.specs.Marks.{IsMarked};
 ghost use Rattle.hpr_graph.specs.Numbered.{graph_in, rows_of};
 ghost use Rattle.hpr_graph.specs.Direct.{IsDirectlyAffected};
 ghost use Rattle.hpr_affected.specs.Numbers.{AreNumbersOf};
-ghost use Rattle.hpr_affected.specs.Differing.{AreDiffering, CountsAmong, IsDiffering, IsDirectBy, counts_at};
+ghost use Rattle.hpr_affected.specs.Differing.{AreDiffering, CountsAmong, IsDiffering, IsDirectBy};
 
 use crate::lacking::{lacking_rows, numbers_in};
 use crate::lists::push_if;
+use hpr_closure::counts_at;
 use hpr_graph::links::number_at;
-use hpr_graph::{Graph, Link, LinkKind, NoMemory};
+use hpr_graph::{Graph, Link, NoMemory};
 use hpr_search::is_marked;
 use std::alloc::Global;
 
@@ -73,16 +74,6 @@ fn mark(marks: &mut Vec<bool>, at: usize)
 {
     if at < marks.len() {
         marks[at] = true;
-    }
-}
-
-/// The vertex at which a link into the vertex `to` counts: the shared use of an order edge, else `to`.
-fn counts_at(kind: LinkKind, to: usize) -> usize
-    ensures { result ≡ counts_at kind to }
-{
-    match kind {
-        LinkKind::Order(u) => u,
-        _ => to,
     }
 }
 

@@ -6,7 +6,7 @@ use Rattle.hpr_terms.specs.Term.{Term, num, var, prefix, infix'}
 use Rattle.hpr_terms.specs.TermOf.{term_of}
 use Rattle.hpr_terms.specs.Uses.{Uses, TermUses}
 use Rattle.hpr_syntax.specs.declared.rows.Content.{Content}
-use Rattle.hpr_syntax.specs.declared.rows.Content.TheVariants.{Assign, If, While}
+use Rattle.hpr_syntax.specs.declared.rows.Content.TheVariants.{If, While}
 use Rattle.hpr_syntax.specs.Body.{Body, done, action, branch, loop}
 use Rattle.hpr_syntax.specs.Contents.{UsesIn}
 use Rattle.hpr_syntax.specs.Initial.{UsedBy}
@@ -67,10 +67,12 @@ bool_decided false false = inl refl
 pub truth_decided : (a : Bool) → Decided (a ≡ true)
 truth_decided a = bool_decided a true
 
+some_name_decided : (o : Option (List ℕ)) (x : List ℕ) → Decided (o ≡ Some x)
+some_name_decided None x = inr (λ e. cc)
+some_name_decided (Some y) x = turned (y ≡ x) (Some y ≡ Some x) (ap (λ (z : List ℕ). Some z)) (some_inj y x) (name_decided y x)
+
 pub assigned_decided : (c : Content) (x : List ℕ) → Decided (assigned c ≡ Some x)
-assigned_decided (Assign y e) x = turned (y ≡ x) (Some y ≡ Some x) (ap (λ (z : List ℕ). Some z)) (some_inj y x) (name_decided y x)
-assigned_decided (If e) x = inr (λ e. cc)
-assigned_decided (While e) x = inr (λ e. cc)
+assigned_decided c x = some_name_decided (assigned c) x
 
 pub top_decided : (p : Parent) → Decided (p ≡ None)
 top_decided None = inl refl

@@ -1,7 +1,10 @@
-//! What is reached from the directly affected points: the laws on which forward closure rests.
+//! What is reached from the directly affected points: where an edge counts, and the laws on which forward
+//! closure rests.
 //!
-//! There is no code here: the laws are contracts of functions without arguments, and the lemmas of proofs/ are for
-//! the crates above.
+//! The laws are contracts of functions without arguments, and the lemmas of proofs/ are for the crates above.
 #![tactic(auto)]
 
+mod counts;
 pub mod laws;
+
+pub use counts::counts_at;
