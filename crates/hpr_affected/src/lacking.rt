@@ -5,7 +5,7 @@ ghost use Rattle.hpr_graph.specs.Numbered.{row_of, rows_of};
 ghost use Rattle.hpr_affected.specs.Lacking.{AreLacking, AreNumbersIn, AreWithout, IsKnown, IsThere};
 
 use crate::lists::push_if;
-use hpr_graph::links::{has_sorted, moved, number_at, sorted};
+use hpr_graph::links::{has_sorted, moved, number_at};
 use hpr_graph::{Graph, Link, NoMemory};
 use std::alloc::Global;
 
@@ -54,10 +54,7 @@ fn lacking_row(
     ensures { IfOk result (λ lacks. AreWithout (IsThere other.now numbers.now at) (row_of graph.now at) lacks.items) }
 {
     match number_at(numbers, at) {
-        Some(to) => {
-            let known = sorted(alloc, other.edges_into(to))?;
-            lacking_among(alloc, graph.edges_into(at), numbers, &known)
-        }
+        Some(to) => lacking_among(alloc, graph.edges_into(at), numbers, other.edges_into(to)),
         None => Ok(graph.edges_into(at).to_vec(alloc)?),
     }
 }

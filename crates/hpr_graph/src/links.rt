@@ -1,6 +1,6 @@
 //! Links by the numbers that their vertices have in another graph, links whose vertices are marked, and lists
 //! of links that ascend.
-ghost use Rattle.std.specs.Prelude.{◌≡◌, ◌↔◌, Contains, IfOk, IsTrue};
+ghost use Rattle.std.specs.Prelude.{◌≡◌, ◌↔◌, Contains, IsTrue};
 ghost use Rattle.std.specs.List.Sorted.{IsSorted};
 ghost use Rattle.hpr_graph.specs.declared.link.Link.{Link};
 ghost use Rattle.hpr_graph.specs.Inside.{IsInside};
@@ -8,8 +8,6 @@ ghost use Rattle.hpr_graph.specs.Moves.{moved, moved_kind, number_at};
 
 use crate::{Link, LinkKind};
 use hpr_search::is_marked;
-use hpr_syntax::NoMemory;
-use std::alloc::Global;
 
 /// The number there of the vertex with the number `at`, or none where it has none there. The definitions
 /// know vertices, and no numbers.
@@ -55,16 +53,6 @@ pub fn is_inside(link: Link, marks: &[bool]) -> bool
         LinkKind::Carried(w) => is_marked(marks, w),
         LinkKind::Order(u) => is_marked(marks, u),
     }
-}
-
-/// The links in ascending order, as `has_sorted` wants them.
-pub fn sorted(alloc: Global, links: &[Link]) -> Result<Vec<Link>, NoMemory>
-    ensures sorted { IfOk result (λ v. IsSorted ⟦<Link as Ord>⟧.cmp v.items) }
-    ensures same { IfOk result (λ v. (l : Link) → Contains v.items l ↔ Contains links.now l) }
-{
-    let mut sorted = links.to_vec(alloc)?;
-    sorted.sort_unstable();
-    Ok(sorted)
 }
 
 /// Whether the link is one of these, which ascend.

@@ -7,18 +7,17 @@ use Rattle.hpr_affected.specs.Lacking.{AreWithout, IsKnown, IsThere}
 use Rattle.hpr_affected.proofs.LinkRows.{known_there, without_same}
 use Rattle.hpr_affected.proofs.lacking.lacking_row.Goals as goal
 
-pub returns-in_ok-known-in-Some : goal.returns-in_ok-known-in-Some
-returns-in_ok-known-in-Some c =
+pub returns-in-Some : goal.returns-in-Some
+returns-in-Some c =
     let number : number_at c.args.numbers.now c.args.at ≡ Some c.in-Some.to = sym c.in-Some.ensures in
-    let links : c.edges_into-in-Some.result.now ≡ row_of c.args.graph.now c.args.at = sym (ap row_items c.edges_into-in-Some.ensures.row) in
-    let there : c.edges_into.result.now ≡ row_of c.args.other.now c.in-Some.to = sym (ap row_items c.edges_into.ensures.row) in
-    let same : (m : Link) → Contains c.deref.result.now m ↔ Contains (row_of c.args.other.now c.in-Some.to) m =
-    λ m. subst (λ (xs : List Link). Contains xs m ↔ Contains (row_of c.args.other.now c.in-Some.to) m) (sym c.deref.ensures.value)
-    (subst (λ (xs : List Link). Contains c.in_ok-known-in-Some.known.items m ↔ Contains xs m) there (c.in_ok-known-in-Some.ensures.same m)) in
+    let links : c.edges_into.result.now ≡ row_of c.args.graph.now c.args.at = sym (ap row_items c.edges_into.ensures.row) in
+    let there : c.edges_into-in-Some.result.now ≡ row_of c.args.other.now c.in-Some.to = sym (ap row_items c.edges_into-in-Some.ensures.row) in
+    let same : (m : Link) → Contains c.edges_into-in-Some.result.now m ↔ Contains (row_of c.args.other.now c.in-Some.to) m =
+    λ m. subst (λ (xs : List Link). Contains c.edges_into-in-Some.result.now m ↔ Contains xs m) there (λ h. h, λ h. h) in
     IfOk-weaker c.lacking_among.result
-    (λ lacks. AreWithout (IsKnown c.args.numbers.now c.deref.result.now) c.edges_into-in-Some.result.now lacks.items)
+    (λ lacks. AreWithout (IsKnown c.args.numbers.now c.edges_into-in-Some.result.now) c.edges_into.result.now lacks.items)
     (λ lacks. AreWithout (IsThere c.args.other.now c.args.numbers.now c.args.at) (row_of c.args.graph.now c.args.at) lacks.items)
     (λ lacks w.
-    without_same (IsKnown c.args.numbers.now c.deref.result.now) (IsThere c.args.other.now c.args.numbers.now c.args.at) _ _ lacks.items links
-    (known_there c.args.other.now c.args.numbers.now c.args.at c.in-Some.to c.deref.result.now number same) w)
+    without_same (IsKnown c.args.numbers.now c.edges_into-in-Some.result.now) (IsThere c.args.other.now c.args.numbers.now c.args.at) _ _ lacks.items links
+    (known_there c.args.other.now c.args.numbers.now c.args.at c.in-Some.to c.edges_into-in-Some.result.now number same) w)
     c.lacking_among.ensures
