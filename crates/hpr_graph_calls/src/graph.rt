@@ -3,6 +3,7 @@ ghost use Rattle.std.specs.Prelude.{◌<◌, length};
 
 use crate::spelled::{draft, graph, graphs, link, vertex};
 use hpr_build::{BuildError, graph_of};
+use hpr_closure::counts_at;
 use hpr_graph::links::is_inside;
 use hpr_graph::{Draft, Graph, Link, LinkKind, Vertex, compare_vertices, place_of, same_vertex};
 use hpr_report::{graph_json, graph_text};
@@ -43,9 +44,25 @@ fn shown(row: Row<'_>, out: &mut Out, graph: &Graph) -> Option<()> {
         "text" => put_graph(row.alloc, out, graph),
         "json" => put_made(out, graph_json(row.alloc, graph)),
         "rows" => put_rows(row.alloc, out, graph),
+        "counts" => put_counting(out, graph),
         _ => put_ordered(row.alloc, out, graph),
     }
     Some(())
+}
+
+fn put_row_counting(out: &mut Out, row: &[Link], to: usize) {
+    for link in row {
+        put_counted(out, " ", counts_at(link.kind, to));
+    }
+}
+
+// Puts the vertices at which the edges count, target by target.
+fn put_counting(out: &mut Out, graph: &Graph) {
+    out.put_piece("counts");
+    for to in 0..graph.vertex_count() {
+        put_row_counting(out, graph.edges_into(to), to);
+    }
+    out.put_piece("\n");
 }
 
 fn put_ordered(alloc: Global, out: &mut Out, graph: &Graph) {
@@ -215,11 +232,16 @@ pub(crate) fn put_new(alloc: Global, out: &mut Out, made: Result<Graph, NoMemory
     }
 }
 
-fn put_place(alloc: Global, out: &mut Out, graph: &Graph, line: &str) -> Option<()> {
-    match place_of(graph.vertices(), &vertex(alloc, line)?) {
+/// Puts the number of a vertex, if it has one.
+pub(crate) fn put_number(out: &mut Out, number: Option<usize>) {
+    match number {
         Some(at) => put_counted(out, " ", at),
         None => out.put_piece(" none"),
     }
+}
+
+fn put_place(alloc: Global, out: &mut Out, graph: &Graph, line: &str) -> Option<()> {
+    put_number(out, place_of(graph.vertices(), &vertex(alloc, line)?));
     Some(())
 }
 

@@ -1,11 +1,11 @@
 //! Calls of hpr_slice, hpr_affected and hpr_merge on graphs.
-ghost use Rattle.std.specs.Prelude.{◌↔◌, ◌<◌, All, IsTrue, length};
+ghost use Rattle.std.specs.Prelude.{◌≡◌, ◌↔◌, ◌<◌, All, IsTrue, length};
 ghost use Rattle.hpr_graph.specs.Numbered.{graph_in};
 ghost use Rattle.hpr_graph.specs.Whole.{IsWhole};
 
-use crate::graph::{put_counts, put_new};
+use crate::graph::{put_counts, put_new, put_number};
 use crate::spelled::{graph, graphs, program_graph};
-use hpr_affected::{affected, direct, preserved};
+use hpr_affected::{Comparison, affected, direct, preserved, preserved_beside};
 use hpr_graph::Graph;
 use hpr_merge::{Merged, merge};
 use hpr_rebuild::part_count;
@@ -19,6 +19,7 @@ use std::alloc::Global;
 pub(crate) fn call(row: Row<'_>, out: &mut Out) -> Option<()> {
     match row.word(1)? {
         "affected" => changed(row, out),
+        "beside" => beside(row, out),
         "direct" => differing(row, out),
         "preserved" | "merge" => of_three(row, out),
         _ => at_points(row, out),
@@ -87,6 +88,87 @@ fn changed(row: Row<'_>, out: &mut Out) -> Option<()> {
     let base = program_graph(row, 2)?;
     let variant = program_graph(row, 3)?;
     put_found(out, "affected", affected(row.alloc, &variant, &base));
+    Some(())
+}
+
+// Puts the number in the comparison's graph of each vertex of the base beside it.
+fn put_places(out: &mut Out, base: &Graph, comparison: &Comparison)
+    requires { comparison.now.other ≡ base.now }
+{
+    out.put_piece("places");
+    for at in 0..base.vertex_count() {
+        put_number(out, comparison.number_here(at));
+    }
+    out.put_piece("\n");
+}
+
+// Puts what base has of its own beside the variant of both comparisons, and what it shares with both.
+fn put_sides(alloc: Global, out: &mut Out, base: &Graph, one: Comparison, two: Comparison)
+    requires one { one.other ≡ base.now }
+    requires two { two.other ≡ base.now }
+    requires whole { IsWhole (graph_in base.now) }
+    requires whole_one { IsWhole (graph_in one.graph) }
+    requires whole_two { IsWhole (graph_in two.graph) }
+{
+    let beside_one = one.turned();
+    let beside_two = two.turned();
+    put_found(out, "turned", beside_one.direct());
+    put_found(
+        out,
+        "preserved",
+        preserved_beside(alloc, base, &beside_one, &beside_two),
+    );
+}
+
+fn put_beside(out: &mut Out, base: &Graph, comparison: &Comparison)
+    requires other { comparison.now.other ≡ base.now }
+    requires whole { IsWhole (graph_in base.now) }
+    requires graph { IsWhole (graph_in comparison.now.graph) }
+{
+    put_found(out, "direct", comparison.direct());
+    put_found(out, "affected", comparison.affected());
+    put_reached(out, comparison.affected_marks());
+    put_places(out, base, comparison);
+}
+
+fn put_one_way(alloc: Global, out: &mut Out, base: &Graph, variant: &Graph)
+    requires base { IsWhole (graph_in base.now) }
+    requires variant { IsWhole (graph_in variant.now) }
+{
+    match Comparison::of(alloc, variant, base) {
+        Ok(comparison) => put_beside(out, base, &comparison),
+        Err(_) => out.cut(),
+    }
+}
+
+fn put_with_another(alloc: Global, out: &mut Out, base: &Graph, variant: &Graph, one: Comparison)
+    requires one { one.other ≡ base.now }
+    requires whole { IsWhole (graph_in base.now) }
+    requires whole_one { IsWhole (graph_in one.graph) }
+    requires variant { IsWhole (graph_in variant.now) }
+{
+    match Comparison::of(alloc, variant, base) {
+        Ok(two) => put_sides(alloc, out, base, one, two),
+        Err(_) => out.cut(),
+    }
+}
+
+fn put_other_way(alloc: Global, out: &mut Out, base: &Graph, variant: &Graph)
+    requires base { IsWhole (graph_in base.now) }
+    requires variant { IsWhole (graph_in variant.now) }
+{
+    match Comparison::of(alloc, variant, base) {
+        Ok(one) => put_with_another(alloc, out, base, variant, one),
+        Err(_) => out.cut(),
+    }
+}
+
+// `beside BASE VARIANT`: the variant beside its base, and the other way round, both of them programs.
+fn beside(row: Row<'_>, out: &mut Out) -> Option<()> {
+    let base = program_graph(row, 2)?;
+    let variant = program_graph(row, 3)?;
+    put_one_way(row.alloc, out, &base, &variant);
+    put_other_way(row.alloc, out, &base, &variant);
     Some(())
 }
 
