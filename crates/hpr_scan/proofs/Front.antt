@@ -1,8 +1,8 @@
 -- A text that tells with its last byte that it has ended, at the front of bytes.
-use Rattle.std.proofs.Common.{◌≡◌, ℕ, ◌+◌, ◌-◌, ◌<◌, ◌≤◌, leb, eqb, List, [], ◌∷◌, ◌++◌, length, take, get_or, Bool, true, false, Option, Some, None, Err, refl, sym, ap, subst, ◌∙◌, arith, inl, inr, ◌⊎◌}
-use Rattle.std.proofs.Math.Seq.{take-length, take-append-add}
+use Rattle.std.proofs.Common.{◌≡◌, ℕ, ◌+◌, ◌-◌, ◌<◌, ◌≤◌, leb, eqb, List, [], ◌∷◌, ◌++◌, length, take, drop, get_or, Bool, true, false, Option, Some, None, Err, refl, sym, ap, subst, ◌∙◌, arith, inl, inr, ◌⊎◌}
+use Rattle.std.proofs.Math.Seq.{take-length, take-append-add, take-add}
 use Rattle.std.proofs.lemmas.Bool.Decides.{nat_tests}
-use Rattle.std.proofs.lemmas.List.{take_all, length-take-le}
+use Rattle.std.proofs.lemmas.List.{take_all, length-take-le, take-take}
 use Rattle.std.proofs.lemmas.Grind.{common_steps}
 use Rattle.hpr_terms.specs.declared.token.Sign.{Sign}
 use Rattle.hpr_terms.specs.declared.token.Sign.TheVariants.{Colon, Less, Greater}
@@ -20,11 +20,12 @@ use Rattle.hpr_scan.specs.Machine.{IsTokenMachine, Live, EndsAtOnce}
 use Rattle.hpr_scan.specs.Place.{IsViable, IsPlace, BeginsWith, Accepts, IfStuck}
 use Rattle.hpr_scan.specs.Steps.{IsReading}
 use Rattle.hpr_scan.specs.Words.{word_token, begins}
-use Rattle.hpr_scan.specs.Scanner.{at, sign_of, longer, after_sign, feed_sign, feed_gap, finish, feed_half, feed, feeds, FeedsAt}
+use Rattle.hpr_scan.specs.Scanner.{at, sign_of, longer, after_sign, feed_sign, feed_gap, finish, feed_half, feed, feeds, FeedsAt, Waits}
 use Rattle.hpr_scan.proofs.Words.{small, token_is, true_false}
 use Rattle.hpr_scan.proofs.SoundText.{guard_of, guard_is, then_of}
 use Rattle.hpr_scan.proofs.Live.{is_front, Good, good_feeds}
-use Rattle.hpr_scan.proofs.Loop.{feeds_more, scan_end, scan_reads}
+use Rattle.hpr_scan.proofs.Loop.{feeds_then, feeds_more, scan_end, scan_reads}
+use Rattle.hpr_scan.proofs.Runs.{rest, rest_is}
 use Rattle.hpr_scan.proofs.Place.{end_place, stuck_place, accepts_scan, feeds_viable, stuck_stops}
 
 -- only a sign that no byte makes a longer one leads to an end
@@ -132,6 +133,25 @@ no_front_more next may_end laws fronts s bytes i a e f before n le h =
       | inl low ↦ before n low h
       | inr same ↦ no_text next may_end laws fronts s (take (i + 1) bytes) a e f (subst (λ (m : ℕ). Accepts next may_end s (take m bytes)) same h)
     ]
+
+split_front : (i n j : ℕ) (bytes : List ℕ) → i ≤ j → j ≤ i + n → take j bytes ≡ take i bytes ++ take (j - i) (take n (drop i bytes))
+split_front i n j bytes low le =
+    let parts : i + (j - i) ≡ j = omega (arith, low) in
+    let behind : take (j - i) (take n (drop i bytes)) ≡ take (j - i) (drop i bytes) = take-take (j - i) n (drop i bytes) (omega (arith, le)) in
+    ap (λ (k : ℕ). take k bytes) (sym parts) ∙ take-add i (j - i) bytes ∙ ap (λ (x : List ℕ). take i bytes ++ x) (sym behind)
+
+-- n bytes more, at which the machine waits
+pub no_front_waits : {S : Type 0} (next : S → Token → Option S) (may_end : S → Bool) → IsTokenMachine next → Fronts next may_end → (s : S) (bytes : List ℕ) (i n : ℕ) (a : Scanner S) → feeds next Gap s (take i bytes) ≡ Some a → may_end a.machine ≡ false → Waits next a.lex a.machine (take n (rest i bytes)) → NoFront next may_end s bytes i → NoFront next may_end s bytes (i + n)
+no_front_waits next may_end laws fronts s bytes i n a e f waits before j le h = at_test (leb j i) refl
+  where
+    at_test : (v : Bool) → leb j i ≡ v → ⊥
+    at_test true q = before j (grind (arith, nat_tests)) h
+    at_test false q =
+        let behind = subst (λ (x : List ℕ). Waits next a.lex a.machine (take n x)) (rest_is i bytes) waits in
+        let w = behind (j - i) in
+        let front = take (j - i) (take n (drop i bytes)) in
+        no_text next may_end laws fronts s (take i bytes ++ front) (at w.0 a.machine) (feeds_then next (take i bytes) front Gap s a (at w.0 a.machine) e w.1) f
+        (subst (Accepts next may_end s) (split_front i n j bytes (grind (arith, nat_tests)) le) h)
 
 pub no_front_first : {S : Type 0} (next : S → Token → Option S) (may_end : S → Bool) → IsTokenMachine next → Fronts next may_end → (s : S) (bytes : List ℕ) → may_end s ≡ false → NoFront next may_end s bytes 0
 unfolding feeds

@@ -2,6 +2,7 @@ pub mod Front
 pub mod Live
 pub mod Loop
 pub mod Place
+pub mod Runs
 pub mod SomePlace
 pub mod SoundText
 pub mod WholeText

@@ -88,14 +88,14 @@ front_of (c ∷ text) (b ∷ w) e =
     (r.0, same_more b c text (w ++ r.0) (eqb-true b c p.0) r.1)
 
 -- some letters complete the word w to one that s takes
-record Completes {S : Type 0} (next : S → Token → Option S) (s : S) (w : List ℕ) : Type 0 where
-  more : List ℕ
-  token : Token
-  end : S
-  is : IsToken (w ++ more) token
-  is_word : is_word token ≡ true
-  takes : next s token ≡ Some end
-  letters : list_all is_name_byte more ≡ true
+pub record Completes {S : Type 0} (next : S → Token → Option S) (s : S) (w : List ℕ) : Type 0 where
+  pub more : List ℕ
+  pub token : Token
+  pub end : S
+  pub is : IsToken (w ++ more) token
+  pub is_word : is_word token ≡ true
+  pub takes : next s token ≡ Some end
+  pub letters : list_all is_name_byte more ≡ true
 
 keyword_completes : {S : Type 0} (next : S → Token → Option S) (s : S) (w : List ℕ) (k : Keyword) → begins_keyword next s w k ≡ true → Completes next s w
 keyword_completes next s w k e =
@@ -161,7 +161,7 @@ number_completes next laws s w e f =
     let n = taken (next s (Number (value_after 0 w))) f in
     record { more = []; token = Number (value_after 0 w); end = n.0; is = append-nil w ∙ number_text w e (small next laws s n.0 (Number (value_after 0 w)) n.1); is_word = refl; takes = n.1; letters = refl }
 
-completes : {S : Type 0} (next : S → Token → Option S) → IsTokenMachine next → (s : S) (w : List ℕ) → begins next s w ≡ true → Completes next s w
+pub completes : {S : Type 0} (next : S → Token → Option S) → IsTokenMachine next → (s : S) (w : List ℕ) → begins next s w ≡ true → Completes next s w
 unfolding begins
 completes next laws s w h =
     elim (or_of (begins_name next s w || begins_number next s w) (list_any (begins_keyword next s w) keywords) h) [

@@ -30,6 +30,14 @@ feeds_push next (c ∷ x) b l s a n e f =
     let k = then_of (feed next l s c) (λ a. feeds next a.lex a.machine x) a e in
     rw k.1 (feeds_push next x b k.0.lex k.0.machine a n k.2 f)
 
+-- bytes behind bytes
+pub feeds_then : {S : Type 0} (next : S → Token → Option S) (x y : List ℕ) (l : Lex) (s : S) (a n : Scanner S) → feeds next l s x ≡ Some a → feeds next a.lex a.machine y ≡ Some n → feeds next l s (x ++ y) ≡ Some n
+unfolding feeds
+feeds_then {S = S} next [] y l s a n e f = subst (λ (m : Scanner S). feeds next m.lex m.machine y ≡ Some n) (sym (some_inj _ _ e)) f
+feeds_then next (c ∷ x) y l s a n e f =
+    let k = then_of (feed next l s c) (λ a. feeds next a.lex a.machine x) a e in
+    rw k.1 (feeds_then next x y k.0.lex k.0.machine a n k.2 f)
+
 -- one byte more
 pub feeds_more : {S : Type 0} (next : S → Token → Option S) (s : S) (bytes : List ℕ) (i : ℕ) (a n : Scanner S) → i < length bytes → feeds next Gap s (take i bytes) ≡ Some a → feed next a.lex a.machine (get_or bytes i 0) ≡ Some n → feeds next Gap s (take (i + 1) bytes) ≡ Some n
 feeds_more next s bytes i a n lt e f = rw (add-one, take-suc bytes i 0 lt) (feeds_push next (take i bytes) (get_or bytes i 0) Gap s a n e f)

@@ -202,11 +202,11 @@ word_scan next laws s n t u (b ∷ v) rest h w al e nw =
     let begun = fronts_begin next laws s n t u v b h w e in
     rw (two.0, begun) (word_scan next laws s n t (u ++ (b ∷ [])) v rest (subst (λ (x : List ℕ). IsToken x t) (sym (append_assoc u (b ∷ []) v)) h) w two.1 e nw)
 
-word_no_blank : (b : ℕ) → is_name_byte b ≡ true → is_blank b ≡ false
+pub word_no_blank : (b : ℕ) → is_name_byte b ≡ true → is_blank b ≡ false
 unfolding is_name_byte is_blank
 word_no_blank b e = grind (arith, nat_tests)
 
-word_no_comment : (b : ℕ) → is_name_byte b ≡ true → eqb b 35 ≡ false
+pub word_no_comment : (b : ℕ) → is_name_byte b ≡ true → eqb b 35 ≡ false
 unfolding is_name_byte
 word_no_comment b e = grind (arith, nat_tests)
 

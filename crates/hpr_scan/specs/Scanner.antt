@@ -17,10 +17,12 @@
 -- feed next lex s b       == the place after the byte b, if b can stand here
 -- scan next lex s bytes   == the machine after all of the bytes, if they can stand here and end here
 -- feeds next lex s bytes  == the place after the bytes, if they can stand here
+-- goes_on_comment b       == a comment that goes on with the byte b has not ended: b is no newline
+-- Waits next l s bytes    == each front of the bytes leads from l to a place at which the machine is still s
 -- FeedsAt o n result      == the answer is o's place, or that n bytes is all that can stand, where o is none; memory may run out
 -- IsStuck next s bytes n  == the first n bytes lead from s to a place at which the next byte cannot stand
 -- Scans next s bytes r    == r is the place after the bytes, or the number of bytes before the first that cannot stand; memory may run out
-use Rattle.std.specs.Prelude.{◌≡◌, ℕ, ◌<◌, Bool, ◌||◌, nat_eq, List, [], ◌∷◌, ◌++◌, length, take, slice_index, Option, Some, None, is_some, Result, Ok, Err, if◌then◌else◌}
+use Rattle.std.specs.Prelude.{◌≡◌, ℕ, ◌<◌, Bool, not, ◌||◌, nat_eq, List, [], ◌∷◌, ◌++◌, length, take, slice_index, Option, Some, None, is_some, Result, Ok, Err, if◌then◌else◌}
 use Rattle.hpr_terms.specs.declared.token.Sign.{Sign}
 use Rattle.hpr_terms.specs.declared.token.Sign.TheVariants.{Colon, Becomes, Dot, Comma, Semicolon, Open, Close, Plus, Minus, Star, Slash, Percent, Equal, Differ, Less, LessEqual, Greater, GreaterEqual}
 use Rattle.hpr_terms.specs.declared.token.Token.{Token}
@@ -95,6 +97,12 @@ scan next l s (b ∷ bs) = and_then (feed next l s b) (λ a. scan next a.lex a.m
 unfoldable pub feeds : {S : Type 0} → (S → Token → Option S) → Lex → S → List ℕ → Option (Scanner S)
 feeds next l s [] = Some (at l s)
 feeds next l s (b ∷ bs) = and_then (feed next l s b) (λ a. feeds next a.lex a.machine bs)
+
+abbrev pub goes_on_comment : ℕ → Bool
+goes_on_comment b = not (nat_eq b 10)
+
+abbrev pub Waits : {S : Type 0} → (S → Token → Option S) → Lex → S → List ℕ → Type 0
+Waits next l s bytes = (m : ℕ) → (k : Lex) × (feeds next l s (take m bytes) ≡ Some (at k s))
 
 abbrev pub FeedsAt : {S : Type 0} → Option (Scanner S) → ℕ → Result (Scanner S) Refusal → Type 0
 FeedsAt o n (Ok a) = o ≡ Some a

@@ -13,7 +13,8 @@
 -- begins_number next s w    == w is a number that s takes
 -- begins_keyword next s w k == s takes the keyword k, and w is a front of its text
 -- begins next s w           == w is the front of a word that s takes
-use Rattle.std.specs.Prelude.{◌≡◌, ℕ, ◌+◌, ◌*◌, ◌-◌, ◌^◌, ◌≤◌, Bool, false, ◌||◌, ◌&&◌, nat_eq, nat_lt, List, [], ◌∷◌, Option, Some, None, is_some, Result, Ok, Err, if◌then◌else◌}
+-- IsFirstWord next s bytes w n == w is the first n bytes, all bytes of words, and the front of a word that s takes
+use Rattle.std.specs.Prelude.{◌≡◌, ℕ, ◌+◌, ◌*◌, ◌-◌, ◌^◌, ◌≤◌, Bool, false, ◌||◌, ◌&&◌, nat_eq, nat_lt, true, List, [], ◌∷◌, length, take, Option, Some, None, is_some, Result, Ok, Err, if◌then◌else◌}
 use Rattle.std.specs.Char.{is_ascii_digit}
 use Rattle.std.specs.List.{list_all, list_any, starts_with}
 use Rattle.hpr_terms.specs.declared.keyword.Keyword.{Keyword}
@@ -22,7 +23,7 @@ use Rattle.hpr_terms.specs.declared.token.Token.TheVariants.{Word, Name, Number}
 use Rattle.hpr_scan.specs.declared.machine.Fault.{Fault}
 use Rattle.hpr_scan.specs.declared.machine.Fault.TheVariants.{Refused, Memory}
 use Rattle.hpr_terms.specs.Keywords.{keyword_text, keywords, keyword_of}
-use Rattle.hpr_terms.specs.Names.{is_name_like, is_name}
+use Rattle.hpr_terms.specs.Names.{is_name_byte, is_name_like, is_name}
 
 unfoldable pub is_digit : ℕ → Bool
 is_digit b = is_ascii_digit b
@@ -70,3 +71,10 @@ begins_keyword next s w k = is_some (next s (Word k)) && starts_with nat_eq (key
 
 unfoldable pub begins : {S : Type 0} → (S → Token → Option S) → S → List ℕ → Bool
 begins next s w = begins_name next s w || begins_number next s w || list_any (begins_keyword next s w) keywords
+
+pub record IsFirstWord {S : Type 0} (next : S → Token → Option S) (s : S) (bytes : List ℕ) (w : List ℕ) (n : ℕ) : Type 0 where
+  pub within : n ≤ length bytes
+  pub long : 1 ≤ n
+  pub front : w ≡ take n bytes
+  pub letters : list_all is_name_byte w ≡ true
+  pub begun : begins next s w ≡ true

@@ -41,8 +41,17 @@ fn scan<M: TokenMachine + Drop>(
     ensures { Scans M.next machine bytes.now result }
 {
     let mut scanner = Scanner::new(machine);
-    for (place, byte) in bytes.iter().enumerate() {
-        scanner = feed(alloc, scanner, place, *byte)?;
+    let mut place = 0;
+    while place < bytes.len() {
+        let Ok(passed) = scanner.pass(alloc, &bytes[place..]) else {
+            return Err(Refusal::Memory);
+        };
+        if passed > 0 {
+            place += passed;
+        } else {
+            scanner = feed(alloc, scanner, place, bytes[place])?;
+            place += 1;
+        }
     }
     Ok(scanner)
 }
@@ -91,10 +100,19 @@ pub fn read_front<M: FrontMachine + Drop>(
         IfStuck result (λ n. IsPlace (BeginsWith texts) bytes.now n) }
 {
     let mut scanner = Scanner::new(machine);
-    for (place, byte) in bytes.iter().enumerate() {
-        scanner = feed(alloc, scanner, place, *byte)?;
-        if scanner.machine.can_end() {
-            return Ok((scanner.machine, place));
+    let mut place = 0;
+    while place < bytes.len() {
+        let Ok(passed) = scanner.pass(alloc, &bytes[place..]) else {
+            return Err(Refusal::Memory);
+        };
+        if passed > 0 {
+            place += passed;
+        } else {
+            scanner = feed(alloc, scanner, place, bytes[place])?;
+            if scanner.machine.can_end() {
+                return Ok((scanner.machine, place));
+            }
+            place += 1;
         }
     }
     let place = bytes.len();

@@ -1,5 +1,6 @@
-//! Finds the tokens in bytes, one byte at a time.
-ghost use Rattle.std.specs.Prelude.{◌≡◌, ◌++◌, ◌∷◌, [], ◌||◌, is_some, IsTrue, ◌==◌, if◌then◌else◌};
+//! Finds the tokens in bytes, from one byte to the next.
+ghost use Rattle.std.specs.Prelude.{◌≡◌, ◌++◌, ◌∷◌, [], ◌||◌, is_some, IsTrue, ◌==◌, if◌then◌else◌, ◌≤◌, length, take, Some, IfOk};
+ghost use Rattle.std.specs.List.{prefix_len};
 ghost use Rattle.hpr_terms.specs.declared.token.Token.TheVariants as tokens;
 ghost use Rattle.hpr_terms.specs.declared.token.Sign.TheVariants as signs;
 ghost use Rattle.hpr_terms.specs.Names.{is_name_byte};
@@ -7,12 +8,12 @@ ghost use Rattle.hpr_terms.specs.Tokens.{is_blank};
 ghost use Rattle.hpr_scan.specs.Steps.{and_then, Steps};
 ghost use Rattle.hpr_scan.specs.Words.{word_token};
 ghost use Rattle.hpr_scan.specs.declared.scanner.Lex.TheVariants.{Gap, Comment};
-ghost use Rattle.hpr_scan.specs.Scanner.{at, sign_of, longer, after_sign, waiting, feed_sign, grown, feed_gap, finish, feed_half, feed};
+ghost use Rattle.hpr_scan.specs.Scanner.{at, sign_of, longer, after_sign, waiting, feed_sign, grown, feed_gap, finish, feed_half, feed, feeds, goes_on_comment, Waits};
 
 use crate::machine::{Fault, TokenMachine};
-use crate::word::{Letters, begins, word_token};
+use crate::word::{Letters, begins, word_before, word_token};
 use hpr_terms::{Sign, Token, is_name_byte};
-use std::alloc::Global;
+use std::alloc::{AllocError, Global};
 
 /// What has begun before the next byte.
 #[derive(Drop)]
@@ -77,6 +78,28 @@ fn longer(sign: Sign, byte: u8) -> Option<Sign>
         Sign::Greater => (byte == b'=').then_some(Sign::GreaterEqual),
         _ => None,
     }
+}
+
+fn count_blanks(bytes: &[u8]) -> usize
+    ensures { result ≡ prefix_len is_blank bytes.now }
+{
+    for (place, byte) in bytes.iter().enumerate() {
+        if !is_blank(*byte) {
+            return place;
+        }
+    }
+    bytes.len()
+}
+
+fn count_comment(bytes: &[u8]) -> usize
+    ensures { result ≡ prefix_len goes_on_comment bytes.now }
+{
+    for (place, byte) in bytes.iter().enumerate() {
+        if *byte == b'\n' {
+            return place;
+        }
+    }
+    bytes.len()
 }
 
 fn take_sign<M: TokenMachine + Drop>(
@@ -254,6 +277,36 @@ impl<M: TokenMachine + Drop> Scanner<M> {
         Scanner {
             lex: Lex::Gap,
             machine,
+        }
+    }
+
+    /// Passes over bytes at the front of these while the machine waits: a run of blanks, the rest
+    /// of a comment, or all letters of a word that can stand next. Answers how many bytes that is,
+    /// which may be none. Its one error is want of memory.
+    pub fn pass(&mut self, alloc: Global, bytes: &[u8]) -> Result<usize, AllocError>
+        ensures within { IfOk result (λ n. n ≤ length bytes.now) }
+        ensures fed { let old = self.old in IfOk result
+            (λ n. feeds M.next old.lex old.machine (take n bytes.now) ≡ Some self.new) }
+        ensures waits { let old = self.old in IfOk result
+            (λ n. Waits M.next old.lex old.machine (take n bytes.now)) }
+        ensures machine { IfOk result (λ n. self.new.machine ≡ self.old.machine) }
+    {
+        match self.lex {
+            Lex::Gap => {
+                let blanks = count_blanks(bytes);
+                if blanks > 0 {
+                    return Ok(blanks);
+                }
+                match word_before(alloc, &self.machine, bytes)? {
+                    None => Ok(0),
+                    Some((letters, length)) => {
+                        self.lex = Lex::InWord(letters);
+                        Ok(length)
+                    }
+                }
+            }
+            Lex::Comment => Ok(count_comment(bytes)),
+            _ => Ok(0),
         }
     }
 

@@ -1,15 +1,16 @@
 //! Words: names, keywords and numbers.
-ghost use Rattle.std.specs.Prelude.{◌≡◌, ◌^◌, ◌+◌, ◌*◌, ◌-◌, ◌<◌, ◌≤◌, ◌++◌, ◌∷◌, [], IfOk, OnErr, IsTrue, MatchOption, Some, is_some};
-ghost use Rattle.std.specs.List.{list_all, list_any};
+ghost use Rattle.std.specs.Prelude.{◌≡◌, ◌^◌, ◌+◌, ◌*◌, ◌-◌, ◌<◌, ◌≤◌, ◌++◌, ◌∷◌, [], IfOk, IfSome, OnErr, IsTrue, MatchOption, Some, is_some};
+ghost use Rattle.std.specs.List.{list_all, list_any, prefix_len};
 ghost use Rattle.hpr_terms.specs.declared.token.Token.TheVariants as tokens;
 ghost use Rattle.hpr_terms.specs.Keywords.{keywords};
 ghost use Rattle.hpr_terms.specs.Names.{is_name_byte, is_name_like};
-ghost use Rattle.hpr_scan.specs.Words.{is_digit, is_numeral, value_after, number_token, other_token, word_token, IsNoToken, ReadsWord, begins_name, begins_number, begins_keyword, begins};
+ghost use Rattle.hpr_scan.specs.Words.{is_digit, is_numeral, value_after, number_token, other_token, word_token, IsNoToken, ReadsWord, begins_name, begins_number, begins_keyword, begins, IsFirstWord};
 
 use crate::machine::{Fault, TokenMachine};
-use hpr_terms::{KEYWORDS, Keyword, Name, NameError, Token, is_name_like};
+use hpr_terms::{KEYWORDS, Keyword, Name, NameError, Token, is_name_byte, is_name_like};
 use std::alloc::{AllocError, Global};
 use std::marker::Model;
+use std::str;
 
 /// The letters of a word that has begun. A contract sees them as a list of bytes.
 #[derive(Drop)]
@@ -32,6 +33,19 @@ impl Letters {
     {
         Letters {
             text: String::new(alloc),
+        }
+    }
+
+    /// These bytes as letters, where they are UTF-8: bytes of words alone always are. Its one error
+    /// is want of memory.
+    pub(crate) fn of(alloc: Global, word: &[u8]) -> Result<Option<Letters>, AllocError>
+        ensures { IfOk result (λ o. IfSome o (λ letters. letters ≡ word.now)) }
+    {
+        match str::from_utf8(word) {
+            Ok(text) => Ok(Some(Letters {
+                text: String::from_str(alloc, text)?,
+            })),
+            Err(_) => Ok(None),
         }
     }
 
@@ -177,4 +191,40 @@ pub(crate) fn begins<M: TokenMachine>(machine: &M, letters: &Letters) -> bool
     begins_name(machine, word)
         || begins_number(machine, word)
         || begins_keyword_of(machine, word, &KEYWORDS)
+}
+
+fn count_letters(bytes: &[u8]) -> usize
+    ensures { result ≡ prefix_len is_name_byte bytes.now }
+{
+    for (place, byte) in bytes.iter().enumerate() {
+        if !is_name_byte(*byte) {
+            return place;
+        }
+    }
+    bytes.len()
+}
+
+/// The word at the front of the bytes, and its length, where one begins there and can stand next.
+/// Its one error is want of memory.
+pub(crate) fn word_before<M: TokenMachine>(
+    alloc: Global,
+    machine: &M,
+    bytes: &[u8],
+) -> Result<Option<(Letters, usize)>, AllocError>
+    ensures { IfOk result (λ o. IfSome o (λ (w, n). IsFirstWord M.next machine.now bytes.now w n)) }
+{
+    let length = count_letters(bytes);
+    if length == 0 {
+        return Ok(None);
+    }
+    match Letters::of(alloc, &bytes[..length])? {
+        None => Ok(None),
+        Some(letters) => {
+            if begins(machine, &letters) {
+                Ok(Some((letters, length)))
+            } else {
+                Ok(None)
+            }
+        }
+    }
 }

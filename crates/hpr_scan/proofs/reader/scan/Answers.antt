@@ -1,14 +1,34 @@
+use Rattle.std.proofs.Common.{arith}
 use Rattle.std.proofs.lemmas.Result.{err_from_is_err_and}
 use Rattle.hpr_scan.proofs.Loop.{start_feeds, feeds_more, fed_stops}
+use Rattle.hpr_scan.proofs.Runs.{within_rest, passed_on, none_passed}
 use Rattle.hpr_scan.proofs.reader.scan.Goals as goal
 
 pub loop-place-init : goal.loop-place-init
-loop-place-init g c = start_feeds g.M.TokenMachine.next c.args.machine c.new-scanner.result c.new-scanner.ensures
+loop-place-init g c = record { within = omega arith; front = start_feeds g.M.TokenMachine.next c.args.machine c.new-scanner.result c.new-scanner.ensures }
+
+pub loop-place-preserved-then-passed-gt0 : goal.loop-place-preserved-then-passed-gt0
+loop-place-preserved-then-passed-gt0 g c =
+    let l = c.loop-place in
+    record {
+      within = within_rest l.place c.in-Ok.passed c.args.bytes.now l.invariant.within c.in-Ok.ensures.within;
+      front = passed_on g.M.TokenMachine.next c.args.machine c.args.bytes.now l.place c.in-Ok.passed l.scanner c.pass.new.self l.invariant.front c.in-Ok.ensures.fed;
+    }
 
 pub returns-in_err-scanner : goal.returns-in_err-scanner
 returns-in_err-scanner g c =
     let p = err_from_is_err_and c.from_residual.result c.from_residual.ensures.1 in
-    rw (p.1, p.2) (fed_stops g.M.TokenMachine.next c.args.machine c.args.bytes.now c.loop-place.place c.loop-place.scanner c.in_err-scanner.field-0.0 c.loop-place-test.true c.loop-place.invariant c.in_err-scanner.ensures)
+    let next = g.M.TokenMachine.next in
+    let l = c.loop-place in
+    let front = none_passed next c.args.machine c.args.bytes.now l.place c.in-Ok.passed l.scanner c.pass.new.self c.if-passed-gt0.false l.invariant.front c.in-Ok.ensures.fed in
+    rw (p.1, p.2) (fed_stops next c.args.machine c.args.bytes.now l.place c.pass.new.self c.in_err-scanner.field-0.0 c.loop-place-test.true front c.in_err-scanner.ensures)
 
 pub loop-place-preserved : goal.loop-place-preserved
-loop-place-preserved g c = feeds_more g.M.TokenMachine.next c.args.machine c.args.bytes.now c.loop-place.place c.loop-place.scanner c.in_ok-scanner.scanner c.loop-place-test.true c.loop-place.invariant c.in_ok-scanner.ensures
+loop-place-preserved g c =
+    let next = g.M.TokenMachine.next in
+    let l = c.loop-place in
+    let front = none_passed next c.args.machine c.args.bytes.now l.place c.in-Ok.passed l.scanner c.pass.new.self c.if-passed-gt0.false l.invariant.front c.in-Ok.ensures.fed in
+    record {
+      within = omega (arith, c.loop-place-test.true);
+      front = feeds_more next c.args.machine c.args.bytes.now l.place c.pass.new.self c.in_ok-scanner.scanner c.loop-place-test.true front c.in_ok-scanner.ensures;
+    }
