@@ -1,11 +1,11 @@
 -- What the reader answers, from where the machine of bytes comes.
-use Rattle.std.proofs.Common.{◌≡◌, ℕ, suc, ◌+◌, ◌<◌, List, [], ◌∷◌, ◌++◌, length, take, drop, get_or, Option, Some, None, Result, Err, refl, sym, ap, subst, ◌∙◌, drop-cons, add-one}
+use Rattle.std.proofs.Common.{◌≡◌, ℕ, suc, ◌+◌, ◌<◌, List, [], ◌∷◌, ◌++◌, length, take, drop, get_or, Option, Some, None, Err, refl, sym, ap, subst, ◌∙◌, drop-cons, add-one}
 use Rattle.std.proofs.Math.Seq.{take-suc}
 use Rattle.std.proofs.lemmas.List.{append-nil, take-append-drop}
 use Rattle.hpr_terms.specs.declared.token.Token.{Token}
 use Rattle.hpr_terms.proofs.Facts.{some_inj}
 use Rattle.hpr_scan.specs.declared.machine.Fault.{Fault}
-use Rattle.hpr_scan.specs.declared.machine.Fault.TheVariants.{Refused}
+use Rattle.hpr_scan.specs.declared.machine.Fault.TheVariants as fault
 use Rattle.hpr_scan.specs.declared.reader.Refusal.{Refusal}
 use Rattle.hpr_scan.specs.declared.reader.Refusal.TheVariants.{Stuck, Memory}
 use Rattle.hpr_scan.specs.declared.scanner.Lex.{Lex}
@@ -13,7 +13,7 @@ use Rattle.hpr_scan.specs.declared.scanner.Lex.TheVariants.{Gap}
 use Rattle.hpr_scan.specs.declared.scanner.Scanner.{Scanner}
 use Rattle.hpr_scan.specs.Machine.{IsTokenMachine}
 use Rattle.hpr_scan.specs.Steps.{Steps, IsReading}
-use Rattle.hpr_scan.specs.Scanner.{at, feed, feeds, scan, finish, FeedsAt, IsStuck, Scans}
+use Rattle.hpr_scan.specs.Scanner.{at, feed, feeds, scan, finish, refusal_at, FeedsAt, IsStuck, Scans}
 use Rattle.hpr_scan.proofs.WholeText.{text_scan}
 use Rattle.hpr_scan.proofs.SoundText.{then_of, scan_from}
 
@@ -73,5 +73,7 @@ pub fed_stops : {S : Type 0} (next : S → Token → Option S) (s : S) (bytes : 
 fed_stops next s bytes n a (Stuck m) lt e h = subst (IsStuck next s bytes) (sym h.1) (record { place = a; within = lt; front = e; stops = h.0 })
 fed_stops next s bytes n a Memory lt e h = tt
 
-pub refused_is : {A : Type 0} (o : Option A) (r : Result A Fault) → r ≡ Err Refused → Steps o r → o ≡ None
-refused_is o r e h = subst (Steps o) e h
+-- a fault at a byte
+pub fault_at : {S : Type 0} (o : Option (Scanner S)) (n : ℕ) (f : Fault) → Steps o (Err f) → FeedsAt o n (Err (refusal_at n f))
+fault_at o n fault.Refused h = (h, refl)
+fault_at o n fault.Memory h = tt

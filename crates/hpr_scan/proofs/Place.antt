@@ -6,13 +6,16 @@ use Rattle.std.proofs.lemmas.List.{take-take, length-take, get_or-take}
 use Rattle.std.proofs.lemmas.Grind.{common_steps}
 use Rattle.hpr_terms.specs.declared.token.Token.{Token}
 use Rattle.hpr_terms.proofs.Facts.{some_inj}
+use Rattle.hpr_scan.specs.declared.machine.Fault.{Fault}
+use Rattle.hpr_scan.specs.declared.machine.Fault.TheVariants as fault
 use Rattle.hpr_scan.specs.declared.reader.Refusal.{Refusal}
 use Rattle.hpr_scan.specs.declared.reader.Refusal.TheVariants.{Stuck, Memory}
 use Rattle.hpr_scan.specs.declared.scanner.Lex.TheVariants.{Gap}
 use Rattle.hpr_scan.specs.declared.scanner.Scanner.{Scanner}
 use Rattle.hpr_scan.specs.Machine.{IsTokenMachine, Live}
 use Rattle.hpr_scan.specs.Place.{IsViable, IsPlace, Accepts, IfStuck}
-use Rattle.hpr_scan.specs.Scanner.{feed, feeds, scan, finish, IsStuck, Scans}
+use Rattle.hpr_scan.specs.Steps.{Steps}
+use Rattle.hpr_scan.specs.Scanner.{feed, feeds, scan, finish, refusal_at, IsStuck, Scans}
 use Rattle.hpr_scan.proofs.Words.{none_some, true_false}
 use Rattle.hpr_scan.proofs.WholeText.{text_scan}
 use Rattle.hpr_scan.proofs.SoundText.{scan_from}
@@ -104,11 +107,16 @@ refusal_is next may_end laws live s bytes (Stuck n) h = stuck_is next may_end la
 refusal_is next may_end laws live s bytes Memory h = tt
 
 -- nothing ends behind all of the bytes
-pub unended_is : {S : Type 0} (next : S → Token → Option S) (may_end : S → Bool) → IsTokenMachine next → ((s : S) → Live next may_end s) → (s : S) (bytes : List ℕ) (a : Scanner S) → feeds next Gap s bytes ≡ Some a → finish next a.lex a.machine ≡ None → IsPlace (Accepts next may_end s) bytes (length bytes)
+unended_is : {S : Type 0} (next : S → Token → Option S) (may_end : S → Bool) → IsTokenMachine next → ((s : S) → Live next may_end s) → (s : S) (bytes : List ℕ) (a : Scanner S) → feeds next Gap s bytes ≡ Some a → finish next a.lex a.machine ≡ None → IsPlace (Accepts next may_end s) bytes (length bytes)
 unended_is next may_end laws live s bytes a e f =
     end_place (Accepts next may_end s) bytes
     (λ h. let k = accepts_scan next may_end laws s bytes h in none_some (sym f ∙ sym (scan_end next bytes s a e) ∙ k.1))
     (feeds_viable next may_end laws live s bytes a e)
+
+-- a fault behind all of the bytes
+pub fault_behind : {S : Type 0} (next : S → Token → Option S) (may_end : S → Bool) → IsTokenMachine next → ((s : S) → Live next may_end s) → (s : S) (bytes : List ℕ) (a : Scanner S) (f : Fault) → feeds next Gap s bytes ≡ Some a → Steps (finish next a.lex a.machine) (Err f) → IfStuck {A = S} (Err (refusal_at (length bytes) f)) (λ n. IsPlace (Accepts next may_end s) bytes n)
+fault_behind next may_end laws live s bytes a fault.Refused e h = unended_is next may_end laws live s bytes a e h
+fault_behind next may_end laws live s bytes a fault.Memory e h = tt
 
 -- a text may not end at the machine behind all of the bytes
 pub too_early_is : {S : Type 0} (next : S → Token → Option S) (may_end : S → Bool) → IsTokenMachine next → ((s : S) → Live next may_end s) → (s m : S) (bytes : List ℕ) (a : Scanner S) → feeds next Gap s bytes ≡ Some a → finish next a.lex a.machine ≡ Some m → may_end m ≡ false → IsPlace (Accepts next may_end s) bytes (length bytes)

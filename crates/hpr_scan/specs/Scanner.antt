@@ -19,6 +19,7 @@
 -- feeds next lex s bytes  == the place after the bytes, if they can stand here
 -- goes_on_comment b       == a comment that goes on with the byte b has not ended: b is no newline
 -- Waits next l s bytes    == each front of the bytes leads from l to a place at which the machine is still s
+-- refusal_at n f          == what the fault f behind the first n bytes means: that they are all that can stand, or that memory ran out
 -- FeedsAt o n result      == the answer is o's place, or that n bytes is all that can stand, where o is none; memory may run out
 -- IsStuck next s bytes n  == the first n bytes lead from s to a place at which the next byte cannot stand
 -- Scans next s bytes r    == r is the place after the bytes, or the number of bytes before the first that cannot stand; memory may run out
@@ -29,6 +30,8 @@ use Rattle.hpr_terms.specs.declared.token.Token.{Token}
 use Rattle.hpr_terms.specs.declared.token.Token.TheVariants.{Mark}
 use Rattle.hpr_terms.specs.Names.{is_name_byte}
 use Rattle.hpr_terms.specs.Tokens.{is_blank}
+use Rattle.hpr_scan.specs.declared.machine.Fault.{Fault}
+use Rattle.hpr_scan.specs.declared.machine.Fault.TheVariants as fault
 use Rattle.hpr_scan.specs.declared.scanner.Lex.{Lex}
 use Rattle.hpr_scan.specs.declared.scanner.Lex.TheVariants.{Gap, Comment, InWord, Half}
 use Rattle.hpr_scan.specs.declared.scanner.Scanner.{Scanner}
@@ -103,6 +106,10 @@ goes_on_comment b = not (nat_eq b 10)
 
 abbrev pub Waits : {S : Type 0} → (S → Token → Option S) → Lex → S → List ℕ → Type 0
 Waits next l s bytes = (m : ℕ) → (k : Lex) × (feeds next l s (take m bytes) ≡ Some (at k s))
+
+abbrev pub refusal_at : ℕ → Fault → Refusal
+refusal_at n fault.Refused = Stuck n
+refusal_at n fault.Memory = Memory
 
 abbrev pub FeedsAt : {S : Type 0} → Option (Scanner S) → ℕ → Result (Scanner S) Refusal → Type 0
 FeedsAt o n (Ok a) = o ≡ Some a

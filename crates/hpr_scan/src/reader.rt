@@ -1,7 +1,7 @@
 //! Reads the bytes of a text.
 ghost use Rattle.std.specs.Prelude.{◌≡◌, ℕ, ◌+◌, ◌<◌, ◌≤◌, true, false, length, take, IfOk};
 ghost use Rattle.hpr_scan.specs.Place.{IsPlace, BeginsWith, Accepts, IfStuck};
-ghost use Rattle.hpr_scan.specs.Scanner.{feed, FeedsAt, Scans};
+ghost use Rattle.hpr_scan.specs.Scanner.{refusal_at, Scans};
 ghost use Rattle.hpr_scan.specs.Steps.{IsReading};
 
 use crate::machine::{Fault, FrontMachine, TokenMachine};
@@ -18,18 +18,13 @@ pub enum Refusal {
     Memory,
 }
 
-fn feed<M: TokenMachine + Drop>(
-    alloc: Global,
-    scanner: Scanner<M>,
-    place: usize,
-    byte: u8,
-) -> Result<Scanner<M>, Refusal>
-    ensures { FeedsAt (feed M.next scanner.lex scanner.machine byte) place result }
+// What a fault at the byte behind the first `place` ones means.
+fn refused(fault: Fault, place: usize) -> Refusal
+    ensures { result ≡ refusal_at place fault }
 {
-    match scanner.feed(alloc, byte) {
-        Ok(scanner) => Ok(scanner),
-        Err(Fault::Refused) => Err(Refusal::Stuck { place }),
-        Err(Fault::Memory) => Err(Refusal::Memory),
+    match fault {
+        Fault::Refused => Refusal::Stuck { place },
+        Fault::Memory => Refusal::Memory,
     }
 }
 
@@ -49,7 +44,10 @@ fn scan<M: TokenMachine + Drop>(
         if passed > 0 {
             place += passed;
         } else {
-            scanner = feed(alloc, scanner, place, bytes[place])?;
+            scanner = match scanner.feed(alloc, bytes[place]) {
+                Ok(next) => next,
+                Err(fault) => return Err(refused(fault, place)),
+            };
             place += 1;
         }
     }
@@ -70,8 +68,7 @@ pub fn read<M: TokenMachine + Drop>(alloc: Global, machine: M, bytes: &[u8]) -> 
     let scanner = scan(alloc, machine, bytes)?;
     let machine = match scanner.end(alloc) {
         Ok(machine) => machine,
-        Err(Fault::Refused) => return Err(Refusal::Stuck { place }),
-        Err(Fault::Memory) => return Err(Refusal::Memory),
+        Err(fault) => return Err(refused(fault, place)),
     };
     if machine.can_end() {
         Ok(machine)
@@ -108,7 +105,10 @@ pub fn read_front<M: FrontMachine + Drop>(
         if passed > 0 {
             place += passed;
         } else {
-            scanner = feed(alloc, scanner, place, bytes[place])?;
+            scanner = match scanner.feed(alloc, bytes[place]) {
+                Ok(next) => next,
+                Err(fault) => return Err(refused(fault, place)),
+            };
             if scanner.machine.can_end() {
                 return Ok((scanner.machine, place));
             }

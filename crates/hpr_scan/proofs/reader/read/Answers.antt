@@ -1,7 +1,7 @@
-use Rattle.std.proofs.Common.{◌∙◌, ap, Err, sym}
+use Rattle.std.proofs.Common.{◌∙◌, sym}
 use Rattle.std.proofs.lemmas.Result.{err_from_is_err_and}
-use Rattle.hpr_scan.proofs.Loop.{scan_end, scan_reads, refused_is}
-use Rattle.hpr_scan.proofs.Place.{refusal_is, unended_is, too_early_is}
+use Rattle.hpr_scan.proofs.Loop.{scan_end, scan_reads}
+use Rattle.hpr_scan.proofs.Place.{refusal_is, fault_behind, too_early_is}
 use Rattle.hpr_scan.proofs.reader.read.Goals as goal
 
 pub returns-in_err-scanner-clause-place : goal.returns-in_err-scanner-clause-place
@@ -11,11 +11,11 @@ returns-in_err-scanner-clause-place g c =
     rw (p.1, p.2)
     (refusal_is m.next m.may_end g.met.M.TokenMachine.laws g.met.M.TokenMachine.live c.args.machine c.args.bytes.now c.in_err-scanner.field-0.0 c.in_err-scanner.ensures)
 
-pub returns-in-Err-Refused-clause-place : goal.returns-in-Err-Refused-clause-place
-returns-in-Err-Refused-clause-place g c =
+pub returns-in-Err-clause-place : goal.returns-in-Err-clause-place
+returns-in-Err-clause-place g c =
     let m = g.M.TokenMachine in
-    unended_is m.next m.may_end g.met.M.TokenMachine.laws g.met.M.TokenMachine.live c.args.machine c.args.bytes.now c.in_ok-scanner.scanner c.in_ok-scanner.ensures
-    (refused_is _ c.end.result (c.in-Err-Refused.is ∙ ap Err c.in-Err-Refused.field-0-is) c.end.ensures)
+    rw c.refused.ensures
+    (fault_behind m.next m.may_end g.met.M.TokenMachine.laws g.met.M.TokenMachine.live c.args.machine c.args.bytes.now c.in_ok-scanner.scanner c.in-Err.fault c.in_ok-scanner.ensures c.in-Err.ensures)
 
 pub returns-then-can_end-clause-reads : goal.returns-then-can_end-clause-reads
 returns-then-can_end-clause-reads g c =

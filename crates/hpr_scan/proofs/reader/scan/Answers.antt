@@ -1,7 +1,7 @@
 use Rattle.std.proofs.Common.{arith}
-use Rattle.std.proofs.lemmas.Result.{err_from_is_err_and}
-use Rattle.hpr_scan.proofs.Loop.{start_feeds, feeds_more, fed_stops}
+use Rattle.hpr_scan.proofs.Loop.{start_feeds, feeds_more, fault_at, fed_stops}
 use Rattle.hpr_scan.proofs.Runs.{within_rest, passed_on, none_passed}
+use Rattle.hpr_scan.specs.Scanner.{refusal_at}
 use Rattle.hpr_scan.proofs.reader.scan.Goals as goal
 
 pub loop-place-init : goal.loop-place-init
@@ -15,13 +15,12 @@ loop-place-preserved-then-passed-gt0 g c =
       front = passed_on g.M.TokenMachine.next c.args.machine c.args.bytes.now l.place c.in-Ok.passed l.scanner c.pass.new.self l.invariant.front c.in-Ok.ensures.fed;
     }
 
-pub returns-in_err-scanner : goal.returns-in_err-scanner
-returns-in_err-scanner g c =
-    let p = err_from_is_err_and c.from_residual.result c.from_residual.ensures.1 in
+pub returns-in-Err : goal.returns-in-Err
+returns-in-Err g c =
     let next = g.M.TokenMachine.next in
     let l = c.loop-place in
     let front = none_passed next c.args.machine c.args.bytes.now l.place c.in-Ok.passed l.scanner c.pass.new.self c.if-passed-gt0.false l.invariant.front c.in-Ok.ensures.fed in
-    rw (p.1, p.2) (fed_stops next c.args.machine c.args.bytes.now l.place c.pass.new.self c.in_err-scanner.field-0.0 c.loop-place-test.true front c.in_err-scanner.ensures)
+    rw c.refused.ensures (fed_stops next c.args.machine c.args.bytes.now l.place c.pass.new.self (refusal_at l.place c.in-Err.fault) c.loop-place-test.true front (fault_at _ l.place c.in-Err.fault c.in-Err.ensures))
 
 pub loop-place-preserved : goal.loop-place-preserved
 loop-place-preserved g c =
@@ -30,5 +29,5 @@ loop-place-preserved g c =
     let front = none_passed next c.args.machine c.args.bytes.now l.place c.in-Ok.passed l.scanner c.pass.new.self c.if-passed-gt0.false l.invariant.front c.in-Ok.ensures.fed in
     record {
       within = omega (arith, c.loop-place-test.true);
-      front = feeds_more next c.args.machine c.args.bytes.now l.place c.pass.new.self c.in_ok-scanner.scanner c.loop-place-test.true front c.in_ok-scanner.ensures;
+      front = feeds_more next c.args.machine c.args.bytes.now l.place c.pass.new.self c.in-Ok-feed.next c.loop-place-test.true front c.in-Ok-feed.ensures;
     }
