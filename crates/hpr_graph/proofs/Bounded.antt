@@ -1,10 +1,8 @@
--- What lies within bounds: what can't be refuted at each can't be refuted of all, and that a list has exactly these can't be refuted.
+-- What lies within bounds: that a list has exactly these can't be refuted.
 --
 -- Bounded P == it can't be refuted that a list has each x with P
 use Rattle.std.proofs.Common.{◌≡◌, ℕ, ◌↔◌, inl, inr, ◌⊎◌, List, [], ◌∷◌, ◌++◌, Contains, sym, subst}
 use Rattle.std.proofs.lemmas.List.Elements.{Contains-append_left, Contains-append_right}
-use Rattle.hpr_terms.specs.Term.{Term, num, var, prefix, infix'}
-use Rattle.hpr_terms.specs.Uses.{TermUses}
 use Rattle.hpr_terms.proofs.Facts.{by_both, in_none, in_cons, in_here, in_later}
 
 abbrev pub Bounded : {X : Type 0} → (X → Type 0) → Type 0
@@ -27,17 +25,12 @@ module _ {X : Type 0} where
   pub of_list : (xs : List X) → Bounded (λ (x : X). Contains xs x)
   of_list xs n = n (xs, λ x h. h)
 
-  -- what can't be refuted at each of a list can't be refuted of all
-  all_listed : (xs : List X) (P Q : X → Type 0) → ((x : X) → P x → ¬ (¬ Q x)) → ¬ (¬ ((x : X) → Contains xs x → P x → Q x))
-  all_listed [] P Q h n = n (λ x there p. absurd (in_none x there))
-  all_listed (y ∷ xs) P Q h n =
-      all_listed xs P Q h (λ rest.
-      by_both (P y) ((x : X) → Contains (y ∷ xs) x → P x → Q x)
-      (λ p k. h y p (λ q. k (λ x there px. elim (in_cons y x xs there) [ inl e ↦ subst Q e q | inr later ↦ rest x later px ])))
-      (λ none k. k (λ x there px. elim (in_cons y x xs there) [ inl e ↦ absurd (none (subst P (sym e) px)) | inr later ↦ rest x later px ])) n)
-
-  pub all_of : (P : X → Type 0) → Bounded P → (Q : X → Type 0) → ((x : X) → P x → ¬ (¬ Q x)) → ¬ (¬ ((x : X) → P x → Q x))
-  all_of P r Q h n = r (λ (xs, all). all_listed xs P Q h (λ f. n (λ x p. f x (all x p) p)))
+  -- what no two things have lies within bounds
+  pub of_alone : (P : X → Type 0) → ((x y : X) → P x → P y → x ≡ y) → Bounded P
+  of_alone P one =
+      by_both ((x : X) × P x) ((xs : List X) × ((x : X) → P x → Contains xs x))
+      (λ some n. n (some.0 ∷ [], λ x h. subst (λ (y : X). Contains (some.0 ∷ []) y) (one some.0 x some.1 h) (in_here some.0 [])))
+      (λ none n. n ([], λ x h. absurd (none (x, h))))
 
   -- those of a list with P
   abbrev AreThose : List X → (X → Type 0) → List X → Type 0
@@ -99,9 +92,3 @@ module _ {X Y : Type 0} where
 
   pub of_each : (A : Y → Type 0) (B : Y → X → Type 0) → Bounded A → ((y : Y) → A y → Bounded (B y)) → Bounded (λ (x : X). (y : Y) × A y × B y x)
   of_each A B a b n = a (λ (ys, listed). gathered ys A B b (λ (zs, all). n (zs, λ x (y, there, at). all y (listed y there) there x at)))
-
-pub of_term : (t : Term) → Bounded (λ (x : List ℕ). TermUses t x)
-of_term (num n) = of_none
-of_term (var y) = of_one y
-of_term (prefix op a) = of_term a
-of_term (infix' op a b) = of_either (λ x. TermUses a x) (λ x. TermUses b x) (of_term a) (of_term b)

@@ -15,6 +15,7 @@ use Rattle.hpr_graph.specs.declared.link.LinkKind.TheVariants.{Control, Independ
 use Rattle.hpr_graph.specs.declared.link.Link.{Link}
 use Rattle.hpr_graph.specs.Graphs.{Graph, IsWithin, Same, OnThird, HasVertices, union_of, restrict_to, HasEdges, HasMoreEdges, nothing}
 use Rattle.hpr_graph.specs.Numbered.{Numbered, HasVertex, HasLink, IsKindAt, IsEdgeAt, HasEdge, IsNumbered, IsGrown, graph_in}
+use Rattle.hpr_graph.specs.Whole.{HasEnds}
 use Rattle.hpr_graph.specs.Slices.{LeadsTo, ReachesOne, slice_of, slice_at}
 use Rattle.hpr_graph.specs.Points.{IsShared, IsAffected, merged, AllShare, IsPreservedBy, changed, merged_all}
 use Rattle.hpr_graph.specs.ProgramGraph.{Reads}
@@ -90,10 +91,6 @@ slice_same g h S T a f =
 pub slice_at_same : (g h : Graph) (v : Vertex) → Same g h → Same (slice_at g v) (slice_at h v)
 slice_at_same g h v a = slice_same g h (λ s. s ≡ v) (λ s. s ≡ v) a (λ s. (λ x. x, λ x. x))
 
--- all vertices of its edges are vertices of the graph
-abbrev pub IsClosed : Graph → Type 0
-IsClosed g = (e : Edge) → g.edge e → HasVertices g.vertex e
-
 pub third_map_on : (V P Q : Vertex → Type 0) → ((v : Vertex) → V v → P v → Q v) → (k : Kind) → OnThird V k → OnThird P k → OnThird Q k
 third_map_on V P Q f (kind.Control label) v h = tt
 third_map_on V P Q f (kind.Independent x) v h = tt
@@ -101,7 +98,7 @@ third_map_on V P Q f (kind.Carried x w) v h = f w v h
 third_map_on V P Q f (kind.Order u) v h = f u v h
 
 -- only what is said of its vertices matters to a closed graph's restrictions and slices
-pub restrict_same_on : (g : Graph) (P Q : Vertex → Type 0) → IsClosed g → ((v : Vertex) → g.vertex v → P v ↔ Q v) → Same (restrict_to g P) (restrict_to g Q)
+pub restrict_same_on : (g : Graph) (P Q : Vertex → Type 0) → HasEnds g → ((v : Vertex) → g.vertex v → P v ↔ Q v) → Same (restrict_to g P) (restrict_to g Q)
 restrict_same_on g P Q closed f = (
   λ v. (λ (h, p). (h, (f v h).0 p), λ (h, q). (h, (f v h).1 q)),
   λ e. (
@@ -112,14 +109,14 @@ restrict_same_on g P Q closed f = (
   ),
 )
 
-leads_to_vertex : (g : Graph) → IsClosed g → (a : Vertex) (es : List Edge) (b : Vertex) → g.vertex a → LeadsTo g a es b → g.vertex b
+leads_to_vertex : (g : Graph) → HasEnds g → (a : Vertex) (es : List Edge) (b : Vertex) → g.vertex a → LeadsTo g a es b → g.vertex b
 leads_to_vertex g closed a [] b h w = subst g.vertex w h
 leads_to_vertex g closed a (e ∷ es) b h w = leads_to_vertex g closed e.to es b (closed e w.0).0 w.3
 
-reaches_on : (g : Graph) (S T : Vertex → Type 0) → IsClosed g → ((v : Vertex) → g.vertex v → S v → T v) → (v : Vertex) → g.vertex v → ReachesOne g S v → ReachesOne g T v
+reaches_on : (g : Graph) (S T : Vertex → Type 0) → HasEnds g → ((v : Vertex) → g.vertex v → S v → T v) → (v : Vertex) → g.vertex v → ReachesOne g S v → ReachesOne g T v
 reaches_on g S T closed f v h (s, es, one, leads) = (s, es, f s (leads_to_vertex g closed v es s h leads) one, leads)
 
-pub slice_same_on : (g : Graph) (S T : Vertex → Type 0) → IsClosed g → ((v : Vertex) → g.vertex v → S v ↔ T v) → Same (slice_of g S) (slice_of g T)
+pub slice_same_on : (g : Graph) (S T : Vertex → Type 0) → HasEnds g → ((v : Vertex) → g.vertex v → S v ↔ T v) → Same (slice_of g S) (slice_of g T)
 slice_same_on g S T closed f =
     restrict_same_on g (ReachesOne g S) (ReachesOne g T) closed
     (λ v h. (reaches_on g S T closed (λ s x. (f s x).0) v h, reaches_on g T S closed (λ s x. (f s x).1) v h))
@@ -216,7 +213,7 @@ third_there g Independent from e (x, d, is) = subst (OnThird (HasVertex g)) (sym
 third_there g (Carried w) from e (x, v, d, at, is) = subst (OnThird (HasVertex g)) (sym is) (contains_at g.vertices w v at)
 third_there g (Order u) from e (v, at, is) = subst (OnThird (HasVertex g)) (sym is) (contains_at g.vertices u v at)
 
-pub closed_by_numbers : (g : Numbered) → IsClosed (graph_in g)
+pub closed_by_numbers : (g : Numbered) → HasEnds (graph_in g)
 closed_by_numbers g e (to, l, has, is) =
     (contains_at g.vertices to e.to is.0, contains_at g.vertices l.from e.from is.1, third_there g l.kind e.from e.kind is.2)
 

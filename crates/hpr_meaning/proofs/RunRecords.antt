@@ -8,7 +8,6 @@ use Rattle.hpr_syntax.specs.Body.{Body}
 use Rattle.hpr_syntax.specs.Tree.{Tree}
 use Rattle.hpr_syntax.specs.Values.{Values, value_at}
 use Rattle.hpr_syntax.specs.Value.{Answer, is_true}
-use Rattle.hpr_terms.specs.Uses.{Uses}
 use Rattle.hpr_terms.proofs.Facts.{compared}
 use Rattle.hpr_syntax.proofs.ActByUses.{act_by_uses}
 use Rattle.hpr_syntax.specs.Skeleton.{at, exit, Distinct, skeleton}

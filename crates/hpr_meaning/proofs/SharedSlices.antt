@@ -6,7 +6,7 @@ use Rattle.hpr_terms.specs.declared.tag.Tag.{Tag}
 use Rattle.hpr_syntax.specs.declared.rows.Content.{Content}
 use Rattle.hpr_syntax.specs.Tree.{Tree}
 use Rattle.hpr_syntax.specs.Shape.{IsProgram}
-use Rattle.hpr_syntax.specs.Value.{Fault, Answer, value}
+use Rattle.hpr_syntax.specs.Value.{Fault, Answer}
 use Rattle.hpr_syntax.specs.Run.{Outcome, ends, faults, more, run, outcome, final_values}
 use Rattle.hpr_syntax.specs.Values.{Values, value_at}
 use Rattle.hpr_terms.specs.Uses.{Uses}

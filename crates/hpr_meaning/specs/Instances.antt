@@ -39,7 +39,7 @@ use Rattle.hpr_syntax.specs.Body.{Body, done, action, branch, loop}
 use Rattle.hpr_syntax.specs.Tree.{Tree}
 use Rattle.hpr_syntax.specs.Rows.{content_by, assigned, expr_in}
 use Rattle.hpr_syntax.specs.Values.{Value, Values, value_at}
-use Rattle.hpr_syntax.specs.Value.{Fault, Answer, value, is_true}
+use Rattle.hpr_syntax.specs.Value.{Fault, Answer, is_true}
 use Rattle.hpr_syntax.specs.Run.{After}
 use Rattle.hpr_syntax.specs.Run as after
 use Rattle.hpr_graph.specs.Order.{name_cmp}

@@ -1,8 +1,8 @@
 -- A base and any number of variants have a list of all conflicts, and so have three programs.
 --
 -- IsTellingOnce at == no two things tell the same variant, point and edge
-use Rattle.std.proofs.Common.{◌≡◌, ℕ, zero, suc, ◌<◌, ◌⊎◌, inl, inr, List, [], ◌∷◌, length, Contains, refl, sym, ap, ◌∙◌, subst, arith}
-use Rattle.hpr_terms.proofs.Facts.{by_both, compared}
+use Rattle.std.proofs.Common.{◌≡◌, ℕ, zero, suc, ◌<◌, ◌⊎◌, inl, inr, List, [], ◌∷◌, length, refl, sym, ap, ◌∙◌, subst, arith}
+use Rattle.hpr_terms.proofs.Facts.{compared}
 use Rattle.hpr_syntax.specs.Tree.{Tree}
 use Rattle.hpr_graph.specs.declared.conflict.Conflict.{Conflict}
 use Rattle.hpr_graph.specs.declared.conflict.Side.{Side}
@@ -15,9 +15,8 @@ use Rattle.hpr_graph.specs.Graphs.{Graph}
 use Rattle.hpr_graph.specs.Order.{vertex_cmp, edge_cmp}
 use Rattle.hpr_graph.specs.ProgramGraph.{graph_of, IsVertexOf}
 use Rattle.hpr_graph.proofs.VertexOrder.{vertex_total, edge_total, vertex_tied}
-use Rattle.hpr_graph.proofs.Bounded.{Bounded, of_none, of_one, of_within, of_either, of_each}
+use Rattle.hpr_graph.proofs.Bounded.{Bounded, of_none, of_one, of_alone, of_within, of_either, of_each}
 use Rattle.hpr_graph.proofs.EdgeOrder.{edge_tied}
-use Rattle.hpr_graph.proofs.Lists.{in_here}
 use Rattle.hpr_graph.proofs.PutInOrder as order
 use Rattle.hpr_merge.proofs.BoundedGraph.{vertices_bounded, merged_bounded}
 use Rattle.hpr_merge.proofs.NoneListed.{number_within}
@@ -97,10 +96,7 @@ module _ {X : Type 0} (at : X → ℕ × Vertex × Edge) (once : IsTellingOnce a
   )
 
   one_told : (i : ℕ) (v : Vertex) (e : Edge) → Bounded (Tells i v e)
-  one_told i v e =
-      by_both ((x : X) × Tells i v e x) ((xs : List X) × ((y : X) → Tells i v e y → Contains xs y))
-      (λ some n. n (some.0 ∷ [], λ y tells. subst (λ (z : X). Contains (some.0 ∷ []) z) (once some.0 y (some.1 ∙ sym tells)) (in_here some.0 [])))
-      (λ none n. n ([], λ y tells. absurd (none (y, tells))))
+  one_told i v e = of_alone (Tells i v e) (λ x y a b. once x y (a ∙ sym b))
 
   bounded : Bounded Is
   bounded =

@@ -7,7 +7,8 @@ use Rattle.hpr_graph.specs.Graphs.{Graph, Same, union_of}
 use Rattle.hpr_graph.specs.Numbered.{Numbered, HasEdge, HasLink, HasVertex, graph_in}
 use Rattle.hpr_graph.specs.Slices.{LeadsTo, ReachesOne, slice_at}
 use Rattle.hpr_graph.specs.Conflicts.{IsAdded, IsLeast}
-use Rattle.hpr_graph.proofs.Laws.{IsClosed, vertices_map}
+use Rattle.hpr_graph.specs.Whole.{HasEnds}
+use Rattle.hpr_graph.proofs.Laws.{vertices_map}
 
 -- the vertices and edges of what is put together
 module _ (bare g other u r : Numbered) (vertices : bare.vertices ≡ other.vertices) (none : (to : ℕ) (l : Link) → ¬ HasLink bare to l) (united : Same (graph_in u) (union_of (graph_in bare) (graph_in g))) (ordered : Same (graph_in r) (graph_in u)) where
@@ -38,12 +39,12 @@ edges_over : (g h : Graph) → ((e : Edge) → g.edge e → h.edge e) → (v : V
 edges_over g h into v e (has, inside) = (into e has, vertices_map (ReachesOne g (λ s. s ≡ v)) (ReachesOne h (λ s. s ≡ v)) (reaches_over g h into v) e inside)
 
 -- what leads to a vertex of a closed graph is one of its vertices
-leads_from_vertex : (g : Graph) → IsClosed g → (a : Vertex) (es : List Edge) (b : Vertex) → g.vertex b → LeadsTo g a es b → g.vertex a
+leads_from_vertex : (g : Graph) → HasEnds g → (a : Vertex) (es : List Edge) (b : Vertex) → g.vertex b → LeadsTo g a es b → g.vertex a
 leads_from_vertex g closed a [] b there w = subst g.vertex (sym w) there
 leads_from_vertex g closed a (e ∷ es) b there (has, l, from, rest) = subst g.vertex from (closed e has).1
 
 -- more vertices don't matter to what is added to a slice
-module _ (m m' g g' : Graph) (closed : IsClosed g) (same : (e : Edge) → m'.edge e ↔ m.edge e) (own : (e : Edge) → g'.edge e ↔ g.edge e) (wider : (v : Vertex) → g.vertex v → g'.vertex v) where
+module _ (m m' g g' : Graph) (closed : HasEnds g) (same : (e : Edge) → m'.edge e ↔ m.edge e) (own : (e : Edge) → g'.edge e ↔ g.edge e) (wider : (v : Vertex) → g.vertex v → g'.vertex v) where
   pub added_narrow : (v : Vertex) → g.vertex v → (e : Edge) → IsAdded m' g' v e → IsAdded m g v e
   added_narrow v there e (in_m, new, (at_g, (s, es, is, leads))) =
       let leads' = leads_over g' g (λ f. (own f).0) e.to es s leads in (

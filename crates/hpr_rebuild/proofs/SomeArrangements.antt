@@ -3,7 +3,6 @@ use Rattle.std.proofs.Common.{◌≡◌, ℕ, zero, suc, ◌≤◌, Bool, true, 
 use Rattle.std.specs.declared.cmp.Ordering.TheVariants.{Less}
 use Rattle.std.proofs.lemmas.Bool.{cases_order}
 use Rattle.hpr_terms.specs.declared.tag.Tag.{Tag}
-use Rattle.hpr_terms.proofs.Facts.{by_both}
 use Rattle.hpr_syntax.specs.declared.rows.Content.{Content}
 use Rattle.hpr_syntax.specs.Issued.{Issued}
 use Rattle.hpr_syntax.specs.Nests.{Standing, StandsAsIn}
@@ -18,7 +17,7 @@ use Rattle.hpr_graph.specs.Order.{name_cmp}
 use Rattle.hpr_graph.specs.ProgramGraph.{IsControl}
 use Rattle.hpr_graph.specs.Rank.{parts_of, StandsBefore}
 use Rattle.hpr_graph.proofs.Lists.{place_of, in_here, in_later, no_longer, some_inj}
-use Rattle.hpr_graph.proofs.Bounded.{Bounded, of_one, of_within, of_either, of_list, of_each}
+use Rattle.hpr_graph.proofs.Bounded.{Bounded, of_one, of_alone, of_within, of_either, of_list, of_each}
 use Rattle.hpr_order.proofs.Ranks.{parts_once}
 use Rattle.hpr_rebuild.proofs.Parts.{part_says, says_part}
 use Rattle.hpr_order.proofs.OneBody.{Placed, vertex, placed, parts_placed, stands_so, one_body}
@@ -128,13 +127,6 @@ module _ {X : Type 0} where
       (of_either (λ xs. xs ≡ []) (IsMore P n) (of_one [])
       (of_each (OfNoMore P n) (λ ys xs. (x : X) × P x × (xs ≡ x ∷ ys)) (lists_bounded P bounded n)
       (λ ys _. of_each P (λ x xs. xs ≡ x ∷ ys) bounded (λ x _. of_one (x ∷ ys)))))
-
-  -- what no two things have lies within bounds
-  alone_bounded : (P : X → Type 0) → ((x y : X) → P x → P y → x ≡ y) → Bounded P
-  alone_bounded P one =
-      by_both ((x : X) × P x) ((xs : List X) × ((x : X) → P x → Contains xs x))
-      (λ some n. n (some.0 ∷ [], λ x h. subst (λ (y : X). Contains (some.0 ∷ []) y) (one some.0 x some.1 h) (in_here some.0 [])))
-      (λ none n. n ([], λ x h. absurd (none (x, h))))
 
 -- ---- in the order of a rank
 
@@ -251,7 +243,7 @@ module _ (rank : List Vertex) (once : IsOnce rank) where
     bounded =
         of_within Is (λ p. (l : List Vertex) × MayOrder l × HasOrder l p)
         (λ p is. (parts_of p, (no_longer (parts_of p) rank (parts_once p is.program) (all_ranked p is), all_ranked p is), (is, refl)))
-        (of_each MayOrder HasOrder (lists_bounded (λ (v : Vertex). Contains rank v) (of_list rank) (length rank)) (λ l _. alone_bounded (HasOrder l) (one_ordered l)))
+        (of_each MayOrder HasOrder (lists_bounded (λ (v : Vertex). Contains rank v) (of_list rank) (length rank)) (λ l _. of_alone (HasOrder l) (one_ordered l)))
 
     pub some_arrangements : ¬ (¬ ((ps : List Tree) × AreArrangements g rank issued ps))
     some_arrangements = in_order (IsEarlier rank) Is (λ p q r _ _ _ h k. through p q r h k) (λ p q is_p is_q n. n (which p q is_p is_q)) bounded
