@@ -15,3 +15,5 @@ pub mod Answer
 pub mod Direct
 pub mod Whole
 pub mod Hashed
+pub mod Clashes
+pub mod Leaves
