@@ -1,6 +1,7 @@
 -- Rows of marks and the lists of what they mark.
-use Rattle.std.proofs.Common.{◌≡◌, ◌≢◌, ℕ, zero, suc, ◌<◌, ◌≤◌, Bool, true, false, ◌⊎◌, inl, inr, List, [], ◌∷◌, ◌++◌, length, set, replicate, get_or, Contains, append_assoc, refl, sym, ap, subst, ◌∙◌, arith}
+use Rattle.std.proofs.Common.{◌≡◌, ◌≢◌, ℕ, zero, suc, ◌<◌, ◌≤◌, Bool, true, false, ◌⊎◌, inl, inr, List, [], ◌∷◌, ◌++◌, length, set, replicate, get_or, slice_get, Some, Contains, append_assoc, refl, sym, ap, subst, ◌∙◌, arith}
 use Rattle.std.proofs.lemmas.List.{length_push, get_or-set_same, get_or-set_other, length-set}
+use Rattle.std.proofs.lemmas.Option.{slice_get_within, get_or_from_slice_get}
 use Rattle.std.proofs.lemmas.List.Elements.{Contains-push, Contains-push_cases, Contains-append_left}
 use Rattle.hpr_search.specs.Marks.{IsMarked, mark_count, IsRowOf, Visited}
 
@@ -26,9 +27,26 @@ no_count : (n : ℕ) → mark_count (replicate n false) ≡ 0
 no_count zero = refl
 no_count (suc n) = no_count n
 
+at_push : (xs : List ℕ) (x i y : ℕ) → slice_get (xs ++ x ∷ []) i ≡ Some y → (slice_get xs i ≡ Some y) ⊎ ((i ≡ length xs) × (x ≡ y))
+at_push [] x zero y h = inr (refl, cc)
+at_push [] x (suc i) y h = absurd cc
+at_push (z ∷ xs) x zero y h = inl h
+at_push (z ∷ xs) x (suc i) y h = elim (at_push xs x i y h) [ inl a ↦ inl a | inr b ↦ inr (ap suc b.0, b.1) ]
+
+at_listed : (xs : List ℕ) (i x : ℕ) → slice_get xs i ≡ Some x → Contains xs x
+at_listed xs i x h = (i, slice_get_within xs i x h, get_or_from_slice_get xs i x x h)
+
+-- nothing stands twice in the list, nor after one more that isn't in it
+once_push : (xs : List ℕ) (x : ℕ) → ((i j y : ℕ) → slice_get xs i ≡ Some y → slice_get xs j ≡ Some y → i ≡ j) → ¬ Contains xs x
+    → (i j y : ℕ) → slice_get (xs ++ x ∷ []) i ≡ Some y → slice_get (xs ++ x ∷ []) j ≡ Some y → i ≡ j
+once_push xs x once new i j y a b = elim (at_push xs x i y a) [
+  | inl p ↦ elim (at_push xs x j y b) [ inl q ↦ once i j y p q | inr (e, same) ↦ absurd (new (subst (Contains xs) (sym same) (at_listed xs i y p))) ]
+  | inr (d, same) ↦ elim (at_push xs x j y b) [ inl q ↦ absurd (new (subst (Contains xs) (sym same) (at_listed xs j y q))) | inr (e, also) ↦ d ∙ sym e ]
+]
+
 -- nothing is marked, and nothing is listed
 pub empty_row : (n : ℕ) → IsRowOf (replicate n false) []
-empty_row n = record { count = no_count n; listed = λ p h. absurd (no_marks n p h); marked = λ p h. absurd (omega (arith, h.1)) }
+empty_row n = record { count = no_count n; listed = λ p h. absurd (no_marks n p h); marked = λ p h. absurd (omega (arith, h.1)); once = λ i j p a b. absurd cc }
 
 pub marked_within : (marks : List Bool) (p : ℕ) → IsMarked marks p → p < length marks
 marked_within [] zero h = absurd cc
@@ -65,6 +83,7 @@ module _ (marks : List Bool) (order : List ℕ) (q : ℕ) (row : IsRowOf marks o
     count = let c = mark_count-set marks q within new in omega (arith, row.count, length_push order q, c);
     listed = λ p h. listed_then p h (same_or_other p q);
     marked = λ p h. marked_then p (Contains-push_cases order q p h);
+    once = once_push order q row.once (λ h. let m = row.marked q h in cc);
   }
 
 module _ (old points : List ℕ) (n : ℕ) (marks : List Bool) (order : List ℕ) (q : ℕ) (v : Visited old points n marks order) where

@@ -4,7 +4,7 @@
 -- mark_count marks               == how many points are marked
 -- IsRowOf marks order            == the marked points are exactly those of the list, which has each of them once
 -- Visited old points n marks order == the row of n marks and its list, after the list `old` got those of the points that it hadn't
-use Rattle.std.specs.Prelude.{◌≡◌, ℕ, suc, Bool, true, false, ◌⊎◌, List, [], ◌∷◌, ◌++◌, length, slice_index_or, Contains, if◌then◌else◌}
+use Rattle.std.specs.Prelude.{◌≡◌, ℕ, suc, Bool, true, false, ◌⊎◌, List, [], ◌∷◌, ◌++◌, length, slice_get, slice_index_or, Some, Contains, if◌then◌else◌}
 
 abbrev pub IsMarked : List Bool → ℕ → Type 0
 IsMarked marks p = slice_index_or marks p false ≡ true
@@ -17,6 +17,7 @@ pub record IsRowOf (marks : List Bool) (order : List ℕ) : Type 0 where
   pub count : mark_count marks ≡ length order
   pub listed : (p : ℕ) → IsMarked marks p → Contains order p
   pub marked : (p : ℕ) → Contains order p → IsMarked marks p
+  pub once : (i j p : ℕ) → slice_get order i ≡ Some p → slice_get order j ≡ Some p → i ≡ j
 
 pub record Visited (old points : List ℕ) (n : ℕ) (marks : List Bool) (order : List ℕ) : Type 0 where
   pub size : length marks ≡ n

@@ -9,4 +9,4 @@ mod search;
 pub use digraph::Digraph;
 pub use marks::is_marked;
 pub use rows::Rows;
-pub use search::reachable;
+pub use search::{Found, reachable, reached};

@@ -6,6 +6,32 @@ ghost use Rattle.hpr_search.specs.Marks.{IsMarked, IsRowOf, Visited};
 use crate::Digraph;
 use std::alloc::{AllocError, Global};
 
+/// The points that a search came to: a mark for each, and the list of them, each once.
+pub struct Found {
+    pub marks: Vec<bool>,
+    pub points: Vec<usize>,
+}
+
+/// The row and the list are dropped in one call.
+impl Drop for Found {
+    fn drop(self) {
+        let Found {
+            marks: _,
+            points: _,
+        } = self;
+    }
+}
+
+impl Found {
+    /// The marks alone.
+    pub fn into_marks(self) -> Vec<bool>
+        ensures { result ≡ self.marks }
+    {
+        let Found { marks, points: _ } = self;
+        marks
+    }
+}
+
 fn blank_row(alloc: Global, points: usize) -> Result<Vec<bool>, AllocError>
     ensures { IfOk result (λ marks. marks.items ≡ replicate points false) }
 {
@@ -28,21 +54,18 @@ fn visit(marks: &mut Vec<bool>, order: &mut Vec<usize>, points: &[usize]) -> Res
     Ok(())
 }
 
-/// Marks the points to which a walk of edges leads from one of the starts. A walk may have no edge, so the starts are
-/// marked.
+/// Marks and lists the points to which a walk of edges leads from one of the starts. A walk may have no edge, so the
+/// starts are marked.
 ///
 /// Looks once at each edge that leaves a marked point, and does not recurse. The starts are points of the graph.
-pub fn reachable<G: Digraph>(
-    alloc: Global,
-    graph: &G,
-    starts: &[usize],
-) -> Result<Vec<bool>, AllocError>
+pub fn reached<G: Digraph>(alloc: Global, graph: &G, starts: &[usize]) -> Result<Found, AllocError>
     requires { All (λ s. s < G.points graph.now) starts.now }
-    ensures row { IfOk result (λ marks. length marks.items ≡ G.points graph.now) }
-    ensures sound { IfOk result (λ marks. (p : ℕ) → IsMarked marks.items p
+    ensures size { IfOk result (λ found. length found.marks.items ≡ G.points graph.now) }
+    ensures row { IfOk result (λ found. IsRowOf found.marks.items found.points.items) }
+    ensures sound { IfOk result (λ found. (p : ℕ) → IsMarked found.marks.items p
         → IsReached (G.steps graph.now) starts.now p) }
-    ensures complete { IfOk result (λ marks. (p : ℕ) → IsReached (G.steps graph.now) starts.now p
-        → IsMarked marks.items p) }
+    ensures complete { IfOk result (λ found. (p : ℕ) → IsReached (G.steps graph.now) starts.now p
+        → IsMarked found.marks.items p) }
 {
     let mut marks = blank_row(alloc, graph.point_count())?;
     let mut order = Vec::new(alloc);
@@ -55,5 +78,25 @@ pub fn reachable<G: Digraph>(
         visit(&mut marks, &mut order, steps.as_slice())?;
         at += 1;
     }
-    Ok(marks)
+    Ok(Found {
+        marks,
+        points: order,
+    })
+}
+
+/// Marks the points to which a walk of edges leads from one of the starts, as `reached` does.
+pub fn reachable<G: Digraph>(
+    alloc: Global,
+    graph: &G,
+    starts: &[usize],
+) -> Result<Vec<bool>, AllocError>
+    requires { All (λ s. s < G.points graph.now) starts.now }
+    ensures row { IfOk result (λ marks. length marks.items ≡ G.points graph.now) }
+    ensures sound { IfOk result (λ marks. (p : ℕ) → IsMarked marks.items p
+        → IsReached (G.steps graph.now) starts.now p) }
+    ensures complete { IfOk result (λ marks. (p : ℕ) → IsReached (G.steps graph.now) starts.now p
+        → IsMarked marks.items p) }
+{
+    let found = reached(alloc, graph, starts)?;
+    Ok(found.into_marks())
 }

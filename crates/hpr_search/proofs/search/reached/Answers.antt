@@ -3,7 +3,7 @@ use Rattle.std.proofs.lemmas.List.{length-replicate}
 use Rattle.hpr_search.specs.Marks.{Visited}
 use Rattle.hpr_search.proofs.Marked.{empty_row}
 use Rattle.hpr_search.proofs.Turns.{search_start, search_step, search_complete, listed_within, next_within}
-use Rattle.hpr_search.proofs.search.reachable.Goals as goal
+use Rattle.hpr_search.proofs.search.reached.Goals as goal
 
 pub visit-requires-clause-row : goal.visit-requires-clause-row
 visit-requires-clause-row g c = rw (c.in_ok-marks.ensures, c.new-order.ensures.items) (empty_row c.point_count.result)

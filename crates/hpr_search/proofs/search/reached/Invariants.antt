@@ -1,6 +1,6 @@
 use Rattle.std.proofs.Common.{◌-◌}
 use Rattle.hpr_search.proofs.Turns.{Searching}
-use Rattle.hpr_search.proofs.search.reachable.Given as goal
+use Rattle.hpr_search.proofs.search.reached.Given as goal
 
 abbrev pub invariant-loop-at : goal.invariant-loop-at
 invariant-loop-at g l = Searching (g.G.Digraph.steps l.graph) l.starts (g.G.Digraph.points l.graph) l.at l.marks.items l.order.items
