@@ -134,10 +134,12 @@ fn undefined_names(alloc: Global, succ: &Succ, defined: &[Name]) -> Result<Vec<N
 
 /// Whether a marked point uses the name.
 fn is_used(succ: &Succ, row: &BitRow, name: &Name) -> bool
+    requires { length row.now ≡ length succ.now }
     ensures { IsTrue result ↔ Below (λ p. IsMarked row.now p × UsesAt succ.now p name.now) (length succ.now) }
 {
-    for point in 0..succ.points() {
-        if row.has(point) && succ.uses(point, name) {
+    let points = row.points();
+    for point in points {
+        if succ.uses(*point, name) {
             return true;
         }
     }

@@ -8,7 +8,7 @@ ghost use Rattle.hpr_reach.specs.OpenSteps.{is_at, targets, open_steps, Stops, R
 
 use crate::bits::BitRow;
 use hpr_paths::{Name, NoMemory, Step, Succ};
-use hpr_search::{Digraph, reachable};
+use hpr_search::{Digraph, reached};
 use std::alloc::{AllocError, Global};
 
 /// The points of a program with the steps that lead on from them: none from a point that defines
@@ -91,12 +91,13 @@ pub(crate) fn reach_past(
     loops: &[usize],
 ) -> Result<BitRow, NoMemory>
     requires { from < length succ.now }
-    ensures { IfOk result (λ row. (q : ℕ) → IsMarked row q ↔ ReachesPast succ.now
+    ensures size { IfOk result (λ row. length row ≡ length succ.now) }
+    ensures exact { IfOk result (λ row. (q : ℕ) → IsMarked row q ↔ ReachesPast succ.now
         (Stops succ.now (option_copied name.entry)) loops.now from q) }
 {
     let starts = first_targets(alloc, succ, from, loops)?;
     let graph = OpenSteps { succ, name, loops };
-    Ok(BitRow::new(reachable(alloc, &graph, starts.as_slice())?))
+    Ok(BitRow::new(reached(alloc, &graph, starts.as_slice())?))
 }
 
 /// Marks the points to which an undisturbed path for the name goes, with no back edge to one of
@@ -115,7 +116,8 @@ pub fn reach(
 ) -> Result<BitRow, NoMemory>
     requires from { from < length succ.now }
     requires cut { cut ≤ length (nest_at succ.now from) }
-    ensures { IfOk result (λ row. (q : ℕ) → IsMarked row q ↔ Reaches succ.now name.now
+    ensures size { IfOk result (λ row. length row ≡ length succ.now) }
+    ensures exact { IfOk result (λ row. (q : ℕ) → IsMarked row q ↔ Reaches succ.now name.now
         (take cut (nest_at succ.now from)) from q) }
 {
     let loops = &succ.nest(from)[..cut];

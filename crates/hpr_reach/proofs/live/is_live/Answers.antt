@@ -5,8 +5,8 @@ pub returns : goal.returns
 returns c = (
   (λ t.
       let b = c.is_used.ensures.0 t in
-      live_of_mark c.args.succ.now c.args.name.now b.0 ((c.in_ok-row.ensures b.0).0 b.2.0) b.2.1),
+      live_of_mark c.args.succ.now c.args.name.now b.0 ((c.in_ok-row.ensures.exact b.0).0 b.2.0) b.2.1),
   (λ live.
-      let m = mark_of_live c.args.succ.now c.args.name.now c.in_ok-row.row c.in_ok-row.ensures live in
+      let m = mark_of_live c.args.succ.now c.args.name.now c.in_ok-row.row c.in_ok-row.ensures.exact live in
       c.is_used.ensures.1 (m.0, m.1, (m.2, m.3))),
 )

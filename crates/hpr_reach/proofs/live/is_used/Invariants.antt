@@ -1,7 +1,6 @@
-use Rattle.std.proofs.Common.{ℕ, ◌<◌}
-use Rattle.hpr_search.specs.Marks.{IsMarked}
+use Rattle.std.proofs.Common.{ℕ, ◌<◌, get_or}
 use Rattle.hpr_paths.specs.Spots.{UsesAt}
 use Rattle.hpr_reach.proofs.live.is_used.Given as goal
 
 abbrev pub invariant-loop-point : goal.invariant-loop-point
-invariant-loop-point l = (p : ℕ) → p < l.point → IsMarked l.row p → UsesAt l.succ p l.name → ⊥
+invariant-loop-point l = (k : ℕ) → k < l.point-index → UsesAt l.succ (get_or l.points k 0) l.name → ⊥
