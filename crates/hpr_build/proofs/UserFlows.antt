@@ -1,13 +1,14 @@
 -- What the rows say of the flow edges to a point is what the paths say.
-use Rattle.std.proofs.Common.{◌≡◌, ℕ, ◌+◌, ◌<◌, Bool, Option, None, Some, List, length, get_or, take, Contains, IsTrue, ◌⊎◌, ◌↔◌, inl, inr, refl, sym, ap, ◌∙◌, subst, arith, length-take}
+use Rattle.std.proofs.Common.{◌≡◌, ℕ, ◌+◌, ◌<◌, Bool, Option, None, Some, List, [], length, get_or, take, Contains, IsTrue, ◌⊎◌, ◌↔◌, inl, inr, refl, sym, ap, ◌∙◌, subst, arith, length-take}
 use Rattle.std.proofs.lemmas.Bool.{cases_eq}
 use Rattle.std.proofs.lemmas.List.{get_or-take, get_or_default}
 use Rattle.std.proofs.lemmas.List.Elements.{All-contains}
 use Rattle.std.proofs.lemmas.Option.{slice_get-get_or}
-use Rattle.hpr_terms.proofs.Facts.{taken_item}
+use Rattle.hpr_terms.proofs.Facts.{in_none, taken_item}
 use Rattle.hpr_search.specs.Marks.{IsMarked}
 use Rattle.hpr_paths.specs.Spots.{Spot, nest_at, IsLoopAt}
 use Rattle.hpr_paths.specs.Successors.{AreSpots}
+use Rattle.hpr_reach.specs.Reaches.{Reaches}
 use Rattle.hpr_reach.specs.Flows.{ComesRound, GoesOn, PartsAt}
 use Rattle.hpr_reach.proofs.Chains.{common_front, common_reach}
 use Rattle.hpr_reach.proofs.Flows.{loop_calm, carried_parts, carried_from_parts}
@@ -138,3 +139,24 @@ below_kind loops cut carries n u w (Carried v) once l at is (i, li, e, m) =
 
 pub not_below : (loops : List ℕ) (cut : List Bool) (carries : List (Option (List Bool))) (n u w : ℕ) → IsOnce loops → n < length loops → get_or loops n 0 ≡ w → ¬ IsFlowBelow n loops cut carries u (record { to = u; kind = Carried w })
 not_below loops cut carries n u w once l at h = below_kind loops cut carries n u w (Carried w) once l at refl h.1
+
+-- where a flow edge leads to, an undisturbed path goes
+reached_of_flow : (spots : List Spot) (x : List ℕ) (d u : ℕ) (k : FlowKind) → IsFlowAt spots x d u k → Reaches spots x [] d u
+reached_of_flow spots x d u Independent (steps, path, avoids) = (steps, path, λ w h. absurd (in_none w h))
+reached_of_flow spots x d u (Carried w) (dw, uw, (steps, path, there)) = (steps, path, λ v h. absurd (in_none v h))
+
+-- so the flow edges to those of the users that are reached are those to all users
+pub flows_to_reached : (spots : List Spot) (x : List ℕ) (d : ℕ) (row users : List Bool) (reached : List ℕ) (f : Flow) (A : Type 0) → CutsTo spots x d 0 row
+    → ((p : ℕ) → Contains reached p ↔ (IsMarked row p × IsMarked users p)) → A ↔ (Contains reached f.to × IsFlowAt spots x d f.to f.kind) → A ↔ (IsMarked users f.to × IsFlowAt spots x d f.to f.kind)
+flows_to_reached spots x d row users reached f A cuts both exact = (
+  (λ a. let (r, at) = exact.0 a in (((both f.to).0 r).1, at)),
+  (λ (m, at). exact.1 ((both f.to).1 ((cuts f.to).1 (reached_of_flow spots x d f.to f.kind at), m), at)),
+)
+
+-- the flow edges to the marked users are those to the users in the list
+pub flows_by_list : (spots : List Spot) (x : List ℕ) (d : ℕ) (users : List ℕ) (row : List Bool) (flows : List Flow) → ((p : ℕ) → IsMarked row p ↔ Contains users p)
+    → ((f : Flow) → Contains flows f ↔ (IsMarked row f.to × IsFlowAt spots x d f.to f.kind)) → (f : Flow) → Contains flows f ↔ (Contains users f.to × IsFlowAt spots x d f.to f.kind)
+flows_by_list spots x d users row flows marks exact f = (
+  (λ h. let (m, at) = (exact f).0 h in ((marks f.to).0 m, at)),
+  (λ (u, at). (exact f).1 ((marks f.to).1 u, at)),
+)

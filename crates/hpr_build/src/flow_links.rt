@@ -1,5 +1,6 @@
 //! The flow edges of a graph.
 ghost use Rattle.std.specs.Prelude.{◌≡◌, ◌↔◌, ◌⊎◌, ℕ, Contains, IfOk, OnOk, IsErrOf, map};
+ghost use Rattle.hpr_search.specs.Marks.{IsMarked};
 ghost use Rattle.hpr_graph.specs.declared.link.Link.{Link};
 ghost use Rattle.hpr_graph.specs.Numbered.{HasLink};
 ghost use Rattle.hpr_build.specs.declared.flow_links.Source.{Source};
@@ -10,7 +11,7 @@ ghost use Rattle.hpr_graph.specs.Graphs.{IsOnce};
 ghost use Rattle.hpr_build.specs.Stages.{AreTables, IsVariable, IsBegun};
 
 use crate::error::BuildError;
-use crate::flows::{Flow, FlowKind, flows_from};
+use crate::flows::{Flow, FlowKind, flows_from, marked};
 use crate::pushes::{NewLink, push_links};
 use crate::tables::{Tables, Variable, variable_at};
 use hpr_graph::{Draft, Link, LinkKind};
@@ -123,10 +124,12 @@ fn links_from(
     alloc: Global,
     tables: &Tables,
     variable: &Variable,
+    users: &[bool],
     source: Source,
 ) -> Result<Vec<NewLink>, NoMemory>
     requires tables { AreTables tables.now }
     requires variable { IsVariable tables.now.program.now variable.now }
+    requires users { (p : ℕ) → IsMarked users.now p ↔ Contains variable.now.users.now p }
     requires source { IsSourceAt tables.now.program.now tables.now.inits.items variable.now.name.now
         source.point source.number }
     ensures exact { IfOk result (λ links. (n : NewLink) → Contains links.items n
@@ -134,7 +137,7 @@ fn links_from(
     ensures once { IfOk result (λ links. IsOnce links.items) }
 {
     let name = variable.name;
-    let flows = flows_from(alloc, &tables.succ, source.point, name, variable.users)?;
+    let flows = flows_from(alloc, &tables.succ, source.point, name, users)?;
     let number = variable.final_number;
     let links = flow_links(alloc, tables.exit, number, source.number, &flows)?;
     Ok(links)
@@ -145,11 +148,13 @@ fn push_flows_from(
     alloc: Global,
     tables: &Tables,
     variable: &Variable,
+    users: &[bool],
     source: Source,
     graph: &mut Draft,
 ) -> Result<(), BuildError>
     requires tables { AreTables tables.now }
     requires variable { IsVariable tables.now.program.now variable.now }
+    requires users { (p : ℕ) → IsMarked users.now p ↔ Contains variable.now.users.now p }
     requires source { IsSourceAt tables.now.program.now tables.now.inits.items variable.now.name.now
         source.point source.number }
     requires begun { IsBegun tables.now.program.now tables.now.inits.items tables.now.most graph.old }
@@ -162,7 +167,7 @@ fn push_flows_from(
     ensures too_many { IsErrOf result BuildError.TooManyEdges
         → HasMoreLinks tables.now.program.now tables.now.inits.items tables.now.most }
 {
-    let links = links_from(alloc, tables, variable, source)?;
+    let links = links_from(alloc, tables, variable, users, source)?;
     push_links(tables, &links, graph)
 }
 
@@ -185,8 +190,9 @@ fn push_flows_of(
         → HasMoreLinks tables.now.program.now tables.now.inits.items tables.now.most }
 {
     let sources = sources_of(alloc, tables, variable)?;
+    let users = marked(alloc, tables.succ.points(), variable.users)?;
     for source in &sources {
-        push_flows_from(alloc, tables, variable, *source, graph)?;
+        push_flows_from(alloc, tables, variable, &users, *source, graph)?;
     }
     Ok(())
 }

@@ -93,16 +93,46 @@ fn rounds(
     name: &Name,
     row: &BitRow,
 ) -> Result<Vec<bool>, NoMemory>
-    requires { CutsTo succ.now name.now from 0 row.now }
+    requires from { from < length succ.now }
+    requires size { length row.now ≡ length succ.now }
+    requires row { CutsTo succ.now name.now from 0 row.now }
     ensures { IfOk result (λ round. (w : ℕ) → IsMarked round.items w ↔ ComesRound succ.now name.now w from) }
 {
     let mut round = blank(alloc, succ.points())?;
-    for point in 0..succ.points() {
-        if leaves(succ, from, name, row, point) {
-            mark_backs(&mut round, succ.next(point));
+    mark_backs(&mut round, succ.next(from));
+    let points = row.points();
+    for point in points {
+        if leaves(succ, from, name, row, *point) {
+            mark_backs(&mut round, succ.next(*point));
         }
     }
     Ok(round)
+}
+
+/// A row that marks these points.
+pub(crate) fn marked(alloc: Global, count: usize, points: &[usize]) -> Result<Vec<bool>, NoMemory>
+    requires { All (λ p. p < count) points.now }
+    ensures { IfOk result (λ row. (p : ℕ) → IsMarked row.items p ↔ Contains points.now p) }
+{
+    let mut row = blank(alloc, count)?;
+    for point in points {
+        row[*point] = true;
+    }
+    Ok(row)
+}
+
+/// The points of the row that are users.
+fn reached_users(alloc: Global, row: &BitRow, users: &[bool]) -> Result<Vec<usize>, NoMemory>
+    ensures exact { IfOk result (λ points. (p : ℕ) → Contains points.items p
+        ↔ (IsMarked row.now p × IsMarked users.now p)) }
+    ensures once { IfOk result (λ points. IsOnce points.items) }
+{
+    let mut reached = Vec::new(alloc);
+    let points = row.points();
+    for point in points {
+        push_if(is_marked(users, *point), *point, &mut reached)?;
+    }
+    Ok(reached)
 }
 
 /// The place of the row with so many loops cut: of a new one where the last of them is one that the
@@ -259,25 +289,24 @@ fn cut_row(cuts: &CutRows, cut: usize) -> &BitRow
     &cuts.rows[cuts.places[cut]]
 }
 
-/// The flow edges for the name from the point to those of the users that it flows to, as if it
-/// defined the name (Horwitz, Prins and Reps 1989).
-///
-/// Takes one search for each loop around the point that the value comes round to, one more with
-/// that loop's back edges cut, and one with none cut.
-pub(crate) fn flows_from(
+/// The flow edges for the name from the point to those of the users that it flows to, where `all` is
+/// what it reaches with none cut.
+fn flows_to(
     alloc: Global,
     succ: &Succ,
     from: usize,
     name: &Name,
+    all: BitRow,
     users: &[usize],
 ) -> Result<Vec<Flow>, NoMemory>
     requires from { from < length succ.now }
+    requires size { length all ≡ length succ.now }
+    requires all { CutsTo succ.now name.now from 0 all }
     requires users { All (λ u. u < length succ.now) users.now }
     ensures once { IfOk result (λ flows. IsOnce users.now → IsOnce flows.items) }
     ensures exact { IfOk result (λ flows. (f : Flow) → Contains flows.items f
         ↔ (Contains users.now f.to × IsFlowAt succ.now name.now from f.to f.kind)) }
 {
-    let all = reach(alloc, succ, from, name, 0)?;
     let round = rounds(alloc, succ, from, name, &all)?;
     let cuts = cut_rows(alloc, succ, from, name, all, &round)?;
     let carries = carried_rows(alloc, succ, from, name, &round)?;
@@ -295,4 +324,27 @@ pub(crate) fn flows_from(
         )?;
     }
     Ok(flows)
+}
+
+/// The flow edges for the name from the point to those of the marked points that it flows to, as if it
+/// defined the name (Horwitz, Prins and Reps 1989).
+///
+/// Takes one search for each loop around the point that the value comes round to, one more with
+/// that loop's back edges cut, and one with none cut. Each search looks at the points that it reaches,
+/// and at no others.
+pub(crate) fn flows_from(
+    alloc: Global,
+    succ: &Succ,
+    from: usize,
+    name: &Name,
+    users: &[bool],
+) -> Result<Vec<Flow>, NoMemory>
+    requires { from < length succ.now }
+    ensures once { IfOk result (λ flows. IsOnce flows.items) }
+    ensures exact { IfOk result (λ flows. (f : Flow) → Contains flows.items f
+        ↔ (IsMarked users.now f.to × IsFlowAt succ.now name.now from f.to f.kind)) }
+{
+    let all = reach(alloc, succ, from, name, 0)?;
+    let reached = reached_users(alloc, &all, users)?;
+    flows_to(alloc, succ, from, name, all, &reached)
 }

@@ -5,16 +5,13 @@ use Rattle.hpr_build.specs.Links.{exit_of}
 use Rattle.hpr_build.specs.NewLinks.{flow_link, FlowsFrom}
 use Rattle.hpr_graph.specs.Graphs.{IsOnce}
 use Rattle.hpr_build.proofs.FlowFamily.{source_within, flows_of_links, links_of_flows, flow_links_once, made_links}
-use Rattle.hpr_build.proofs.TargetNumbers.{users_within}
+use Rattle.hpr_build.proofs.UserFlows.{flows_by_list}
 use Rattle.hpr_build.proofs.flow_links.links_from.Goals as goal
 
-pub flows_from-requires-clause-from : goal.flows_from-requires-clause-from
-flows_from-requires-clause-from c =
+pub flows_from-requires : goal.flows_from-requires
+flows_from-requires c =
     let t = c.args.tables.now in
     omega (arith, source_within t.program.now t.inits.items c.args.variable.now.name.now c.args.source.point c.args.source.number c.requires.source, ap (λ (s : List Spot). length s) c.requires.tables.succ)
-
-pub flows_from-requires-clause-users : goal.flows_from-requires-clause-users
-flows_from-requires-clause-users c = users_within c.args.tables.now.program.now c.args.variable.now c.requires.variable c.args.tables.now.succ c.requires.tables.succ
 
 pub returns-clause-exact : goal.returns-clause-exact
 returns-clause-exact c = λ n.
@@ -26,8 +23,8 @@ returns-clause-exact c = λ n.
     let made : c.in_ok-links.links.items ≡ map (flow_link (exit_of t) v.final_number source) flows
     = made_links t v source c.args.tables.now.exit flows c.deref.result.now c.in_ok-links.links.items c.in_ok-links.ensures c.deref.ensures.value c.requires.tables.exit in
     subst (λ (ns : List NewLink). Contains ns n ↔ FlowsFrom t v.name.now d source n.to n.link) (sym made) (
-      flows_of_links t v c.requires.variable c.args.tables.now.succ c.requires.tables.succ d source flows c.in_ok-flows.ensures.exact n.to n.link,
-      links_of_flows t v c.requires.variable c.args.tables.now.succ c.requires.tables.succ d source flows c.in_ok-flows.ensures.exact n.to n.link,
+      flows_of_links t v c.requires.variable c.args.tables.now.succ c.requires.tables.succ d source flows (flows_by_list _ _ _ _ _ flows c.requires.users c.in_ok-flows.ensures.exact) n.to n.link,
+      links_of_flows t v c.requires.variable c.args.tables.now.succ c.requires.tables.succ d source flows (flows_by_list _ _ _ _ _ flows c.requires.users c.in_ok-flows.ensures.exact) n.to n.link,
     )
 
 pub returns-clause-once : goal.returns-clause-once
@@ -39,4 +36,4 @@ returns-clause-once c =
     let made : c.in_ok-links.links.items ≡ map (flow_link (exit_of t) v.final_number source) flows
     = made_links t v source c.args.tables.now.exit flows c.deref.result.now c.in_ok-links.links.items c.in_ok-links.ensures c.deref.ensures.value c.requires.tables.exit in
     subst (λ (ns : List NewLink). IsOnce ns) (sym made)
-    (flow_links_once t v c.requires.variable c.args.tables.now.succ c.requires.tables.succ c.args.source.point source flows c.in_ok-flows.ensures.exact (c.in_ok-flows.ensures.once c.requires.variable.users_once))
+    (flow_links_once t v c.requires.variable c.args.tables.now.succ c.requires.tables.succ c.args.source.point source flows (flows_by_list _ _ _ _ _ flows c.requires.users c.in_ok-flows.ensures.exact) c.in_ok-flows.ensures.once)

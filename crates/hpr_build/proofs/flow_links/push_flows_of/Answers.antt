@@ -1,4 +1,4 @@
-use Rattle.std.proofs.Common.{◌≡◌, ◌↔◌, List, Contains, get_or, sym, subst, arith}
+use Rattle.std.proofs.Common.{◌≡◌, ◌↔◌, ◌<◌, ℕ, All, List, Contains, get_or, sym, subst, arith}
 use Rattle.std.proofs.lemmas.List.{get_or_default}
 use Rattle.hpr_graph.specs.Numbered.{HasLink}
 use Rattle.hpr_build.specs.declared.flow_links.Source.{Source}
@@ -7,7 +7,13 @@ use Rattle.hpr_build.specs.NewLinks.{FlowsFrom, FlowsOf}
 use Rattle.hpr_graph.specs.Graphs.{IsOnce}
 use Rattle.hpr_build.proofs.Families.{SomeOf, turn_family, fresh_family, whole_family, other_family}
 use Rattle.hpr_build.proofs.FlowFamily.{no_source, flow_of_source, some_source, source_of_some, one_source}
+use Rattle.hpr_build.proofs.TargetNumbers.{users_within}
 use Rattle.hpr_build.proofs.flow_links.push_flows_of.Goals as goal
+
+pub marked-requires : goal.marked-requires
+marked-requires c =
+    let t = c.args.tables.now in
+    subst (λ (n : ℕ). All (λ u. u < n) c.args.variable.now.users.now) (sym c.points.ensures.points) (users_within t.program.now c.args.variable.now c.requires.variable t.succ c.requires.tables.succ)
 
 pub push_flows_from-requires-clause-source : goal.push_flows_from-requires-clause-source
 push_flows_from-requires-clause-source c =

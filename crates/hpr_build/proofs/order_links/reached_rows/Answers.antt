@@ -12,7 +12,7 @@ loop-point-preserved c =
     record {
       len = omega (arith, c.in_ok-push.ensures.len, c.loop-point.invariant.len);
       exact = rows_more c.args.succ.now c.args.name.now xs k d c.loop-point.rows.items c.push.new.self.items c.in_ok-reach.field-0 c.loop-point-test.true (get_or_default xs k 0 d c.loop-point-test.true)
-          (omega (arith, c.loop-point.invariant.len, c.loop-point.rows.ok.0)) c.in_ok-push.ensures.items c.in_ok-reach.ensures c.loop-point.invariant.exact;
+          (omega (arith, c.loop-point.invariant.len, c.loop-point.rows.ok.0)) c.in_ok-push.ensures.items c.in_ok-reach.ensures.exact c.loop-point.invariant.exact;
     }
 
 pub returns-clause-exact : goal.returns-clause-exact

@@ -2,7 +2,7 @@ use Rattle.std.proofs.Common.{◌↔◌, Contains, take}
 use Rattle.hpr_build.specs.declared.flows.Flow.{Flow}
 use Rattle.hpr_build.specs.Flows.{IsFlowAt}
 use Rattle.hpr_graph.specs.Graphs.{IsOnce}
-use Rattle.hpr_build.proofs.flows.flows_from.Given as goal
+use Rattle.hpr_build.proofs.flows.flows_to.Given as goal
 
 abbrev pub invariant-loop-user : goal.invariant-loop-user
 invariant-loop-user l = record {
