@@ -1,24 +1,25 @@
 -- Rows of points, one for each name.
 use Rattle.std.proofs.Common.{◌≡◌, ℕ, zero, suc, ◌+◌, ◌<◌, ◌≤◌, Some, List, [], ◌∷◌, ◌++◌, Vec, Global, length, take, get_or, Contains, slice_get, ◌⊎◌, ◌↔◌, inl, inr, refl, sym, ap, ◌∙◌, subst, arith}
 use Rattle.std.proofs.lemmas.Bool.{cases_eq}
+use Rattle.std.proofs.lemmas.Option.{same_Some}
 use Rattle.hpr_terms.proofs.Facts.{taken_item, in_none, contains_at}
 use Rattle.hpr_reach.proofs.Grown.{pushed}
 use Rattle.hpr_graph.specs.Graphs.{IsOnce}
 use Rattle.hpr_build.specs.Variables.{points_at}
 use Rattle.hpr_build.proofs.Once.{once_after}
 
-same_name : (names : List (List ℕ)) (i j : ℕ) (x y : List ℕ) → i ≡ j → slice_get names i ≡ Some x → slice_get names j ≡ Some y → y ≡ x
-same_name names i j x y e a b = let s : Some y ≡ Some x = sym b ∙ sym (ap (slice_get names) e) ∙ a in cc
+same_name : {X : Type 0} (names : List X) (i j : ℕ) (x y : X) → i ≡ j → slice_get names i ≡ Some x → slice_get names j ≡ Some y → y ≡ x
+same_name {X} names i j x y e a b = same_Some y x (sym b ∙ sym (ap (slice_get names) e) ∙ a)
 
-module _ (names : List (List ℕ)) (once : IsOnce names) (name : List ℕ) (point at : ℕ) (found : slice_get names at ≡ Some name) (rows rows' : List (Vec ℕ Global))
+module _ {X : Type 0} (names : List X) (once : IsOnce names) (name : X) (point at : ℕ) (found : slice_get names at ≡ Some name) (rows rows' : List (Vec ℕ Global))
     (here : points_at rows' at ≡ points_at rows at ++ point ∷ []) (others : (i : ℕ) → ¬ (i ≡ at) → points_at rows' i ≡ points_at rows i) where
   row_here : (i : ℕ) → i ≡ at → points_at rows' i ≡ points_at rows i ++ point ∷ []
   row_here i e = ap (points_at rows') e ∙ here ∙ ap (λ (k : ℕ). points_at rows k ++ point ∷ []) (sym e)
 
-  other_name : (i : ℕ) (x : List ℕ) → slice_get names i ≡ Some x → ¬ (i ≡ at) → ¬ (name ≡ x)
-  other_name i x get ne e = ne (once i at x get (found ∙ ap (λ (y : List ℕ). Some y) e))
+  other_name : (i : ℕ) (x : X) → slice_get names i ≡ Some x → ¬ (i ≡ at) → ¬ (name ≡ x)
+  other_name i x get ne e = ne (once i at x get (found ∙ ap (λ (y : X). Some y) e))
 
-  pub pushed_rows : (i : ℕ) (x : List ℕ) → slice_get names i ≡ Some x → (p : ℕ) → Contains (points_at rows' i) p ↔ (Contains (points_at rows i) p ⊎ ((name ≡ x) × (point ≡ p)))
+  pub pushed_rows : (i : ℕ) (x : X) → slice_get names i ≡ Some x → (p : ℕ) → Contains (points_at rows' i) p ↔ (Contains (points_at rows i) p ⊎ ((name ≡ x) × (point ≡ p)))
   pushed_rows i x get p = elim (cases_eq i at) [
     | inl e ↦ (let is : name ≡ x = same_name names i at x name e get found in
         let more = pushed (points_at rows i) point p in
@@ -29,20 +30,20 @@ module _ (names : List (List ℕ)) (once : IsOnce names) (name : List ℕ) (poin
     | inr ne ↦ rw (others i ne) ((λ h. inl h), (λ h. elim h [ inl was ↦ was | inr k ↦ absurd (other_name i x get ne k.0) ]))
   ]
 
-  pub pushed_once : (i : ℕ) (x : List ℕ) → slice_get names i ≡ Some x → IsOnce (points_at rows i) → (name ≡ x → ¬ Contains (points_at rows i) point) → IsOnce (points_at rows' i)
+  pub pushed_once : (i : ℕ) (x : X) → slice_get names i ≡ Some x → IsOnce (points_at rows i) → (name ≡ x → ¬ Contains (points_at rows i) point) → IsOnce (points_at rows' i)
   pushed_once i x get row new = elim (cases_eq i at) [
     | inl e ↦ once_after (points_at rows i) (points_at rows' i) point row (new (same_name names i at x name e get found)) (row_here i e)
     | inr ne ↦ subst (λ (ps : List ℕ). IsOnce ps) (sym (others i ne)) row
   ]
 
 -- a name without a row
-pub unpushed_rows : (names : List (List ℕ)) (name : List ℕ) (point : ℕ) (rows : List (Vec ℕ Global)) → ¬ Contains names name → (i : ℕ) (x : List ℕ) → slice_get names i ≡ Some x
+pub unpushed_rows : {X : Type 0} (names : List X) (name : X) (point : ℕ) (rows : List (Vec ℕ Global)) → ¬ Contains names name → (i : ℕ) (x : X) → slice_get names i ≡ Some x
     → (p : ℕ) → Contains (points_at rows i) p ↔ (Contains (points_at rows i) p ⊎ ((name ≡ x) × (point ≡ p)))
-unpushed_rows names name point rows none i x get p = ((λ h. inl h), (λ h. elim h [ inl was ↦ was | inr k ↦ absurd (none (subst (Contains names) (sym k.0) (contains_at names i x get))) ]))
+unpushed_rows {X} names name point rows none i x get p = ((λ h. inl h), (λ h. elim h [ inl was ↦ was | inr k ↦ absurd (none (subst (Contains names) (sym k.0) (contains_at names i x get))) ]))
 
 -- the rows after one more of the names that are used
-pub turn_used : (used : List (List ℕ)) (k : ℕ) (name x : List ℕ) (A A' O E : Type 0) → k < length used → name ≡ get_or used k name → A' ↔ (A ⊎ ((name ≡ x) × E)) → A ↔ (O ⊎ (Contains (take k used) x × E)) → A' ↔ (O ⊎ (Contains (take (k + 1) used) x × E))
-turn_used used k name x A A' O E l is new old =
+pub turn_used : {X : Type 0} (used : List X) (k : ℕ) (name x : X) (A A' O E : Type 0) → k < length used → name ≡ get_or used k name → A' ↔ (A ⊎ ((name ≡ x) × E)) → A ↔ (O ⊎ (Contains (take k used) x × E)) → A' ↔ (O ⊎ (Contains (take (k + 1) used) x × E))
+turn_used {X} used k name x A A' O E l is new old =
     let more = taken_item used k name x l is in (
       (λ h. elim (new.0 h) [
         | inl a ↦ (elim (old.0 a) [ inl o ↦ inl o | inr t ↦ inr (more.1 (inl t.0), t.1) ])

@@ -5,10 +5,7 @@ use Rattle.std.proofs.lemmas.List.{get_or_append_left, get_or-take}
 use Rattle.std.proofs.lemmas.List.Elements.{All-weaker, All-contains_itself}
 use Rattle.std.proofs.lemmas.Option.{slice_get_within, slice_get-get_or, get_or_from_slice_get, same_Some}
 use Rattle.hpr_terms.proofs.Facts.{contains_at, place_of, in_map, map_in}
-use Rattle.hpr_search.specs.Marks.{IsMarked}
 use Rattle.hpr_paths.proofs.Stands.{count_whole}
-use Rattle.hpr_reach.proofs.Grown.{Below, turn_of_number}
-use Rattle.hpr_build.proofs.Cuts.{last_place}
 use Rattle.hpr_syntax.specs.Tree.{Tree}
 use Rattle.hpr_paths.specs.Spots.{Spot, defined_at, UsesAt}
 use Rattle.hpr_paths.specs.Successors.{spots}
@@ -19,7 +16,7 @@ use Rattle.hpr_build.specs.declared.orders.Ordered.{Ordered}
 use Rattle.hpr_build.specs.declared.pushes.NewLink.{NewLink}
 use Rattle.hpr_build.specs.declared.tables.Variable.{Variable}
 use Rattle.hpr_build.specs.Links.{exit_of, IsTargetAt, IsOrderLink}
-use Rattle.hpr_build.specs.NewLinks.{target_of, order_link, IsOn, AreReached, OrdersAt, OrdersOf}
+use Rattle.hpr_build.specs.NewLinks.{target_of, order_link, OrdersAt, OrdersOf}
 use Rattle.hpr_graph.specs.Graphs.{IsOnce}
 use Rattle.hpr_build.specs.Orders.{IsBefore}
 use Rattle.hpr_build.specs.Places.{Place, places}
@@ -30,25 +27,6 @@ use Rattle.hpr_build.proofs.LinkTurns.{into}
 use Rattle.hpr_build.proofs.Once.{once_map}
 use Rattle.hpr_build.proofs.PlaceIn.{count_places}
 use Rattle.hpr_build.proofs.TargetNumbers.{target_uses, number_of_target, target_of_number}
-
-get_taken : (xs : List ℕ) (n i x : ℕ) → i < n → slice_get xs i ≡ Some x → slice_get (take n xs) i ≡ Some x
-get_taken xs n i x low at =
-    let within : i < length (take n xs) = omega (arith, low, slice_get_within xs i x at, length-take n xs) in
-    slice_get-get_or (take n xs) i x within ∙ ap (λ (y : ℕ). Some y) (get_or-take n xs i x low ∙ get_or_from_slice_get xs i x x at)
-
-get_of_taken : (xs : List ℕ) (n i x : ℕ) → slice_get (take n xs) i ≡ Some x → slice_get xs i ≡ Some x
-get_of_taken xs n i x at =
-    let within : i < length (take n xs) = slice_get_within (take n xs) i x at in
-    let low : i < n = omega (arith, within, length-take n xs) in
-    slice_get-get_or xs i x (omega (arith, within, length-take n xs)) ∙ ap (λ (y : ℕ). Some y) (sym (get_or-take n xs i x low) ∙ get_or_from_slice_get (take n xs) i x x at)
-
--- the definitions whose rows have a point are those that reach it
-pub reach_of_on : (s : List Spot) (x : List ℕ) (definitions : List ℕ) (rows : List (List Bool)) (u p : ℕ) → AreReached s x definitions rows
-    → ((i : ℕ) × IsOn definitions rows u p i) ↔ (Contains definitions p × Reaches s x [] p u)
-reach_of_on s x definitions rows u p reached = (
-  (λ (i, (at, marked)). (contains_at definitions i p at, (reached i p u at).0 marked)),
-  (λ (h, reaches). let k = place_of definitions p h in (k.0, (k.1, (reached k.0 p u k.1).1 reaches))),
-)
 
 module _ (t : Tree) (v : Variable) (var : IsVariable t v) where
   -- definitions are parts
@@ -145,62 +123,6 @@ module _ (t : Tree) (to : ℕ) (l : Link) where
     pub ordered_of_some : IsOrderLink t to l → SomeOf names (λ x. OrdersOf t x to l)
     ordered_of_some (x, u, v, kind, target, left, right, low, apart, one, two) =
         (x, (used x).1 (u, target_uses t x u v target), (u, (v, kind, target, left, right, (low, apart), one, two)))
-
--- the definitions as far as their rows are made
-pub rows_more : (s : List Spot) (x : List ℕ) (definitions : List ℕ) (k d : ℕ) (rows rows' : List (List Bool)) (row : List Bool) → k < length definitions → d ≡ get_or definitions k d → length rows ≡ k → rows' ≡ rows ++ row ∷ []
-    → ((q : ℕ) → IsMarked row q ↔ Reaches s x [] d q) → AreReached s x (take k definitions) rows → AreReached s x (take (k + 1) definitions) rows'
-rows_more s x definitions k d rows rows' row l is len items marks before i p u at = elim (cases_eq i k) [
-  | inl e ↦ (let here : get_or rows' i [] ≡ row = last_place rows rows' row [] i (len ∙ sym e) items in
-      let there : slice_get (take (k + 1) definitions) k ≡ Some d = ap (λ (o : ℕ). slice_get (take o definitions) k) refl ∙ get_taken definitions (k + 1) k d (omega arith) (slice_get-get_or definitions k d l ∙ ap (λ (y : ℕ). Some y) (sym is)) in
-      let both : Some d ≡ Some p = sym there ∙ ap (slice_get (take (k + 1) definitions)) (sym e) ∙ at in
-      let same : d ≡ p = same_Some d p both in (
-        (λ m. subst (λ (q : ℕ). Reaches s x [] q u) same ((marks u).0 (subst (λ (r : List Bool). IsMarked r u) here m))),
-        (λ m. subst (λ (r : List Bool). IsMarked r u) (sym here) ((marks u).1 (subst (λ (q : ℕ). Reaches s x [] q u) (sym same) m))),
-      ))
-  | inr ne ↦ (let low : i < k = omega (arith, ne, slice_get_within (take (k + 1) definitions) i p at, length-take (k + 1) definitions) in
-      let was : slice_get (take k definitions) i ≡ Some p = get_taken definitions k i p low (get_of_taken definitions (k + 1) i p at) in
-      let same : get_or rows' i [] ≡ get_or rows i [] = ap (λ (rs : List (List Bool)). get_or rs i []) items ∙ get_or_append_left rows (row ∷ []) [] i (omega (arith, low, len)) in
-      let old = before i p u was in (
-        (λ m. old.0 (subst (λ (r : List Bool). IsMarked r u) same m)),
-        (λ m. subst (λ (r : List Bool). IsMarked r u) (sym same) (old.1 m)),
-      ))
-]
-
--- the points so far whose rows have a point, and one more
-pub on_more : (definitions : List ℕ) (rows : List (List Bool)) (point k d p : ℕ) (row : List Bool) (test : Bool) (A A' : Type 0) → k < length definitions → d ≡ get_or definitions k d → row ≡ get_or rows k [] → IsTrue test ↔ IsMarked row point
-    → A' ↔ (A ⊎ (IsTrue test × (d ≡ p))) → A ↔ Below (IsOn definitions rows point p) k → A' ↔ Below (IsOn definitions rows point p) (k + 1)
-on_more definitions rows point k d p row test A A' l is read marks new old =
-    let here : slice_get definitions k ≡ Some d = slice_get-get_or definitions k d l ∙ ap (λ (y : ℕ). Some y) (sym is) in
-    turn_of_number (IsOn definitions rows point p) k A A' (
-      (λ h. elim (new.0 h) [
-        | inl a ↦ inl a
-        | inr (t, e) ↦ inr (here ∙ ap (λ (y : ℕ). Some y) e, subst (λ (r : List Bool). IsMarked r point) read (marks.0 t))
-      ]),
-      (λ h. elim h [
-        | inl a ↦ new.1 (inl a)
-        | inr (at, m) ↦ new.1 (inr (marks.1 (subst (λ (r : List Bool). IsMarked r point) (sym read) m), same_Some d p (sym here ∙ at)))
-      ]),
-    ) old
-
-pub on_whole : (definitions : List ℕ) (rows : List (List Bool)) (point p n : ℕ) (A : Type 0) → length definitions ≤ n → A ↔ Below (IsOn definitions rows point p) n → A ↔ ((i : ℕ) × IsOn definitions rows point p i)
-on_whole definitions rows point p n A end old = (
-  (λ h. let (i, l, on) = old.0 h in (i, on)),
-  (λ (i, on). old.1 (i, (let l : i < length definitions = slice_get_within definitions i p on.0 in omega (arith, l, end)), on)),
-)
-
-pub on_fresh : (definitions : List ℕ) (rows : List (List Bool)) (point k d : ℕ) → k < length definitions → d ≡ get_or definitions k d → IsOnce definitions → ¬ Below (IsOn definitions rows point d) k
-on_fresh definitions rows point k d l is once (i, low, on) =
-    let here : slice_get definitions k ≡ Some d = slice_get-get_or definitions k d l ∙ ap (λ (y : ℕ). Some y) (sym is) in
-    let same : i ≡ k = once i k d on.0 here in
-    omega (arith, low, same)
-
-pub reached_of : (t : Tree) (x : List ℕ) (s : List Spot) → s ≡ spots t → (definitions : List ℕ) (rows : List (List Bool)) (u : ℕ) → AreReached s x definitions rows → (reaching : List ℕ) → ((p : ℕ) → Contains reaching p ↔ ((i : ℕ) × IsOn definitions rows u p i))
-    → (p : ℕ) → Contains reaching p ↔ (Contains definitions p × Reaches (spots t) x [] p u)
-reached_of t x s whole definitions rows u reached reaching exact p =
-    let on = reach_of_on s x definitions rows u p reached in (
-      (λ h. let (d, r) = on.0 ((exact p).0 h) in (d, subst (λ (S : List Spot). Reaches S x [] p u) whole r)),
-      (λ (d, r). (exact p).1 (on.1 (d, subst (λ (S : List Spot). Reaches S x [] p u) (sym whole) r))),
-    )
 
 pub made_orders : (number : ℕ) (pairs ps : List Ordered) (links : List NewLink) → links ≡ map (order_link number) ps → ps ≡ pairs → links ≡ map (order_link number) pairs
 made_orders number pairs ps links made same = made ∙ ap (λ (os : List Ordered). map (order_link number) os) same

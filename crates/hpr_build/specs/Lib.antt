@@ -6,3 +6,4 @@ pub mod Links
 pub mod NewLinks
 pub mod Stages
 pub mod Private
+pub mod Reaching

@@ -7,15 +7,12 @@
 -- order_link user o         == the order edge between these definitions for the use with this number
 -- parent_of place           == the control parent of the part, if there is one
 -- link_under parent         == the control edge from this parent, with its label; for a top part from Entry
--- IsOn definitions rows u p i == p is the i-th of the definitions, and the i-th row marks u
--- AreReached spots x definitions rows == the row of each definition of x marks what an undisturbed path goes to from there
 -- IsInitialAt tree inits x d v == the vertex with the number v is the initial definition of x, at Enter
 -- FlowsFrom tree x d v to l == the link into the vertex with the number `to` is a flow edge for x from the source v at the point d
 -- FlowsOf tree inits x to l == it is a flow edge for x
 -- OrdersAt tree x u to l    == it is an order edge for the use of x at the point u
 -- OrdersOf tree x to l      == it is an order edge for a use of x
-use Rattle.std.specs.Prelude.{◌≡◌, ℕ, ◌+◌, Bool, true, Option, Some, None, List, [], slice_get, slice_index_or, nat_lt, if◌then◌else◌}
-use Rattle.hpr_search.specs.Marks.{IsMarked}
+use Rattle.std.specs.Prelude.{◌≡◌, ℕ, ◌+◌, Bool, true, Option, Some, None, List, [], slice_get, nat_lt, if◌then◌else◌}
 use Rattle.hpr_syntax.specs.Tree.{Tree}
 use Rattle.hpr_paths.specs.Spots.{Spot, defined_at}
 use Rattle.hpr_paths.specs.Successors.{spots}
@@ -56,12 +53,6 @@ parent_of (Some p) = p.parent
 abbrev pub link_under : Option Parent → Link
 link_under None = record { from = 0; kind = link.Control true }
 link_under (Some p) = record { from = p.point; kind = link.Control p.label }
-
-abbrev pub IsOn : List ℕ → List (List Bool) → ℕ → ℕ → ℕ → Type 0
-IsOn definitions rows u p i = (slice_get definitions i ≡ Some p) × IsMarked (slice_index_or rows i []) u
-
-abbrev pub AreReached : List Spot → List ℕ → List ℕ → List (List Bool) → Type 0
-AreReached spots x definitions rows = (i p u : ℕ) → slice_get definitions i ≡ Some p → (IsMarked (slice_index_or rows i []) u → Reaches spots x [] p u) × (Reaches spots x [] p u → IsMarked (slice_index_or rows i []) u)
 
 abbrev pub IsInitialAt : Tree → List (List ℕ) → List ℕ → ℕ → ℕ → Type 0
 IsInitialAt tree inits x d v = (d ≡ 0) × ((k : ℕ) × (slice_get inits k ≡ Some x) × (v ≡ first_init tree + k))

@@ -12,6 +12,7 @@ mod order_links;
 mod orders;
 mod places;
 mod pushes;
+mod reaching;
 mod tables;
 mod variables;
 

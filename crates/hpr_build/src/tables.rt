@@ -151,7 +151,7 @@ fn final_number(tables: &Tables, name: &Name) -> usize
 }
 
 /// The points in the row.
-fn row_at(rows: &[Vec<usize>], at: usize) -> &[usize]
+pub(crate) fn row_at(rows: &[Vec<usize>], at: usize) -> &[usize]
     requires { at < length rows.now }
     ensures { result.now ≡ points_at rows.now at }
 {

@@ -32,7 +32,7 @@ impl Drop for Variables {
 }
 
 /// Puts the point behind the row at the place.
-fn push_at(rows: &mut Vec<Vec<usize>>, at: usize, point: usize) -> Result<(), NoMemory>
+pub(crate) fn push_at(rows: &mut Vec<Vec<usize>>, at: usize, point: usize) -> Result<(), NoMemory>
     requires { at < vec_len rows.old }
     ensures len { vec_len rows.new ≡ vec_len rows.old }
     ensures here { OnOk result (points_at rows.new.items at ≡ points_at rows.old.items at ++ point ∷ []) }
@@ -145,7 +145,7 @@ fn push_defined(
 }
 
 /// So many rows without points.
-fn no_rows(alloc: Global, count: usize) -> Result<Vec<Vec<usize>>, NoMemory>
+pub(crate) fn no_rows(alloc: Global, count: usize) -> Result<Vec<Vec<usize>>, NoMemory>
     ensures len { IfOk result (λ rows. vec_len rows ≡ count) }
     ensures none { IfOk result (λ rows. (i : ℕ) → points_at rows.items i ≡ []) }
 {

@@ -1,20 +1,15 @@
-use Rattle.std.proofs.Common.{◌≡◌, ◌↔◌, ◌∙◌, ℕ, [], List, Contains, map, sym, ap, subst}
-use Rattle.hpr_paths.specs.Successors.{spots}
-use Rattle.hpr_reach.specs.Reaches.{Reaches}
+use Rattle.std.proofs.Common.{◌≡◌, ◌↔◌, ◌∙◌, ℕ, List, Contains, map, ap, sym, subst}
 use Rattle.hpr_build.specs.declared.pushes.NewLink.{NewLink}
 use Rattle.hpr_build.specs.Links.{exit_of}
 use Rattle.hpr_build.specs.NewLinks.{target_of, order_link, OrdersAt}
 use Rattle.hpr_graph.specs.Graphs.{IsOnce}
-use Rattle.hpr_build.proofs.OrderFamily.{parts_within, reached_of, orders_of_links, links_of_orders, order_links_once, made_orders}
+use Rattle.hpr_build.proofs.OrderFamily.{parts_within, orders_of_links, links_of_orders, order_links_once, made_orders}
 use Rattle.hpr_build.proofs.order_links.links_at.Goals as goal
 
 pub order_of-requires : goal.order_of-requires
 order_of-requires c =
-    let t = c.args.tables.now.program.now in
-    let v = c.args.variable.now in
-    parts_within t v c.requires.variable c.deref.result.now (c.deref.ensures.value ∙ c.requires.tables.parts) c.deref-2.result.now
-    (λ p h. ((reached_of t v.name.now c.args.tables.now.succ c.requires.tables.succ v.definitions.now c.args.rows.now c.args.user c.requires.reached c.in_ok-reaching.reaching.items c.in_ok-reaching.ensures.exact p).0
-    (subst (λ (xs : List ℕ). Contains xs p) c.deref-2.ensures.value h)).0)
+    parts_within c.args.tables.now.program.now c.args.variable.now c.requires.variable c.deref.result.now (c.deref.ensures.value ∙ c.requires.tables.parts) c.args.reaching.now
+    (λ p h. ((c.requires.reaching p).0 h).0)
 
 pub returns-clause-exact : goal.returns-clause-exact
 returns-clause-exact c = λ n.
@@ -25,19 +20,15 @@ returns-clause-exact c = λ n.
     let is : number ≡ target_of (exit_of t) v.final_number u = c.target_of-number.ensures ∙ ap (λ (e : ℕ). target_of e v.final_number u) c.requires.tables.exit in
     let parts = c.deref.result.now in
     let pairs = c.in_ok-pairs.pairs.items in
-    let made : c.in_ok-links.links.items ≡ map (order_link number) pairs = made_orders number pairs c.deref-3.result.now c.in_ok-links.links.items c.in_ok-links.ensures c.deref-3.ensures.value in
-    let reached : (p : ℕ) → Contains c.deref-2.result.now p ↔ (Contains v.definitions.now p × Reaches (spots t) v.name.now [] p u)
-    = λ p. subst (λ (xs : List ℕ). Contains xs p ↔ (Contains v.definitions.now p × Reaches (spots t) v.name.now [] p u)) (sym c.deref-2.ensures.value)
-    (reached_of t v.name.now c.args.tables.now.succ c.requires.tables.succ v.definitions.now c.args.rows.now u c.requires.reached c.in_ok-reaching.reaching.items c.in_ok-reaching.ensures.exact p) in
+    let made : c.in_ok-links.links.items ≡ map (order_link number) pairs = made_orders number pairs c.deref-2.result.now c.in_ok-links.links.items c.in_ok-links.ensures c.deref-2.ensures.value in
     subst (λ (ns : List NewLink). Contains ns n ↔ OrdersAt t v.name.now u n.to n.link) (sym made) (
-      orders_of_links t v c.requires.variable u number c.requires.user is parts (c.deref.ensures.value ∙ c.requires.tables.parts) c.deref-2.result.now reached pairs c.in_ok-pairs.ensures.exact n.to n.link,
-      links_of_orders t v c.requires.variable u number c.requires.user is parts (c.deref.ensures.value ∙ c.requires.tables.parts) c.deref-2.result.now reached pairs c.in_ok-pairs.ensures.exact n.to n.link,
+      orders_of_links t v c.requires.variable u number c.requires.user is parts (c.deref.ensures.value ∙ c.requires.tables.parts) c.args.reaching.now c.requires.reaching pairs c.in_ok-pairs.ensures.exact n.to n.link,
+      links_of_orders t v c.requires.variable u number c.requires.user is parts (c.deref.ensures.value ∙ c.requires.tables.parts) c.args.reaching.now c.requires.reaching pairs c.in_ok-pairs.ensures.exact n.to n.link,
     )
 
 pub returns-clause-once : goal.returns-clause-once
 returns-clause-once c =
     let number = c.target_of-number.result in
     let pairs = c.in_ok-pairs.pairs.items in
-    let made : c.in_ok-links.links.items ≡ map (order_link number) pairs = made_orders number pairs c.deref-3.result.now c.in_ok-links.links.items c.in_ok-links.ensures c.deref-3.ensures.value in
-    let once : IsOnce c.deref-2.result.now = subst (λ (xs : List ℕ). IsOnce xs) (sym c.deref-2.ensures.value) (c.in_ok-reaching.ensures.once c.requires.variable.definitions_once) in
-    subst (λ (ns : List NewLink). IsOnce ns) (sym made) (order_links_once c.args.tables.now.program.now c.args.variable.now c.requires.variable number pairs (c.in_ok-pairs.ensures.once once))
+    let made : c.in_ok-links.links.items ≡ map (order_link number) pairs = made_orders number pairs c.deref-2.result.now c.in_ok-links.links.items c.in_ok-links.ensures c.deref-2.ensures.value in
+    subst (λ (ns : List NewLink). IsOnce ns) (sym made) (order_links_once c.args.tables.now.program.now c.args.variable.now c.requires.variable number pairs (c.in_ok-pairs.ensures.once c.requires.once))
