@@ -24,6 +24,7 @@ fn answer(row: Row<'_>, out: &mut Out, succ: &Succ) -> Option<()> {
         "points" => put_points(out, succ),
         "live" => put_live(row.alloc, out, succ),
         "users" => users(row, out, succ)?,
+        "listed" => listed(row, out, succ)?,
         _ => reached(row, out, succ)?,
     }
     Some(())
@@ -132,6 +133,39 @@ fn reached_from(
     if from < succ.points() && cut <= succ.nest(from).len() {
         let reached = reach(alloc, succ, from, name, cut).ok()?;
         put_reached(out, &reached, succ.points());
+    }
+    Some(())
+}
+
+fn put_list(out: &mut Out, points: &[usize]) {
+    out.put_piece("listed");
+    for point in points {
+        put_counted(out, " ", *point);
+    }
+    out.put_piece("\n");
+}
+
+// `listed PROGRAM NAME POINT CUT`: the same points from the list of them, in order.
+fn listed(row: Row<'_>, out: &mut Out, succ: &Succ) -> Option<()> {
+    let from = row.number(4)?;
+    let cut = row.number(5)?;
+    let name = row.name(3)?;
+    listed_from(row.alloc, out, succ, &name, (from, cut))
+}
+
+fn listed_from(
+    alloc: Global,
+    out: &mut Out,
+    succ: &Succ,
+    name: &Name,
+    start: (usize, usize),
+) -> Option<()> {
+    let (from, cut) = start;
+    if from < succ.points() && cut <= succ.nest(from).len() {
+        let reached = reach(alloc, succ, from, name, cut).ok()?;
+        let mut points = reached.points().to_vec(alloc).ok()?;
+        points.sort_unstable();
+        put_list(out, &points);
     }
     Some(())
 }

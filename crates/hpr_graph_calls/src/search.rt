@@ -1,7 +1,7 @@
 //! Calls of hpr_search: where each point leads to its half, and over rows.
 ghost use Rattle.std.specs.Prelude.{◌≡◌, IfOk, length};
 
-use hpr_rows::{Out, Row, put, put_marked, truth};
+use hpr_rows::{Out, Row, put, put_counted, put_marked, truth};
 use hpr_search::{Digraph, Rows, is_marked, reachable};
 use std::alloc::{AllocError, Global};
 
@@ -30,6 +30,7 @@ impl Digraph for Halves {
 pub(crate) fn call(row: Row<'_>, out: &mut Out) -> Option<()> {
     match row.word(1)? {
         "turned" => turned(row, out),
+        "listed" => listed(row, out),
         _ => reached(row, out),
     }
 }
@@ -40,6 +41,25 @@ fn reached(row: Row<'_>, out: &mut Out) -> Option<()> {
     let second = row.number(2)?.min(7);
     let marks = reachable(row.alloc, &Halves, &[first, second]).ok()?;
     put_marked(out, "reached", &marks);
+    Some(())
+}
+
+fn put_list(out: &mut Out, points: &[usize]) {
+    out.put_piece("listed");
+    for point in points {
+        put_counted(out, " ", *point);
+    }
+    out.put_piece("\n");
+}
+
+// `listed POINT POINT`: the same points, as the search lists them, in order.
+fn listed(row: Row<'_>, out: &mut Out) -> Option<()> {
+    let first = row.number(2)?.min(7);
+    let second = row.number(3)?.min(7);
+    let found = hpr_search::reached(row.alloc, &Halves, &[first, second]).ok()?;
+    let mut points = found.points.to_vec(row.alloc).ok()?;
+    points.sort_unstable();
+    put_list(out, &points);
     Some(())
 }
 
