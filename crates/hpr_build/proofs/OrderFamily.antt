@@ -1,10 +1,7 @@
 -- The order links by number.
-use Rattle.std.proofs.Common.{◌≡◌, ℕ, ◌+◌, ◌<◌, ◌≤◌, Bool, List, [], ◌∷◌, ◌++◌, Some, None, map, All, Contains, IsTrue, length, length-take, take, get_or, slice_get, ◌↔◌, ◌⊎◌, inl, inr, refl, sym, ap, ◌∙◌, subst, arith}
-use Rattle.std.proofs.lemmas.Bool.{cases_eq}
-use Rattle.std.proofs.lemmas.List.{get_or_append_left, get_or-take}
+use Rattle.std.proofs.Common.{◌≡◌, ℕ, ◌<◌, ◌≤◌, List, [], Some, None, map, All, Contains, length, ◌↔◌, sym, ap, ◌∙◌, subst, arith}
 use Rattle.std.proofs.lemmas.List.Elements.{All-weaker, All-contains_itself}
-use Rattle.std.proofs.lemmas.Option.{slice_get_within, slice_get-get_or, get_or_from_slice_get, same_Some}
-use Rattle.hpr_terms.proofs.Facts.{contains_at, place_of, in_map, map_in}
+use Rattle.hpr_terms.proofs.Facts.{in_map, map_in}
 use Rattle.hpr_paths.proofs.Stands.{count_whole}
 use Rattle.hpr_syntax.specs.Tree.{Tree}
 use Rattle.hpr_paths.specs.Spots.{Spot, defined_at, UsesAt}

@@ -12,9 +12,9 @@
 -- FlowsOf tree inits x to l == it is a flow edge for x
 -- OrdersAt tree x u to l    == it is an order edge for the use of x at the point u
 -- OrdersOf tree x to l      == it is an order edge for a use of x
-use Rattle.std.specs.Prelude.{◌≡◌, ℕ, ◌+◌, Bool, true, Option, Some, None, List, [], slice_get, nat_lt, if◌then◌else◌}
+use Rattle.std.specs.Prelude.{◌≡◌, ℕ, ◌+◌, true, Option, Some, None, List, [], slice_get, nat_lt, if◌then◌else◌}
 use Rattle.hpr_syntax.specs.Tree.{Tree}
-use Rattle.hpr_paths.specs.Spots.{Spot, defined_at}
+use Rattle.hpr_paths.specs.Spots.{defined_at}
 use Rattle.hpr_paths.specs.Successors.{spots}
 use Rattle.hpr_reach.specs.Reaches.{Reaches}
 use Rattle.hpr_graph.specs.declared.link.LinkKind.{LinkKind}

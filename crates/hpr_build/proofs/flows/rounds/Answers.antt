@@ -1,4 +1,4 @@
-use Rattle.std.proofs.Common.{◌⊎◌, ◌↔◌, ◌≡◌, ◌<◌, ℕ, List, Contains, length, get_or, sym, subst, arith}
+use Rattle.std.proofs.Common.{◌⊎◌, ◌↔◌, ℕ, List, Contains, get_or, sym, subst, arith}
 use Rattle.std.proofs.lemmas.List.{get_or_default}
 use Rattle.hpr_search.specs.Marks.{IsMarked}
 use Rattle.hpr_search.proofs.Marked.{marked_within}

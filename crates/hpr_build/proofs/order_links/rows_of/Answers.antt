@@ -1,4 +1,4 @@
-use Rattle.std.proofs.Common.{◌≡◌, List, subst}
+use Rattle.std.proofs.Common.{List, subst}
 use Rattle.std.proofs.lemmas.Result.{IfOk-weaker}
 use Rattle.hpr_paths.specs.Spots.{Spot}
 use Rattle.hpr_build.specs.Reaching.{AreReaching}

@@ -1,4 +1,4 @@
-use Rattle.std.proofs.Common.{◌<◌, ℕ, List, All, get_or, sym, subst, arith}
+use Rattle.std.proofs.Common.{ℕ, List, get_or, subst, arith}
 use Rattle.std.proofs.lemmas.List.{get_or_default, take_all}
 use Rattle.hpr_graph.proofs.Lists.{not_before}
 use Rattle.hpr_build.specs.Reaching.{AreReaching}

@@ -1,6 +1,5 @@
-use Rattle.std.proofs.Common.{◌≡◌, ℕ, ◌<◌, Contains, length, get_or, sym, ◌∙◌, subst, arith, below_more}
+use Rattle.std.proofs.Common.{◌≡◌, get_or, sym, ◌∙◌, subst, arith, below_more}
 use Rattle.std.proofs.lemmas.List.{get_or_default}
-use Rattle.hpr_search.specs.Marks.{IsMarked}
 use Rattle.hpr_search.proofs.Marked.{marked_within}
 use Rattle.hpr_paths.specs.Spots.{UsesAt}
 use Rattle.hpr_reach.proofs.live.is_used.Goals as goal
