@@ -8,3 +8,4 @@ pub mod OneTable
 pub mod Ends
 pub mod SomeText
 pub mod SomeTable
+mod VertexRows

@@ -5,3 +5,4 @@ pub mod GraphJson
 pub mod AffectedText
 pub mod ConflictsText
 pub mod TableText
+pub mod VertexTexts

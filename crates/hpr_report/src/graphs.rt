@@ -1,13 +1,13 @@
 //! Vertices, edges and graphs.
-ghost use Rattle.std.specs.Prelude.{◌≡◌, ◌++◌, ◌<◌, length, map, IfOk, OnOk, codes, string_bytes};
+ghost use Rattle.std.specs.Prelude.{◌≡◌, ◌++◌, ◌<◌, map, IfOk, OnOk, codes, string_bytes};
 ghost use Rattle.hpr_terms.specs.Texts.{tag_text};
 ghost use Rattle.hpr_syntax.specs.Print.{content_text};
-ghost use Rattle.hpr_graph.specs.Numbered.{IsLink, graph_in};
-ghost use Rattle.hpr_graph.specs.InOrder.{edge_of, row_edges, edges_of};
+ghost use Rattle.hpr_graph.specs.Numbered.{graph_in};
 ghost use Rattle.hpr_report.specs.EdgeParts.{kind_head, kind_tail};
 ghost use Rattle.hpr_report.specs.GraphTexts.{vertex_words, vertex_text, edge_text, on_lines, IsGraphText};
 
-use hpr_graph::{Content, Edge, Graph, Kind, Link, NoMemory, Tag, Vertex};
+use crate::edges::{put_edges, put_texts, texts_of};
+use hpr_graph::{Content, Edge, Graph, Kind, NoMemory, Tag, Vertex};
 use hpr_print::content_text;
 use std::alloc::{AllocError, Global};
 
@@ -138,10 +138,11 @@ pub fn graph_text(alloc: Global, graph: &Graph) -> Result<Vec<u8>, NoMemory>
     let graph = graph.in_order()?;
     let vertex_count = graph.vertex_count();
     let edge_count = graph.edge_count();
+    let of = texts_of(alloc, &graph)?;
     let mut out = format!(in alloc; "vertices {vertex_count}\n")?.into_bytes();
-    put_vertices(alloc, &mut out, graph.vertices())?;
+    put_texts(&mut out, &of)?;
     out.extend_from_slice(format!(in alloc; "edges {edge_count}\n")?.as_bytes())?;
-    put_edges(alloc, &mut out, &graph)?;
+    put_edges(&mut out, &of)?;
     Ok(out)
 }
 
@@ -166,37 +167,4 @@ pub(crate) fn put_vertices(
         put_line(out, bracketed(alloc, vertex)?.as_str())?;
     }
     Ok(())
-}
-
-/// Puts a line for each edge, vertex by vertex.
-fn put_edges(alloc: Global, out: &mut Vec<u8>, graph: &Graph) -> Result<(), NoMemory>
-    ensures { OnOk result (out.new.items ≡ out.old.items ++ on_lines (map edge_text (edges_of graph.now))) }
-{
-    for to in 0..graph.vertices().len() {
-        put_row(alloc, out, graph, to)?;
-    }
-    Ok(())
-}
-
-/// Puts a line for each edge into one vertex.
-fn put_row(alloc: Global, out: &mut Vec<u8>, graph: &Graph, to: usize) -> Result<(), NoMemory>
-    requires { to < length graph.now.vertices }
-    ensures { OnOk result (out.new.items ≡ out.old.items ++ on_lines (map edge_text (row_edges graph.now to))) }
-{
-    for link in graph.edges_into(to) {
-        put_line(out, link_text(alloc, graph, to, *link)?.as_str())?;
-    }
-    Ok(())
-}
-
-/// The edge that a link is.
-#[tactic(auto, using(hpr_graph::proofs::InOrder::edge_is))]
-fn link_text(alloc: Global, graph: &Graph, to: usize, link: Link) -> Result<String, NoMemory>
-    requires { IsLink graph.now to link }
-    ensures { IfOk result (λ text. string_bytes text ≡ edge_text (edge_of graph.now.vertices to link)) }
-{
-    let edge = graph.edge(to, link)?;
-    let text = edge_words(alloc, &edge);
-    drop(edge);
-    text
 }

@@ -2,6 +2,7 @@
 #![tactic(auto)]
 
 mod conflicts;
+mod edges;
 mod graphs;
 mod objects;
 mod outcome;
