@@ -8,6 +8,23 @@ pub less_behind : (q s t : List ℕ) (c d : ℕ) → c < d → LexLess (q ++ c �
 less_behind [] s t c d h = inl h
 less_behind (a ∷ q) s t c d h = inr (refl, less_behind q s t c d h)
 
+-- no list comes before itself
+pub less_irreflexive : (s : List ℕ) → LexLess s s → ⊥
+less_irreflexive [] h = h
+less_irreflexive (a ∷ s) (inl less) = omega arith
+less_irreflexive (a ∷ s) (inr (e, h)) = less_irreflexive s h
+
+pub less_trans : (s t u : List ℕ) → LexLess s t → LexLess t u → LexLess s u
+less_trans [] [] u h k = absurd h
+less_trans [] (b ∷ t) [] h k = absurd k
+less_trans [] (b ∷ t) (c ∷ u) h k = tt
+less_trans (a ∷ s) [] u h k = absurd h
+less_trans (a ∷ s) (b ∷ t) [] h k = absurd k
+less_trans (a ∷ s) (b ∷ t) (c ∷ u) (inl h) (inl k) = inl (omega arith)
+less_trans (a ∷ s) (b ∷ t) (c ∷ u) (inl h) (inr (e, k)) = inl (omega arith)
+less_trans (a ∷ s) (b ∷ t) (c ∷ u) (inr (e, h)) (inl k) = inl (omega arith)
+less_trans (a ∷ s) (b ∷ t) (c ∷ u) (inr (e, h)) (inr (e', k)) = inr (e ∙ e', less_trans s t u h k)
+
 module _ {X : Type 0} where
   pub in_none : (x : X) → Contains [] x → ⊥
   in_none x h = omega (arith, h.1)

@@ -9,3 +9,4 @@ pub mod Remaining
 pub mod Trees
 pub mod ArrangedTrees
 pub mod Open
+pub mod Cuts

@@ -5,15 +5,21 @@
 //!
 //! The orders are found by a backtracking walk down a tree of choices, for any rules of what may stand next: it visits each complete list
 //! once, in lexicographic order, and keeps nothing but the list at hand.
+//!
+//! Beside it stands the search for the first whole list that fits, which gives up a front where its rules say that nothing behind it fits.
 #![tactic(auto)]
 
+mod backtracking;
 mod blocks;
 mod choices;
+mod fitting;
 mod orders;
 mod placing;
 mod walk;
 
+pub use backtracking::Backtracking;
 pub use blocks::Blocks;
 pub use choices::Choices;
+pub use fitting::{Found, first_fitting};
 pub use orders::Orders;
 pub use walk::{advance, descend};

@@ -1,0 +1,31 @@
+use Rattle.std.proofs.Common.{◌≡◌, true, false, sym, ◌∙◌}
+use Rattle.hpr_forest.proofs.CutStates.{empty_first, empty_is_whole, empty_none, empty_spent}
+use Rattle.hpr_forest.proofs.fitting.judge_empty.Goals as goal
+
+pub returns-then-branch-clause-first : goal.returns-then-branch-clause-first
+returns-then-branch-clause-first g c = λ is.
+    let search = g.T.Backtracking in
+    let s = c.args.search.now in
+    empty_first (search.can s) (search.fits s) (search.size s) (search.clash s) c.requires.size (search.placed s) c.requires.first (c.in_ok-judge.ensures.0 c.if-branch.true)
+
+pub returns-then-tries-eq0-clause-spent : goal.returns-then-tries-eq0-clause-spent
+returns-then-tries-eq0-clause-spent g c = λ is.
+    let search = g.T.Backtracking in
+    let s = c.args.search.now in
+    empty_spent (search.can s) (search.fits s) (search.size s) (search.clash s) c.requires.size c.args.tries c.if-tries-eq0.true
+
+pub judge-requires : goal.judge-requires
+judge-requires g c =
+    let search = g.T.Backtracking in
+    let s = c.args.search.now in
+    record { whole = empty_is_whole (search.can s) (search.fits s) (search.size s) (search.clash s) c.requires.size (search.placed s) c.requires.first }
+
+true_not_false : true ≡ false → ⊥
+true_not_false e = absurd cc
+
+pub returns-else-branch-clause-none : goal.returns-else-branch-clause-none
+returns-else-branch-clause-none g c = λ is.
+    let search = g.T.Backtracking in
+    let s = c.args.search.now in
+    empty_none (search.can s) (search.fits s) (search.size s) (search.clash s) c.requires.size (search.placed s) c.requires.first
+    (λ yes_. true_not_false (sym (c.in_ok-judge.ensures.1 yes_) ∙ c.if-branch.false))
