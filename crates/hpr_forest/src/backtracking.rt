@@ -25,6 +25,9 @@ pub trait Backtracking {
     // the numbers that are placed
     ghost placed: { Self → List ℕ };
 
+    // what the answers of `admissible` and `judge` rest on
+    ghost is_sound: { Self → Type 0 };
+
     // both are one search, with other numbers placed
     ghost is_same: { Self → Self → Type 0 };
 
@@ -46,6 +49,7 @@ pub trait Backtracking {
     /// Whether to go on behind this number: false wherever it clashes, and only where no whole list that begins with
     /// the placed numbers and then this one fits.
     fn admissible(&self, child: usize) -> bool
+        requires sound { is_sound self.now }
         requires ready { can self.now (placed self.now) child ≡ true }
         ensures clash { clash self.now (placed self.now) child ≡ true → IsFalse result }
         ensures law { IsFalse result → (l r : List ℕ) → IsWhole (can self.now) (size self.now) l
@@ -65,6 +69,7 @@ pub trait Backtracking {
 
     /// Whether the placed numbers, a whole list, fit.
     fn judge(&self) -> Result<bool, AllocError>
+        requires sound { is_sound self.now }
         requires whole { IsWhole (can self.now) (size self.now) (placed self.now) }
         ensures { IfOk result (λ yes_. IsTrue yes_ ↔ fits self.now (placed self.now)) };
 
@@ -80,6 +85,8 @@ pub trait Backtracking {
     ghost same_clash: { (s t : Self) → is_same s t → clash s ≡ clash t };
 
     ghost same_fits: { (s t : Self) → is_same s t → (l : List ℕ) → fits s l → fits t l };
+
+    ghost same_sound: { (s t : Self) → is_same s t → is_sound s → is_sound t };
 
     ghost same_turned: { (s t : Self) → is_same s t → is_same t s };
 }

@@ -27,6 +27,7 @@ pub enum Found {
 /// Each clause holds of the leaves by each test that rules out less than the one for clashes: so of the whole lists too, which are
 /// the leaves where nothing clashes. With exactly as many leaves as tries all are judged. An error is want of memory.
 pub fn first_fitting<T: Backtracking>(search: &mut T, tries: u64) -> Result<Found, AllocError>
+    requires sound { T.is_sound search.old }
     requires choices { IsBacktrackFree (T.can search.old) (T.size search.old) }
     requires live { IsLive (T.can search.old) (T.size search.old) }
     requires first { T.placed search.old ≡ [] }
@@ -46,6 +47,7 @@ pub fn first_fitting<T: Backtracking>(search: &mut T, tries: u64) -> Result<Foun
 
 /// The search where a whole list has no number: the empty list is the one leaf.
 fn judge_empty<T: Backtracking>(search: &T, tries: u64) -> Result<Found, AllocError>
+    requires sound { T.is_sound search.now }
     requires size { T.size search.now ≡ 0 }
     requires first { T.placed search.now ≡ [] }
     ensures first { IfOk result (λ f. f ≡ Found.First
@@ -67,6 +69,7 @@ fn judge_empty<T: Backtracking>(search: &T, tries: u64) -> Result<Found, AllocEr
 
 /// The search where a whole list has a number at least.
 fn walk_to_first<T: Backtracking>(search: &mut T, tries: u64) -> Result<Found, AllocError>
+    requires sound { T.is_sound search.old }
     requires choices { IsBacktrackFree (T.can search.old) (T.size search.old) }
     requires live { IsLive (T.can search.old) (T.size search.old) }
     requires first { T.placed search.old ≡ [] }

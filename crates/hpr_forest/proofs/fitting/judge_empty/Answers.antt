@@ -18,7 +18,7 @@ pub judge-requires : goal.judge-requires
 judge-requires g c =
     let search = g.T.Backtracking in
     let s = c.args.search.now in
-    record { whole = empty_is_whole (search.can s) (search.fits s) (search.size s) (search.clash s) c.requires.size (search.placed s) c.requires.first }
+    record { sound = c.requires.sound; whole = empty_is_whole (search.can s) (search.fits s) (search.size s) (search.clash s) c.requires.size (search.placed s) c.requires.first }
 
 true_not_false : true ≡ false → ⊥
 true_not_false e = absurd cc

@@ -264,7 +264,7 @@ judge-requires g c =
     let now' = c.place.new.self in
     let same' = laws.same_then first now now' same c.place.ensures.same in
     let whole : IsWhole can n (search.placed now') = subst (IsWhole can n) (sym more) (whole_next can fits n clash it live q c.walk.from d follows full next) in
-    record { whole = subst (λ f. IsWhole f (search.size now') (search.placed now')) (laws.same_can first now' same') (subst (λ m. IsWhole can m (search.placed now')) (laws.same_size first now' same') whole) }
+    record { sound = laws.same_sound first now' same' c.requires.sound; whole = subst (λ f. IsWhole f (search.size now') (search.placed now')) (laws.same_can first now' same') (subst (λ m. IsWhole can m (search.placed now')) (laws.same_size first now' same') whole) }
 
 pub returns-then-branch-clause-first : goal.returns-then-branch-clause-first
 returns-then-branch-clause-first g c =
@@ -354,3 +354,6 @@ walk-preserved g c =
       subst (λ (x : List ℕ). State can fits n clash c.args.tries (c.walk.left - 1) x (d + 1)) (sym back)
           (judged can fits n clash it live c.args.tries c.walk.left (c.walk.left - 1) q c.walk.from d follows full next misfit (omega (arith, c.if-left-eq0.false)) state),
     )
+
+pub admissible-requires : goal.admissible-requires
+admissible-requires g c = record { sound = g.met.T.Backtracking.same_sound c.args.search.now c.walk.search c.walk.invariant.0 c.requires.sound; ready = c.in-Some.ensures.ready }
