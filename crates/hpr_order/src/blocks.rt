@@ -5,8 +5,7 @@ ghost use Rattle.hpr_forest.specs.Blocks.{row_at};
 ghost use Rattle.hpr_order.specs.Items.{AreSlots, slot_at};
 ghost use Rattle.hpr_order.specs.Numbers.{ArePartsOf, AreItemsOf};
 ghost use Rattle.hpr_order.specs.Limits.{AreOrdersOf, IsWithinLimits};
-ghost use Rattle.hpr_order.specs.Arranging.{orders_in};
-ghost use Rattle.hpr_order.specs.Ordered.{AreAskedSiblings};
+ghost use Rattle.hpr_order.specs.Ordered.{AreAskedSiblings, AreChoices};
 ghost use Rattle.hpr_order.specs.Lifting.{AreLevels, IsBelow, parent_in};
 ghost use Rattle.hpr_order.specs.Tables.{AreLifted, AreMarkedSiblings, AreTablesOf, HasRows, IsBefore, IsFirstOf, IsMarkedAt, MustPrecede, marks_in};
 
@@ -14,26 +13,27 @@ use crate::item::Item;
 use crate::levels::levels_of;
 use crate::lift::{Lift, lifted, parent_of};
 use crate::numbers::asked_pairs;
-use hpr_forest::{Blocks, Orders};
+use hpr_forest::Blocks;
 use hpr_graph::{Graph, NoMemory};
 use std::alloc::{AllocError, Global};
 
-/// The orders of the items that are preorders of arrangements.
-pub(crate) fn orders_of(
+/// The tables by which the items may stand one behind the other in arrangements; none where no order of them
+/// is that of an arrangement.
+pub(crate) fn choices_of(
     alloc: Global,
     graph: &Graph,
     numbers: &[usize],
     items: &[Item],
-) -> Result<Option<Orders>, NoMemory>
+) -> Result<Option<Blocks>, NoMemory>
     requires numbers { ArePartsOf graph.now numbers.now }
     requires items { AreItemsOf graph.now numbers.now items.now }
-    ensures { IfOk result (λ o. AreOrdersOf (graph_in graph.now) items.now (orders_in o)) }
+    ensures { IfOk result (λ o. AreChoices (graph_in graph.now) items.now o) }
 {
     let Some(asked) = asked_siblings(alloc, graph, numbers, items)? else {
         return Ok(None);
     };
     let blocks = blocks_of(alloc, items, &asked)?;
-    Ok(Some(Orders::start(alloc, blocks)?))
+    Ok(Some(blocks))
 }
 
 /// For each item a row of marks at the siblings that must come before it; none where no order is that of

@@ -61,8 +61,13 @@ fn is_part(vertex: &Vertex) -> bool
     matches!(vertex, Vertex::Part(_, _))
 }
 
-/// For each number of a vertex, its place among these numbers.
-fn places_of(alloc: Global, count: usize, numbers: &[usize]) -> Result<Vec<Option<usize>>, NoMemory>
+/// For each number below the count, its place among these numbers, which are below it, each once; none where
+/// it isn't one of them. An error is want of memory.
+pub fn places_of(
+    alloc: Global,
+    count: usize,
+    numbers: &[usize],
+) -> Result<Vec<Option<usize>>, NoMemory>
     requires within { All (λ n. n < count) numbers.now }
     requires once { IsOnce numbers.now }
     ensures { IfOk result (λ ps. ArePlaces numbers.now ps.items) }
