@@ -45,7 +45,7 @@ map_map f [] = refl
 map_map f (t ∷ ts) = ap (λ z. f (preorder t) ∷ z) (map_map f ts)
 
 module _ (g : Graph) (items : List Item) (issued : Issued) (finals : List (List ℕ)) (is : IsGiven g items issued finals) where
-  parts_at : (t : ItemTree) → IsAllowedTree g items t → parts_of (program_of items issued finals (preorder t)) ≡ map (vertex_of items) (preorder t)
+  pub parts_at : (t : ItemTree) → IsAllowedTree g items t → parts_of (program_of items issued finals (preorder t)) ≡ map (vertex_of items) (preorder t)
   parts_at t a =
       let (b, h, e) = block_read g items issued finals is t a in
       ap (λ z. map (λ (row : Row). Part row.tag row.content) (rows_of None 0 z)) e ∙ parts_in items t b None 0 h

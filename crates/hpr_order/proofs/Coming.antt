@@ -53,7 +53,7 @@ ranked_items g rank numbers items ranked at k j lt within =
 -- what the search begins with, where the parts are in order
 module _ (g : Numbered) (possible : AllPossible (graph_in g)) (rank : List Vertex) (numbers : List ℕ) (ranked : AreRanked g rank numbers) (o : OrderedItems) (is : IsOrdered g numbers o)
     (ns : Issued) (issued : AreIssued (graph_in g) ns) (up : IsIssued ns) (pairs : All IsProperPair ns) (xs : List (List ℕ)) (finals : AreFinals (graph_in g) xs) where
-  given : IsGiven (graph_in g) o.items.items ns xs
+  pub given : IsGiven (graph_in g) o.items.items ns xs
   given = record {
     closed = closed_graph g;
     items = is.items.items;

@@ -21,7 +21,7 @@ pub use arranged::arrange;
 pub use arrangements::Arrangements;
 pub use hpr_graph::{Graph, NoMemory, Tag, Vertex};
 pub use item::Item;
-pub use numbers::places_of;
+pub use numbers::{final_names, places_of};
 pub use ordered::{RankedParts, parts_by_rank};
 pub use ranking::rank;
 pub use tree::{OrderError, RegionTree, regions};

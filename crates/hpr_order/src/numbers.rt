@@ -152,8 +152,8 @@ fn slot_by(places: &[Option<usize>], parent: Option<(usize, bool)>) -> Option<(u
     Some((place, label))
 }
 
-/// The names of the graph's Final vertices in ascending order.
-pub(crate) fn final_names(alloc: Global, graph: &Graph) -> Result<Vec<Name>, NoMemory>
+/// The names of the graph's Final vertices in ascending order. An error is want of memory.
+pub fn final_names(alloc: Global, graph: &Graph) -> Result<Vec<Name>, NoMemory>
     ensures { IfOk result (λ xs. AreFinals (graph_in graph.now) xs.items) }
 {
     let names = finals_in_order(alloc, graph)?;

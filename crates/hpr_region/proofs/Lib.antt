@@ -1,0 +1,10 @@
+pub mod Straight
+pub mod Subblocks
+pub mod OneBlock
+pub mod PartOrder
+pub mod ClashExcludes
+pub mod ClashTables
+pub mod Made
+pub mod Readers
+pub mod IssuedFor
+pub mod Planned

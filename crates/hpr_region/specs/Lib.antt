@@ -1,0 +1,6 @@
+pub mod Flows
+pub mod Plans
+pub mod Tables
+pub mod States
+pub mod Openings
+pub mod Making

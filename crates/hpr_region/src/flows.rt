@@ -1,0 +1,28 @@
+//! The tables by which items clash.
+ghost use Rattle.std.specs.Prelude.{◌≡◌, ℕ, ◌<◌, Contains, slice_get, vec_len};
+ghost use Rattle.hpr_forest.specs.Blocks.{row_at};
+
+/// Tables of items: where each stands, which variable it defines, which it uses, and into which an independent
+/// flow edge goes from it. Variables have numbers of their own.
+pub struct Flows {
+    pub slots: Vec<Option<(usize, bool)>>,
+    pub variables: Vec<Option<usize>>,
+    pub uses: Vec<Vec<usize>>,
+    pub readers: Vec<Vec<usize>>,
+    ghost variable_count: { vec_len variables ≡ vec_len slots },
+    ghost use_count: { vec_len uses ≡ vec_len slots },
+    ghost reader_count: { vec_len readers ≡ vec_len slots },
+    ghost within: { (k u : ℕ) → Contains (row_at (slice_get readers.items k)) u → u < vec_len slots },
+}
+
+/// All are dropped in one call.
+impl Drop for Flows {
+    fn drop(self) {
+        let Flows {
+            slots: _,
+            variables: _,
+            uses: _,
+            readers: _,
+        } = self;
+    }
+}

@@ -1,0 +1,16 @@
+//! A search for arrangements that judges each part before it places it (after Horwitz, Prins and Reps 1989, who
+//! order the parts of a block by another method).
+#![tactic(auto)]
+
+mod clashing;
+mod flows;
+pub mod laws;
+mod plan;
+mod planning;
+mod search;
+mod tables;
+
+pub use flows::Flows;
+pub use hpr_graph::{Graph, NoMemory, Vertex};
+pub use plan::Plan;
+pub use search::Search;
