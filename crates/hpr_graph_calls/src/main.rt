@@ -6,6 +6,7 @@ mod engine;
 mod forest;
 mod graph;
 mod orders;
+mod region;
 mod search;
 mod slices;
 mod spelled;
@@ -23,6 +24,7 @@ impl Calls for GraphCalls {
             "slice" => slices::call(row, out),
             "order" => orders::call(row, out),
             "integrate" => engine::call(row, out),
+            "region" => region::call(row, out),
             "search" => search::call(row, out),
             "walk" => walk::call(row, out),
             "forest" => forest::call(row, out),

@@ -19,7 +19,7 @@ use Rattle.hpr_graph.specs.Rank.{parts_of, StandsBefore}
 use Rattle.hpr_graph.proofs.Lists.{place_of, in_here, in_later, no_longer, some_inj}
 use Rattle.hpr_graph.proofs.Bounded.{Bounded, of_one, of_alone, of_within, of_either, of_list, of_each}
 use Rattle.hpr_order.proofs.Ranks.{parts_once}
-use Rattle.hpr_rebuild.proofs.Parts.{part_says, says_part}
+use Rattle.hpr_region.proofs.PartOrder.{part_says, says_part}
 use Rattle.hpr_order.proofs.OneBody.{Placed, vertex, placed, parts_placed, stands_so, one_body}
 use Rattle.hpr_graph.proofs.PutInOrder.{in_order, one_list}
 use Rattle.hpr_graph.proofs.NameOrder.{never_both}

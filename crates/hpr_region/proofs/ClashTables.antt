@@ -70,7 +70,7 @@ either_right false b e = e
 never : (b : Bool) → b ≡ true → b ≡ false → ⊥
 never b t f = absurd (let e : true ≡ false = sym t ∙ f in cc)
 
-not_true : (b : Bool) → (b ≡ true → ⊥) → b ≡ false
+pub not_true : (b : Bool) → (b ≡ true → ⊥) → b ≡ false
 not_true true h = absurd (h refl)
 not_true false h = refl
 

@@ -4,7 +4,10 @@ pub mod OneBlock
 pub mod PartOrder
 pub mod ClashExcludes
 pub mod ClashTables
-pub mod Made
 pub mod Readers
 pub mod IssuedFor
 pub mod Planned
+pub mod Searching
+pub mod Exact
+pub mod Made
+pub mod Uses

@@ -49,12 +49,12 @@ none_free : (n : ℕ) → IsBacktrackFree (can_by None) n
 none_free n = record {
   within = λ q c e. absurd (let h : false ≡ true = e in cc);
   fresh = λ q c e. absurd (let h : false ≡ true = e in cc);
-  goes_on = λ q l f lt whole. absurd (at l lt whole);
+  goes_on = λ q l f lt whole. absurd (at q l lt whole);
 }
   where
-    at : {q : List ℕ} (l : List ℕ) → length q < n → IsWhole (can_by None) n l → ⊥
-    at [] lt whole = let e : 0 ≡ n = whole.len in omega (arith, lt, e)
-    at (c ∷ l) lt whole = absurd (let h : false ≡ true = whole.follows.0 in cc)
+    at : (q l : List ℕ) → length q < n → IsWhole (can_by None) n l → ⊥
+    at q [] lt whole = let e : 0 ≡ n = whole.len in omega (arith, lt, e)
+    at q (c ∷ l) lt whole = absurd (let h : false ≡ true = whole.follows.0 in cc)
 
 blocks_free : (b : Blocks) (n : ℕ) → vec_len b.parents ≡ n → IsBacktrackFree (can_of b) n
 blocks_free b n e = subst (IsBacktrackFree (can_of b)) e (blocks_open b)
@@ -77,7 +77,7 @@ no_items g items none = record {
     once = tt;
     within = λ x h. absurd (in_none x h);
     all = λ x lt. absurd (omega (arith, lt, none));
-    respects = λ s t asks. absurd (let (k, ts, tt_, cs, ct, (i, e, _, _), rest) = asks in let lt = slice_get_within items s i e in omega (arith, lt, none));
+    respects = λ s t asks. absurd (let (k, ts, tu, cs, ct, (i, e, _, _), _, _, _) = asks in let lt = slice_get_within items s i e in omega (arith, lt, none));
   };
 }
 
@@ -152,8 +152,8 @@ module _ (g : Numbered) (numbered : IsNumbered g) (numbers : List ℕ) (parts : 
     shut_orders : (choices : Option Blocks) → AreChoices (graph_in g) items.items choices → IsShut items.items choices → (ns : Issued) → AreIssued (graph_in g) ns → AreOrdersOf (graph_in g) items.items []
     shut_orders None are shut ns issued = are
     shut_orders (Some b) are (inl none) ns issued = are.1 [] (record { sound = λ x h. absurd (in_none x h); complete = λ x w. absurd (none x w); ascending = tt })
-    shut_orders (Some b) are (inr (k, i, e, zero_)) ns issued =
-        absurd (let low = (issued i.tag i.content ((is.items.parts i.tag i.content).1 (k, (i, e, refl, refl)))).0 in omega (arith, low, zero_))
+    shut_orders (Some b) are (inr (k, i, e, low0)) ns issued =
+        absurd (let low = (issued i.tag i.content ((is.items.parts i.tag i.content).1 (k, (i, e, refl, refl)))).0 in omega (arith, low, low0))
 
     pub listed : (before choices : Option Blocks) → AreChoices (graph_in g) items.items before → IfSome choices (λ b. before ≡ Some b) → IfNone choices (IsShut items.items before)
         → (ns : Issued) → IsProperIssued ns → AreIssued (graph_in g) ns → IsListed (can_by choices) ns
@@ -189,16 +189,16 @@ module _ (g : Numbered) (numbered : IsNumbered g) (numbers : List ℕ) (parts : 
 
     pub some_stands : (choices : Option Blocks) → IfSome choices (λ b. vec_len b.parents ≡ length numbers) → IfSome choices (λ b. IsOpen items.items b) → (placed : List ℕ) (k : ℕ) → can_by choices placed k ≡ true
         → ((l : List ℕ) × IsWhole (can_by choices) (length numbers) l) × ((ns : Issued) × IsProperIssued ns × AreIssued (graph_in g) ns)
-    some_stands None n open placed k e = absurd cc
-    some_stands (Some b) n open placed k e =
-        let ((l, whole), serials) = open in
+    some_stands None n able placed k e = absurd cc
+    some_stands (Some b) n able placed k e =
+        let ((l, whole), serials) = able in
         ((l, subst (λ z. IsWhole (can_of b) z l) n whole), some_issued serials)
 
 pub plan_is : (g : Numbered) → IsNumbered g → AllPossible (graph_in g) → (rank : List Vertex) (plan : Plan) (items : Vec Item Global) (before : Option Blocks) (xs : List (List ℕ))
     → ArePartsOf g plan.numbers.items → AreRanked g rank plan.numbers.items → AreItemsOf g plan.numbers.items items.items → AreChoices (graph_in g) items.items before
     → AreFinals (graph_in g) xs → AreFlowsOf g plan.numbers.items plan.flows → IfSome plan.choices (λ b. before ≡ Some b) → IfSome plan.choices (λ b. IsOpen items.items b)
     → IfNone plan.choices (IsShut items.items before) → IsPlanOf g rank plan
-plan_is g numbered possible rank plan items before xs parts ranked is are finals (names, flows) same open shut =
+plan_is g numbered possible rank plan items before xs parts ranked is are finals (names, flows) same able shut =
     let count : IfSome plan.choices (λ b. vec_len b.parents ≡ length plan.numbers.items) = counted plan.choices plan.choice_count in
     record {
       numbered = numbered;
@@ -206,7 +206,7 @@ plan_is g numbered possible rank plan items before xs parts ranked is are finals
       ranked = ranked;
       free = choices_free plan.choices (length plan.numbers.items) count;
       listed = λ issued proper allowed. listed g numbered plan.numbers.items parts items is possible rank ranked xs finals before plan.choices are same shut issued proper allowed;
-      some = λ placed k e. some_stands g numbered plan.numbers.items parts items is possible rank ranked xs finals plan.choices count open placed k e;
+      some = λ placed k e. some_stands g numbered plan.numbers.items parts items is possible rank ranked xs finals plan.choices count able placed k e;
       clashes = λ q k e. clash_true g plan.numbers.items names plan.flows flows parts numbered q k e;
       no_clash = λ q k e. clash_false g plan.numbers.items names plan.flows flows parts numbered q k e;
     }

@@ -1,8 +1,8 @@
 -- Which item reads what another defines, by rows of the links into each.
-use Rattle.std.proofs.Common.{◌≡◌, ℕ, ◌+◌, ◌<◌, ◌≤◌, ◌⊎◌, ◌↔◌, inl, inr, Bool, Option, Some, None, List, length, take, Contains, slice_get, refl, sym, ap, ◌∙◌, subst, arith}
+use Rattle.std.proofs.Common.{◌≡◌, ℕ, ◌+◌, ◌<◌, ◌≤◌, ◌⊎◌, ◌↔◌, inl, inr, Bool, Option, Some, None, List, length, get_or, take, Contains, slice_get, refl, sym, ap, ◌∙◌, subst, arith}
 use Rattle.std.proofs.lemmas.Bool.{cases_eq}
 use Rattle.std.proofs.lemmas.List.{take_all}
-use Rattle.std.proofs.lemmas.Option.{slice_get_within}
+use Rattle.std.proofs.lemmas.Option.{slice_get_within, slice_get-get_or}
 use Rattle.hpr_terms.specs.declared.tag.Tag.{Tag}
 use Rattle.hpr_terms.proofs.Facts.{some_inj}
 use Rattle.hpr_syntax.specs.declared.rows.Content.{Content}
@@ -61,6 +61,16 @@ module _ (Old : ℕ → ℕ → Type 0) (item : ℕ) (places : List (Option ℕ)
     ])),
   )
 
+-- the same, of the link at a place
+module _ (Old : ℕ → ℕ → Type 0) (item : ℕ) (places : List (Option ℕ)) (links : List Link) (index : ℕ) (d : Link) (within : index < length links) where
+  pub skip_at : (rows : List (List ℕ)) → ((a : ℕ) → (get_or links index d).kind ≡ Independent → number_at places (get_or links index d).from ≡ Some a → ⊥) → AreRead Old item places (take index links) rows
+      → AreRead Old item places (take (index + 1) links) rows
+  skip_at rows out all = read_skip Old item places links index (get_or links index d) (slice_get-get_or links index d within) rows out all
+
+  pub push_at : (rows new : List (List ℕ)) (source : ℕ) → (get_or links index d).kind ≡ Independent → number_at places (get_or links index d).from ≡ Some source → IsPushed rows source item new
+      → AreRead Old item places (take index links) rows → AreRead Old item places (take (index + 1) links) new
+  push_at rows new source k p pushed all = read_push Old item places links index (get_or links index d) (slice_get-get_or links index d within) rows new source k p pushed all
+
 pub read_whole : (Old : ℕ → ℕ → Type 0) (item : ℕ) (places : List (Option ℕ)) (links : List Link) (index : ℕ) (rows : List (List ℕ)) → length links ≤ index
     → AreRead Old item places (take index links) rows → AreRead Old item places links rows
 read_whole Old item places links index rows end all = subst (λ z. AreRead Old item places z rows) (take_all index links end) all
@@ -73,7 +83,7 @@ pub below_more : (Q : ℕ → ℕ → Type 0) (numbers : List ℕ) (item n : ℕ
     → ((a b : ℕ) → Contains (numbers_at new a) b ↔ (Contains (numbers_at rows a) b ⊎ ((b ≡ item) × Q n a))) → AreReadBelow Q numbers (item + 1) new
 below_more Q numbers item n rows new here all more a b = (
   (λ h. elim ((more a b).0 h) [
-    | inl old ↦ (let (lt, m, e, q) = (all a b).0 old in (omega (arith, lt), (m, e, q)))
+    | inl old ↦ (let (lt, (m, e, q)) = (all a b).0 old in (omega (arith, lt), (m, e, q)))
     | inr (is, q) ↦ (omega (arith, is), (n, subst (λ z. slice_get numbers z ≡ Some n) (sym is) here, q))
   ]),
   (λ (lt, (m, e, q)). (more a b).1 (elim (cases_eq b item) [
@@ -104,7 +114,7 @@ module _ (g : Numbered) (numbered : IsNumbered g) (numbers : List ℕ) (parts : 
     where
       to : Contains (numbers_at rows a) b → IsReadBy (graph_in g) (Part s c) (Part t d)
       to h =
-          let (_, n', en', (l, has, is, p)) = (all a b).0 h in
+          let (_, (n', en', (l, has, is, p))) = (all a b).0 h in
           let same : n' ≡ n = some_inj n' n (sym en' ∙ en) in
           let at_a : slice_get numbers a ≡ Some l.from = (placed l.from a).0 p in
           edge_of n m s t c d l target source (subst (λ z. HasLink g z l) same has) is (some_inj l.from m (sym at_a ∙ em))
@@ -118,4 +128,4 @@ module _ (g : Numbered) (numbered : IsNumbered g) (numbers : List ℕ) (parts : 
           (placed l.from a).1 (subst (λ z. slice_get numbers a ≡ Some z) (sym is_m) em))))
 
   pub read_within : (rows : List (List ℕ)) (item : ℕ) → AreReadBelow (λ n a. IsReadFrom places (row_of g n) a) numbers item rows → (k u : ℕ) → Contains (numbers_at rows k) u → u < length numbers
-  read_within rows item all k u h = let (_, n, en, _) = (all k u).0 h in slice_get_within numbers u n en
+  read_within rows item all k u h = let (_, (n, en, _)) = (all k u).0 h in slice_get_within numbers u n en

@@ -153,6 +153,7 @@ impl Search {
     pub fn pop(&mut self) -> Option<usize>
         ensures plan { self.new.plan ≡ self.old.plan }
         ensures some { IfSome result (λ item. self.old.placed ≡ self.new.placed ++ item ∷ []) }
+        ensures within { IfSome result (λ item. item < size_of self.old.plan) }
         ensures none { IfNone result ((self.old.placed ≡ []) × (self.new.placed ≡ [])) }
     {
         let item = self.items.pop()?;
@@ -170,7 +171,18 @@ impl Search {
     {
         match number_at(&self.places, child) {
             None => false,
-            Some(item) => self.next_ready(item) == Some(item),
+            Some(item) => self.may_follow(item),
+        }
+    }
+
+    /// Whether the item may be placed next.
+    fn may_follow(&self, item: usize) -> bool
+        requires { item < size_of self.now.plan }
+        ensures { result ≡ may_follow self.now.plan self.now.placed item }
+    {
+        match self.next_ready(item) {
+            Some(found) => found == item,
+            None => false,
         }
     }
 

@@ -36,7 +36,8 @@ pub(crate) fn flows_of(
 {
     let readers = readers_of(alloc, graph, numbers)?;
     let names = defined_names(alloc, items)?;
-    flows_by(alloc, items, &names, readers)
+    let flows = flows_by(alloc, items, &names, readers)?;
+    Ok(flows)
 }
 
 /// The tables of the items, by the numbers of the names that they define; what reads each item is given.

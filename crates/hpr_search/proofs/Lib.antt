@@ -1,4 +1,4 @@
 pub mod Marked
 pub mod Turns
 pub mod RowLists
-mod RowLaws
+pub mod RowLaws

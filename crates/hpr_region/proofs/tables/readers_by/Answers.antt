@@ -24,7 +24,7 @@ loop-item-preserved c =
       count = omega (arith, c.add_readers.ensures.count, c.loop-item.invariant.count);
       rows = below_more Q c.args.numbers.now c.loop-item.item n (numbers_of c.loop-item.rows.items) (numbers_of c.add_readers.new.rows.items) here c.loop-item.invariant.rows
           (λ a b. subst (λ (r : List Link). Contains (numbers_at (numbers_of c.add_readers.new.rows.items) a) b
-          ↔ (Contains (numbers_at (numbers_of c.loop-item.rows.items) a) b ⊎ ((b ≡ c.loop-item.item) × IsReadFrom c.args.places.now r a))) (sym row) (c.in_ok-add_readers.ensures a b));
+          ↔ (Contains (numbers_at (numbers_of c.loop-item.rows.items) a) b ⊎ ((b ≡ c.loop-item.item) × IsReadFrom c.args.places.now r a))) (sym row) (c.in_ok-add_readers.ensures.rows a b));
     }
 
 pub edges_into-requires : goal.edges_into-requires

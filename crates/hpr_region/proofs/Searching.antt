@@ -1,0 +1,127 @@
+-- Steps of a search: what stays when an item is placed or taken back, and what may be placed next.
+use Rattle.std.proofs.Common.{◌≡◌, ℕ, zero, suc, ◌+◌, ◌-◌, ◌<◌, ◌≤◌, ◌⊎◌, ◌↔◌, inl, inr, Bool, true, false, Option, Some, None, IfSome, List, [], ◌∷◌, ◌++◌, All, Vec, map, length, set, take, vec_len, vec_capacity, get_or, slice_get, Contains, refl, sym, ap, ◌∙◌, subst, arith, rules, append-nil, append_assoc, length-append}
+use Rattle.std.specs.Global.{Global}
+use Rattle.std.proofs.Math.Seq.{take-append_seam}
+use Rattle.std.proofs.lemmas.List.Elements.{Contains-append_left, Contains-append_right, Contains-append_cases, Contains-get_or}
+use Rattle.std.proofs.lemmas.Option.{slice_get-get_or, slice_get_within, slice_get_read, get_or_from_slice_get}
+use Rattle.hpr_terms.proofs.Facts.{some_inj, get_below}
+use Rattle.hpr_forest.specs.declared.blocks.Blocks.{Blocks}
+use Rattle.hpr_forest.specs.Choices.{Follows, IsWhole, IsBacktrackFree}
+use Rattle.hpr_forest.specs.Forest.{IsDistinct}
+use Rattle.hpr_forest.specs.Marks.{IsMarksOf, is_in}
+use Rattle.hpr_forest.proofs.Leaves.{follows_push, follows_front, follows_last}
+use Rattle.hpr_forest.proofs.Marked.{marks_push, marks_pop}
+use Rattle.hpr_forest.proofs.Members.{below, below_has, in_is_in, length-below, no_longer}
+use Rattle.hpr_forest.proofs.Unique.{in_none, in_cons, in_first, in_later}
+use Rattle.hpr_order.proofs.ListFacts.{map_append}
+use Rattle.hpr_region.specs.declared.plan.Plan.{Plan}
+use Rattle.hpr_region.specs.Plans.{State, can_by, may_follow, number_at, numbers_at, placed_in, size_of}
+use Rattle.hpr_region.specs.States.{IsState}
+use Rattle.hpr_region.proofs.Planned.{choices_free}
+
+module _ (can : List ℕ → ℕ → Bool) (n : ℕ) (free : IsBacktrackFree can n) where
+  -- the items of a list that follows are new and different, and below n
+  pub follows_once : (p l : List ℕ) → Follows can p l → ((x : ℕ) → Contains p x → Contains l x → ⊥) × IsDistinct l
+  follows_once p [] f = (λ x h k. in_none x k, tt)
+  follows_once p (c ∷ l) f =
+      let (apart, once) = follows_once (p ++ c ∷ []) l f.1 in (
+        λ x h k. elim (in_cons c x l k) [
+          | inl e ↦ (let out = free.fresh p c f.0 in let there : is_in p c ≡ true = in_is_in p c (subst (Contains p) (sym e) h) in let both : true ≡ false = sym there ∙ out in absurd cc)
+          | inr later ↦ apart x (Contains-append_left p (c ∷ []) x h) later
+        ],
+        (λ h. apart c (Contains-append_right p (c ∷ []) c (in_first c [])) h, once),
+      )
+
+  pub follows_within : (p l : List ℕ) → Follows can p l → (x : ℕ) → Contains l x → x < n
+  follows_within p [] f x h = absurd (in_none x h)
+  follows_within p (c ∷ l) f x h = elim (in_cons c x l h) [
+    | inl e ↦ subst (λ w. w < n) e (free.within p c f.0)
+    | inr later ↦ follows_within (p ++ c ∷ []) l f.1 x later
+  ]
+
+  pub follows_length : (l : List ℕ) → Follows can [] l → length l ≤ n
+  follows_length l f =
+      let (apart, once) = follows_once [] l f in
+      omega (arith, length-below n, no_longer l (below n) once (λ k h. below_has n k (follows_within [] l f k h)))
+
+  pub room_for : (q : List ℕ) (c : ℕ) → Follows can [] q → can q c ≡ true → length q < n
+  room_for q c f e =
+      let more : Follows can [] (q ++ c ∷ []) = follows_push can n [] q c f e in
+      omega (arith, follows_length (q ++ c ∷ []) more, length-append q (c ∷ []))
+
+  pub all_within : (l : List ℕ) → Follows can [] l → All (λ x. x < n) l
+  all_within l f = λ k d lt. follows_within [] l f (get_or l k d) (Contains-get_or l k d lt)
+
+counted : (choices : Option Blocks) (m n : ℕ) → m ≡ n → IfSome choices (λ b. vec_len b.parents ≡ m) → IfSome choices (λ b. vec_len b.parents ≡ n)
+counted None m n e h = tt
+counted (Some b) m n e h = h ∙ e
+
+pub plan_free : (plan : Plan) → IsBacktrackFree (may_follow plan) (size_of plan)
+plan_free plan =
+    let e : vec_len plan.numbers ≡ length plan.numbers.items = search rules in
+    choices_free plan.choices (length plan.numbers.items) (counted plan.choices (vec_len plan.numbers) (length plan.numbers.items) e plan.choice_count)
+
+pub number_is : (xs : List ℕ) (c n : ℕ) → c < length xs → n ≡ get_or xs c n → n ≡ get_or xs c 0
+number_is xs c n lt e = sym (get_or_from_slice_get xs c n 0 (slice_get_read xs (length xs) c n refl lt e))
+
+module _ (plan : Plan) (places : List (Option ℕ)) where
+  pub pushed : (items placed items' placed' : Vec ℕ Global) (marks marks' : Vec Bool Global) (c n : ℕ) → IsState plan places items placed marks → may_follow plan items.items c ≡ true → n ≡ number_at plan c
+      → items'.items ≡ items.items ++ c ∷ [] → vec_capacity items' ≡ vec_capacity items → placed'.items ≡ placed.items ++ n ∷ [] → vec_capacity placed' ≡ vec_capacity placed
+      → marks'.items ≡ set marks.items c true → vec_len marks' ≡ vec_len marks → IsState plan places items' placed' marks'
+  pushed items placed items' placed' marks marks' c n s may is grown room grown' room' marked row =
+      let free = plan_free plan in
+      let small : c < size_of plan = free.within items.items c may in
+      let l : length marks.items ≡ vec_len marks = search rules in
+      record {
+        front = subst (Follows (may_follow plan) []) (sym grown) (follows_push (may_follow plan) (size_of plan) [] items.items c s.front may);
+        numbers = grown' ∙ ap (λ z. z ++ n ∷ []) s.numbers ∙ ap (λ z. numbers_at plan items.items ++ z ∷ []) is ∙ sym (ap (numbers_at plan) grown ∙ map_append (number_at plan) items.items (c ∷ []));
+        row = row ∙ s.row;
+        marked = marks_push marks.items marks'.items items.items items'.items c (omega (arith, small, l, s.row)) s.marked marked grown;
+        items_room = omega (arith, s.items_room, room);
+        placed_room = omega (arith, s.placed_room, room');
+        placing = s.placing;
+      }
+
+  pub popped : (items placed items' placed' : Vec ℕ Global) (marks marks' : Vec Bool Global) (c : ℕ) → IsState plan places items placed marks
+      → items.items ≡ items'.items ++ c ∷ [] → vec_capacity items' ≡ vec_capacity items → placed'.items ≡ numbers_at plan items'.items → vec_capacity placed' ≡ vec_capacity placed
+      → marks'.items ≡ set marks.items c false → vec_len marks' ≡ vec_len marks → IsState plan places items' placed' marks'
+  popped items placed items' placed' marks marks' c s split room numbers room' marked row =
+      let free = plan_free plan in
+      let whole : Follows (may_follow plan) [] (items'.items ++ c ∷ []) = subst (Follows (may_follow plan) []) split s.front in
+      let may : may_follow plan items'.items c ≡ true = follows_last (may_follow plan) (size_of plan) [] items'.items c whole in
+      let small : c < size_of plan = free.within items'.items c may in
+      let l : length marks.items ≡ vec_len marks = search rules in
+      record {
+        front = follows_front (may_follow plan) (size_of plan) [] items'.items (c ∷ []) whole;
+        numbers = numbers;
+        row = row ∙ s.row;
+        marked = marks_pop marks.items marks'.items items'.items items.items c (omega (arith, small, l, s.row)) s.marked split (free.fresh items'.items c may) marked;
+        items_room = omega (arith, s.items_room, room);
+        placed_room = omega (arith, s.placed_room, room');
+        placing = s.placing;
+      }
+
+-- the front of the images is the image of the front
+pub front_taken : (f : ℕ → ℕ) (items front : List ℕ) (c m : ℕ) (placed placed' : List ℕ) → items ≡ front ++ c ∷ [] → placed ≡ map f items → m ≡ length placed → placed' ≡ take (m - 1) placed → placed' ≡ map f front
+front_taken f items front c m placed placed' split numbers len taken =
+    let all : placed ≡ map f front ++ f c ∷ [] = numbers ∙ ap (map f) split ∙ map_append f front (c ∷ []) in
+    let count : m - 1 ≡ length (map f front) = omega (arith, len, ap length all, length-append (map f front) (f c ∷ [])) in
+    taken ∙ ap (λ k. take k placed) count ∙ ap (take (length (map f front))) all ∙ take-append_seam (map f front) (f c ∷ [])
+
+pub last_small : (plan : Plan) (items front : List ℕ) (c : ℕ) → Follows (may_follow plan) [] items → items ≡ front ++ c ∷ [] → c < size_of plan
+last_small plan items front c f split =
+    let free = plan_free plan in
+    free.within front c (follows_last (may_follow plan) (size_of plan) [] front c (subst (Follows (may_follow plan) []) split f))
+
+-- the numbers of what is placed
+pub placed_more : (old new : State) (item child : ℕ) → new.plan ≡ old.plan → new.placed ≡ old.placed ++ item ∷ [] → number_at old.plan item ≡ child → placed_in new ≡ placed_in old ++ child ∷ []
+placed_more old new item child same grown is =
+    ap (λ p. numbers_at p new.placed) same ∙ ap (numbers_at old.plan) grown ∙ map_append (number_at old.plan) old.placed (item ∷ []) ∙ ap (λ z. numbers_at old.plan old.placed ++ z ∷ []) is
+
+pub placed_less : (old new : State) (item child : ℕ) → new.plan ≡ old.plan → old.placed ≡ new.placed ++ item ∷ [] → child ≡ number_at new.plan item → placed_in old ≡ placed_in new ++ child ∷ []
+placed_less old new item child same split is =
+    ap (numbers_at old.plan) split ∙ map_append (number_at old.plan) new.placed (item ∷ []) ∙ ap (λ p. numbers_at p new.placed ++ number_at p item ∷ []) (sym same)
+    ∙ ap (λ z. numbers_at new.plan new.placed ++ z ∷ []) (sym is)
+
+pub number_of : (plan : Plan) (item child : ℕ) → slice_get plan.numbers.items item ≡ Some child → number_at plan item ≡ child
+number_of plan item child e = get_or_from_slice_get plan.numbers.items item child 0 e

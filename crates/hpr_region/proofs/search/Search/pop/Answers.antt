@@ -1,0 +1,24 @@
+use Rattle.std.proofs.Common.{◌≡◌, ◌<◌, length, vec_len, refl, sym, subst, arith, rules}
+use Rattle.hpr_region.specs.Plans.{State, number_at, size_of}
+use Rattle.hpr_region.proofs.Searching.{front_taken, last_small, popped}
+use Rattle.hpr_region.proofs.search.Search.pop.Goals as goal
+
+pub index_mut-requires : goal.index_mut-requires
+index_mut-requires c =
+    let s = c.self.inside in
+    let row = c.self.invariant.row in
+    omega (arith, last_small s.plan s.items.items c.pop.new.self.items c.in_ok-item.item c.self.invariant.front c.in_ok-item.ensures.items, row)
+
+pub invariant_of-self-2 : goal.invariant_of-self-2
+invariant_of-self-2 c =
+    let s = c.self.inside in
+    let l : vec_len s.placed ≡ length s.placed.items = search rules in
+    popped s.plan s.places.items s.items s.placed c.pop.new.self c.pop-2.new.self s.marks _ c.in_ok-item.item c.self.invariant c.in_ok-item.ensures.items c.pop.ensures.capacity
+    (front_taken (number_at s.plan) s.items.items c.pop.new.self.items c.in_ok-item.item (vec_len s.placed) s.placed.items c.pop-2.new.self.items c.in_ok-item.ensures.items c.self.invariant.numbers l c.pop-2.ensures.rest)
+    c.pop-2.ensures.capacity refl refl
+
+pub returns-clause-within : goal.returns-clause-within
+returns-clause-within c =
+    let s = c.self.inside in
+    subst (λ (z : State). c.in_ok-item.item < size_of z.plan) c.self.view_is
+    (last_small s.plan s.items.items c.pop.new.self.items c.in_ok-item.item c.self.invariant.front c.in_ok-item.ensures.items)

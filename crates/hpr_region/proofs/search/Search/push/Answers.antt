@@ -1,0 +1,29 @@
+use Rattle.std.proofs.Common.{◌≡◌, true, length, vec_len, refl, sym, ap, ◌∙◌, subst, arith, rules}
+use Rattle.std.proofs.lemmas.List.{length-map}
+use Rattle.hpr_region.specs.Plans.{State, may_follow, number_at, size_of}
+use Rattle.hpr_region.proofs.Searching.{number_is, plan_free, pushed, room_for}
+use Rattle.hpr_region.proofs.search.Search.push.Goals as goal
+
+pub push_reserved-requires : goal.push_reserved-requires
+push_reserved-requires c =
+    let s = c.self.inside in
+    let may : may_follow s.plan s.items.items c.args.item ≡ true = subst (λ (z : State). may_follow z.plan z.placed c.args.item ≡ true) (sym c.self.view_is) c.requires.ready in
+    let l : length s.items.items ≡ vec_len s.items = search rules in
+    omega (arith, room_for (may_follow s.plan) (size_of s.plan) (plan_free s.plan) s.items.items c.args.item c.self.invariant.front may, c.self.invariant.items_room, l)
+
+pub push_reserved-requires-2 : goal.push_reserved-requires-2
+push_reserved-requires-2 c =
+    let s = c.self.inside in
+    let may : may_follow s.plan s.items.items c.args.item ≡ true = subst (λ (z : State). may_follow z.plan z.placed c.args.item ≡ true) (sym c.self.view_is) c.requires.ready in
+    let l : length s.placed.items ≡ vec_len s.placed = search rules in
+    let count : length s.placed.items ≡ length s.items.items = ap length c.self.invariant.numbers ∙ length-map s.items.items (number_at s.plan) in
+    omega (arith, room_for (may_follow s.plan) (size_of s.plan) (plan_free s.plan) s.items.items c.args.item c.self.invariant.front may, c.self.invariant.placed_room, l, count)
+
+pub invariant_of-self : goal.invariant_of-self
+invariant_of-self c =
+    let s = c.self.inside in
+    let may : may_follow s.plan s.items.items c.args.item ≡ true = subst (λ (z : State). may_follow z.plan z.placed c.args.item ≡ true) (sym c.self.view_is) c.requires.ready in
+    let small = plan_free s.plan in
+    pushed s.plan s.places.items s.items s.placed c.push_reserved.new.self c.push_reserved-2.new.self s.marks _ c.args.item c.index-number.result.now c.self.invariant may
+    (number_is s.plan.numbers.items c.args.item c.index-number.result.now (small.within s.items.items c.args.item may) c.index-number.ensures)
+    c.push_reserved.ensures.items c.push_reserved.ensures.capacity c.push_reserved-2.ensures.items c.push_reserved-2.ensures.capacity refl refl
