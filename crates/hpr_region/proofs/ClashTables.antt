@@ -1,31 +1,30 @@
 -- By tables that say what the parts are, the test of a clash is true exactly where the vertices clash.
-use Rattle.std.proofs.Common.{◌≡◌, ℕ, zero, suc, ◌<◌, ◌≤◌, ◌⊎◌, ◌↔◌, inl, inr, Bool, true, false, cond, eqb, Option, Some, None, List, [], ◌∷◌, ◌++◌, map, length, vec_len, get_or, Contains, slice_get, refl, sym, ap, ◌∙◌, subst, arith, rules}
-use Rattle.std.proofs.lemmas.Bool.{cases_eq, cases_lt, cases_Bool, eqb-true, eq-eqb}
-use Rattle.std.proofs.lemmas.List.Elements.{Contains-append_left, Contains-append_right}
-use Rattle.std.proofs.lemmas.Option.{slice_get-get_or, slice_get_past, slice_get_within, get_or_from_slice_get}
+use Rattle.std.proofs.Common.{◌≡◌, ℕ, zero, suc, ◌≤◌, ◌⊎◌, inl, inr, Bool, true, false, cond, eqb, Option, Some, None, List, [], ◌∷◌, ◌++◌, map, length, vec_len, get_or, Contains, slice_get, refl, sym, ap, ◌∙◌, subst, arith, rules}
+use Rattle.std.proofs.lemmas.Bool.{cases_lt, eqb-true, eq-eqb}
+use Rattle.std.proofs.lemmas.Option.{slice_get_past, get_or_from_slice_get}
 use Rattle.hpr_terms.specs.declared.tag.Tag.{Tag}
-use Rattle.hpr_terms.proofs.Facts.{some_inj, in_none, in_cons, in_here, in_later, contains_at, place_of, get_below, in_map, map_in}
+use Rattle.hpr_terms.proofs.Facts.{some_inj, in_none, in_cons, in_here, in_later, get_below, in_map, map_in}
 use Rattle.hpr_syntax.specs.declared.rows.Content.{Content}
 use Rattle.hpr_syntax.specs.Contents.{UsesIn}
 use Rattle.hpr_syntax.specs.Rows.{assigned}
 use Rattle.hpr_graph.specs.declared.vertex.Vertex.{Vertex}
-use Rattle.hpr_graph.specs.declared.vertex.Vertex.TheVariants.{Entry, Init, Part, Final}
+use Rattle.hpr_graph.specs.declared.vertex.Vertex.TheVariants.{Entry, Part}
 use Rattle.hpr_graph.specs.declared.edge.Kind.TheVariants.{Control, Independent, Carried, Order}
 use Rattle.hpr_graph.specs.declared.link.LinkKind.{LinkKind}
 use Rattle.hpr_graph.specs.declared.link.LinkKind.TheVariants as link
-use Rattle.hpr_graph.specs.Graphs.{IsOnce, name_of}
+use Rattle.hpr_graph.specs.Graphs.{name_of}
 use Rattle.hpr_graph.specs.Arrangements.{edge_into}
 use Rattle.hpr_graph.specs.Clashes.{StandInOneBlock, UsesName, IsWrongReach, IsKill, Clashes}
 use Rattle.hpr_graph.specs.Numbered.{Numbered, IsKindAt, IsNumbered, graph_in}
 use Rattle.hpr_forest.specs.Blocks.{row_at}
 use Rattle.hpr_forest.specs.Marks.{is_in}
-use Rattle.hpr_forest.proofs.Members.{in_is_in, out_is_in}
+use Rattle.hpr_forest.proofs.Members.{in_is_in}
 use Rattle.hpr_order.specs.Numbers.{ArePartsOf, IsPartAt}
 use Rattle.hpr_order.proofs.ListFacts.{map_append}
 use Rattle.hpr_region.specs.declared.flows.Flows.{Flows}
 use Rattle.hpr_region.specs.Flows as flow
 use Rattle.hpr_region.specs.Plans.{vertex_by}
-use Rattle.hpr_region.specs.Tables.{AreFlowsBy, AreUsed, IsItemOf, IsReadBy, IsVariable}
+use Rattle.hpr_region.specs.Tables.{AreFlowsBy, IsItemOf, IsVariable}
 
 -- the parts of a chain of tests
 four : (a b c d : Bool) → cond a (cond b (cond c false (cond d false true)) false) false ≡ true → (a ≡ true) × (b ≡ true) × (c ≡ false) × (d ≡ false)
@@ -263,13 +262,13 @@ module _ (g : Numbered) (numbers : List ℕ) (names : List (List ℕ)) (f : Flow
         subst (λ v. StandInOneBlock (graph_in g) v (at c)) (sym is_d) (subst (StandInOneBlock (graph_in g) (Part s k)) (sym is_c) ((are.blocks d c s t k l source child).0 block)),
         ap name_of is_d ∙ defines,
         (λ v h name. (
-          let (j, in_back, is_v) = map_in at back v h in
-          let (u, m, item, assigns) = defines_name j x (ap name_of is_v ∙ name) in
-          let var_j = variable_for j r u m x item assigns is_x in
-          never (flow.defined_in f (flow.variable_of f d) back) (some_defined (flow.variable_of f d) back j in_back (same_true (flow.variable_of f d) (flow.variable_of f j) r var var_j)) last)),
+            let (j, in_back, is_v) = map_in at back v h in
+            let (u, m, item, assigns) = defines_name j x (ap name_of is_v ∙ name) in
+            let var_j = variable_for j r u m x item assigns is_x in
+            never (flow.defined_in f (flow.variable_of f d) back) (some_defined (flow.variable_of f d) back j in_back (same_true (flow.variable_of f d) (flow.variable_of f j) r var var_j)) last)),
         use_name c t l x is_c (subst (UsesIn l) same uses),
         (λ edge. never (is_in (flow.readers_of f d) c) (in_is_in (flow.readers_of f d) c ((are.readers d c s t k l source child).1
-        (x, subst (λ v. (graph_in g).edge (edge_into v (Part t l) (Independent x))) is_d (subst (λ v. (graph_in g).edge (edge_into (at d) v (Independent x))) is_c edge)))) unread),
+            (x, subst (λ v. (graph_in g).edge (edge_into v (Part t l) (Independent x))) is_d (subst (λ v. (graph_in g).edge (edge_into (at d) v (Independent x))) is_c edge)))) unread),
       )
 
   uses_part : (c : ℕ) (x : List ℕ) → UsesName (at c) x → (t : Tag) × (l : Content) × IsItemOf g numbers c t l × (at c ≡ Part t l) × UsesIn l x
@@ -290,19 +289,19 @@ module _ (g : Numbered) (numbers : List ℕ) (names : List (List ℕ)) (f : Flow
       let two : flow.is_among (flow.variable_of f d) (flow.uses_of f c) ≡ true =
       ap (λ z. flow.is_among z (flow.uses_of f c)) var ∙ in_is_in (flow.uses_of f c) r ((are.uses c t l child r).1 (x, is_x, used)) in
       let three_ : is_in (flow.readers_of f d) c ≡ false = not_true (is_in (flow.readers_of f d) c) (λ h. (
-        let (y, edge) = (are.readers d c s t k l source child).0 (is_in_in (flow.readers_of f d) c h) in
-        let named_ : name_of (Part s k) ≡ Some y = edge_name s k (Part t l) y edge in
-        let same : y ≡ x = some_inj y x (sym named_ ∙ defines) in
-        absent (subst (λ z. (graph_in g).edge (edge_into v (at c) (Independent z))) same
-        (subst (λ w. (graph_in g).edge (edge_into w (at c) (Independent y))) (sym at_d ∙ is_d) (subst (λ w. (graph_in g).edge (edge_into (Part s k) w (Independent y))) (sym at_c) edge))))) in
+      let (y, edge) = (are.readers d c s t k l source child).0 (is_in_in (flow.readers_of f d) c h) in
+      let named_ : name_of (Part s k) ≡ Some y = edge_name s k (Part t l) y edge in
+      let same : y ≡ x = some_inj y x (sym named_ ∙ defines) in
+      absent (subst (λ z. (graph_in g).edge (edge_into v (at c) (Independent z))) same
+      (subst (λ w. (graph_in g).edge (edge_into w (at c) (Independent y))) (sym at_d ∙ is_d) (subst (λ w. (graph_in g).edge (edge_into (Part s k) w (Independent y))) (sym at_c) edge))))) in
       let last : flow.defined_in f (flow.variable_of f d) back ≡ false = not_true (flow.defined_in f (flow.variable_of f d) back) (λ h. (
-        let (j, in_back, alike) = defined_some (flow.variable_of f d) back h in
-        let (p, var_d, var_j) = same_some (flow.variable_of f d) (flow.variable_of f j) alike in
-        let same : p ≡ r = some_inj p r (sym var_d ∙ var) in
-        let (u, m, item, at_j) = defining j p var_j in
-        let (y, assigns, is_y) = name_at j p u m var_j item in
-        let names_ : y ≡ x = some_inj y x (sym is_y ∙ ap (slice_get names) same ∙ is_x) in
-        still (at j) (subst (λ z. Contains z (at j)) is_back (in_map at back j in_back)) (ap name_of at_j ∙ assigns ∙ ap Some names_))) in
+      let (j, in_back, alike) = defined_some (flow.variable_of f d) back h in
+      let (p, var_d, var_j) = same_some (flow.variable_of f d) (flow.variable_of f j) alike in
+      let same : p ≡ r = some_inj p r (sym var_d ∙ var) in
+      let (u, m, item, at_j) = defining j p var_j in
+      let (y, assigns, is_y) = name_at j p u m var_j item in
+      let names_ : y ≡ x = some_inj y x (sym is_y ∙ ap (slice_get names) same ∙ is_x) in
+      still (at j) (subst (λ z. Contains z (at j)) is_back (in_map at back j in_back)) (ap name_of at_j ∙ assigns ∙ ap Some names_))) in
       subst (λ z. flow.reached_wrongly f z c ≡ true) (sym is)
       (found_reach front d back c (four_true (flow.same_block f d c) (flow.is_among (flow.variable_of f d) (flow.uses_of f c)) (is_in (flow.readers_of f d) c) (flow.defined_in f (flow.variable_of f d) back) one two three_ last))
 
@@ -363,7 +362,7 @@ module _ (g : Numbered) (numbers : List ℕ) (names : List (List ℕ)) (f : Flow
         ap name_of at_d ∙ defines,
         ap name_of at_c ∙ defines' ∙ ap Some same,
         subst (λ n. (graph_in g).edge (edge_into (at d) (at u) (Independent n))) same'
-        (subst (λ v. (graph_in g).edge (edge_into v (at u) (Independent z))) (sym at_d) (subst (λ v. (graph_in g).edge (edge_into (Part s k) v (Independent z))) (sym at_u) edge)),
+            (subst (λ v. (graph_in g).edge (edge_into v (at u) (Independent z))) (sym at_d) (subst (λ v. (graph_in g).edge (edge_into (Part s k) v (Independent z))) (sym at_u) edge)),
       )
 
   clash_kill : (q : List ℕ) (c : ℕ) → IsKill (graph_in g) (map at q) (at c) → flow.kills_one f q q c ≡ true

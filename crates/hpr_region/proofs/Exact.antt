@@ -1,5 +1,5 @@
 -- What may be placed next is what some arrangement has there, and what clashes is in no arrangement with the graph.
-use Rattle.std.proofs.Common.{◌≡◌, ℕ, zero, suc, ◌+◌, ◌-◌, ◌<◌, ◌≤◌, ◌==◌, ◌||◌, nat_lt, inl, inr, Bool, true, false, IsTrue, Option, Some, None, List, [], ◌∷◌, ◌++◌, All, map, length, get_or, slice_get, Contains, refl, sym, ap, ◌∙◌, subst, arith, append-nil, append_assoc, length-append}
+use Rattle.std.proofs.Common.{◌≡◌, ℕ, zero, suc, ◌+◌, ◌-◌, ◌<◌, ◌≤◌, ◌==◌, ◌||◌, nat_lt, inl, inr, Bool, true, false, IsTrue, Option, Some, None, List, [], ◌∷◌, ◌++◌, map, length, slice_get, Contains, refl, sym, ap, ◌∙◌, subst, arith, append-nil, append_assoc, length-append}
 use Rattle.std.proofs.lemmas.Bool.Decides.{nat_tests}
 use Rattle.std.proofs.lemmas.Option.{get_or_from_slice_get, slice_get_within}
 use Rattle.hpr_terms.specs.declared.tag.Tag.{Tag}
@@ -20,9 +20,8 @@ use Rattle.hpr_graph.specs.Numbered.{Numbered, graph_in}
 use Rattle.hpr_graph.specs.Rank.{parts_of}
 use Rattle.hpr_forest.specs.Choices.{Follows, IsWhole, IsBacktrackFree}
 use Rattle.hpr_forest.proofs.Leaves.{follows_push, follows_front, follows_last}
-use Rattle.hpr_forest.proofs.Unique.{in_none, in_cons, in_first, in_later}
-use Rattle.hpr_order.specs.Arranging.{AreIssued, IsPreorderOf}
-use Rattle.hpr_order.specs.Numbers.{IsPartAt}
+use Rattle.hpr_forest.proofs.Unique.{in_first, in_later}
+use Rattle.hpr_order.specs.Arranging.{AreIssued}
 use Rattle.hpr_order.proofs.ListFacts.{map_append}
 use Rattle.hpr_region.specs.declared.plan.Plan.{Plan}
 use Rattle.hpr_region.specs.Plans.{BeginsWith, IsBegun, IsPlanOf, IsProperIssued, IsReady, State, clash_in, may_follow, number_at, numbers_at, placed_in, size_of, vertex_at, vertex_by, vertices_at}

@@ -1,5 +1,5 @@
 -- Issued numbers that allow the tags of some items.
-use Rattle.std.proofs.Common.{◌≡◌, ℕ, zero, suc, ◌+◌, ◌<◌, ◌≤◌, ◌^◌, ◌==◌, nat_lt, max, inl, inr, Bool, true, false, if◌then◌else◌, Some, List, [], ◌∷◌, All, length, get_or, slice_get, refl, sym, ap, ◌∙◌, subst, arith}
+use Rattle.std.proofs.Common.{◌≡◌, ℕ, zero, suc, ◌<◌, ◌≤◌, ◌^◌, ◌==◌, nat_lt, max, inl, inr, Bool, true, false, if◌then◌else◌, Some, List, [], ◌∷◌, All, slice_get, refl, sym, subst, arith}
 use Rattle.std.proofs.Math.Nat.{max-le, le-max_left, le-max_right}
 use Rattle.std.proofs.lemmas.Bool.{cases_eq}
 use Rattle.hpr_terms.specs.declared.tag.Tag.{Tag}

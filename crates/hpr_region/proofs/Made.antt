@@ -1,5 +1,5 @@
 -- Steps of the loops that make the tables of clashes, and what the tables say in the end.
-use Rattle.std.proofs.Common.{◌≡◌, ℕ, zero, suc, ◌+◌, ◌<◌, ◌≤◌, ◌⊎◌, ◌↔◌, inl, inr, Bool, true, false, Option, Some, None, List, [], ◌∷◌, ◌++◌, Vec, length, vec_len, take, get_or, Contains, slice_get, refl, sym, ap, ◌∙◌, subst, arith, rules}
+use Rattle.std.proofs.Common.{◌≡◌, ℕ, zero, suc, ◌+◌, ◌<◌, ◌≤◌, ◌↔◌, inl, inr, Bool, true, false, Option, Some, None, List, [], ◌∷◌, ◌++◌, Vec, length, vec_len, take, get_or, Contains, slice_get, refl, sym, ap, ◌∙◌, subst, arith}
 use Rattle.std.specs.Global.{Global}
 use Rattle.std.specs.Cmp.Lexicographic.{slice_cmp}
 use Rattle.std.specs.List.Sorted.{IsStrictlySortedBy}
@@ -17,21 +17,19 @@ use Rattle.hpr_syntax.specs.declared.rows.Content.{Content}
 use Rattle.hpr_syntax.specs.Rows.{assigned}
 use Rattle.hpr_graph.specs.declared.vertex.Vertex.{Vertex}
 use Rattle.hpr_graph.specs.declared.vertex.Vertex.TheVariants.{Entry, Part}
-use Rattle.hpr_graph.specs.declared.edge.Kind.TheVariants.{Control}
-use Rattle.hpr_graph.specs.Arrangements.{edge_into}
 use Rattle.hpr_graph.specs.Clashes.{StandInOneBlock}
-use Rattle.hpr_graph.specs.Graphs.{Graph, IsOnce}
+use Rattle.hpr_graph.specs.Graphs.{IsOnce}
 use Rattle.hpr_graph.specs.Numbered.{Numbered, graph_in}
 use Rattle.hpr_forest.specs.Blocks.{row_at}
 use Rattle.hpr_forest.specs.Trees.{Slot, same_slot}
 use Rattle.hpr_search.specs.Rows.{numbers_at, numbers_of}
 use Rattle.hpr_order.specs.declared.item.Item.{Item}
-use Rattle.hpr_order.specs.Items.{AreItems, IsItem, IsSource, slot_at, slot_in}
-use Rattle.hpr_order.specs.Numbers.{AreItemsAt, AreItemsOf, IsPartAt}
+use Rattle.hpr_order.specs.Items.{IsItem, IsSource, slot_at, slot_in}
+use Rattle.hpr_order.specs.Numbers.{AreItemsOf}
 use Rattle.hpr_order.proofs.Steps.{take_step}
 use Rattle.hpr_region.specs.declared.flows.Flows.{Flows}
 use Rattle.hpr_region.specs.Flows as flow
-use Rattle.hpr_region.specs.Making.{AreDefinedIn, AreSlotsOf, AreVariablesOf, AreUsesOf}
+use Rattle.hpr_region.specs.Making.{AreSlotsOf, AreVariablesOf, AreUsesOf}
 use Rattle.hpr_region.specs.Tables.{AreFlowsBy, AreReaders, AreUsed, IsItemOf, IsReadBy, IsVariable}
 
 abbrev pub HasVariable : List (List ℕ) → List Item → ℕ → Option (Option ℕ) → Type 0

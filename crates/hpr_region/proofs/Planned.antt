@@ -1,12 +1,10 @@
 -- What the tables of a graph's parts, in the order of a rank, say of its arrangements.
-use Rattle.std.proofs.Common.{◌≡◌, ℕ, zero, suc, ◌+◌, ◌<◌, ◌≤◌, ◌⊎◌, inl, inr, Bool, true, false, Option, Some, None, IfSome, IfNone, List, [], ◌∷◌, ◌++◌, All, map, length, vec_len, get_or, Contains, slice_get, Vec, refl, sym, ap, ap₂, ◌∙◌, subst, arith, rules}
+use Rattle.std.proofs.Common.{◌≡◌, ℕ, ◌<◌, ◌≤◌, inl, inr, Bool, true, false, Option, Some, None, IfSome, IfNone, List, [], ◌∷◌, All, map, length, vec_len, Contains, slice_get, Vec, refl, sym, ap, ap₂, ◌∙◌, subst, arith, rules}
 use Rattle.std.specs.Global.{Global}
-use Rattle.std.proofs.lemmas.List.{length-map}
-use Rattle.std.proofs.lemmas.Option.{slice_get-get_or, slice_get_within, get_or_from_slice_get}
+use Rattle.std.proofs.lemmas.Option.{slice_get_within, get_or_from_slice_get}
 use Rattle.hpr_terms.specs.declared.tag.Tag.{Tag}
-use Rattle.hpr_terms.proofs.Facts.{some_inj, get_below, get_map, get_in_map, in_here, in_later}
-use Rattle.hpr_syntax.specs.declared.rows.Content.{Content}
-use Rattle.hpr_syntax.specs.Issued.{Issued, issued_to}
+use Rattle.hpr_terms.proofs.Facts.{get_below, get_map, get_in_map, in_here, in_later}
+use Rattle.hpr_syntax.specs.Issued.{Issued}
 use Rattle.hpr_syntax.specs.Proper.{IsProperTag}
 use Rattle.hpr_syntax.specs.Tree.{Tree}
 use Rattle.hpr_graph.specs.declared.vertex.Vertex.{Vertex}
@@ -15,9 +13,7 @@ use Rattle.hpr_graph.specs.Arrangements.{AreArrangements}
 use Rattle.hpr_graph.specs.Numbered.{Numbered, IsNumbered, graph_in}
 use Rattle.hpr_graph.specs.Rank.{parts_of}
 use Rattle.hpr_forest.specs.declared.blocks.Blocks.{Blocks}
-use Rattle.hpr_forest.specs.ArrangedTrees.{Earlier}
-use Rattle.hpr_forest.specs.Choices.{Follows, IsWhole, IsBacktrackFree}
-use Rattle.hpr_forest.specs.Forest.{IsDistinct}
+use Rattle.hpr_forest.specs.Choices.{IsWhole, IsBacktrackFree}
 use Rattle.hpr_forest.specs.Leaves.{from_here}
 use Rattle.hpr_forest.specs.Lists.{LexLess, IsListOf}
 use Rattle.hpr_forest.specs.Remaining.{can_of}
@@ -27,7 +23,6 @@ use Rattle.hpr_forest.proofs.Starts.{blocks_open}
 use Rattle.hpr_forest.proofs.Unique.{in_none}
 use Rattle.hpr_order.specs.declared.item.Item.{Item}
 use Rattle.hpr_order.specs.Arranging.{AreIssued, IsProperItem, programs_of}
-use Rattle.hpr_order.specs.Items.{IsItem, program_of}
 use Rattle.hpr_order.specs.Limits.{AreOrdersOf, IsAllowedTree}
 use Rattle.hpr_order.specs.Numbers.{AreFinals, AreItemsOf, ArePartsOf, AreRanked, IsPartAt}
 use Rattle.hpr_order.specs.declared.ordered.OrderedItems.{OrderedItems}
@@ -175,13 +170,13 @@ module _ (g : Numbered) (numbered : IsNumbered g) (numbers : List ℕ) (parts : 
     unfolding tags
     some_issued serials =
         let (ns, (up, pairs), all) = issued_for tags (may_be_issued tags (λ k t e. (
-          let (i, ei, it) = get_map (λ (i : Item). i.tag) items.items k t e in
-          subst (λ z. (1 ≤ z.serial) × IsProperTag z) it (serials k i ei, (proper_at items.items is.proper k i ei).0)))) in (
+        let (i, ei, it) = get_map (λ (i : Item). i.tag) items.items k t e in
+        subst (λ z. (1 ≤ z.serial) × IsProperTag z) it (serials k i ei, (proper_at items.items is.proper k i ei).0)))) in (
           ns,
           (up, proper_pairs ns pairs),
           (λ t c v. (
-            let (k, (i, e, it, ic)) = (is.items.parts t c).0 v in
-            subst (IsAllowedBy ns) it (allowed_at ns tags k i.tag all (get_in_map (λ (j : Item). j.tag) items.items k i e)))),
+              let (k, (i, e, it, ic)) = (is.items.parts t c).0 v in
+              subst (IsAllowedBy ns) it (allowed_at ns tags k i.tag all (get_in_map (λ (j : Item). j.tag) items.items k i e)))),
         )
       where
         proper_at : (items : List Item) → All IsProperItem items → (k : ℕ) (i : Item) → slice_get items k ≡ Some i → IsProperItem i

@@ -1,5 +1,5 @@
 -- Which item reads what another defines, by rows of the links into each.
-use Rattle.std.proofs.Common.{◌≡◌, ℕ, ◌+◌, ◌<◌, ◌≤◌, ◌⊎◌, ◌↔◌, inl, inr, Bool, Option, Some, None, List, length, get_or, take, Contains, slice_get, refl, sym, ap, ◌∙◌, subst, arith}
+use Rattle.std.proofs.Common.{◌≡◌, ℕ, ◌+◌, ◌<◌, ◌≤◌, ◌⊎◌, ◌↔◌, inl, inr, Option, Some, List, length, get_or, take, Contains, slice_get, refl, sym, ap, ◌∙◌, subst, arith}
 use Rattle.std.proofs.lemmas.Bool.{cases_eq}
 use Rattle.std.proofs.lemmas.List.{take_all}
 use Rattle.std.proofs.lemmas.Option.{slice_get_within, slice_get-get_or}
@@ -14,12 +14,12 @@ use Rattle.hpr_graph.specs.declared.link.LinkKind.TheVariants.{Control, Independ
 use Rattle.hpr_graph.specs.declared.link.Link.{Link}
 use Rattle.hpr_graph.specs.Graphs.{name_of}
 use Rattle.hpr_graph.specs.Moves.{number_at}
-use Rattle.hpr_graph.specs.Numbered.{Numbered, HasLink, IsEdgeAt, IsKindAt, IsNumbered, graph_in, row_of}
+use Rattle.hpr_graph.specs.Numbered.{Numbered, HasLink, IsKindAt, IsNumbered, graph_in, row_of}
 use Rattle.hpr_search.specs.Rows.{IsPushed, numbers_at}
 use Rattle.hpr_order.specs.Numbers.{ArePartsOf, ArePlaces, IsPartAt}
 use Rattle.hpr_order.proofs.Steps.{take_step}
 use Rattle.hpr_region.specs.Making.{IsReadFrom}
-use Rattle.hpr_region.specs.Tables.{AreReaders, IsItemOf, IsReadBy}
+use Rattle.hpr_region.specs.Tables.{AreReaders, IsReadBy}
 
 -- the rows, after some of the links into an item
 abbrev pub AreRead : (ℕ → ℕ → Type 0) → ℕ → List (Option ℕ) → List Link → List (List ℕ) → Type 0
@@ -124,8 +124,19 @@ module _ (g : Numbered) (numbered : IsNumbered g) (numbers : List ℕ) (parts : 
           let is_n : to_ ≡ n = numbered.once to_ n (Part t d) et target in
           let is_m : l.from ≡ m = numbered.once l.from m (Part s c) es source in
           let lt = slice_get_within numbers b n en in
-          (all a b).1 (omega (arith, lt, end), (n, en, (l, subst (λ z. HasLink g z l) is_n h, named_by g.vertices l.kind (Part s c) x ek,
-          (placed l.from a).1 (subst (λ z. slice_get numbers a ≡ Some z) (sym is_m) em))))
+          (all a b).1 (
+            omega (arith, lt, end),
+            (
+              n,
+              en,
+              (
+                l,
+                subst (λ z. HasLink g z l) is_n h,
+                named_by g.vertices l.kind (Part s c) x ek,
+                (placed l.from a).1 (subst (λ z. slice_get numbers a ≡ Some z) (sym is_m) em),
+              ),
+            ),
+          )
 
   pub read_within : (rows : List (List ℕ)) (item : ℕ) → AreReadBelow (λ n a. IsReadFrom places (row_of g n) a) numbers item rows → (k u : ℕ) → Contains (numbers_at rows k) u → u < length numbers
   read_within rows item all k u h = let (_, (n, en, _)) = (all k u).0 h in slice_get_within numbers u n en

@@ -1,21 +1,20 @@
 -- Steps of a search: what stays when an item is placed or taken back, and what may be placed next.
-use Rattle.std.proofs.Common.{◌≡◌, ℕ, zero, suc, ◌+◌, ◌-◌, ◌<◌, ◌≤◌, ◌⊎◌, ◌↔◌, inl, inr, Bool, true, false, Option, Some, None, IfSome, List, [], ◌∷◌, ◌++◌, All, Vec, map, length, set, take, vec_len, vec_capacity, get_or, slice_get, Contains, refl, sym, ap, ◌∙◌, subst, arith, rules, append-nil, append_assoc, length-append}
+use Rattle.std.proofs.Common.{◌≡◌, ℕ, ◌-◌, ◌<◌, ◌≤◌, inl, inr, Bool, true, false, Option, Some, None, IfSome, List, [], ◌∷◌, ◌++◌, All, Vec, map, length, set, take, vec_len, vec_capacity, get_or, slice_get, Contains, refl, sym, ap, ◌∙◌, subst, arith, rules, length-append}
 use Rattle.std.specs.Global.{Global}
 use Rattle.std.proofs.Math.Seq.{take-append_seam}
-use Rattle.std.proofs.lemmas.List.Elements.{Contains-append_left, Contains-append_right, Contains-append_cases, Contains-get_or}
-use Rattle.std.proofs.lemmas.Option.{slice_get-get_or, slice_get_within, slice_get_read, get_or_from_slice_get}
-use Rattle.hpr_terms.proofs.Facts.{some_inj, get_below}
+use Rattle.std.proofs.lemmas.List.Elements.{Contains-append_left, Contains-append_right, Contains-get_or}
+use Rattle.std.proofs.lemmas.Option.{slice_get_read, get_or_from_slice_get}
 use Rattle.hpr_forest.specs.declared.blocks.Blocks.{Blocks}
-use Rattle.hpr_forest.specs.Choices.{Follows, IsWhole, IsBacktrackFree}
+use Rattle.hpr_forest.specs.Choices.{Follows, IsBacktrackFree}
 use Rattle.hpr_forest.specs.Forest.{IsDistinct}
-use Rattle.hpr_forest.specs.Marks.{IsMarksOf, is_in}
+use Rattle.hpr_forest.specs.Marks.{is_in}
 use Rattle.hpr_forest.proofs.Leaves.{follows_push, follows_front, follows_last}
 use Rattle.hpr_forest.proofs.Marked.{marks_push, marks_pop}
 use Rattle.hpr_forest.proofs.Members.{below, below_has, in_is_in, length-below, no_longer}
-use Rattle.hpr_forest.proofs.Unique.{in_none, in_cons, in_first, in_later}
+use Rattle.hpr_forest.proofs.Unique.{in_none, in_cons, in_first}
 use Rattle.hpr_order.proofs.ListFacts.{map_append}
 use Rattle.hpr_region.specs.declared.plan.Plan.{Plan}
-use Rattle.hpr_region.specs.Plans.{State, can_by, may_follow, number_at, numbers_at, placed_in, size_of}
+use Rattle.hpr_region.specs.Plans.{State, may_follow, number_at, numbers_at, placed_in, size_of}
 use Rattle.hpr_region.specs.States.{IsState}
 use Rattle.hpr_region.proofs.Planned.{choices_free}
 

@@ -5,7 +5,7 @@
 -- AreVariablesOf names items vs == the number of the name that each item defines, where it defines one
 -- AreUsesOf names items rows   == the numbers of the names that each item uses
 -- IsReadFrom places links a    == one of these links is an independent flow edge from the item a
-use Rattle.std.specs.Prelude.{◌≡◌, ℕ, ◌<◌, Option, Some, None, List, Contains, Vec, get_or, slice_get, length}
+use Rattle.std.specs.Prelude.{◌≡◌, ℕ, Option, Some, None, List, Contains, Vec, get_or, slice_get}
 use Rattle.std.specs.Global.{Global}
 use Rattle.hpr_syntax.specs.Rows.{assigned}
 use Rattle.hpr_graph.specs.declared.link.LinkKind.TheVariants.{Independent}

@@ -20,7 +20,7 @@
 -- IsReady s n              == n is the number of the vertex of an item that may stand next
 -- BeginsWith g front p     == the preorder of p begins with the vertices with these numbers
 -- IsBegun g front          == some arrangement begins so, with any issued numbers that its tags allow
-use Rattle.std.specs.Prelude.{◌≡◌, ℕ, Bool, true, false, Option, Some, None, List, [], ◌∷◌, ◌++◌, All, map, length, get_or, slice_get}
+use Rattle.std.specs.Prelude.{◌≡◌, ℕ, Bool, true, false, Option, Some, None, List, ◌++◌, All, map, length, get_or, slice_get}
 use Rattle.hpr_syntax.specs.Issued.{Issued, IsIssued}
 use Rattle.hpr_syntax.specs.Proper.{IsProperPair}
 use Rattle.hpr_syntax.specs.Tree.{Tree}

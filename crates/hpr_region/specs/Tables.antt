@@ -7,7 +7,7 @@
 -- AreReaders g numbers rows == for each item those into which an independent flow edge goes from it
 -- AreFlowsBy g numbers names t == the tables say of the parts with these numbers where they stand, what they define and use, and what reads it
 -- AreFlowsOf g numbers t == the same, by the numbers of some names
-use Rattle.std.specs.Prelude.{◌≡◌, ℕ, ◌↔◌, Option, Some, None, true, List, [], Contains, length, vec_len, slice_get}
+use Rattle.std.specs.Prelude.{◌≡◌, ℕ, ◌↔◌, Option, Some, None, true, List, Contains, length, vec_len, slice_get}
 use Rattle.hpr_terms.specs.declared.tag.Tag.{Tag}
 use Rattle.hpr_syntax.specs.declared.rows.Content.{Content}
 use Rattle.hpr_syntax.specs.Contents.{UsesIn}
@@ -19,7 +19,6 @@ use Rattle.hpr_graph.specs.Graphs.{Graph, IsOnce}
 use Rattle.hpr_graph.specs.Numbered.{Numbered, graph_in}
 use Rattle.hpr_graph.specs.Arrangements.{edge_into}
 use Rattle.hpr_graph.specs.Clashes.{StandInOneBlock}
-use Rattle.hpr_forest.specs.Marks.{is_in}
 use Rattle.hpr_search.specs.Rows.{numbers_at}
 use Rattle.hpr_order.specs.Numbers.{IsPartAt}
 use Rattle.hpr_region.specs.declared.flows.Flows.{Flows}

@@ -89,9 +89,10 @@ impl Search {
         self.plan.numbers.len()
     }
 
-    /// How many parts are placed.
+    /// How many parts are placed. Each of them may stand next behind those before it.
     pub fn count(&self) -> usize
-        ensures { result ≡ length self.now.placed }
+        ensures count { result ≡ length self.now.placed }
+        ensures front { Follows (may_follow self.now.plan) [] self.now.placed }
     {
         self.items.len()
     }

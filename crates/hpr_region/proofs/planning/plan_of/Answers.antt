@@ -1,4 +1,4 @@
-use Rattle.std.proofs.Common.{◌≡◌, Option, IfSome, IfNone, List, ℕ, Vec, sym, subst}
+use Rattle.std.proofs.Common.{Option, IfSome, IfNone, List, ℕ, Vec, sym, subst}
 use Rattle.std.specs.Global.{Global}
 use Rattle.hpr_forest.specs.declared.blocks.Blocks.{Blocks}
 use Rattle.hpr_graph.specs.Numbered.{graph_in}

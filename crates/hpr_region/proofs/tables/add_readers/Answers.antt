@@ -1,6 +1,4 @@
-use Rattle.std.proofs.Common.{◌≡◌, ℕ, Option, Some, None, Contains, length, slice_get, sym, ◌∙◌, arith}
-use Rattle.hpr_terms.proofs.Facts.{some_inj}
-use Rattle.hpr_graph.specs.Moves.{number_at}
+use Rattle.std.proofs.Common.{◌≡◌, Some, None, Contains, sym, ◌∙◌, arith}
 use Rattle.hpr_search.specs.Rows.{numbers_at, numbers_of}
 use Rattle.hpr_order.proofs.Linking.{false_is, true_is}
 use Rattle.hpr_region.proofs.Readers.{push_at, read_whole, skip_at}

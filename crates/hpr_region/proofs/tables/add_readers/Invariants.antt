@@ -1,4 +1,4 @@
-use Rattle.std.proofs.Common.{◌≡◌, ℕ, Contains, length, take}
+use Rattle.std.proofs.Common.{◌≡◌, Contains, length, take}
 use Rattle.hpr_search.specs.Rows.{numbers_at, numbers_of}
 use Rattle.hpr_region.proofs.Readers.{AreRead}
 use Rattle.hpr_region.proofs.tables.add_readers.Given as goal

@@ -1,8 +1,7 @@
-use Rattle.std.proofs.Common.{◌≡◌, ℕ, List, Contains, Some, slice_get, sym, ap, ◌∙◌, subst, arith}
+use Rattle.std.proofs.Common.{Some, sym, ap, ◌∙◌, arith}
 use Rattle.std.proofs.lemmas.Option.{slice_get_within}
 use Rattle.std.proofs.lemmas.Result.{IfOk-weaker}
 use Rattle.std.specs.Option.{option_copied}
-use Rattle.hpr_syntax.specs.Rows.{assigned}
 use Rattle.hpr_order.proofs.Steps.{read_of}
 use Rattle.hpr_region.proofs.Made.{defined_more}
 use Rattle.hpr_region.proofs.tables.defined_names.Goals as goal

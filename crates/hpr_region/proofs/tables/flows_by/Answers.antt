@@ -1,4 +1,4 @@
-use Rattle.std.proofs.Common.{◌≡◌, sym, ◌∙◌, subst, arith}
+use Rattle.std.proofs.Common.{sym, ◌∙◌, arith}
 use Rattle.hpr_region.proofs.tables.flows_by.Goals as goal
 
 pub invariant_of-result : goal.invariant_of-result

@@ -1,9 +1,8 @@
-use Rattle.std.proofs.Common.{◌≡◌, ◌<◌, ℕ, List, Contains, Vec, vec_len, length, refl, sym, ap, ◌∙◌, subst, arith, rules}
+use Rattle.std.proofs.Common.{ℕ, List, Contains, Vec, sym, ap, ◌∙◌, subst, arith}
 use Rattle.std.specs.Global.{Global}
 use Rattle.std.specs.Cmp.Lexicographic.{slice_cmp}
 use Rattle.std.specs.List.Sorted.{IsStrictlySortedBy}
 use Rattle.std.specs.Ordering.{nat_cmp}
-use Rattle.hpr_search.specs.Rows.{numbers_at, numbers_of}
 use Rattle.hpr_region.specs.Making.{AreDefinedIn}
 use Rattle.hpr_region.proofs.Made.{flows_are, row_same}
 use Rattle.hpr_region.proofs.tables.flows_of.Goals as goal
@@ -23,9 +22,11 @@ flows_by-requires-clause-within c = λ k u h.
 
 pub returns-clause-flows : goal.returns-clause-flows
 returns-clause-flows c =
-    let sorted = subst (IsStrictlySortedBy (slice_cmp nat_cmp)) (sym c.deref.ensures.value) c.in_ok-names.ensures.ascending in
-    (c.deref.result.now, flows_are c.args.graph.now c.args.numbers.now c.args.items.now c.requires.items c.deref.result.now sorted c.in_ok-flows.flows c.in_ok-flows.ensures.slots c.in_ok-flows.ensures.variables
-    c.in_ok-flows.ensures.uses c.in_ok-readers.readers.items (ap (λ (v : Vec (Vec ℕ Global) Global). v.items) c.in_ok-flows.ensures.readers) c.in_ok-readers.ensures.readers c.in_ok-flows.ensures.count)
+    let sorted = subst (IsStrictlySortedBy (slice_cmp nat_cmp)) (sym c.deref.ensures.value) c.in_ok-names.ensures.ascending in (
+      c.deref.result.now,
+      flows_are c.args.graph.now c.args.numbers.now c.args.items.now c.requires.items c.deref.result.now sorted c.in_ok-flows.flows c.in_ok-flows.ensures.slots c.in_ok-flows.ensures.variables
+          c.in_ok-flows.ensures.uses c.in_ok-readers.readers.items (ap (λ (v : Vec (Vec ℕ Global) Global). v.items) c.in_ok-flows.ensures.readers) c.in_ok-readers.ensures.readers c.in_ok-flows.ensures.count,
+    )
 
 pub returns-clause-count : goal.returns-clause-count
 returns-clause-count c = c.in_ok-flows.ensures.count ∙ c.requires.items.at.count

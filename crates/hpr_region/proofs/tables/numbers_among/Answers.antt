@@ -1,5 +1,3 @@
-use Rattle.std.proofs.Common.{◌≡◌, ℕ, List, [], Contains, Some, slice_get, sym, subst}
-use Rattle.hpr_terms.proofs.Facts.{in_none}
 use Rattle.hpr_order.proofs.Steps.{read_of}
 use Rattle.hpr_region.proofs.Made.{among_push, among_skip, among_whole, names_once}
 use Rattle.hpr_region.proofs.tables.numbers_among.Goals as goal

@@ -1,5 +1,5 @@
-use Rattle.std.proofs.Common.{◌≡◌, List, ℕ, set, sym, subst, rules, arith}
-use Rattle.hpr_search.specs.Rows.{IsPushed, numbers_of, with_number}
+use Rattle.std.proofs.Common.{sym, subst, arith}
+use Rattle.hpr_search.specs.Rows.{IsPushed, numbers_of}
 use Rattle.hpr_search.proofs.RowLaws.{pushed_at, rows_with}
 use Rattle.hpr_search.proofs.RowLists.{length_rows}
 use Rattle.hpr_region.proofs.tables.push_at.Goals as goal

@@ -1,4 +1,4 @@
-use Rattle.std.proofs.Common.{◌≡◌, ◌≤◌, ℕ, length}
+use Rattle.std.proofs.Common.{◌≡◌, length}
 use Rattle.hpr_graph.specs.Numbered.{row_of}
 use Rattle.hpr_search.specs.Rows.{numbers_of}
 use Rattle.hpr_region.specs.Making.{IsReadFrom}

@@ -1,4 +1,4 @@
-use Rattle.std.proofs.Common.{◌≡◌, ℕ, Option, Some, None, slice_get, refl, ap, sym, subst, arith, rules}
+use Rattle.std.proofs.Common.{None, refl, sym, subst, arith, rules}
 use Rattle.std.proofs.lemmas.Option.{get_or_from_slice_get, slice_get_within}
 use Rattle.hpr_syntax.specs.Rows.{assigned}
 use Rattle.hpr_order.specs.declared.item.Item.{Item}
@@ -18,9 +18,12 @@ loop-item-preserved c = record {
   len = omega (arith, c.in_ok-push.ensures.len, c.loop-item.invariant.len);
   end = omega (arith, c.loop-item-test.true);
   variables = column_more (HasVariable c.args.names.now c.args.items.now) c.loop-item.variables.items c.push.new.self.items c.loop-item.item-index
-      c.variable_in.result (search (rules, c.loop-item.invariant.len)) c.in_ok-push.ensures.items
-      (c.variable_in.result, refl, (λ i e. subst (λ (z : Item). IsVariable c.args.names.now c.variable_in.result (assigned z.content))
-      (one_get c.args.items.now c.loop-item.item-index c.item-item.result i (read_of c.args.items.now c.loop-item.item-index c.item-item.result c.loop-item-test.true c.item-item.is) e) c.variable_in.ensures))
+      c.variable_in.result (search (rules, c.loop-item.invariant.len)) c.in_ok-push.ensures.items (
+        c.variable_in.result,
+        refl,
+        (λ i e. subst (λ (z : Item). IsVariable c.args.names.now c.variable_in.result (assigned z.content))
+            (one_get c.args.items.now c.loop-item.item-index c.item-item.result i (read_of c.args.items.now c.loop-item.item-index c.item-item.result c.loop-item-test.true c.item-item.is) e) c.variable_in.ensures),
+      )
       c.loop-item.invariant.variables;
 }
 

@@ -1,4 +1,4 @@
-use Rattle.std.proofs.Common.{◌<◌, ℕ, List, Contains, get_or, vec_len, subst}
+use Rattle.std.proofs.Common.{ℕ, List, Contains, get_or, subst}
 use Rattle.std.proofs.lemmas.List.Elements.{Contains-get_or}
 use Rattle.hpr_region.proofs.flows.Flows.kills_of.Goals as goal
 

@@ -1,4 +1,4 @@
-use Rattle.std.proofs.Common.{◌≡◌, ◌<◌, All, length, vec_len, List, ℕ, sym, ap, ◌∙◌, subst, rules}
+use Rattle.std.proofs.Common.{◌≡◌, ◌<◌, All, length, vec_len, List, ℕ, sym, ◌∙◌, subst, rules}
 use Rattle.hpr_region.specs.Plans.{may_follow, size_of}
 use Rattle.hpr_region.proofs.Searching.{all_within, plan_free}
 use Rattle.hpr_region.proofs.search.Search.admits.Goals as goal

@@ -1,4 +1,4 @@
-use Rattle.std.proofs.Common.{◌≡◌, [], Option, Some, sym, subst}
+use Rattle.std.proofs.Common.{[], Option, sym, subst}
 use Rattle.hpr_forest.specs.declared.blocks.Blocks.{Blocks}
 use Rattle.hpr_forest.specs.Choices.{Follows}
 use Rattle.hpr_forest.specs.Remaining.{can_of}

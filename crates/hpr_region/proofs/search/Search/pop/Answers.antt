@@ -1,4 +1,4 @@
-use Rattle.std.proofs.Common.{◌≡◌, ◌<◌, length, vec_len, refl, sym, subst, arith, rules}
+use Rattle.std.proofs.Common.{◌≡◌, ◌<◌, length, vec_len, refl, subst, arith, rules}
 use Rattle.hpr_region.specs.Plans.{State, number_at, size_of}
 use Rattle.hpr_region.proofs.Searching.{front_taken, last_small, popped}
 use Rattle.hpr_region.proofs.search.Search.pop.Goals as goal
