@@ -11,3 +11,4 @@ pub mod Sames
 mod Amongst
 pub mod Unchanged
 pub mod SomeArrangements
+mod LeafList
