@@ -1,14 +1,15 @@
 -- The leaves of the arrangements by their items: where the orders of items are the preorders of the programs, the leaves of the orders are the
 -- leaves of the programs, and tries that are spent on those are spent on these.
-use Rattle.std.proofs.Common.{◌≡◌, ℕ, zero, suc, ◌<◌, ◌↔◌, ◌⊎◌, inl, inr, Bool, true, false, Some, List, [], ◌∷◌, ◌++◌, map, length, take, Contains, slice_get, refl, sym, ap, ◌∙◌, subst, arith}
-use Rattle.std.proofs.lemmas.List.{map-append, length-map}
+use Rattle.std.proofs.Common.{◌≡◌, ℕ, zero, suc, ◌<◌, ◌↔◌, ◌⊎◌, inl, inr, Bool, true, false, Some, List, [], ◌∷◌, ◌++◌, map, length, take, drop, Contains, slice_get, refl, sym, ap, ◌∙◌, subst, arith}
+use Rattle.std.proofs.lemmas.List.{map-append, length-map, take-append-drop, take-map}
+use Rattle.std.proofs.lemmas.List.Elements.{Contains-append_left}
 use Rattle.std.proofs.lemmas.Option.{same_Some}
 use Rattle.hpr_syntax.specs.Tree.{Tree}
 use Rattle.hpr_graph.specs.declared.vertex.Vertex.{Vertex}
 use Rattle.hpr_graph.specs.Graphs.{Graph, IsOnce}
 use Rattle.hpr_graph.specs.Rank.{parts_of}
 use Rattle.hpr_graph.specs.Answer.{Fits}
-use Rattle.hpr_graph.proofs.Lists.{contains_at, place_of}
+use Rattle.hpr_terms.proofs.Facts.{compared, contains_at, place_of, get_map, get_in_map}
 use Rattle.hpr_forest.specs.Lists.{LexLess, IsListOf}
 use Rattle.hpr_forest.specs.Choices.{Follows, IsWhole, IsBacktrackFree}
 use Rattle.hpr_forest.proofs.Unique.{less_irreflexive}
@@ -18,34 +19,15 @@ use Rattle.hpr_forest.proofs.CutOrder.{ascending_at, leaves_in_order}
 use Rattle.hpr_graph.specs.Clashes.{Clashes}
 use Rattle.hpr_graph.specs.Leaves.{IsCut, IsLeaf, AreLeaves, LeafFits}
 
--- lists by places
-get_mapped : {X Y : Type 0} (f : X → Y) (xs : List X) (i : ℕ) (y : Y) → slice_get (map f xs) i ≡ Some y → (x : X) × (slice_get xs i ≡ Some x) × (f x ≡ y)
-get_mapped f [] i y h = absurd cc
-get_mapped f (x ∷ xs) zero y h = (x, refl, same_Some (f x) y h)
-get_mapped f (x ∷ xs) (suc i) y h = get_mapped f xs i y h
-
-mapped_get : {X Y : Type 0} (f : X → Y) (xs : List X) (i : ℕ) (x : X) → slice_get xs i ≡ Some x → slice_get (map f xs) i ≡ Some (f x)
-mapped_get f [] i x h = absurd cc
-mapped_get f (z ∷ xs) zero x h = ap (λ v. Some (f v)) (same_Some z x h)
-mapped_get f (z ∷ xs) (suc i) x h = mapped_get f xs i x h
-
-take_mapped : {X Y : Type 0} (f : X → Y) (xs : List X) (k : ℕ) → take k (map f xs) ≡ map f (take k xs)
-take_mapped f xs zero = refl
-take_mapped f [] (suc k) = refl
-take_mapped f (x ∷ xs) (suc k) = ap (λ r. f x ∷ r) (take_mapped f xs k)
-
-get_taken : {X : Type 0} (xs : List X) (k i : ℕ) (x : X) → slice_get (take k xs) i ≡ Some x → slice_get xs i ≡ Some x
-get_taken xs zero i x h = absurd cc
-get_taken [] (suc k) i x h = absurd cc
-get_taken (y ∷ xs) (suc k) zero x h = h
-get_taken (y ∷ xs) (suc k) (suc i) x h = get_taken xs k i x h
+pub taken : {X : Type 0} (xs : List X) (k : ℕ) (x : X) → Contains (take k xs) x → Contains xs x
+taken {X} xs k x h = subst (λ (ys : List X). Contains ys x) (take-append-drop k xs) (Contains-append_left (take k xs) (drop k xs) x h)
 
 -- numbers below n alone
-abbrev AreBelow : ℕ → List ℕ → Type 0
+abbrev pub AreBelow : ℕ → List ℕ → Type 0
 AreBelow n [] = Unit {0}
 AreBelow n (x ∷ xs) = (x < n) × AreBelow n xs
 
-follows_below : (can : List ℕ → ℕ → Bool) (n : ℕ) → IsBacktrackFree can n → (p l : List ℕ) → Follows can p l → AreBelow n l
+pub follows_below : (can : List ℕ → ℕ → Bool) (n : ℕ) → IsBacktrackFree can n → (p l : List ℕ) → Follows can p l → AreBelow n l
 follows_below can n it p [] f = tt
 follows_below can n it p (c ∷ l) f = (it.within p c f.0, follows_below can n it (p ++ c ∷ []) l f.1)
 
@@ -115,11 +97,11 @@ module _ (g : Graph) (name : ℕ → Vertex) (can : List ℕ → ℕ → Bool) (
     named = map names leaves
 
     -- a program and its order
-    order_at : (i : ℕ) (p : Tree) → slice_get ps i ≡ Some p → (l : List ℕ) × (slice_get orders i ≡ Some l) × (names l ≡ parts_of p)
-    order_at i p h = get_mapped names orders i (parts_of p) (subst (λ (r : List (List Vertex)). slice_get r i ≡ Some (parts_of p)) same (mapped_get parts_of ps i p h))
+    pub order_at : (i : ℕ) (p : Tree) → slice_get ps i ≡ Some p → (l : List ℕ) × (slice_get orders i ≡ Some l) × (names l ≡ parts_of p)
+    order_at i p h = get_map names orders i (parts_of p) (subst (λ (r : List (List Vertex)). slice_get r i ≡ Some (parts_of p)) same (get_in_map parts_of ps i p h))
 
-    program_at : (i : ℕ) (l : List ℕ) → slice_get orders i ≡ Some l → (p : Tree) × (slice_get ps i ≡ Some p) × (parts_of p ≡ names l)
-    program_at i l h = get_mapped parts_of ps i (names l) (subst (λ (r : List (List Vertex)). slice_get r i ≡ Some (names l)) (sym same) (mapped_get names orders i l h))
+    pub program_at : (i : ℕ) (l : List ℕ) → slice_get orders i ≡ Some l → (p : Tree) × (slice_get ps i ≡ Some p) × (parts_of p ≡ names l)
+    program_at i l h = get_map parts_of ps i (names l) (subst (λ (r : List (List Vertex)). slice_get r i ≡ Some (names l)) (sym same) (get_in_map names orders i l h))
 
     -- the leaf of a program is that of its order
     leaf_of : (p : Tree) (l : List ℕ) → names l ≡ parts_of p → IsLeaf g p (names (cut_of [] l))
@@ -134,18 +116,21 @@ module _ (g : Graph) (name : ℕ → Vertex) (can : List ℕ → ℕ → Bool) (
     names_same : (a b : List ℕ) → AreBelow n a → AreBelow n b → names a ≡ names b → a ≡ b
     names_same = map_injective name n inj
 
-    leaf_below : (i : ℕ) (y : List ℕ) → slice_get leaves i ≡ Some y → AreBelow n y
-    leaf_below i y h =
-        let (l, whole, is) = all_of.sound y (contains_at leaves i y h) in
+    leaf_in : (y : List ℕ) → Contains leaves y → AreBelow n y
+    leaf_in y h =
+        let (l, whole, is) = all_of.sound y h in
         subst (λ (v : List ℕ). AreBelow n v) (sym is) (cut_below can n clash [] l (follows_below can n it [] l whole.follows))
+
+    leaf_below : (i : ℕ) (y : List ℕ) → slice_get leaves i ≡ Some y → AreBelow n y
+    leaf_below i y h = leaf_in y (contains_at leaves i y h)
 
     order_below : (i : ℕ) (l : List ℕ) → slice_get orders i ≡ Some l → AreBelow n l
     order_below i l h = follows_below can n it [] l (all.sound l (contains_at orders i l h)).follows
 
     once : IsOnce named
     once i j x h k =
-        let (a, ea, fa) = get_mapped names leaves i x h in
-        let (b, eb, fb) = get_mapped names leaves j x k in
+        let (a, ea, fa) = get_map names leaves i x h in
+        let (b, eb, fb) = get_map names leaves j x k in
         let is : a ≡ b = names_same a b (leaf_below i a ea) (leaf_below j b eb) (fa ∙ sym fb) in
         three i j a b ea eb is
       where
@@ -153,19 +138,10 @@ module _ (g : Graph) (name : ℕ → Vertex) (can : List ℕ → ℕ → Bool) (
         apart i j a b ea eb is less =
             less_irreflexive a (subst (λ (v : List ℕ). LexLess a v) (sym is) (ascending_at leaves all_of.ascending i j a b less ea eb))
 
-        split : (i j : ℕ) → (i ≡ j) ⊎ ((i < j) ⊎ (j < i))
-        split zero zero = inl refl
-        split zero (suc j) = inr (inl (omega arith))
-        split (suc i) zero = inr (inr (omega arith))
-        split (suc i) (suc j) = elim (split i j) [
-          | inl e ↦ inl (ap suc e)
-          | inr h_ ↦ (elim h_ [ inl m ↦ inr (inl (omega arith)) | inr m ↦ inr (inr (omega arith)) ])
-        ]
-
         three : (i j : ℕ) (a b : List ℕ) → slice_get leaves i ≡ Some a → slice_get leaves j ≡ Some b → a ≡ b → i ≡ j
-        three i j a b ea eb is = elim (split i j) [
-          | inl e ↦ e
-          | inr h_ ↦ (elim h_ [ inl m ↦ absurd (apart i j a b ea eb is m) | inr m ↦ absurd (apart j i b a eb ea (sym is) m) ])
+        three i j a b ea eb is = elim (compared i j) [
+          | inl m ↦ absurd (apart i j a b ea eb is m)
+          | inr h_ ↦ (elim h_ [ inl e ↦ e | inr m ↦ absurd (apart j i b a eb ea (sym is) m) ])
         ]
 
     members : (x : List Vertex) → Contains named x ↔ ((p : Tree) × Contains ps p × IsLeaf g p x)
@@ -174,7 +150,7 @@ module _ (g : Graph) (name : ℕ → Vertex) (can : List ℕ → ℕ → Bool) (
         to : Contains named x → (p : Tree) × Contains ps p × IsLeaf g p x
         to h =
             let (i, at) = place_of named x h in
-            let (y, ey, fy) = get_mapped names leaves i x at in
+            let (y, ey, fy) = get_map names leaves i x at in
             let (l, whole, is) = all_of.sound y (contains_at leaves i y ey) in
             let (j, lj) = place_of orders l (all.complete l whole) in
             let (p, pj, parts) = program_at j l lj in
@@ -186,7 +162,7 @@ module _ (g : Graph) (name : ℕ → Vertex) (can : List ℕ → ℕ → Bool) (
             let (l, lj, parts) = order_at j p pj in
             let whole = all.sound l (contains_at orders j l lj) in
             let (i, at) = place_of leaves (cut_of [] l) (all_of.complete (cut_of [] l) (l, whole, refl)) in
-            subst (λ (v : List Vertex). Contains named v) (sym (leaf_is p l x parts leaf)) (contains_at named i (names (cut_of [] l)) (mapped_get names leaves i (cut_of [] l) at))
+            subst (λ (v : List Vertex). Contains named v) (sym (leaf_is p l x parts leaf)) (contains_at named i (names (cut_of [] l)) (get_in_map names leaves i (cut_of [] l) at))
 
     pub are_leaves : AreLeaves g ps named
     are_leaves = (once, members, ordered)
@@ -196,8 +172,8 @@ module _ (g : Graph) (name : ℕ → Vertex) (can : List ℕ → ℕ → Bool) (
         ordered i j k l p q x y ep eq lx ly ex ey h =
             let (a, ea, fa) = order_at i p ep in
             let (b, eb, fb) = order_at j q eq in
-            let (s, es, fs) = get_mapped names leaves k x ex in
-            let (t, et, ft) = get_mapped names leaves l y ey in
+            let (s, es, fs) = get_map names leaves k x ex in
+            let (t, et, ft) = get_map names leaves l y ey in
             let is : s ≡ cut_of [] a = names_same s (cut_of [] a) (leaf_below k s es) (cut_below can n clash [] a (order_below i a ea)) (fs ∙ leaf_is p a x fa lx) in
             let js : t ≡ cut_of [] b = names_same t (cut_of [] b) (leaf_below l t et) (cut_below can n clash [] b (order_below j b eb)) (ft ∙ leaf_is q b y fb ly) in
             leaves_in_order clash orders leaves all.ascending all_of.ascending i j k l a b ea eb (es ∙ ap Some is) (et ∙ ap Some js) h
@@ -210,9 +186,9 @@ module _ (g : Graph) (name : ℕ → Vertex) (can : List ℕ → ℕ → Bool) (
         misses : (x : List Vertex) → Contains (take tries named) x → ¬ LeafFits g ps x
         misses x h (p, has, parts, fit) =
             let (i, at) = place_of (take tries named) x h in
-            let (y, ey, fy) = get_mapped names (take tries leaves) i x (subst (λ (r : List (List Vertex)). slice_get r i ≡ Some x) (take_mapped names leaves tries) at) in
+            let (y, ey, fy) = get_map names (take tries leaves) i x (subst (λ (r : List (List Vertex)). slice_get r i ≡ Some x) (take-map names tries leaves) at) in
             let (j, pj) = place_of ps p has in
             let (l, lj, el) = order_at j p pj in
-            let is : l ≡ y = names_same l y (order_below j l lj) (leaf_below i y (get_taken leaves tries i y ey)) (el ∙ parts ∙ sym fy) in
+            let is : l ≡ y = names_same l y (order_below j l lj) (leaf_in y (taken leaves tries y (contains_at (take tries leaves) i y ey))) (el ∙ parts ∙ sym fy) in
             none y (contains_at (take tries leaves) i y ey) (subst (IsWhole can n) is (all.sound l (contains_at orders j l lj)))
             (subst fits is (judges l p (sym el) has fit))

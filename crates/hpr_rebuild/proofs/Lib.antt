@@ -12,3 +12,4 @@ mod Amongst
 pub mod Unchanged
 pub mod SomeArrangements
 mod LeafList
+mod Searched

@@ -3,6 +3,7 @@
 //! budget of tries).
 #![tactic(auto)]
 
+mod candidates;
 mod count;
 mod error;
 pub mod laws;

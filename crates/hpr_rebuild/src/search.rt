@@ -1,18 +1,23 @@
 //! The first arrangement that has the graph.
-ghost use Rattle.std.specs.Prelude.{◌≡◌, ◌≢◌, ◌<◌, ◌≤◌, ◌↔◌, All, IfOk, IsErrOf, IsTrue, length, take};
+ghost use Rattle.std.specs.Prelude.{◌≡◌, ◌≢◌, ◌≤◌, List, [], IfOk, IsErrOf};
 ghost use Rattle.hpr_graph.specs.Numbered.{graph_in};
 ghost use Rattle.hpr_graph.specs.declared.conflict.Conflict.{Conflict};
-ghost use Rattle.hpr_graph.specs.Answer.{printed, spent, Fits, NoneFits, IsFirstFit, HasNoProgram, IsFound};
+ghost use Rattle.hpr_graph.specs.declared.vertex.Vertex.{Vertex};
+ghost use Rattle.hpr_graph.specs.Answer.{printed, spent, HasNoProgram, IsFound};
+ghost use Rattle.hpr_graph.specs.Leaves.{AreLeavesSpent};
 ghost use Rattle.hpr_order.specs.Regions.{AreRegionsOf};
 ghost use Rattle.hpr_order.specs.Arranging.{IsRanking, AreIssued};
+ghost use Rattle.hpr_region.specs.Plans.{IsPlanOf};
+ghost use Rattle.hpr_rebuild.specs.Candidates.{AreCandidates};
 
+use crate::candidates::Candidates;
 use crate::error::RebuildError;
-use hpr_build::{BuildError, graph_of};
+use hpr_forest::{Found, first_fitting};
 use hpr_graph::{Graph, Vertex};
-use hpr_order::{Arrangements, OrderError, RegionTree, regions};
+use hpr_order::{OrderError, RegionTree, regions};
+use hpr_region::Search;
 use hpr_syntax::proper::read_issued;
 use hpr_syntax::{Issued, Program};
-use hpr_terms::NoMemory;
 use std::alloc::Global;
 
 /// What a refusal of the control edges says of programs with the graph.
@@ -38,41 +43,24 @@ fn regions_of(alloc: Global, graph: &Graph) -> Result<RegionTree, RebuildError>
     }
 }
 
-/// Whether the graph of the program is this one. The program's graph may have as many edges as this
-/// one and no more: a graph with more is another, whatever the limit for the graphs of files is.
-fn fits(alloc: Global, graph: &Graph, program: &Program) -> Result<bool, NoMemory>
-    ensures { IfOk result (λ yes_. IsTrue yes_ ↔ Fits (graph_in graph.now) program.now) }
+/// The first of the candidates that has the graph, with at most so many tries.
+fn first_candidate(mut candidates: Candidates, tries: u64) -> Result<Program, RebuildError>
+    requires sound { AreCandidates candidates.graph.now candidates.regions.now candidates.issued.now candidates.search.plan }
+    requires first { candidates.search.placed ≡ [] }
+    ensures found { IfOk result (λ p. (rank : List Vertex) → IsPlanOf candidates.entry.graph.now rank candidates.entry.search.plan
+        → IsFound {X = Conflict} (graph_in candidates.entry.graph.now) rank candidates.entry.issued.now tries (printed p)) }
+    ensures no_program { IsErrOf result RebuildError.NoProgram → HasNoProgram (graph_in candidates.entry.graph.now) }
+    ensures spent { IsErrOf result RebuildError.Spent → (rank : List Vertex) → IsPlanOf candidates.entry.graph.now rank candidates.entry.search.plan
+        → IsFound {X = Conflict} (graph_in candidates.entry.graph.now) rank candidates.entry.issued.now tries spent }
+    ensures leaves { IsErrOf result RebuildError.Spent → (rank : List Vertex) → IsPlanOf candidates.entry.graph.now rank candidates.entry.search.plan
+        → AreLeavesSpent (graph_in candidates.entry.graph.now) rank candidates.entry.issued.now tries }
 {
-    match graph_of(alloc, program, graph.edge_count()) {
-        Ok(own) => Ok(own.same(graph)),
-        Err(BuildError::TooManyEdges) => Ok(false),
-        Err(BuildError::Memory) => Err(NoMemory),
+    match first_fitting(&mut candidates, tries) {
+        Ok(Found::First) => Ok(candidates.program()?),
+        Ok(Found::NoneFits) => Err(RebuildError::NoProgram),
+        Ok(Found::Spent) => Err(RebuildError::Spent),
+        Err(_) => Err(RebuildError::Memory),
     }
-}
-
-/// The first of the arrangements that has the graph, with at most so many tries.
-fn first_fitting(
-    alloc: Global,
-    graph: &Graph,
-    mut arrangements: Arrangements,
-    tries: u64,
-) -> Result<Program, RebuildError>
-    ensures found { IfOk result (λ p. IsFirstFit (graph_in graph.now) arrangements p) }
-    ensures no_program { IsErrOf result RebuildError.NoProgram → NoneFits (graph_in graph.now) arrangements }
-    ensures spent_count { IsErrOf result RebuildError.Spent → tries < length arrangements }
-    ensures spent_tries { IsErrOf result RebuildError.Spent → NoneFits (graph_in graph.now) (take tries arrangements) }
-{
-    let mut left = tries;
-    while let Some(program) = arrangements.next_one()? {
-        if left == 0 {
-            return Err(RebuildError::Spent);
-        }
-        if fits(alloc, graph, &program)? {
-            return Ok(program);
-        }
-        left -= 1;
-    }
-    Err(RebuildError::NoProgram)
 }
 
 /// The first arrangement whose graph is this one (Horwitz, Prins and Reps 1989), with these issued
@@ -102,9 +90,17 @@ pub fn rebuild(
     ensures no_program { IsErrOf result RebuildError.NoProgram → HasNoProgram (graph_in graph.now) }
     ensures spent { IsErrOf result RebuildError.Spent
         → IsFound {X = Conflict} (graph_in graph.now) rank.now issued.now tries spent }
+    ensures leaves { IsErrOf result RebuildError.Spent → AreLeavesSpent (graph_in graph.now) rank.now issued.now tries }
 {
     read_issued(issued);
     let tree = regions_of(alloc, graph)?;
-    let arrangements = Arrangements::start(alloc, graph, &tree, rank, issued)?;
-    first_fitting(alloc, graph, arrangements, tries)
+    let search = Search::start(alloc, graph, &tree, rank)?;
+    let candidates = Candidates {
+        search,
+        graph,
+        regions: &tree,
+        issued,
+        alloc,
+    };
+    first_candidate(candidates, tries)
 }

@@ -1,7 +1,7 @@
 use Rattle.std.proofs.Common.{Err, ap}
 use Rattle.hpr_graph.specs.Numbered.{graph_in}
 use Rattle.hpr_rebuild.proofs.Fitting.{fits_by_same, same_by_fits, misfit_by_count}
-use Rattle.hpr_rebuild.proofs.search.fits.Goals as goal
+use Rattle.hpr_rebuild.proofs.candidates.fits.Goals as goal
 
 pub returns-in-Ok : goal.returns-in-Ok
 returns-in-Ok c =

@@ -1,0 +1,53 @@
+use Rattle.std.proofs.Common.{◌≡◌, ℕ, List, subst}
+use Rattle.hpr_graph.specs.Numbered.{graph_in}
+use Rattle.hpr_forest.specs.Choices.{IsWhole}
+use Rattle.hpr_region.specs.declared.plan.Plan.{Plan}
+use Rattle.hpr_region.specs.Plans.{clash_in, may_follow, size_of}
+use Rattle.hpr_rebuild.specs.Candidates.{FitsInOrder}
+use Rattle.hpr_rebuild.proofs.Member.{none_has}
+use Rattle.hpr_rebuild.proofs.Searched.{are, first_whole, only_too, found, none_found, tries_spent, leaves_spent}
+use Rattle.hpr_rebuild.proofs.search.first_candidate.Goals as goal
+
+pub program-requires-clause-whole : goal.program-requires-clause-whole
+program-requires-clause-whole c =
+    let s = c.args.candidates in
+    let plan = s.search.plan in
+    let placed = c.first_fitting.new.search.search.placed in
+    let (_, _, _, stays) = c.in-Ok-First.ensures.same in
+    subst (λ (p : Plan). IsWhole (may_follow p) (size_of p) placed) stays
+    (first_whole (may_follow plan) (FitsInOrder s.graph.now s.issued.now plan) (size_of plan) (clash_in plan) placed (c.in-Ok-First.ensures.first c.in-Ok-First.field-0-is))
+
+pub returns-in-Ok-First-clause-found : goal.returns-in-Ok-First-clause-found
+returns-in-Ok-First-clause-found c = λ rank is.
+    let s = c.args.candidates in
+    let t = c.first_fitting.new.search in
+    let plan = s.search.plan in
+    let sound = c.requires.sound in
+    let listed = is.listed s.issued.now sound.proper sound.allowed in
+    let placed = t.search.placed in
+    let m = c.in_ok-program-in-Ok-First.field-0 in
+    let (same, _, numbers_, stays) = c.in-Ok-First.ensures.same in
+    found s.graph.now rank plan is s.issued.now listed (clash_in plan) c.args.tries placed m
+    (only_too s.graph.now t.graph.now s.issued.now t.issued.now plan t.search.plan same numbers_ stays placed m c.in_ok-program-in-Ok-First.ensures.only)
+    (c.in-Ok-First.ensures.first c.in-Ok-First.field-0-is)
+
+pub returns-in-Ok-NoneFits-clause-no_program : goal.returns-in-Ok-NoneFits-clause-no_program
+returns-in-Ok-NoneFits-clause-no_program c = λ _.
+    let s = c.args.candidates in
+    let sound = c.requires.sound in
+    let (rank, is) = sound.plan_of in
+    let listed = is.listed s.issued.now sound.proper sound.allowed in
+    none_has (graph_in s.graph.now) rank s.issued.now listed.1 (are s.graph.now rank s.search.plan is s.issued.now listed) sound.proper sound.allowed
+    (none_found s.graph.now rank s.search.plan is s.issued.now listed (clash_in s.search.plan) (c.in-Ok-NoneFits.ensures.none c.in-Ok-NoneFits.field-0-is))
+
+pub returns-in-Ok-Spent-clause-spent : goal.returns-in-Ok-Spent-clause-spent
+returns-in-Ok-Spent-clause-spent c = λ _ rank is.
+    let s = c.args.candidates in
+    let listed = is.listed s.issued.now c.requires.sound.proper c.requires.sound.allowed in
+    tries_spent s.graph.now rank s.search.plan is s.issued.now listed (clash_in s.search.plan) c.args.tries (c.in-Ok-Spent.ensures.spent c.in-Ok-Spent.field-0-is)
+
+pub returns-in-Ok-Spent-clause-leaves : goal.returns-in-Ok-Spent-clause-leaves
+returns-in-Ok-Spent-clause-leaves c = λ _ rank is.
+    let s = c.args.candidates in
+    let listed = is.listed s.issued.now c.requires.sound.proper c.requires.sound.allowed in
+    leaves_spent s.graph.now rank s.search.plan is s.issued.now listed c.args.tries (c.in-Ok-Spent.ensures.spent c.in-Ok-Spent.field-0-is)
