@@ -116,7 +116,7 @@ module _ {X : Type 0} (at : X → ℕ × Vertex × Edge) (base : Tree) (vs : Lis
         let same : ps ≡ qs = same_tried ps qs tried (rank, is, are) in
         ap printed (one_fit M qs n m first' (subst (λ (l : List Tree). IsFirstFit M l m) same (first_of_all M ps tries m first)))
     fit_is_printed_by m (no_program n) first (_, none, parts) = absurd (fits_no_program ps m tried (first_of_all M ps tries m first) none)
-    fit_is_printed_by m spent first (_, (rank, is, (qs, are, more, none))) =
+    fit_is_printed_by m spent first (_, (rank, is, (qs, are, more, none, leaves))) =
         let same : ps ≡ qs = same_tried ps qs tried (rank, is, are) in
         absurd (none m (subst (λ (l : List Tree). Contains (take tries l) m) same (fit_within M (take tries ps) m first)) first.3)
 
@@ -125,7 +125,7 @@ module _ {X : Type 0} (at : X → ℕ × Vertex × Edge) (base : Tree) (vs : Lis
     enough_by (interference cs) few h = λ e. cc
     enough_by (printed m) few h = λ e. cc
     enough_by (no_program n) few h = λ e. cc
-    enough_by spent few (_, (rank, is, (qs, are, more, none))) = λ e. (
+    enough_by spent few (_, (rank, is, (qs, are, more, none, leaves))) = λ e. (
         let same : ps ≡ qs = same_tried ps qs tried (rank, is, are) in
         omega (arith, few, more, ap (λ (l : List Tree). length l) same))
 

@@ -61,7 +61,7 @@ module _ {X : Type 0} (at : X → ℕ × Vertex × Edge) (base : Tree) (vs : Lis
     unchanged : (tries : ℕ) (r : AnswerBy X) → 1 ≤ tries → IsAnswerBy at base vs tries r → Unchanged r
     unchanged tries (interference xs) one (are, some) = absurd (some (all_conflicts_one at (graph_of base) (graphs_of vs) xs [] are free))
     unchanged tries (no_program n) one (none_free, none, parts) = absurd (none p is_p fits)
-    unchanged tries spent one (none_free, (rank, is_rank, (ps, are, more, none))) =
+    unchanged tries spent one (none_free, (rank, is_rank, (ps, are, more, none, leaves))) =
         let (qs, e) = first rank ps is_rank are in
         absurd (none q (subst (λ (l : List Tree). Contains (take tries l) q) (sym e) (first_taken q qs tries one)) (settled_fits M I p q fits s))
     unchanged tries (printed m) one (none_free, (rank, is_rank, (ps, are, (front, back, split, fits_m, none)))) =

@@ -3,14 +3,12 @@
 -- AnswerBy X            == all conflicts, each told by an X; a program; no program has the merged graph, which has so many parts; or the
 --                          budget is spent
 -- Answer                == the same, where conflicts tell a side of two
--- Fits g p              == the graph of p is g
 -- NoneFits g ps         == no program of the list fits
 -- IsFirstFit g ps m     == m fits, and none before it in the list does
 -- HasNoProgram g        == no program fits
--- IsPart v              == v is a part
 -- HasParts g n          == g has exactly n parts
 -- IsFound g rank issued tries r == the first arrangement that fits; or no program, only where none fits; or spent, only where there are more
---                          arrangements than tries and none of the first `tries` fits
+--                          arrangements than tries and none of the first `tries` fits, and where it is so of their leaves too
 -- graphs_of ts          == the graphs of these programs
 -- merged_of_all base vs == the merged graph of a base and its variants
 -- issued_all base is    == each author has the greatest of these issued numbers
@@ -23,21 +21,20 @@
 -- merged_of base a b, issued_of base a b, searched_graph base a b, IsSearchedRank base a b r, searched_issued base a b,
 -- IsWithoutConflict base a b, IsAnswer base a b tries r == these of two variants
 use Rattle.std.specs.Prelude.{◌≡◌, ℕ, ◌<◌, ◌↔◌, List, [], ◌∷◌, ◌++◌, map, Contains, length, take}
-use Rattle.hpr_terms.specs.declared.tag.Tag.{Tag}
-use Rattle.hpr_syntax.specs.declared.rows.Content.{Content}
 use Rattle.hpr_syntax.specs.Issued.{Issued, raised_by}
 use Rattle.hpr_syntax.specs.Tree.{Tree}
 use Rattle.hpr_syntax.specs.Shape.{IsProgram}
 use Rattle.hpr_graph.specs.declared.conflict.Conflict.{Conflict}
 use Rattle.hpr_graph.specs.declared.edge.Edge.{Edge}
 use Rattle.hpr_graph.specs.declared.vertex.Vertex.{Vertex}
-use Rattle.hpr_graph.specs.declared.vertex.Vertex.TheVariants.{Part}
-use Rattle.hpr_graph.specs.Graphs.{Graph, Same, IsOnce}
+use Rattle.hpr_graph.specs.Graphs.{Graph, IsOnce}
 use Rattle.hpr_graph.specs.ProgramGraph.{graph_of}
 use Rattle.hpr_graph.specs.Points.{merged_all}
 use Rattle.hpr_graph.specs.Conflicts.{AreConflictsBy, told_as}
 use Rattle.hpr_graph.specs.Rank.{IsRankOf}
 use Rattle.hpr_graph.specs.Arrangements.{AreArrangements}
+use Rattle.hpr_graph.specs.Leaves.{AreLeavesSpent}
+pub use Rattle.hpr_graph.specs.Fits.{Fits, IsPart}
 
 pub data AnswerBy (X : Type 0) : Type 0 where
   interference : (conflicts : List X) → AnswerBy X
@@ -48,9 +45,6 @@ pub data AnswerBy (X : Type 0) : Type 0 where
 abbrev pub Answer : Type 0
 Answer = AnswerBy Conflict
 
-abbrev pub Fits : Graph → Tree → Type 0
-Fits g p = Same (graph_of p) g
-
 abbrev pub NoneFits : Graph → List Tree → Type 0
 NoneFits g ps = (p : Tree) → Contains ps p → ¬ Fits g p
 
@@ -59,9 +53,6 @@ IsFirstFit g ps m = (front back : List Tree) × (ps ≡ front ++ m ∷ back) × 
 
 abbrev pub HasNoProgram : Graph → Type 0
 HasNoProgram g = (p : Tree) → IsProgram p → ¬ Fits g p
-
-abbrev pub IsPart : Vertex → Type 0
-IsPart v = (t : Tag) × (c : Content) × (v ≡ Part t c)
 
 abbrev pub HasParts : Graph → ℕ → Type 0
 HasParts g n = (vs : List Vertex) × IsOnce vs × ((v : Vertex) → Contains vs v ↔ (g.vertex v × IsPart v)) × (length vs ≡ n)
@@ -72,6 +63,7 @@ IsFound g rank issued tries (printed m) = (ps : List Tree) × AreArrangements g 
 IsFound g rank issued tries (no_program n) = HasNoProgram g × HasParts g n
 IsFound g rank issued tries spent =
     (ps : List Tree) × AreArrangements g rank issued ps × (tries < length ps) × NoneFits g (take tries ps)
+    × AreLeavesSpent g rank issued tries
 
 abbrev pub graphs_of : List Tree → List Graph
 graphs_of [] = []

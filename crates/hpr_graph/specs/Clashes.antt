@@ -12,7 +12,7 @@ use Rattle.hpr_graph.specs.declared.vertex.Vertex.TheVariants.{Entry, Init, Part
 use Rattle.hpr_graph.specs.declared.edge.Kind.TheVariants.{Control, Independent}
 use Rattle.hpr_graph.specs.Graphs.{Graph, name_of}
 use Rattle.hpr_graph.specs.Arrangements.{edge_into}
-use Rattle.hpr_graph.specs.Answer.{IsPart}
+use Rattle.hpr_graph.specs.Fits.{IsPart}
 
 abbrev pub StandInOneBlock : Graph → Vertex → Vertex → Type 0
 StandInOneBlock g v w =

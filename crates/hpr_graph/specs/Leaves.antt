@@ -13,7 +13,7 @@ use Rattle.hpr_graph.specs.declared.vertex.Vertex.{Vertex}
 use Rattle.hpr_graph.specs.Graphs.{Graph, IsOnce}
 use Rattle.hpr_graph.specs.Rank.{parts_of}
 use Rattle.hpr_graph.specs.Arrangements.{AreArrangements}
-use Rattle.hpr_graph.specs.Answer.{Fits}
+use Rattle.hpr_graph.specs.Fits.{Fits}
 use Rattle.hpr_graph.specs.Clashes.{Clashes}
 
 abbrev pub IsCut : Graph → List Vertex → List Vertex → List Vertex → Type 0

@@ -15,5 +15,6 @@ pub mod Answer
 pub mod Direct
 pub mod Whole
 pub mod Hashed
+pub mod Fits
 pub mod Clashes
 pub mod Leaves

@@ -43,6 +43,6 @@ found_first g rank rest issued tries r p q once prog fits proper allowed s begin
         let (qs, e) = settled_first g rank issued ps p q rest are once s is_q begins in
         ap printed (first_fits g ps qs m q fits_q e first)
     at (no_program n) (none, parts) = absurd (none p prog fits)
-    at spent (ps, are, more, none) =
+    at spent (ps, are, more, none, leaves) =
         let (qs, e) = settled_first g rank issued ps p q rest are once s is_q begins in
         absurd (not_spent g tries ps qs q one fits_q e none)
