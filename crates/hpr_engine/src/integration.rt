@@ -1,7 +1,7 @@
 //! Two variants and their base become one program.
 ghost use Rattle.std.specs.Prelude.{◌≡◌, ◌≤◌, IfOk, IsErrOf};
 ghost use Rattle.hpr_syntax.specs.Meaning.{Keeps};
-ghost use Rattle.hpr_graph.specs.Answer.{interference, printed, no_program, spent, IsAnswer};
+ghost use Rattle.hpr_graph.specs.Answer.{interference, printed, no_program, spent, HasSpentLeaves, IsAnswer};
 ghost use Rattle.hpr_engine.specs.Answers.{IfInterference, IfJudged, IfNoProgram, IfTooManyEdges, IsFirstTooLarge};
 ghost use Rattle.hpr_engine.specs.Limit.{AreInLimit};
 
@@ -39,6 +39,9 @@ pub fn integrate(
     ensures interference { IfInterference result (λ cs. IsAnswer base.now a.now b.now tries (interference cs)) }
     ensures no_program { IfNoProgram result (λ n. IsAnswer base.now a.now b.now tries (no_program n)) }
     ensures spent { IsErrOf result Stop.Spent → IsAnswer base.now a.now b.now tries spent }
+
+    // The search spends no more than one try on each leaf of the arrangements.
+    ensures leaves { IsErrOf result Stop.Spent → HasSpentLeaves base.now a.now b.now tries }
 
     // A program that is answered keeps the meaning of both variants: the integration theorem, over programs.
     ensures keeps { IfOk result (λ m. Keeps base.now a.now b.now m) }

@@ -175,18 +175,6 @@ module _ (g : Numbered) (rank : List Vertex) (plan : Plan) (is : IsPlanOf g rank
         none_fit orders ps same all.sound (λ q h. (are.0 q).0 h)
         (subst (λ (xs : List (List ℕ)). tree.AllFail can fits n xs) (sym all_whole) (finds tree.never (none_within clash)))
 
-    pub tries_spent : (clash : List ℕ → ℕ → Bool) (tries : ℕ) → tree.FindsSpent can fits n clash tries → IsFound {X = Conflict} (graph_in g) rank issued tries spent
-    tries_spent clash tries finds =
-        let (more, none) = finds tree.never (none_within clash) in
-        let count : length ps ≡ length orders = sym (length-map ps parts_of) ∙ ap length same ∙ length-map orders (vertices_at g plan) in (
-          ps,
-          are,
-          omega (arith, count, more, ap length all_whole),
-          none_fit (take tries orders) (take tries ps) (sym (take-map parts_of tries ps) ∙ ap (take tries) same ∙ take-map (vertices_at g plan) tries orders)
-              (λ x h. all.sound x (taken orders tries x h)) (λ q h. (are.0 q).0 (taken ps tries q h))
-              (subst (λ (xs : List (List ℕ)). tree.AllFail can fits n (take tries xs)) (sym all_whole) none),
-        )
-
     pub leaves_spent : (tries : ℕ) → tree.FindsSpent can fits n (clash_in plan) tries → AreLeavesSpent (graph_in g) rank issued tries
     leaves_spent tries finds =
         let clash = clash_in plan in
@@ -195,3 +183,16 @@ module _ (g : Numbered) (rank : List Vertex) (plan : Plan) (is : IsPlanOf g rank
         let (more, misses) = spent_on_leaves (graph_in g) name can n apart clash is.clashes is.no_clash is.free live orders all ps same fits tries
         (λ l p parts has fit. (p, (are.0 p).0 has, parts, fit)) (finds clash (λ q c e. e)) in
         (ps, map (map name) (tree.leaves_of can n clash), are, these, more, misses)
+
+    pub tries_spent : (tries : ℕ) → tree.FindsSpent can fits n (clash_in plan) tries → IsFound {X = Conflict} (graph_in g) rank issued tries spent
+    tries_spent tries finds =
+        let (more, none) = finds tree.never (none_within (clash_in plan)) in
+        let count : length ps ≡ length orders = sym (length-map ps parts_of) ∙ ap length same ∙ length-map orders (vertices_at g plan) in (
+          ps,
+          are,
+          omega (arith, count, more, ap length all_whole),
+          none_fit (take tries orders) (take tries ps) (sym (take-map parts_of tries ps) ∙ ap (take tries) same ∙ take-map (vertices_at g plan) tries orders)
+              (λ x h. all.sound x (taken orders tries x h)) (λ q h. (are.0 q).0 (taken ps tries q h))
+              (subst (λ (xs : List (List ℕ)). tree.AllFail can fits n (take tries xs)) (sym all_whole) none),
+          leaves_spent tries finds,
+        )

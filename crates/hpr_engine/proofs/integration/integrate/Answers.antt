@@ -5,7 +5,7 @@ use Rattle.hpr_syntax.specs.Tree.{Tree}
 use Rattle.hpr_syntax.specs.declared.program.Program.{Program}
 use Rattle.hpr_graph.specs.declared.conflict.Conflict.{Conflict}
 use Rattle.hpr_graph.specs.declared.vertex.Vertex.{Vertex}
-use Rattle.hpr_graph.specs.Answer.{no_program, printed, spent, issued_of, merged_of, IsAnswer, IsFound, IsWithoutConflict}
+use Rattle.hpr_graph.specs.Answer.{no_program, printed, spent, issued_of, merged_of, HasSpentLeaves, IsAnswer, IsFound, IsWithoutConflict}
 use Rattle.hpr_graph.specs.Graphs.{Graph, Same}
 use Rattle.hpr_graph.specs.Numbered.{graph_in}
 use Rattle.hpr_graph.specs.Rank.{IsRank}
@@ -25,6 +25,11 @@ returns-in_err-graph-clause-no_program c =
 
 pub returns-in_err-graph-clause-spent : goal.returns-in_err-graph-clause-spent
 returns-in_err-graph-clause-spent c =
+    let p = err_from_is_err_and c.from_residual.result c.from_residual.ensures.1 in
+    rw (p.1, p.2) (λ is. absurd (never_spent Tree Program _ c.in_err-graph.ensures.unsearched is))
+
+pub returns-in_err-graph-clause-leaves : goal.returns-in_err-graph-clause-leaves
+returns-in_err-graph-clause-leaves c =
     let p = err_from_is_err_and c.from_residual.result c.from_residual.ensures.1 in
     rw (p.1, p.2) (λ is. absurd (never_spent Tree Program _ c.in_err-graph.ensures.unsearched is))
 
@@ -84,11 +89,33 @@ returns-in-Err-NoProgram-clause-no_program c =
     (no_program c.part_count.result) (c.in-Err-NoProgram.ensures.no_program (ap (λ (e : RebuildError). Err e) c.in-Err-NoProgram.field-0-is), c.part_count.ensures) in
     (c.in_ok-graph.ensures.no_conflict, none, parts)
 
+-- so are spent tries
+spent_answered : (base a b : Tree) (g : Graph) (rank : List Vertex) (issued : Issued) (tries : ℕ) → Same g (merged_of base a b) → IsWithoutConflict base a b → IsRank a b base rank
+    → issued ≡ issued_of base a b → IsFound {X = Conflict} g rank issued tries spent → IsAnswer base a b tries spent
+spent_answered base a b g rank issued tries same free is numbers found = (
+  free,
+  (
+    rank,
+    is,
+    subst (λ (i : Issued). IsFound {X = Conflict} (merged_of base a b) rank i tries spent) numbers
+        (found_same {X = Conflict} g (merged_of base a b) same rank issued tries spent found),
+  ),
+)
+
+leaves_answered : (base a b : Tree) (tries : ℕ) → IsAnswer base a b tries spent → HasSpentLeaves base a b tries
+leaves_answered base a b tries (free, (rank, is, (ps, are, more, none, leaves))) = (rank, is, leaves)
+
 pub returns-in-Err-Spent-clause-spent : goal.returns-in-Err-Spent-clause-spent
 returns-in-Err-Spent-clause-spent c = λ _.
-    (let rank = c.deref.result.now in
-    let is = subst (IsRank c.args.a.now c.args.b.now c.args.base.now) (sym c.deref.ensures.value) c.in_ok-rank.ensures in
-    let found =
-    found_same {X = Conflict} (graph_in c.in_ok-graph.graph) (merged_of c.args.base.now c.args.a.now c.args.b.now) c.in_ok-graph.ensures.graph rank c.in_ok-issued.issued c.args.tries spent
-    (c.in-Err-Spent.ensures.spent (ap (λ (e : RebuildError). Err e) c.in-Err-Spent.field-0-is)) in
-    (c.in_ok-graph.ensures.no_conflict, (rank, is, subst (λ (i : Issued). IsFound {X = Conflict} (merged_of c.args.base.now c.args.a.now c.args.b.now) rank i c.args.tries spent) c.in_ok-issued.ensures.numbers found)))
+    spent_answered c.args.base.now c.args.a.now c.args.b.now (graph_in c.in_ok-graph.graph) c.deref.result.now c.in_ok-issued.issued c.args.tries
+    c.in_ok-graph.ensures.graph c.in_ok-graph.ensures.no_conflict
+    (subst (IsRank c.args.a.now c.args.b.now c.args.base.now) (sym c.deref.ensures.value) c.in_ok-rank.ensures) c.in_ok-issued.ensures.numbers
+    (c.in-Err-Spent.ensures.spent (ap (λ (e : RebuildError). Err e) c.in-Err-Spent.field-0-is))
+
+pub returns-in-Err-Spent-clause-leaves : goal.returns-in-Err-Spent-clause-leaves
+returns-in-Err-Spent-clause-leaves c = λ _.
+    leaves_answered c.args.base.now c.args.a.now c.args.b.now c.args.tries
+    (spent_answered c.args.base.now c.args.a.now c.args.b.now (graph_in c.in_ok-graph.graph) c.deref.result.now c.in_ok-issued.issued c.args.tries
+    c.in_ok-graph.ensures.graph c.in_ok-graph.ensures.no_conflict
+    (subst (IsRank c.args.a.now c.args.b.now c.args.base.now) (sym c.deref.ensures.value) c.in_ok-rank.ensures) c.in_ok-issued.ensures.numbers
+    (c.in-Err-Spent.ensures.spent (ap (λ (e : RebuildError). Err e) c.in-Err-Spent.field-0-is)))

@@ -44,7 +44,7 @@ pub returns-in-Ok-Spent-clause-spent : goal.returns-in-Ok-Spent-clause-spent
 returns-in-Ok-Spent-clause-spent c = λ _ rank is.
     let s = c.args.candidates in
     let listed = is.listed s.issued.now c.requires.sound.proper c.requires.sound.allowed in
-    tries_spent s.graph.now rank s.search.plan is s.issued.now listed (clash_in s.search.plan) c.args.tries (c.in-Ok-Spent.ensures.spent c.in-Ok-Spent.field-0-is)
+    tries_spent s.graph.now rank s.search.plan is s.issued.now listed c.args.tries (c.in-Ok-Spent.ensures.spent c.in-Ok-Spent.field-0-is)
 
 pub returns-in-Ok-Spent-clause-leaves : goal.returns-in-Ok-Spent-clause-leaves
 returns-in-Ok-Spent-clause-leaves c = λ _ rank is.
