@@ -15,6 +15,7 @@ pub mod RangeLemmas
 pub mod PlaceLemmas
 pub mod RunPlaceLemmas
 pub mod TrialPlaceLemmas
+pub mod SamplePlaceLemmas
 pub mod NameLemmas
 pub mod AskedLemmas
 pub mod WordLemmas

@@ -4,19 +4,19 @@ use Rattle.std.specs.Str.Parse.{IsNumeral, digits_value, without_leading_plus}
 use Rattle.clap.specs.ValueTests.{accepts}
 use Rattle.clap.specs.declared.builder.value_parser.ValueParser.TheVariants.{Unsigned}
 use Rattle.clap.proofs.ValueTestLemmas.{accepts-Accepts, Accepts-accepts}
-use Rattle.hpr_words.specs.Taken.{number_of}
+use Rattle.hpr_words.specs.Commands.{number_within}
 
-pub number_of-Ok : (most n : ℕ) (text : List ℕ)
+pub number_within-Ok : (least most n : ℕ) (text : List ℕ)
     → (IsNumeral 10 (without_leading_plus text) × (digits_value 10 (without_leading_plus text) < 2 ^ 64)) × (n ≡ digits_value 10 (without_leading_plus text))
-    → 1 ≤ n → n ≤ most → Some n ≡ number_of most text
-number_of-Ok most n text h low high =
-    let test : accepts false (Unsigned 1 most) text ≡ true = Accepts-accepts false (Unsigned 1 most) text (h.0.0, h.0.1, omega (arith, h.1, low), omega (arith, h.1, high)) in
+    → least ≤ n → n ≤ most → Some n ≡ number_within least most text
+number_within-Ok least most n text h low high =
+    let test : accepts false (Unsigned least most) text ≡ true = Accepts-accepts false (Unsigned least most) text (h.0.0, h.0.1, omega (arith, h.1, low), omega (arith, h.1, high)) in
     sym (ap (λ b. cond b (Some (digits_value 10 (without_leading_plus text))) None) test ∙ ap Some (sym h.1))
 
-pub number_of-Err : (most : ℕ) (text : List ℕ)
-    → (IsNumeral 10 (without_leading_plus text) × (digits_value 10 (without_leading_plus text) < 2 ^ 64) → ⊥) → None ≡ number_of most text
-number_of-Err most text h = go (accepts false (Unsigned 1 most) text) refl
+pub number_within-Err : (least most : ℕ) (text : List ℕ)
+    → (IsNumeral 10 (without_leading_plus text) × (digits_value 10 (without_leading_plus text) < 2 ^ 64) → ⊥) → None ≡ number_within least most text
+number_within-Err least most text h = go (accepts false (Unsigned least most) text) refl
   where
-    go : (b : Bool) → accepts false (Unsigned 1 most) text ≡ b → None ≡ cond b (Some (digits_value 10 (without_leading_plus text))) None
+    go : (b : Bool) → accepts false (Unsigned least most) text ≡ b → None ≡ cond b (Some (digits_value 10 (without_leading_plus text))) None
     go false t = refl
-    go true t = let a = accepts-Accepts false (Unsigned 1 most) text t in absurd (h (a.0, a.1))
+    go true t = let a = accepts-Accepts false (Unsigned least most) text t in absurd (h (a.0, a.1))

@@ -11,7 +11,7 @@ use Rattle.clap.specs.ValueTests.{accepts}
 use Rattle.clap.specs.Walk.{Row, Rule, Text, action_of, is_append, is_empty}
 use Rattle.clap.specs.Words.{first_of, matches_of}
 use Rattle.hpr_words.specs.Commands.{Form, NumberOption, asked_with, commands, form_app, form_named}
-use Rattle.hpr_words.specs.Plain.{Piece, behind, dashed, first_names, fits_list, flag_at, flags_of, is_among, is_name, is_unbroken, names, names_left, number_at, options_of, pieces, plain, plainly_asked, uses, values}
+use Rattle.hpr_words.specs.Plain.{Piece, behind, dashed, first_names, fits_list, fits_words, flag_at, flags_of, is_among, is_name, is_unbroken, names, names_left, number_at, options_of, pieces, plain, plainly_asked, uses, values}
 use Rattle.hpr_words.specs.Request.{Request}
 use Rattle.hpr_words.specs.Taken.{all_some, asked_in, flag_in, listed_in, number_in, number_or, taken, taken_by}
 use Rattle.hpr_words.proofs.AskingLemmas.{all_some-each, all_some-names, all_some-same, all_some-some}
@@ -245,9 +245,10 @@ module _ (form : Form) (is : IsSound form) where
   by_names : (command : Text) (words : List Text) (ps : List Piece) → IsCut (options_of form) (flags_of form) words ps → (r : Request) → plainly_asked form ps ≡ Some r
       → taken_by form (command ∷ words) ≡ Some r
   by_names command words ps cut r e =
-      let asked = if_so (is_unbroken (behind (length form.words) ps) && fits_list form.list (names_left form.words (names ps))) _ r e in
+      let asked = if_so (fits_words form (names ps) && (is_unbroken (behind (length form.words) ps) && fits_list form.list (names_left form.words (names ps)))) _ r e in
+      let fits = both (fits_words form (names ps)) _ asked.0 in
       go (first_names form.words (names ps)) refl (all_some (map (number_at ps) form.numbers)) refl
-      (all_some (map (flag_at ps) form.flags)) refl (both _ _ asked.0).1 asked.1
+      (all_some (map (flag_at ps) form.flags)) refl (both _ _ fits.1).1 asked.1
     where
       go : (first : Option (List Text)) → first_names form.words (names ps) ≡ first
           → (numbers : Option (List ℕ)) → all_some (map (number_at ps) form.numbers) ≡ numbers

@@ -1,5 +1,5 @@
 -- The numbers of what is taken are in their range.
-use Rattle.std.proofs.Common.{◌≡◌, ◌≤◌, ℕ, Bool, true, false, cond, find, List, [], ◌∷◌, map, Option, Some, None, Result, Ok, Err, IfOk, refl, ap, subst, bytes_eq, arith, option_and_then, option_map, unwrap_or}
+use Rattle.std.proofs.Common.{◌≡◌, ◌≤◌, ℕ, ◌-◌, Bool, true, false, cond, find, List, [], ◌∷◌, map, Option, Some, None, Result, Ok, Err, IfOk, refl, ap, subst, bytes_eq, arith, option_and_then, option_map, unwrap_or}
 use Rattle.std.specs.Prelude.{◌&&◌, nat_le}
 use Rattle.std.specs.List.{list_all}
 use Rattle.std.specs.Option.{option_map_or}
@@ -11,19 +11,20 @@ use Rattle.clap.specs.ValueTests.{accepts}
 use Rattle.clap.specs.Walk.{is_empty}
 use Rattle.clap.specs.Words.{Row, fault_of, first_of, matches_of}
 use Rattle.clap.specs.declared.builder.value_parser.ValueParser.TheVariants.{Unsigned}
-use Rattle.hpr_words.specs.Commands.{Form, NumberOption, affected_form, asked_with, commands, edit_form, form_app, form_named, graph_form, integrate_form, run_form, slice_form, tag_form, trial_form}
-use Rattle.hpr_words.specs.Request.{IsInRange, Request, Text}
-use Rattle.hpr_words.specs.Taken.{all_some, asked_in, flag_in, listed_in, number_in, number_of, number_or, taken_by}
+use Rattle.hpr_terms.specs.declared.limits.TheConstants.{MAX_PARTS}
+use Rattle.hpr_words.specs.Commands.{Form, NumberOption, affected_form, asked_with, commands, edit_form, form_app, form_named, graph_form, integrate_form, number_within, run_form, sample_form, slice_form, tag_form, trial_form}
+use Rattle.hpr_words.specs.Request.{IsInRange, Request, Text, sample}
+use Rattle.hpr_words.specs.Taken.{all_some, asked_in, flag_in, listed_in, number_in, number_or, taken_by}
 use Rattle.hpr_words.proofs.PieceLemmas.{Each, none_some}
 use Rattle.hpr_words.proofs.UseLemmas.{found_passes}
 
-number_of-range : (most : ℕ) (text : Text) (n : ℕ) → number_of most text ≡ Some n → (1 ≤ n) × (n ≤ most)
-number_of-range most text n e = go (accepts false (Unsigned 1 most) text) refl e
+number_within-range : (least most : ℕ) (text : Text) (n : ℕ) → number_within least most text ≡ Some n → (least ≤ n) × (n ≤ most)
+number_within-range least most text n e = go (accepts false (Unsigned least most) text) refl e
   where
-    go : (b : Bool) → accepts false (Unsigned 1 most) text ≡ b → cond b (Some (digits_value 10 (without_leading_plus text))) None ≡ Some n → (1 ≤ n) × (n ≤ most)
+    go : (b : Bool) → accepts false (Unsigned least most) text ≡ b → cond b (Some (digits_value 10 (without_leading_plus text))) None ≡ Some n → (least ≤ n) × (n ≤ most)
     go false t f = absurd (none_some n f)
     go true t f =
-        let a = accepts-Accepts false (Unsigned 1 most) text t in
+        let a = accepts-Accepts false (Unsigned least most) text t in
         let is : digits_value 10 (without_leading_plus text) ≡ n = ap (λ o. unwrap_or o n) f in
         (omega (arith, is, a.2), omega (arith, is, a.3))
 
@@ -38,7 +39,7 @@ number_or-range most (Some default) None n within e =
     let is : default ≡ n = ap (λ o. unwrap_or o n) e in
     let parts = both (nat_le 1 default) _ within in
     (omega (arith, is, leb-true _ _ parts.0), omega (arith, is, leb-true _ _ parts.1))
-number_or-range most default (Some text) n within e = number_of-range most text n e
+number_or-range most default (Some text) n within e = number_within-range 1 most text n e
 
 -- each number is in its option's range
 abbrev AreInRange : List NumberOption → List ℕ → Type 0
@@ -102,8 +103,21 @@ tag-range : AsksInRange tag_form
 tag-range (file ∷ []) list (n ∷ []) flags r range e = in_range _ r range.0 e
 tag-range _ _ _ _ r range e = absurd (none_some r e)
 
+sample-range : AsksInRange sample_form
+sample-range (seed ∷ parts ∷ []) list ns flags r range e = go (number_within 0 18446744073709551615 seed) refl (number_within 1 (MAX_PARTS - 2) parts) refl e
+  where
+    go : (s : Option ℕ) → number_within 0 18446744073709551615 seed ≡ s → (n : Option ℕ) → number_within 1 (MAX_PARTS - 2) parts ≡ n
+        → option_and_then (λ s. option_map (λ n. sample s n) n) s ≡ Some r → IsInRange r
+    go None is n so f = absurd (none_some r f)
+    go (Some s) is None so f = absurd (none_some r f)
+    go (Some s) is (Some n) so f =
+        let small = number_within-range 0 18446744073709551615 seed s is in
+        let few = number_within-range 1 (MAX_PARTS - 2) parts n so in
+        in_range (sample s n) r (omega (arith, small.1), few.0, omega (arith, few.1)) f
+sample-range _ _ _ _ r range e = absurd (none_some r e)
+
 each_in_range : Each AsksInRange commands
-each_in_range = (integrate-range, (run-range, (graph-range, (slice-range, (affected-range, (trial-range, (edit-range, (tag-range, tt))))))))
+each_in_range = (integrate-range, (run-range, (graph-range, (slice-range, (affected-range, (trial-range, (edit-range, (tag-range, (sample-range, tt)))))))))
 
 -- what is so of each is so of the one that is found
 found_each : {X : Type 0} (P : X → Type 0) (p : X → Bool) (xs : List X) (x : X) → Each P xs → find p xs ≡ Some x → P x

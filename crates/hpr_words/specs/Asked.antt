@@ -2,7 +2,7 @@
 --
 -- request asked == the request
 use Rattle.std.specs.Prelude.{map}
-use Rattle.hpr_words.specs.Request.{Request, affected, edit, graph, integrate, run, slice, tag, trial}
+use Rattle.hpr_words.specs.Request.{Request, affected, edit, graph, integrate, run, sample, slice, tag, trial}
 use Rattle.hpr_words.specs.declared.asked.Asked.{Asked}
 use Rattle.hpr_words.specs.declared.asked.Asked.TheVariants as asked
 
@@ -15,3 +15,4 @@ request (asked.Affected base a) = affected base.now a.now
 request (asked.Trial base a b states steps) = trial base.now a.now b.now (map (λ s. s.now) states.items) steps
 request (asked.Edit file script author) = edit file.now script.now author
 request (asked.Tag file author) = tag file.now author
+request (asked.Sample seed parts) = sample seed parts

@@ -1,7 +1,7 @@
 -- The commands as data, each without subcommands: what it takes, and what it asks for.
 --
 -- NumberOption            == the option `--id`: a number from 1 to most; where it isn't given, `default`; where there is no default, it must be given
--- Form                    == a command: its name; its positionals of one word, which must be given; behind them a list of words, if it has one, and whether
+-- Form                    == a command: its name; its positionals of one word, which must be given, and whether they are numbers; behind them a list of words, if it has one, and whether
 --                            a word of it must be given; its options; its flags; and what it asks for, by the words, the list, the numbers and whether
 --                            each flag is given
 -- tries, steps, author    == the options
@@ -13,6 +13,8 @@
 -- trial_of ws l ns fs     == the request of three names, states and a number
 -- edit_of ws l ns fs      == the request of a file, a script and a number
 -- tag_of ws l ns fs       == the request of a file and a number
+-- number_within least most text == the number from least to most that `clap` reads in a text
+-- sample_of ws l ns fs    == the request of two words that are numbers
 -- integrate_form          == `integrate BASE A B [--tries N]`
 -- run_form                == `run FILE [STATE..] [--steps N] [--trace]`
 -- graph_form              == `graph FILE [--json]`
@@ -21,6 +23,7 @@
 -- trial_form              == `trial BASE A B [STATE..] [--steps N]`
 -- edit_form               == `edit FILE SCRIPT --author N`
 -- tag_form                == `tag FILE --author N`
+-- sample_form             == `sample SEED PARTS`
 -- commands                == all of them
 -- form_named name         == the command of this name, if there is one
 -- asked_with form ws l ns fs == what the command asks for, where it is given all of these
@@ -30,14 +33,16 @@
 -- flag_rule id            == the flag `--id`
 -- form_rules form         == what the command takes, as `clap` has it
 -- form_app form           == the command, as `clap` has it
-use Rattle.std.specs.Prelude.{ℕ, Bool, true, false, not, List, [], ◌∷◌, ◌++◌, map, find, Option, Some, None, is_some, option_to_list, codes}
+use Rattle.std.specs.Prelude.{ℕ, ◌-◌, Bool, true, false, not, List, [], ◌∷◌, ◌++◌, map, find, Option, Some, None, is_some, option_to_list, option_and_then, option_map, if◌then◌else◌, codes}
 use Rattle.std.specs.Str.{bytes_eq}
-use Rattle.hpr_terms.specs.declared.limits.TheConstants.{DEFAULT_STEPS, DEFAULT_TRIES, MAX_STEPS, MAX_TRIES}
+use Rattle.std.specs.Str.Parse.{digits_value, without_leading_plus}
+use Rattle.hpr_terms.specs.declared.limits.TheConstants.{DEFAULT_STEPS, DEFAULT_TRIES, MAX_PARTS, MAX_STEPS, MAX_TRIES}
 use Rattle.clap.specs.Simple.{on_top}
+use Rattle.clap.specs.ValueTests.{accepts}
 use Rattle.clap.specs.Words.{App, Rule, new_app, new_rule}
 use Rattle.clap.specs.declared.builder.action.ArgAction.TheVariants.{Append, SetTrue}
 use Rattle.clap.specs.declared.builder.value_parser.ValueParser.TheVariants.{Unsigned}
-use Rattle.hpr_words.specs.Request.{Request, Text, affected, edit, graph, integrate, run, slice, tag, trial}
+use Rattle.hpr_words.specs.Request.{Request, Text, affected, edit, graph, integrate, run, sample, slice, tag, trial}
 
 pub record NumberOption : Type 0 where
   pub id : Text
@@ -47,6 +52,7 @@ pub record NumberOption : Type 0 where
 pub record Form : Type 0 where
   pub name : Text
   pub words : List Text
+  pub are_numbers : Bool
   pub list : Option (Text × Bool)
   pub numbers : List NumberOption
   pub flags : List Text
@@ -97,12 +103,21 @@ abbrev pub tag_of : (words list : List Text) (numbers : List ℕ) (flags : List 
 tag_of (file ∷ []) list (n ∷ []) flags = Some (tag file n)
 tag_of _ _ _ _ = None
 
+abbrev pub number_within : (least most : ℕ) → Text → Option ℕ
+number_within least most text = if accepts false (Unsigned least most) text then Some (digits_value 10 (without_leading_plus text)) else None
+
+abbrev pub sample_of : (words list : List Text) (numbers : List ℕ) (flags : List Bool) → Option Request
+sample_of (seed ∷ parts ∷ []) list numbers flags =
+    option_and_then (λ s. option_map (λ n. sample s n) (number_within 1 (MAX_PARTS - 2) parts)) (number_within 0 18446744073709551615 seed)
+sample_of _ _ _ _ = None
+
 -- ---- the commands
 
 abbrev pub integrate_form : Form
 integrate_form = record {
   name = codes "integrate";
   words = codes "base" ∷ codes "a" ∷ codes "b" ∷ [];
+  are_numbers = false;
   list = None;
   numbers = tries ∷ [];
   flags = [];
@@ -113,6 +128,7 @@ abbrev pub run_form : Form
 run_form = record {
   name = codes "run";
   words = codes "file" ∷ [];
+  are_numbers = false;
   list = Some (codes "state", false);
   numbers = steps ∷ [];
   flags = codes "trace" ∷ [];
@@ -123,6 +139,7 @@ abbrev pub graph_form : Form
 graph_form = record {
   name = codes "graph";
   words = codes "file" ∷ [];
+  are_numbers = false;
   list = None;
   numbers = [];
   flags = codes "json" ∷ [];
@@ -133,6 +150,7 @@ abbrev pub slice_form : Form
 slice_form = record {
   name = codes "slice";
   words = codes "file" ∷ [];
+  are_numbers = false;
   list = Some (codes "point", true);
   numbers = [];
   flags = [];
@@ -143,6 +161,7 @@ abbrev pub affected_form : Form
 affected_form = record {
   name = codes "affected";
   words = codes "base" ∷ codes "a" ∷ [];
+  are_numbers = false;
   list = None;
   numbers = [];
   flags = [];
@@ -153,6 +172,7 @@ abbrev pub trial_form : Form
 trial_form = record {
   name = codes "trial";
   words = codes "base" ∷ codes "a" ∷ codes "b" ∷ [];
+  are_numbers = false;
   list = Some (codes "state", false);
   numbers = steps ∷ [];
   flags = [];
@@ -163,6 +183,7 @@ abbrev pub edit_form : Form
 edit_form = record {
   name = codes "edit";
   words = codes "file" ∷ codes "script" ∷ [];
+  are_numbers = false;
   list = None;
   numbers = author ∷ [];
   flags = [];
@@ -173,14 +194,26 @@ abbrev pub tag_form : Form
 tag_form = record {
   name = codes "tag";
   words = codes "file" ∷ [];
+  are_numbers = false;
   list = None;
   numbers = author ∷ [];
   flags = [];
   asks = tag_of;
 }
 
+abbrev pub sample_form : Form
+sample_form = record {
+  name = codes "sample";
+  words = codes "seed" ∷ codes "parts" ∷ [];
+  are_numbers = true;
+  list = None;
+  numbers = [];
+  flags = [];
+  asks = sample_of;
+}
+
 abbrev pub commands : List Form
-commands = integrate_form ∷ run_form ∷ graph_form ∷ slice_form ∷ affected_form ∷ trial_form ∷ edit_form ∷ tag_form ∷ []
+commands = integrate_form ∷ run_form ∷ graph_form ∷ slice_form ∷ affected_form ∷ trial_form ∷ edit_form ∷ tag_form ∷ sample_form ∷ []
 
 abbrev pub form_named : Text → Option Form
 form_named name = find (λ form. bytes_eq name form.name) commands

@@ -22,6 +22,7 @@
 -- first_names ids ns            == the first names, one for each of these positionals, if there are so many
 -- names_left ids ns             == the names behind them
 -- fits_list list ws             == the command has such a list: words only if it has a list, and one at least where that must be given
+-- fits_words form ns            == where the command's positionals are numbers, each of these names is decimal digits without leading zeros
 -- number_at ps option           == the number that the pieces give the option
 -- flag_at ps id                 == whether they give the flag
 -- plainly_asked form ps         == what the pieces ask of the command, the list unbroken
@@ -151,6 +152,9 @@ abbrev pub fits_list : Option (Text × Bool) → List Text → Bool
 fits_list None ws = not (is_some (slice_get ws 0))
 fits_list (Some list) ws = not list.1 || is_some (slice_get ws 0)
 
+abbrev pub fits_words : Form → List Text → Bool
+fits_words form ns = not form.are_numbers || list_all is_numeral ns
+
 abbrev pub number_at : List Piece → NumberOption → Option ℕ
 number_at ps option = plain_number option (values (dashed option.id) ps)
 
@@ -160,7 +164,7 @@ flag_at ps id = is_used (uses (dashed id) ps)
 abbrev pub plainly_asked : Form → List Piece → Option Request
 plainly_asked form ps =
     let left = names_left form.words (names ps) in
-    if is_unbroken (behind (length form.words) ps) && fits_list form.list left
+    if fits_words form (names ps) && (is_unbroken (behind (length form.words) ps) && fits_list form.list left)
     then asked_with form (first_names form.words (names ps)) left (all_some (map (number_at ps) form.numbers)) (all_some (map (flag_at ps) form.flags))
     else None
 

@@ -9,9 +9,11 @@
 -- trial base a b states n == run base, its variants a and b and their integration from the state that the words tell, the first three for at most n steps each
 -- edit file script n      == apply the commands of a script to the program of a file, as the author of the number n
 -- tag file n              == tag the untagged program of a file, as the author of the number n
--- IsInRange request       == its tries or steps, if it has some, are from 1 to 1,000,000,000, its author, if it has one, is from 1 to 4,294,967,295, and its points, if it asks for some, are at least one
-use Rattle.std.specs.Prelude.{◌≤◌, ℕ, Bool, List, length}
-use Rattle.hpr_terms.specs.declared.limits.TheConstants.{MAX_STEPS, MAX_TRIES}
+-- sample seed parts       == make the programs of the seed, the base of so many parts, and integrate them
+-- IsInRange request       == its tries or steps, if it has some, are from 1 to 1,000,000,000, its author, if it has one, is from 1 to 4,294,967,295, its seed, if it has one, is below 2 ^ 64,
+--                            its parts, if it has some, are from 1 to two below the limit of a program, and its points, if it asks for some, are at least one
+use Rattle.std.specs.Prelude.{◌≤◌, ◌<◌, ◌+◌, ◌^◌, ℕ, Bool, List, length}
+use Rattle.hpr_terms.specs.declared.limits.TheConstants.{MAX_PARTS, MAX_STEPS, MAX_TRIES}
 
 abbrev pub Text : Type 0
 Text = List ℕ
@@ -25,6 +27,7 @@ pub data Request : Type 0 where
   trial : (base a b : Text) (states : List Text) (steps : ℕ) → Request
   edit : (file script : Text) (author : ℕ) → Request
   tag : (file : Text) (author : ℕ) → Request
+  sample : (seed parts : ℕ) → Request
 
 abbrev pub IsInRange : Request → Type 0
 IsInRange (integrate base a b tries) = (1 ≤ tries) × (tries ≤ MAX_TRIES)
@@ -33,4 +36,5 @@ IsInRange (slice file points) = 1 ≤ length points
 IsInRange (trial base a b states steps) = (1 ≤ steps) × (steps ≤ MAX_STEPS)
 IsInRange (edit file script author) = (1 ≤ author) × (author ≤ 4294967295)
 IsInRange (tag file author) = (1 ≤ author) × (author ≤ 4294967295)
+IsInRange (sample seed parts) = (seed < 2 ^ 64) × (1 ≤ parts) × (parts + 2 ≤ MAX_PARTS)
 IsInRange _ = Unit {0}

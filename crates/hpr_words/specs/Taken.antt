@@ -13,16 +13,13 @@
 use Rattle.std.specs.Prelude.{ℕ, Bool, false, List, [], ◌∷◌, map, Option, Some, None, codes, if◌then◌else◌, option_and_then, option_map, unwrap_or}
 use Rattle.std.specs.Option.{option_map_or}
 use Rattle.std.specs.Str.{bytes_eq}
-use Rattle.std.specs.Str.Parse.{digits_value, without_leading_plus}
 use Rattle.clap.specs.Words.{Row, all_of, fault_of, first_of, matches_of}
 use Rattle.clap.specs.Walk.{is_empty}
-use Rattle.clap.specs.ValueTests.{accepts}
-use Rattle.clap.specs.declared.builder.value_parser.ValueParser.TheVariants.{Unsigned}
-use Rattle.hpr_words.specs.Commands.{Form, NumberOption, asked_with, form_app, form_named}
+use Rattle.hpr_words.specs.Commands.{Form, NumberOption, asked_with, form_app, form_named, number_within}
 use Rattle.hpr_words.specs.Request.{Request, Text}
 
 abbrev pub number_of : ℕ → Text → Option ℕ
-number_of most text = if accepts false (Unsigned 1 most) text then Some (digits_value 10 (without_leading_plus text)) else None
+number_of most text = number_within 1 most text
 
 abbrev pub number_or : Option ℕ → ℕ → Option Text → Option ℕ
 number_or default most None = default

@@ -1,6 +1,6 @@
 //! The commands: what each is called, which arguments it has, and what it asks for.
 ghost use Rattle.std.specs.Prelude.{◌≡◌, option_map};
-ghost use Rattle.hpr_words.specs.Commands.{affected_form, edit_form, form_app, form_named, graph_form, integrate_form, run_form, slice_form, tag_form, trial_form};
+ghost use Rattle.hpr_words.specs.Commands.{affected_form, edit_form, form_app, form_named, graph_form, integrate_form, run_form, sample_form, slice_form, tag_form, trial_form};
 ghost use Rattle.hpr_words.specs.Private.Commands.{Reads, app_with, form_of};
 ghost use Rattle.hpr_words.specs.Taken.{asked_in};
 ghost use Rattle.clap.specs.Words.{found_of, rows_of};
@@ -9,9 +9,10 @@ use crate::arguments::Argument;
 use crate::asked::{Asked, WordsError};
 use crate::found::{
     MOST_AUTHORS, author_from, flag_from, list_from, name_from, number_from, steps_from,
+    word_number_from,
 };
 use clap::ArgMatches;
-use hpr_terms::limits::{DEFAULT_TRIES, MAX_STEPS, MAX_TRIES};
+use hpr_terms::limits::{DEFAULT_TRIES, MAX_PARTS, MAX_STEPS, MAX_TRIES};
 use std::alloc::Global;
 
 const BASE: Argument = Argument::Word("base");
@@ -23,6 +24,10 @@ const B: Argument = Argument::Word("b");
 const FILE: Argument = Argument::Word("file");
 
 const SCRIPT: Argument = Argument::Word("script");
+
+const SEED: Argument = Argument::Word("seed");
+
+const PARTS: Argument = Argument::Word("parts");
 
 const STATES: Argument = Argument::List {
     name: "state",
@@ -67,6 +72,7 @@ pub enum CommandName {
     Trial,
     Edit,
     Tag,
+    Sample,
 }
 
 impl CommandName {
@@ -83,6 +89,7 @@ impl CommandName {
             "trial" => Some(CommandName::Trial),
             "edit" => Some(CommandName::Edit),
             "tag" => Some(CommandName::Tag),
+            "sample" => Some(CommandName::Sample),
             _ => None,
         }
     }
@@ -100,6 +107,7 @@ impl CommandName {
             CommandName::Trial => &[BASE, A, B, STATES, STEPS],
             CommandName::Edit => &[FILE, SCRIPT, AUTHOR],
             CommandName::Tag => &[FILE, AUTHOR],
+            CommandName::Sample => &[SEED, PARTS],
         }
     }
 
@@ -116,6 +124,7 @@ impl CommandName {
             CommandName::Trial => trial_from(alloc, matches),
             CommandName::Edit => edit_from(matches),
             CommandName::Tag => tag_from(matches),
+            CommandName::Sample => sample_from(matches),
         }
     }
 }
@@ -199,5 +208,16 @@ fn tag_from<'a>(matches: &ArgMatches<'a>) -> Result<Asked<'a>, WordsError>
     Ok(Asked::Tag {
         file: name_from(matches, "file")?,
         author: author_from(matches)?,
+    })
+}
+
+fn sample_from<'a>(matches: &ArgMatches<'a>) -> Result<Asked<'a>, WordsError>
+    ensures { Reads (asked_in sample_form (rows_of (found_of matches.now))) result }
+{
+    let seed = word_number_from(matches, "seed", 0, u64::MAX)?;
+    let parts = word_number_from(matches, "parts", 1, MAX_PARTS as u64 - 2)?;
+    Ok(Asked::Sample {
+        seed,
+        parts: parts as usize,
     })
 }

@@ -1,8 +1,8 @@
 //! What the arguments of a command are given.
-ghost use Rattle.std.specs.Prelude.{◌≡◌, map, IfOk, Some, None, option_map};
+ghost use Rattle.std.specs.Prelude.{◌≡◌, map, IfOk, Some, None, option_and_then, option_map};
 ghost use Rattle.std.specs.Result.{result_ok};
 ghost use Rattle.hpr_words.specs.Taken as spec;
-ghost use Rattle.hpr_words.specs.Commands.{author, steps};
+ghost use Rattle.hpr_words.specs.Commands.{author, number_within, steps};
 ghost use Rattle.hpr_words.specs.Taken.{flag_in, list_in, number_in, number_or};
 ghost use Rattle.clap.specs.Words.{first_of, found_of, rows_of};
 
@@ -80,13 +80,34 @@ pub fn flag_from(matches: &ArgMatches<'_>, id: &str) -> bool
     }
 }
 
+/// The number from `least` to `most` that the word of a positional spells.
+pub fn word_number_from(
+    matches: &ArgMatches<'_>,
+    id: &str,
+    least: u64,
+    most: u64,
+) -> Result<u64, WordsError>
+    ensures { result_ok result ≡ option_and_then (number_within least most)
+        (first_of id.now (rows_of (found_of matches.now))) }
+{
+    let text = name_from(matches, id)?;
+    number_within(text, least, most).ok_or(WordsError::Refused)
+}
+
 /// The number from 1 to `most` that the text spells.
 fn number_of(text: &str, most: u32) -> Option<u64>
     ensures { result ≡ spec.number_of most text.now }
 {
+    number_within(text, 1, u64::from(most))
+}
+
+/// The number from `least` to `most` that the text spells.
+fn number_within(text: &str, least: u64, most: u64) -> Option<u64>
+    ensures { result ≡ number_within least most text.now }
+{
     match text.parse::<u64>() {
         Ok(number) => {
-            if number < 1 || u64::from(most) < number {
+            if number < least || most < number {
                 return None;
             }
             Some(number)

@@ -1,10 +1,11 @@
 //! Laws of the words: each function's contract is the law, for all words.
-ghost use Rattle.std.specs.Prelude.{◌≡◌, ℕ, true, false, List, [], ◌∷◌, ◌++◌, Some, codes};
+ghost use Rattle.std.specs.Prelude.{◌≡◌, ℕ, ◌-◌, true, false, List, [], ◌∷◌, ◌++◌, Some, codes};
 ghost use Rattle.std.specs.List.{list_all};
-ghost use Rattle.hpr_terms.specs.declared.limits.TheConstants.{DEFAULT_STEPS, DEFAULT_TRIES, MAX_STEPS, MAX_TRIES};
-ghost use Rattle.hpr_words.specs.Request.{Request, Text, affected, edit, graph, integrate, run, slice, tag, trial};
+ghost use Rattle.hpr_terms.specs.declared.limits.TheConstants.{DEFAULT_STEPS, DEFAULT_TRIES, MAX_PARTS, MAX_STEPS, MAX_TRIES};
+ghost use Rattle.hpr_words.specs.Request.{Request, Text, affected, edit, graph, integrate, run, sample, slice, tag, trial};
 ghost use Rattle.hpr_words.specs.Taken.{taken};
-ghost use Rattle.hpr_words.specs.Plain.{is_name, number, plain};
+ghost use Rattle.hpr_words.specs.Commands.{number_within};
+ghost use Rattle.hpr_words.specs.Plain.{is_numeral, is_name, number, plain};
 
 /// Plain words are taken, with the values that are read straight from the words: an option may
 /// stand in any place behind the command, but not between two words of a list.
@@ -126,4 +127,10 @@ pub fn tag_words_are_plain()
         → plain (codes "tag" ∷ codes "--author" ∷ n ∷ file ∷ []) ≡ Some (tag file author) }
     ensures last { (file n : Text) (author : ℕ) → is_name file ≡ true → number 4294967295 n ≡ Some author
         → plain (codes "tag" ∷ file ∷ codes "--author" ∷ n ∷ []) ≡ Some (tag file author) }
+{}
+
+/// A seed and a number of parts behind `sample` are plain: decimal digits without leading zeros, in range.
+pub fn sample_words_are_plain()
+    ensures { (seed parts : Text) (s n : ℕ) → is_numeral seed ≡ true → number_within 0 18446744073709551615 seed ≡ Some s
+        → number (MAX_PARTS - 2) parts ≡ Some n → plain (codes "sample" ∷ seed ∷ parts ∷ []) ≡ Some (sample s n) }
 {}

@@ -2,7 +2,8 @@
 //!
 //! The commands are `integrate BASE A B [--tries N]`, `run FILE [STATE..] [--steps N] [--trace]`,
 //! `graph FILE [--json]`, `slice FILE POINT..`, `affected BASE A`,
-//! `trial BASE A B [STATE..] [--steps N]`, `edit FILE SCRIPT --author N` and `tag FILE --author N`.
+//! `trial BASE A B [STATE..] [--steps N]`, `edit FILE SCRIPT --author N`, `tag FILE --author N` and
+//! `sample SEED PARTS`.
 #![tactic(auto)]
 
 mod arguments;
