@@ -1,11 +1,19 @@
-"""Programs that the benchmarks are run on."""
+#!/usr/bin/env python3
+"""Programs that the benchmarks are run on.
+
+    bench/programs.py SEED PARTS    prints the three programs of `hpr sample SEED PARTS`, not indented: the base, A and B
+    bench/programs.py               compares those of a stored row of hpr_calls with that row
+"""
+import pathlib
 import random
+import sys
 
 
 class Program:
     """Lines of parts, which get the tags 1.1, 1.2, .. in preorder, and the lines that close blocks."""
 
-    def __init__(self):
+    def __init__(self, draw=None):
+        self.draw = draw
         self.count = 0
         self.level = 0
         self.lines = []
@@ -44,30 +52,56 @@ def spell(issued, lines, finals):
 NAMES = [f"v{at}" for at in range(8)]
 
 
-def sample(parts):
-    """Assignments, conditionals of three parts and loops of four over eight variables, as most programs
-    have them."""
-    draw = random.Random(parts).randrange
-    program = Program()
+def words_of(seed):
+    """Draws from the words of SplitMix64, begun with the seed: each call takes the next word, modulo a number."""
+    state = seed
+
+    def draw(below):
+        nonlocal state
+        state = (state + 0x9E3779B97F4A7C15) % 2**64
+        word = (state ^ state >> 30) * 0xBF58476D1CE4E5B9 % 2**64
+        word = (word ^ word >> 27) * 0x94D049BB133111EB % 2**64
+        return (word ^ word >> 31) % below
+
+    return draw
+
+
+def sample(parts, seed=7):
+    """The base of the sample of a seed: assignments, conditionals of three parts and loops of four over eight
+    variables. docs/formats.md says in which order they are drawn."""
+    draw = words_of(seed)
+    name = lambda: NAMES[draw(8)]
+    program = Program(draw)
     while program.count < parts:
-        left = parts - program.count
-        kind = draw(3) if left >= 4 else 0
-        one, two, three = (NAMES[draw(8)] for _ in range(3))
+        kind = draw(3) if parts - program.count >= 4 else 0
         if kind == 0:
-            program.put(f"{one} := {two} + {draw(100)};")
+            program.put(f"{name()} := {name()} + {draw(100)};")
         elif kind == 1:
-            program.put(f"if {one} < {draw(100)} then")
-            program.put(f"{two} := {one} + 1;")
+            tested = name()
+            program.put(f"if {tested} < {draw(100)} then")
+            target = name()
+            program.put(f"{target} := {tested} + 1;")
             program.close("else")
-            program.put(f"{two} := {draw(100)};")
+            program.put(f"{target} := {draw(100)};")
             program.close("fi")
         else:
             program.put("c := 0;")
             program.put(f"while c < {draw(10)} do")
-            program.put(f"{one} := {one} + {two};")
+            target = name()
+            program.put(f"{target} := {target} + {name()};")
             program.put("c := c + 1;")
             program.close("od")
     return program
+
+
+def variants(program):
+    """The texts of a base and of its variants A and B, each of which adds a part that defines a name of its own."""
+    draw = program.draw or random.Random(program.count).randrange
+    place = lambda: draw(len(program.tops) + 1)
+    one = lambda: NAMES[draw(8)]
+    a = program.with_part(place(), "2.1", f"a := {one()} + {one()};", ["a"] + NAMES)
+    b = program.with_part(place(), "3.1", f"b := {one()} * {one()};", ["b"] + NAMES)
+    return program.text(NAMES), a, b
 
 
 def flat(parts):
@@ -117,3 +151,18 @@ def deep(levels, parts):
     for _ in range(levels):
         program.close("od")
     return program
+
+
+def main(words):
+    if words:
+        print("".join(variants(sample(int(words[1]), int(words[0])))), end="")
+        return 0
+    rows = pathlib.Path(__file__).resolve().parent.parent / "crates" / "hpr_calls" / "stdout"
+    stored = rows.read_text().partition("# a sample of 12 parts: base, A and B\n")[2].partition("#")[0]
+    same = [line.strip() for line in stored.splitlines()] == "".join(variants(sample(12))).splitlines()
+    print(f"programs: the sample of seed 7 with 12 parts is {'' if same else 'not '}that of the stored row")
+    return 0 if same else 1
+
+
+if __name__ == "__main__":
+    sys.exit(main(sys.argv[1:]))

@@ -10,6 +10,7 @@ use crate::edit::edit_file;
 use crate::graph::graph_file;
 use crate::integrate::integrate_files;
 use crate::run::run_file;
+use crate::sample::sample_seed;
 use crate::slice::slice_file;
 use crate::tag::tag_file;
 use crate::trial::trial_files;
@@ -51,5 +52,6 @@ pub fn decide<S: Shelf>(alloc: Global, asked: Asked<'_>, shelf: &mut S) -> Resul
             author,
         } => edit_file(alloc, file, script, author, shelf),
         Asked::Tag { file, author } => tag_file(alloc, file, author, shelf),
+        Asked::Sample { seed, parts } => sample_seed(alloc, seed, parts),
     }
 }

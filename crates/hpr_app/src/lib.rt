@@ -11,6 +11,7 @@ mod graphs;
 mod integrate;
 mod programs;
 mod run;
+mod sample;
 mod slice;
 mod tag;
 mod trace_text;
@@ -52,7 +53,8 @@ use std::alloc::Global;
 /// is refused. Variants that interfere are reported with all their conflicts; else the merged program
 /// is printed, or it is said that there is none, or that the budget of tries is spent. A trial runs
 /// where a program would be printed. A script is read after the program that it edits; its first
-/// command that is refused is named with its number, and nothing is printed then. All text of `out`
+/// command that is refused is named with its number, and nothing is printed then. A sample is made of a
+/// seed, and no file is read for it. All text of `out`
 /// is made before its first byte is put. Faults of `err` change no status.
 pub fn hpr<S: Shelf, O: Sink, E: Sink>(
     alloc: Global,

@@ -88,7 +88,13 @@ fn put_author(out: &mut Out, command: &str, files: &[&str], author: u32) {
     put_count(out, ", author ", u64::from(author));
 }
 
-// Puts a command that changes a file.
+fn put_sample(out: &mut Out, seed: u64, parts: usize) {
+    out.put_piece("sample ");
+    out.put_number(seed);
+    put_count(out, ", parts ", parts as u64);
+}
+
+// Puts a command that changes a file, or that makes programs.
 fn put_change(out: &mut Out, asked: &Asked<'_>) {
     match asked {
         Asked::Edit {
@@ -97,6 +103,7 @@ fn put_change(out: &mut Out, asked: &Asked<'_>) {
             author,
         } => put_author(out, "edit", &[file, script], *author),
         Asked::Tag { file, author } => put_author(out, "tag", &[file], *author),
+        Asked::Sample { seed, parts } => put_sample(out, *seed, *parts),
         _ => out.put_piece("another command\n"),
     }
 }

@@ -8,6 +8,7 @@ mod expression;
 mod files;
 mod point;
 mod running;
+mod samples;
 mod state;
 mod term;
 mod text;
@@ -30,6 +31,7 @@ impl Calls for ProgramCalls {
             "edit" => edits::call(row, out),
             "file" => files::call(row, out),
             "words" => asking::call(row, out),
+            "sample" => samples::call(row, out),
             _ => None,
         }
     }

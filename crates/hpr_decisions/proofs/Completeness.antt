@@ -1,5 +1,5 @@
 -- Where nothing failed and each file spells a program, the outcome is the one that those programs have.
-use Rattle.std.proofs.Common.{◌≡◌, ◌≤◌, ℕ, Bool, All, List, refl, ap, sym, ◌∙◌, subst, inl, inr, ◌⊎◌, Option, Some, Ok}
+use Rattle.std.proofs.Common.{◌≡◌, ◌≤◌, ℕ, Bool, All, List, refl, ap, sym, ◌∙◌, subst, inl, inr, ◌⊎◌, Option, Some, Ok, codes}
 use Rattle.hpr_io.specs.Counts.{Rose}
 use Rattle.hpr_io.specs.Files.{Files, bytes_of}
 use Rattle.hpr_io.specs.Taken.{taken_then}
@@ -14,7 +14,7 @@ use Rattle.hpr_graph.specs.ProgramGraph.{graph_of}
 use Rattle.hpr_graph.specs.Slices.{slice_of}
 use Rattle.hpr_report.specs.AffectedText.{IsAffectedText}
 use Rattle.hpr_report.specs.GraphTexts.{IsGraphText}
-use Rattle.hpr_words.specs.Request.{Request, Text, IsInRange, integrate, run, graph, slice, affected, trial, edit, tag}
+use Rattle.hpr_words.specs.Request.{Request, Text, IsInRange, integrate, run, graph, slice, affected, trial, edit, tag, sample}
 use Rattle.hpr_decisions.specs.Complete.{DonePrinting, Completes, IsOtherText, PrintsOther, RequestCompletes, Runs, Tries}
 use Rattle.hpr_inputs.specs.Decision.{Decision, Prints, prints}
 use Rattle.hpr_decisions.specs.AffectedFiles.{AffectedPoints, AffectedOutcome}
@@ -37,6 +37,8 @@ use Rattle.hpr_inputs.specs.States.{OnState, states_of}
 use Rattle.hpr_decisions.specs.RunFile.{Ran, RunOutcome}
 use Rattle.hpr_decisions.specs.SliceFile.{Sliced, SliceOutcome}
 use Rattle.hpr_decisions.specs.TrialFiles.{IsTried, Tried, TrialOutcome}
+use Rattle.hpr_sample.specs.Sample as made
+use Rattle.hpr_decisions.specs.Sampled.{IsSampled}
 use Rattle.hpr_decisions.specs.Ends.{Change, Ends, Decided, status_of, text_of}
 use Rattle.hpr_inputs.specs.declared.answer.Kind.TheVariants.{Done}
 use Rattle.hpr_decisions.specs.declared.status.Status.{Status}
@@ -184,6 +186,10 @@ request_completes (affected base a) fs old new s d is took o = λ p q hp hq few 
 request_completes (trial base a b words steps) fs old new s d is took o = λ state p q r told hp hq hr few. of_trial state p q r old new s fs base a b words steps d is took o told hp hq hr few
 request_completes (edit file script author) fs old new s d is took o = λ p q cs hp hs made. of_edit old new s fs d is took file script author p q cs o hp hs made
 request_completes (tag file author) fs old new s d is took o = λ p hp. of_tag old new s fs d is took file author p o hp
+
+request_completes (sample seed parts) fs old new s d is took o = λ few.
+    (let three = made.sample seed parts in
+    (d, of_program_graphs (codes "base") three.base (codes "A") three.a (codes "B") three.b (IsSampled seed parts three.base three.a three.b d) d few o.1, is, took))
 
 -- where one variant is the base, the other one is printed
 request_prints_other : (request : Request) (fs : Files) (old new : Option (List ℕ)) (s : Status) (d : Decision) → s ≡ status_of d → new ≡ taken_then old (text_of d)

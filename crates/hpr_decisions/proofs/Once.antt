@@ -1,5 +1,6 @@
 -- The words and the files make one decision.
-use Rattle.std.proofs.Common.{◌≡◌, ℕ, List, refl, sym, ap, ◌∙◌, subst, inl, inr, Option, Some, None, Result, Ok, Err}
+use Rattle.std.proofs.Common.{◌≡◌, ℕ, List, refl, sym, ap, ◌∙◌, subst, inl, inr, Option, Some, None, Result, Ok, Err, codes}
+use Rattle.hpr_terms.specs.declared.limits.TheConstants.{DEFAULT_TRIES}
 use Rattle.hpr_io.specs.Counts.{Rose}
 use Rattle.hpr_io.specs.Files.{Files, bytes_of}
 use Rattle.hpr_syntax.specs.Grammar.{tagged, untagged}
@@ -35,7 +36,10 @@ use Rattle.hpr_refusals.proofs.Once.{one_file, one_script_file}
 use Rattle.hpr_decisions.specs.EditFiles.{OnScript, OnUntagged, edit_decision}
 use Rattle.hpr_inputs.specs.States.{OnState, RefusedWord, states_of}
 use Rattle.hpr_decisions.specs.TrialFiles.{IsTried, Tried}
-use Rattle.hpr_words.specs.Request.{Request, Text, integrate, run, graph, slice, affected, trial, edit, tag}
+use Rattle.hpr_sample.specs.Sample as made
+use Rattle.hpr_sample.proofs.SamplePrograms.{is_sample}
+use Rattle.hpr_decisions.specs.Sampled.{IsSampled, sample_line, sample_report}
+use Rattle.hpr_words.specs.Request.{Request, Text, integrate, run, graph, slice, affected, trial, edit, tag, sample}
 use Rattle.hpr_inputs.specs.declared.answer.Kind.TheVariants.{Done, Interference}
 use Rattle.hpr_decisions.specs.declared.status.Status.{Status}
 use Rattle.hpr_decisions.specs.declared.status.Status.TheVariants as status
@@ -63,6 +67,26 @@ agree_reported tries x y r s (inr (inr (h, e))) is so = inr (inr (searched tries
 one_reported : (r s : Decision) (p q o : Tree) (tries : ℕ) → IsProgram q → IsProgram o → IsReported p q o tries r → IsReported p q o tries s → AgreeButForBudget r s
 one_reported r s p q o tries is_q is_o (x, answer, is) (y, answer_too, so) =
     agree_reported tries x y r s (one_answer p q o is_q is_o tries x y answer answer_too) is so
+
+-- so are they in a sample
+agree_sampled : (seed parts : ℕ) (p q o : Tree) (x y : Answer) (r s : Decision) → budget.Agree x y → r ≡ sample_report seed parts p q o x → s ≡ sample_report seed parts p q o y
+    → AgreeButForBudget r s
+agree_sampled seed parts p q o x y r s agree is so = go x y agree is so
+  where
+    found : (z : Answer) (d : Decision) → budget.HasSearched z → d ≡ sample_report seed parts p q o z → HasSearched d
+    found (interference cs) d h is = absurd h
+    found (printed m) d h is = (sample_line seed parts p q o m, inl is)
+    found (no_program n) d h is = (no_program_text n, inr (inl is))
+    found spent d h is = absurd h
+
+    go : (x y : Answer) → budget.Agree x y → r ≡ sample_report seed parts p q o x → s ≡ sample_report seed parts p q o y → AgreeButForBudget r s
+    go x y (inl e) is so = inl (is ∙ ap (sample_report seed parts p q o) e ∙ sym so)
+    go x y (inr (inl (e, h))) is so = inr (inl ((spent_text DEFAULT_TRIES, is ∙ ap (sample_report seed parts p q o) e), found y s h so))
+    go x y (inr (inr (h, e))) is so = inr (inr (found x r h is, (spent_text DEFAULT_TRIES, so ∙ ap (sample_report seed parts p q o) e)))
+
+one_sampled : (seed parts : ℕ) (r s : Decision) (p q o : Tree) → IsProgram q → IsProgram o → IsSampled seed parts p q o r → IsSampled seed parts p q o s → AgreeButForBudget r s
+one_sampled seed parts r s p q o is_q is_o (x, answer, is) (y, answer_too, so) =
+    agree_sampled seed parts p q o x y r s (one_answer p q o is_q is_o DEFAULT_TRIES x y answer answer_too) is so
 
 one_on_graph : (r s : Decision) (file : Text) (p : Tree) (next also : Type 0) → (next → also → AgreeButForBudget r s) → OnGraph file p next r → OnGraph file p also s → AgreeButForBudget r s
 one_on_graph r s file p next also rest (inl (_, is)) (inl (_, so)) = inl (is ∙ sym so)
@@ -150,6 +174,13 @@ module _ (fs : Files) (r s : Decision) where
       (λ cs h k. inl (h ∙ sym k)) h k) h k
   one_outcome (tag file author) h k =
       one_on_untagged file author (λ p. r ≡ prints Done (text p)) (λ p. s ≡ prints Done (text p)) (λ p h k. inl (h ∙ sym k)) h k
+
+  one_outcome (sample seed parts) (size, h) (size_too, k) =
+      let three = made.sample seed parts in
+      let is = is_sample seed parts size in
+      one_on_graphs r s (codes "base") three.base (codes "A") three.a (codes "B") three.b
+      (IsSampled seed parts three.base three.a three.b r) (IsSampled seed parts three.base three.a three.b s)
+      (λ h k. one_sampled seed parts r s three.base three.a three.b is.a is.b h k) h k
 
 pub one_decision : (request : Option Request) (fs : Files) (r s : Decision) → Outcome request fs r → Outcome request fs s → AgreeButForBudget r s
 one_decision None fs r s h k = inl (h ∙ sym k)

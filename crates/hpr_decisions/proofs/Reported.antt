@@ -1,5 +1,5 @@
 -- The calls that print no program: what the status tells.
-use Rattle.std.proofs.Common.{◌≡◌, ℕ, Bool, true, false, List, refl, ap, ◌∙◌, subst, inl, inr, ◌⊎◌, Some, Ok, Err, Result}
+use Rattle.std.proofs.Common.{◌≡◌, ℕ, Bool, true, false, List, refl, ap, ◌∙◌, subst, inl, inr, ◌⊎◌, Some, Ok, Err, Result, codes}
 use Rattle.hpr_terms.specs.declared.limits.TheConstants.{DEFAULT_TRIES}
 use Rattle.hpr_io.specs.Counts.{Rose}
 use Rattle.hpr_io.specs.Files.{Files, bytes_of}
@@ -21,7 +21,7 @@ use Rattle.hpr_graph.specs.ProgramGraph.{graph_of}
 use Rattle.hpr_engine.specs.Limit.{AreInLimit, HasTooManyEdges}
 use Rattle.hpr_engine.proofs.PrintedKeeps.{sides_kept}
 use Rattle.hpr_report.specs.ConflictsText.{conflicts_text}
-use Rattle.hpr_words.specs.Request.{Request, Text, integrate, run, graph, slice, affected, trial, edit, tag}
+use Rattle.hpr_words.specs.Request.{Request, Text, integrate, run, graph, slice, affected, trial, edit, tag, sample}
 use Rattle.hpr_inputs.specs.Decision.{Decision, OnRead, Prints, prints, refuses}
 use Rattle.hpr_decisions.specs.Ends.{Change, Ends, Decided, status_of, text_of}
 use Rattle.hpr_decisions.specs.Graphs.{OnGraph}
@@ -35,6 +35,9 @@ use Rattle.hpr_decisions.specs.EditFiles.{edit_decision}
 use Rattle.hpr_decisions.specs.Reports.{HasAnswer, HasConflict, IsInterference, tries_of}
 use Rattle.hpr_inputs.specs.States.{OnState, RefusedWord, states_of}
 use Rattle.hpr_decisions.specs.RunFile.{kind_of}
+use Rattle.hpr_sample.specs.Sample as made_by
+use Rattle.hpr_sample.proofs.SamplePrograms.{is_sample}
+use Rattle.hpr_decisions.specs.Sampled.{IsSampled, sample_report}
 use Rattle.hpr_decisions.specs.TrialFiles.{IsTrialBy, IsTried, ShowsIf, Tried, have_ended, steps_together}
 use Rattle.hpr_inputs.specs.declared.answer.Kind.TheVariants as kind
 use Rattle.hpr_decisions.specs.declared.status.Status.{Status}
@@ -53,6 +56,8 @@ answer_outcome (trial base a b words steps) fs cs (state, told, h) =
     let d = prints kind.Interference (conflicts_text cs) in
     on_state (states_of words) state told (λ t d. OnFiles fs base a b (λ p q r. Tried base p a q b r t steps d) d) d
     (inr (h.p, h.base_is, inr (h.q, h.a_is, inr (h.r, h.b_is, inr (h.within.0, inr (h.within.1.0, inr (h.within.1.1, (interference cs, h.answer, refl))))))))
+answer_outcome (sample seed parts) fs cs h =
+    (h.size, inr (h.within.0, inr (h.within.1.0, inr (h.within.1.1, (interference cs, h.answer, refl)))))
 answer_outcome _ fs cs h = absurd h
 
 -- the statuses that only an answer without a program has
@@ -112,6 +117,12 @@ module _ (fs : Files) (d : Decision) (is : IsReport (status_of d)) where
   past_trial p q r state steps (no_program n) h = h
   past_trial p q r state steps spent h = h
 
+  past_sample : (seed parts : ℕ) (p q r : Tree) (x : Answer) → d ≡ sample_report seed parts p q r x → d ≡ report DEFAULT_TRIES x
+  past_sample seed parts p q r (interference cs) h = h
+  past_sample seed parts p q r (printed m) h = absurd (subst (λ (r : Decision). IsReport (status_of r)) h is)
+  past_sample seed parts p q r (no_program n) h = h
+  past_sample seed parts p q r spent h = h
+
   past_files : (base a b : List ℕ) (next : Tree → Tree → Tree → Type 0) → OnFiles fs base a b next d
       → (p q r : Tree) × IsFileOf (bytes_of fs base) p × IsFileOf (bytes_of fs a) q × IsFileOf (bytes_of fs b) r × next p q r
   past_files base a b next o =
@@ -162,6 +173,11 @@ module _ (fs : Files) (d : Decision) (is : IsReport (status_of d)) where
       let bytes = bytes_of fs file in
       let (p, file_is, shown) = past_read (IsRefusedIn (untagged author) file bytes) (IsFileIn (untagged author) bytes) (λ p. d ≡ prints kind.Done (text p)) o in
       absurd (not_done (λ bytes. bytes ≡ text p) (text p, refl, shown))
+
+  reports (sample seed parts) (size, on_graphs) =
+      let three = made_by.sample seed parts in
+      let (few, (x, answer, shown)) = past_graphs (codes "base") three.base (codes "A") three.a (codes "B") three.b _ on_graphs in
+      (x, record { size = size; within = few; answer = answer }, past_sample seed parts three.base three.a three.b x shown)
 
 -- which answer it is, its status tells
 interference_of : (tries : ℕ) (x : Answer) → status.Interference ≡ status_of (report tries x) → (cs : List Conflict) × (x ≡ interference cs)
@@ -224,6 +240,11 @@ module _ (p q r : Tree) (is_p : IsProgram p) (is_q : IsProgram q) (is_r : IsProg
       let same : d ≡ report DEFAULT_TRIES (interference cs) = subst (λ (y : Answer). IsTrialBy p q r state steps y d) e by in
       ap status_of same
 
+  sampled_conflicting : (seed parts : ℕ) (d : Decision) → IsSampled seed parts p q r d → status_of d ≡ status.Interference
+  sampled_conflicting seed parts d (x, answer, shown) =
+      let (cs, e) = conflicting DEFAULT_TRIES x answer in
+      ap status_of shown ∙ ap (λ y. status_of (sample_report seed parts p q r y)) e
+
 conflict_outcome : (request : Request) (fs : Files) (d : Decision) → HasConflict request fs → RequestOutcome request fs d → status_of d ≡ status.Interference
 conflict_outcome (integrate base a b tries) fs d h o =
     let on_graphs = of_programs fs base a b (λ p q r. Integrated base p a q b r tries d) d h.p h.q h.r o h.base_is h.a_is h.b_is in
@@ -234,6 +255,11 @@ conflict_outcome (trial base a b words steps) fs d (state, told, h) o =
     let on_graphs = of_programs fs base a b (λ p q r. Tried base p a q b r state steps d) d h.p h.q h.r on_files h.base_is h.a_is h.b_is in
     tried_conflicting h.p h.q h.r h.base_is.program h.a_is.program h.b_is.program h.side h.point h.conflict state steps d
     (of_program_graphs base h.p a h.q b h.r (IsTried h.p h.q h.r state steps d) d h.within on_graphs)
+conflict_outcome (sample seed parts) fs d h o =
+    let three = made_by.sample seed parts in
+    let is = is_sample seed parts h.size in
+    sampled_conflicting three.base three.a three.b is.base is.a is.b h.side h.point h.conflict seed parts d
+    (of_program_graphs (codes "base") three.base (codes "A") three.a (codes "B") three.b (IsSampled seed parts three.base three.a three.b d) d h.within o.1)
 conflict_outcome _ fs d h o = absurd h
 
 module _ (request : Request) (fs : Files) (reads : List ℕ → Type 0) (before now : ℕ) (out err : Change) where

@@ -1,12 +1,12 @@
 -- For each request and all files there is a decision.
-use Rattle.std.proofs.Common.{◌≡◌, ℕ, Option, Some, None, IfSome, refl, arith}
+use Rattle.std.proofs.Common.{◌≡◌, ℕ, Option, Some, None, IfSome, refl, arith, codes}
 use Rattle.hpr_terms.specs.declared.limits.TheConstants.{DEFAULT_TRIES}
 use Rattle.hpr_io.specs.Files.{Files}
 use Rattle.hpr_syntax.specs.Print.{text}
 use Rattle.hpr_syntax.specs.Tree.{Tree}
 use Rattle.hpr_graph.specs.Answer.{Answer, IsAnswer}
 use Rattle.hpr_edit.specs.Applied.{applied}
-use Rattle.hpr_words.specs.Request.{Request, integrate, run, graph, slice, affected, trial, edit, tag, IsInRange}
+use Rattle.hpr_words.specs.Request.{Request, integrate, run, graph, slice, affected, trial, edit, tag, sample, IsInRange}
 use Rattle.hpr_decisions.specs.AffectedFiles.{AffectedPoints}
 use Rattle.hpr_inputs.specs.Decision.{Decision, prints, usage}
 use Rattle.hpr_decisions.specs.GraphFile.{Graphed}
@@ -18,6 +18,10 @@ use Rattle.hpr_decisions.specs.RunFile.{Ran}
 use Rattle.hpr_decisions.specs.SliceFile.{Sliced}
 use Rattle.hpr_inputs.specs.States.{states_of}
 use Rattle.hpr_decisions.specs.TrialFiles.{IsTried, Tried}
+use Rattle.hpr_sample.specs.Sample as made
+use Rattle.hpr_sample.specs.Sample.{IsSampleSize}
+use Rattle.hpr_sample.proofs.SamplePrograms.{is_sample}
+use Rattle.hpr_decisions.specs.Sampled.{IsSampled, sample_report}
 use Rattle.hpr_inputs.specs.declared.answer.Kind.TheVariants.{Done}
 use Rattle.hpr_engine.proofs.SomeAnswer.{some_answer}
 use Rattle.hpr_decisions.proofs.TotalFiles.{on_script, on_untagged}
@@ -27,6 +31,9 @@ use Rattle.hpr_inputs.proofs.SomeDecision.{HasOne, on_file, on_files, on_state}
 
 reported : (p q s : Tree) (tries : ℕ) → ¬ (¬ ((x : Answer) × IsAnswer p q s tries x)) → HasOne (IsReported p q s tries)
 reported p q s tries some n = some (λ x. n (report tries x.0, (x.0, x.1, refl)))
+
+sampled : (seed parts : ℕ) (p q s : Tree) → ¬ (¬ ((x : Answer) × IsAnswer p q s DEFAULT_TRIES x)) → HasOne (IsSampled seed parts p q s)
+sampled seed parts p q s some n = some (λ x. n (sample_report seed parts p q s x.0, (x.0, x.1, refl)))
 
 module _ (fs : Files) where
   request_decided : (request : Request) → IsInRange request → HasOne (RequestOutcome request fs)
@@ -50,6 +57,14 @@ module _ (fs : Files) where
       on_script fs words (λ cs r. r ≡ edit_decision words (applied p cs author)) (λ cs n. n (edit_decision words (applied p cs author), refl)))
   request_decided (tag file author) range =
       on_untagged fs file author (λ p r. r ≡ prints Done (text p)) (omega (arith, range.1)) (λ p _ n. n (prints Done (text p), refl))
+
+  request_decided (sample seed parts) range n =
+      let three = made.sample seed parts in
+      let size : IsSampleSize parts = (range.1, range.2) in
+      let is = is_sample seed parts size in
+      on_graphs (codes "base") three.base (codes "A") three.a (codes "B") three.b (IsSampled seed parts three.base three.a three.b)
+      (sampled seed parts three.base three.a three.b (some_answer three.base three.a three.b is.base is.a is.b DEFAULT_TRIES))
+      (λ found. n (found.0, (size, found.1)))
 
 pub has_decision : (request : Option Request) (fs : Files) → IfSome request IsInRange → ¬ (¬ ((r : Decision) × Outcome request fs r))
 has_decision None fs range n = n (usage, refl)

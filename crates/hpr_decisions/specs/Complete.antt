@@ -6,6 +6,7 @@
 -- IsOtherText base a b other bytes  == the text of the variant `other` with its finals ascending and, for each author, the greatest issued number of the three
 -- Runs p state steps trace old new s == the status is that of how the run went, and `out` took its text in full
 -- Tries base a b state steps old new s == the status and the text are those of a decision on the trial of the three programs
+-- Samples seed parts old new s == the status and the text are those of a decision on the sample
 -- RequestCompletes request files .. == that, where no state word is refused, each file of the request is of an accepted length and spells a program, or a
 --                                      script that is one of which no command is refused, no graph that the request needs has too many edges, and each
 --                                      point is named
@@ -42,7 +43,9 @@ use Rattle.hpr_decisions.specs.RunFile.{kind_of}
 use Rattle.hpr_inputs.specs.States.{states_of}
 use Rattle.hpr_decisions.specs.TraceText.{run_text}
 use Rattle.hpr_decisions.specs.TrialFiles.{IsTried}
-use Rattle.hpr_words.specs.Request.{Request, integrate, run, graph, slice, affected, trial, edit, tag}
+use Rattle.hpr_sample.specs.Sample as made
+use Rattle.hpr_decisions.specs.Sampled.{IsSampled}
+use Rattle.hpr_words.specs.Request.{Request, integrate, run, graph, slice, affected, trial, edit, tag, sample}
 use Rattle.hpr_decisions.specs.declared.status.Status.{Status}
 use Rattle.hpr_decisions.specs.declared.status.Status.TheVariants.{Done, Refused, Spent, Memory}
 
@@ -64,6 +67,11 @@ Runs p state steps trace old new s =
 
 abbrev pub Tries : Tree → Tree → Tree → Values → ℕ → Option (List ℕ) → Option (List ℕ) → Status → Type 0
 Tries base a b state steps old new s = (d : Decision) × IsTried base a b state steps d × (s ≡ status_of d) × (new ≡ taken_then old (text_of d))
+
+abbrev pub Samples : (seed parts : ℕ) → Option (List ℕ) → Option (List ℕ) → Status → Type 0
+Samples seed parts old new s =
+    let three = made.sample seed parts in
+    (d : Decision) × IsSampled seed parts three.base three.a three.b d × (s ≡ status_of d) × (new ≡ taken_then old (text_of d))
 
 abbrev pub RequestCompletes : Request → Files → Option (List ℕ) → Option (List ℕ) → Status → Type 0
 RequestCompletes (integrate base a b tries) files old new s =
@@ -87,6 +95,8 @@ RequestCompletes (edit file script author) files old new s =
     → DonePrinting (λ bytes. bytes ≡ text q) old new s
 RequestCompletes (tag file author) files old new s =
     (p : Tree) → IsFileIn (untagged author) (bytes_of files file) p → DonePrinting (λ bytes. bytes ≡ text p) old new s
+RequestCompletes (sample seed parts) files old new s =
+    let three = made.sample seed parts in AreInLimit three.base three.a three.b → Samples seed parts old new s
 
 abbrev pub PrintsOther : Request → Files → Option (List ℕ) → Option (List ℕ) → Status → Type 0
 PrintsOther (integrate base a b tries) files old new s =

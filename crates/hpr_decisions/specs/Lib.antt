@@ -8,6 +8,7 @@ pub mod SliceFile
 pub mod AffectedFiles
 pub mod EditFiles
 pub mod TrialFiles
+pub mod Sampled
 pub mod Outcome
 pub mod Answered
 pub mod Ends

@@ -9,7 +9,7 @@
 -- HasDecision                    == it can't be refuted that the words and the files make a decision, where a request is in range
 use Rattle.std.specs.Prelude.{◌≡◌, ◌⊎◌, ℕ, List, Option, Some, None, IfSome}
 use Rattle.hpr_io.specs.Files.{Files}
-use Rattle.hpr_words.specs.Request.{Request, integrate, run, graph, slice, affected, trial, edit, tag, IsInRange}
+use Rattle.hpr_words.specs.Request.{Request, integrate, run, graph, slice, affected, trial, edit, tag, sample, IsInRange}
 use Rattle.hpr_inputs.specs.Decision.{Decision, prints, usage}
 use Rattle.hpr_decisions.specs.Integrate.{IntegrateOutcome}
 use Rattle.hpr_decisions.specs.RunFile.{RunOutcome}
@@ -18,6 +18,7 @@ use Rattle.hpr_decisions.specs.SliceFile.{SliceOutcome}
 use Rattle.hpr_decisions.specs.AffectedFiles.{AffectedOutcome}
 use Rattle.hpr_decisions.specs.TrialFiles.{TrialOutcome}
 use Rattle.hpr_decisions.specs.EditFiles.{EditOutcome, TagOutcome}
+use Rattle.hpr_decisions.specs.Sampled.{SampleOutcome}
 use Rattle.hpr_inputs.specs.declared.answer.Kind.TheVariants.{Done, NoProgram, Spent, NotEnded}
 
 abbrev pub RequestOutcome : Request → Files → Decision → Type 0
@@ -29,6 +30,7 @@ RequestOutcome (affected base a) files r = AffectedOutcome files base a r
 RequestOutcome (trial base a b states steps) files r = TrialOutcome files base a b states steps r
 RequestOutcome (edit file script author) files r = EditOutcome files file script author r
 RequestOutcome (tag file author) files r = TagOutcome files file author r
+RequestOutcome (sample seed parts) files r = SampleOutcome seed parts r
 
 abbrev pub Outcome : Option Request → Files → Decision → Type 0
 Outcome None files r = r ≡ usage

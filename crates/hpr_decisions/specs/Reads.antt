@@ -6,7 +6,7 @@
 --                             words is refused
 use Rattle.std.specs.Prelude.{◌≡◌, List, [], ◌∷◌, Option, Some, None, IsOk}
 use Rattle.hpr_io.specs.Files.{Files}
-use Rattle.hpr_words.specs.Request.{Request, Text, integrate, run, graph, slice, affected, trial, edit, tag}
+use Rattle.hpr_words.specs.Request.{Request, Text, integrate, run, graph, slice, affected, trial, edit, tag, sample}
 use Rattle.hpr_inputs.specs.Reads.{IsReached}
 use Rattle.hpr_inputs.specs.States.{states_of}
 
@@ -19,6 +19,7 @@ files_of (affected base a) = base ∷ a ∷ []
 files_of (trial base a b states steps) = base ∷ a ∷ b ∷ []
 files_of (edit file script author) = file ∷ script ∷ []
 files_of (tag file author) = file ∷ []
+files_of (sample seed parts) = []
 
 abbrev pub files_of_taken : Option Request → List Text
 files_of_taken None = []
@@ -33,6 +34,7 @@ MayRead (affected base a) told file = IsReached told (base ∷ a ∷ []) file
 MayRead (trial base a b states steps) told file = IsReached told (base ∷ a ∷ b ∷ []) file × IsOk (states_of states)
 MayRead (edit named script author) told file = IsReached told (named ∷ script ∷ []) file
 MayRead (tag named author) told file = file ≡ named
+MayRead (sample seed parts) told file = ⊥
 
 abbrev pub MayReadIfTaken : Option Request → Option Files → Text → Type 0
 MayReadIfTaken None told file = ⊥

@@ -2,9 +2,11 @@
 --
 -- tries_of request              == the budget of tries of its integration
 -- AnswersFiles base a b tries x == the bytes of three files spell programs whose graphs are within the limit, and x is an answer of their integration
--- HasAnswer request files x     == for `integrate`, and for `trial` where no state word is refused: x is such an answer
+-- AnswersSample seed parts x    == the graphs of the programs of the sample are within the limit, and x is an answer of their integration
+-- HasAnswer request files x     == for `integrate`, and for `trial` where no state word is refused, or for `sample`: x is such an answer
 -- ConflictsIn base a b          == the bytes of three files spell programs whose graphs are within the limit, and a point of one side is a conflict
--- HasConflict request files     == for `integrate`, and for `trial` where no state word is refused: there is such a point
+-- ConflictsInSample seed parts   == the same of the programs of the sample
+-- HasConflict request files     == for `integrate`, and for `trial` where no state word is refused, or for `sample`: there is such a point
 -- IsInterference cs old new s   == the status is Interference, and `out` took the text of all these conflicts
 use Rattle.std.specs.Prelude.{◌≡◌, ℕ, List, Option, Ok}
 use Rattle.hpr_terms.specs.declared.limits.TheConstants.{DEFAULT_TRIES}
@@ -20,7 +22,9 @@ use Rattle.hpr_graph.specs.Conflicts.{IsConflictAt, graph_on}
 use Rattle.hpr_graph.specs.ProgramGraph.{graph_of}
 use Rattle.hpr_engine.specs.Limit.{AreInLimit}
 use Rattle.hpr_report.specs.ConflictsText.{conflicts_text}
-use Rattle.hpr_words.specs.Request.{Request, integrate, trial}
+use Rattle.hpr_words.specs.Request.{Request, integrate, trial, sample}
+use Rattle.hpr_sample.specs.Sample as made
+use Rattle.hpr_sample.specs.Sample.{IsSampleSize}
 use Rattle.hpr_refusals.specs.Refusals.{IsFileOf}
 use Rattle.hpr_inputs.specs.States.{states_of}
 use Rattle.hpr_decisions.specs.declared.status.Status.{Status}
@@ -40,10 +44,16 @@ pub record AnswersFiles (base a b : List ℕ) (tries : ℕ) (x : Answer) : Type 
   pub within : AreInLimit p q r
   pub answer : IsAnswer p q r tries x
 
+pub record AnswersSample (seed parts : ℕ) (x : Answer) : Type 0 where
+  pub size : IsSampleSize parts
+  pub within : AreInLimit (made.sample seed parts).base (made.sample seed parts).a (made.sample seed parts).b
+  pub answer : IsAnswer (made.sample seed parts).base (made.sample seed parts).a (made.sample seed parts).b DEFAULT_TRIES x
+
 abbrev pub HasAnswer : Request → Files → Answer → Type 0
 HasAnswer (integrate base a b tries) files x = AnswersFiles (bytes_of files base) (bytes_of files a) (bytes_of files b) tries x
 HasAnswer (trial base a b states steps) files x =
     (state : Values) × (states_of states ≡ Ok state) × AnswersFiles (bytes_of files base) (bytes_of files a) (bytes_of files b) DEFAULT_TRIES x
+HasAnswer (sample seed parts) files x = AnswersSample seed parts x
 HasAnswer _ files x = ⊥
 
 pub record ConflictsIn (base a b : List ℕ) : Type 0 where
@@ -58,10 +68,19 @@ pub record ConflictsIn (base a b : List ℕ) : Type 0 where
   pub point : Vertex
   pub conflict : IsConflictAt (merged_of p q r) (graph_on side (graph_of q) (graph_of r)) (graph_of p) point
 
+pub record ConflictsInSample (seed parts : ℕ) : Type 0 where
+  pub size : IsSampleSize parts
+  pub within : AreInLimit (made.sample seed parts).base (made.sample seed parts).a (made.sample seed parts).b
+  pub side : Side
+  pub point : Vertex
+  pub conflict : IsConflictAt (merged_of (made.sample seed parts).base (made.sample seed parts).a (made.sample seed parts).b)
+      (graph_on side (graph_of (made.sample seed parts).a) (graph_of (made.sample seed parts).b)) (graph_of (made.sample seed parts).base) point
+
 abbrev pub HasConflict : Request → Files → Type 0
 HasConflict (integrate base a b tries) files = ConflictsIn (bytes_of files base) (bytes_of files a) (bytes_of files b)
 HasConflict (trial base a b states steps) files =
     (state : Values) × (states_of states ≡ Ok state) × ConflictsIn (bytes_of files base) (bytes_of files a) (bytes_of files b)
+HasConflict (sample seed parts) files = ConflictsInSample seed parts
 HasConflict _ files = ⊥
 
 abbrev pub IsInterference : List Conflict → Option (List ℕ) → Option (List ℕ) → Status → Type 0

@@ -1,3 +1,4 @@
+use Rattle.hpr_app.proofs.SampleLemmas.{unread}
 use Rattle.hpr_app.proofs.commands.decide.Goals as goal
 
 pub returns-in-Integrate : goal.returns-in-Integrate
@@ -23,3 +24,6 @@ returns-in-Edit g c = rw c.in-Edit.is c.edit_file.ensures
 
 pub returns-in-Tag : goal.returns-in-Tag
 returns-in-Tag g c = rw c.in-Tag.is c.tag_file.ensures
+
+pub returns-in-Sample : goal.returns-in-Sample
+returns-in-Sample g c = rw c.in-Sample.is (unread _ _ _ _ c.sample_seed.result c.sample_seed.ensures)
