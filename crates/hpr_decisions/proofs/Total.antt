@@ -21,7 +21,7 @@ use Rattle.hpr_decisions.specs.TrialFiles.{IsTried, Tried}
 use Rattle.hpr_sample.specs.Sample as made
 use Rattle.hpr_sample.specs.Sample.{IsSampleSize}
 use Rattle.hpr_sample.proofs.SamplePrograms.{is_sample}
-use Rattle.hpr_decisions.specs.Sampled.{IsSampled, sample_report}
+use Rattle.hpr_decisions.specs.Sampled.{IsSampled, SampleOutcome, sample_report}
 use Rattle.hpr_inputs.specs.declared.answer.Kind.TheVariants.{Done}
 use Rattle.hpr_engine.proofs.SomeAnswer.{some_answer}
 use Rattle.hpr_decisions.proofs.TotalFiles.{on_script, on_untagged}
@@ -34,6 +34,14 @@ reported p q s tries some n = some (λ x. n (report tries x.0, (x.0, x.1, refl))
 
 sampled : (seed parts : ℕ) (p q s : Tree) → ¬ (¬ ((x : Answer) × IsAnswer p q s DEFAULT_TRIES x)) → HasOne (IsSampled seed parts p q s)
 sampled seed parts p q s some n = some (λ x. n (sample_report seed parts p q s x.0, (x.0, x.1, refl)))
+
+sample_decided : (seed parts : ℕ) → IsSampleSize parts → HasOne (SampleOutcome seed parts)
+sample_decided seed parts size n =
+    let three = made.sample seed parts in
+    let is = is_sample seed parts size in
+    on_graphs (codes "base") three.base (codes "A") three.a (codes "B") three.b (IsSampled seed parts three.base three.a three.b)
+    (sampled seed parts three.base three.a three.b (some_answer three.base three.a three.b is.base is.a is.b DEFAULT_TRIES))
+    (λ found. n (found.0, (size, found.1)))
 
 module _ (fs : Files) where
   request_decided : (request : Request) → IsInRange request → HasOne (RequestOutcome request fs)
@@ -58,13 +66,7 @@ module _ (fs : Files) where
   request_decided (tag file author) range =
       on_untagged fs file author (λ p r. r ≡ prints Done (text p)) (omega (arith, range.1)) (λ p _ n. n (prints Done (text p), refl))
 
-  request_decided (sample seed parts) range n =
-      let three = made.sample seed parts in
-      let size : IsSampleSize parts = (range.1, range.2) in
-      let is = is_sample seed parts size in
-      on_graphs (codes "base") three.base (codes "A") three.a (codes "B") three.b (IsSampled seed parts three.base three.a three.b)
-      (sampled seed parts three.base three.a three.b (some_answer three.base three.a three.b is.base is.a is.b DEFAULT_TRIES))
-      (λ found. n (found.0, (size, found.1)))
+  request_decided (sample seed parts) range = sample_decided seed parts (range.1, range.2)
 
 pub has_decision : (request : Option Request) (fs : Files) → IfSome request IsInRange → ¬ (¬ ((r : Decision) × Outcome request fs r))
 has_decision None fs range n = n (usage, refl)
