@@ -71,5 +71,29 @@ fn parts_line(
         ++ codes ": base " ++ decimal base ++ codes " parts, A " ++ decimal a ++ codes ", B " ++ decimal b
         ++ codes ", merged " ++ decimal merged ++ codes "\n") }
 {
-    format!(in alloc; "sample {seed} {parts}: base {base} parts, A {a}, B {b}, merged {merged}\n")
+    let mut line = begun(alloc, seed, parts)?;
+    let middle = bases(alloc, base, a)?;
+    line.push_str(middle.as_str())?;
+    let end = ended(alloc, b, merged)?;
+    line.push_str(end.as_str())?;
+    Ok(line)
+}
+
+fn begun(alloc: Global, seed: u64, parts: usize) -> Result<String, AllocError>
+    ensures { IfOk result (λ text. string_bytes text ≡ codes "sample " ++ decimal seed ++ codes " " ++ decimal parts
+        ++ codes ": base ") }
+{
+    format!(in alloc; "sample {seed} {parts}: base ")
+}
+
+fn bases(alloc: Global, base: usize, a: usize) -> Result<String, AllocError>
+    ensures { IfOk result (λ text. string_bytes text ≡ decimal base ++ codes " parts, A " ++ decimal a ++ codes ", B ") }
+{
+    format!(in alloc; "{base} parts, A {a}, B ")
+}
+
+fn ended(alloc: Global, b: usize, merged: usize) -> Result<String, AllocError>
+    ensures { IfOk result (λ text. string_bytes text ≡ decimal b ++ codes ", merged " ++ decimal merged ++ codes "\n") }
+{
+    format!(in alloc; "{b}, merged {merged}\n")
 }

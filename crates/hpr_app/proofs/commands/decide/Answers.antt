@@ -1,3 +1,4 @@
+use Rattle.hpr_decisions.specs.Sampled.{SampleOutcome}
 use Rattle.hpr_app.proofs.SampleLemmas.{unread}
 use Rattle.hpr_app.proofs.commands.decide.Goals as goal
 
@@ -26,4 +27,7 @@ pub returns-in-Tag : goal.returns-in-Tag
 returns-in-Tag g c = rw c.in-Tag.is c.tag_file.ensures
 
 pub returns-in-Sample : goal.returns-in-Sample
-returns-in-Sample g c = rw c.in-Sample.is (unread _ _ _ _ c.sample_seed.result c.sample_seed.ensures)
+returns-in-Sample g c =
+    rw c.in-Sample.is
+    (unread (g.S.Shelf.files c.args.shelf.now) (SampleOutcome c.in-Sample.seed c.in-Sample.parts) (λ file. ⊥) (g.S.Shelf.faults c.args.shelf.now)
+    c.sample_seed.result c.sample_seed.ensures)

@@ -1,5 +1,5 @@
 use Rattle.std.proofs.Common.{rules, append_assoc}
-use Rattle.hpr_app.proofs.sample.parts_line.Goals as goal
+use Rattle.hpr_app.proofs.sample.begun.Goals as goal
 
 pub returns : goal.returns
 returns c = search (rules, append_assoc)
