@@ -31,7 +31,7 @@ ghost use Rattle.hpr_decisions.specs.Outcome.{RequestOutcome, OutcomeIfTold};
 ghost use Rattle.hpr_inputs.specs.Decision.{refuses};
 ghost use Rattle.hpr_decisions.specs.Integrate.{no_program_text, spent_text};
 ghost use Rattle.hpr_decisions.specs.Complete.{RequestCompletes, PrintsOther, UnlessFailed, IsRefusedCall};
-ghost use Rattle.hpr_decisions.specs.Reports.{HasAnswer, HasConflict, IsInterference, tries_of};
+ghost use Rattle.hpr_decisions.specs.Reports.{HasAnswer, HasConflict, HasSpentLeaves, IsInterference, tries_of};
 ghost use Rattle.hpr_decisions.specs.Theorem.{KeepsMeaning};
 ghost use Rattle.hpr_decisions.specs.MergedText.{PrintsMerged};
 ghost use Rattle.hpr_decisions.specs.TrialKeeps.{EndsTrial, KeepsTrial};
@@ -112,6 +112,11 @@ pub fn hpr<S: Shelf, O: Sink, E: Sink>(
     ensures spent { WhereAsked words.now (S.files shelf.old) (λ asked files. result ≡ Status.Spent
         → HasAnswer asked files spent × (O.taken out.new ≡ taken_then (O.taken out.old)
         (spent_text (tries_of asked)))) }
+
+    // So it is of their leaves too: a front of a preorder that some part can't follow is one leaf, however many
+    // arrangements begin with it.
+    ensures leaves { WhereAsked words.now (S.files shelf.old) (λ asked files. result ≡ Status.Spent
+        → HasSpentLeaves asked files) }
 
     // Where no read failed, a call with a file that is refused gives its message, if memory was found.
     ensures refused { (message : List ℕ) → WhereAsked words.now (S.files shelf.old) (λ asked files.

@@ -15,6 +15,7 @@ use Rattle.hpr_graph.specs.declared.conflict.Conflict.{Conflict}
 use Rattle.hpr_graph.specs.declared.conflict.Side.{Side}
 use Rattle.hpr_graph.specs.declared.vertex.Vertex.{Vertex}
 use Rattle.hpr_graph.specs.Conflicts.{IsConflictAt, graph_on, number_of}
+use Rattle.hpr_graph.specs.Answer as answers
 use Rattle.hpr_graph.specs.Answer.{Answer, interference, printed, no_program, spent, IsAnswer, IsWithoutConflict, merged_of}
 use Rattle.hpr_graph.specs.Graphs.{Graph}
 use Rattle.hpr_graph.specs.ProgramGraph.{graph_of}
@@ -32,7 +33,7 @@ use Rattle.hpr_inputs.specs.Points.{OnPoints}
 use Rattle.hpr_edit.specs.Applied as made
 use Rattle.hpr_refusals.specs.Refusals.{IsFileIn, IsFileOf, IsRefused, IsRefusedIn, IsRefusedScript, IsScriptOf}
 use Rattle.hpr_decisions.specs.EditFiles.{edit_decision}
-use Rattle.hpr_decisions.specs.Reports.{HasAnswer, HasConflict, IsInterference, tries_of}
+use Rattle.hpr_decisions.specs.Reports.{AnswersFiles, HasAnswer, HasConflict, HasSpentLeaves, IsInterference, SpentIn, tries_of}
 use Rattle.hpr_inputs.specs.States.{OnState, RefusedWord, states_of}
 use Rattle.hpr_decisions.specs.RunFile.{kind_of}
 use Rattle.hpr_sample.specs.Sample as made_by
@@ -217,6 +218,21 @@ module _ (request : Request) (fs : Files) (d : Decision) (o : RequestOutcome req
       let e = spent_of (tries_of request) x (is ∙ ap status_of shown) in
       (subst (λ (y : Answer). HasAnswer request fs y) e has, shown ∙ ap (report (tries_of request)) e)
 
+-- an answer that the budget is spent says so of the leaves too
+leaves_of : (p q r : Tree) (tries : ℕ) → IsAnswer p q r tries spent → answers.HasSpentLeaves p q r tries
+leaves_of p q r tries (free, (rank, is, (ps, are, more, none, leaves))) = (rank, is, leaves)
+
+leaves_in : (base a b : List ℕ) (tries : ℕ) → AnswersFiles base a b tries spent → SpentIn base a b tries
+leaves_in base a b tries h =
+    record { p = h.p; q = h.q; r = h.r; base_is = h.base_is; a_is = h.a_is; b_is = h.b_is; spent = leaves_of h.p h.q h.r tries h.answer }
+
+spent_leaves : (request : Request) (fs : Files) → HasAnswer request fs spent → HasSpentLeaves request fs
+spent_leaves (integrate base a b tries) fs h = leaves_in (bytes_of fs base) (bytes_of fs a) (bytes_of fs b) tries h
+spent_leaves (trial base a b words steps) fs (state, told, h) = leaves_in (bytes_of fs base) (bytes_of fs a) (bytes_of fs b) DEFAULT_TRIES h
+spent_leaves (sample seed parts) fs h =
+    leaves_of (made_by.sample seed parts).base (made_by.sample seed parts).a (made_by.sample seed parts).b DEFAULT_TRIES h.answer
+spent_leaves _ fs h = absurd h
+
 -- where a point is a conflict, the answer is a list of conflicts
 module _ (p q r : Tree) (is_p : IsProgram p) (is_q : IsProgram q) (is_r : IsProgram r) (side : Side) (point : Vertex)
     (conflict : IsConflictAt (merged_of p q r) (graph_on side (graph_of q) (graph_of r)) (graph_of p) point) where
@@ -287,6 +303,10 @@ module _ (request : Request) (fs : Files) (reads : List ℕ → Type 0) (before 
       let d : Decided status.Spent Told before now out err = subst (λ x. Ends x Told reads before now out err) e h in
       let (has, shown) = shows_spent request fs d.r (d.outcome fs refl) d.status_is in
       (has, d.took ∙ ap (λ r. taken_then out.old (text_of r)) shown)
+
+  -- and then the leaves are spent too
+  pub leaves_ends : (s : Status) → s ≡ status.Spent → Ends s Told reads before now out err → HasSpentLeaves request fs
+  leaves_ends s e h = spent_leaves request fs (spent_ends s e h).0
 
   -- and comes wherever it has
   pub interferes_ends : (cs : List Conflict) → HasAnswer request fs (interference cs) → (Rose before now → ⊥) → (Rose out.before out.now → ⊥) → (s : Status)

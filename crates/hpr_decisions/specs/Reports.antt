@@ -7,6 +7,8 @@
 -- ConflictsIn base a b          == the bytes of three files spell programs whose graphs are within the limit, and a point of one side is a conflict
 -- ConflictsInSample seed parts   == the same of the programs of the sample
 -- HasConflict request files     == for `integrate`, and for `trial` where no state word is refused, or for `sample`: there is such a point
+-- SpentIn base a b tries        == the bytes of three files spell programs, whose arrangements have more leaves than tries, none of the first of which fits
+-- HasSpentLeaves request files  == for the same commands: it is so of their three programs
 -- IsInterference cs old new s   == the status is Interference, and `out` took the text of all these conflicts
 use Rattle.std.specs.Prelude.{◌≡◌, ℕ, List, Option, Ok}
 use Rattle.hpr_terms.specs.declared.limits.TheConstants.{DEFAULT_TRIES}
@@ -17,6 +19,7 @@ use Rattle.hpr_syntax.specs.Values.{Values}
 use Rattle.hpr_graph.specs.declared.conflict.Conflict.{Conflict}
 use Rattle.hpr_graph.specs.declared.conflict.Side.{Side}
 use Rattle.hpr_graph.specs.declared.vertex.Vertex.{Vertex}
+use Rattle.hpr_graph.specs.Answer as answer
 use Rattle.hpr_graph.specs.Answer.{Answer, IsAnswer, merged_of}
 use Rattle.hpr_graph.specs.Conflicts.{IsConflictAt, graph_on}
 use Rattle.hpr_graph.specs.ProgramGraph.{graph_of}
@@ -82,6 +85,22 @@ HasConflict (trial base a b states steps) files =
     (state : Values) × (states_of states ≡ Ok state) × ConflictsIn (bytes_of files base) (bytes_of files a) (bytes_of files b)
 HasConflict (sample seed parts) files = ConflictsInSample seed parts
 HasConflict _ files = ⊥
+
+pub record SpentIn (base a b : List ℕ) (tries : ℕ) : Type 0 where
+  pub p : Tree
+  pub q : Tree
+  pub r : Tree
+  pub base_is : IsFileOf base p
+  pub a_is : IsFileOf a q
+  pub b_is : IsFileOf b r
+  pub spent : answer.HasSpentLeaves p q r tries
+
+abbrev pub HasSpentLeaves : Request → Files → Type 0
+HasSpentLeaves (integrate base a b tries) files = SpentIn (bytes_of files base) (bytes_of files a) (bytes_of files b) tries
+HasSpentLeaves (trial base a b states steps) files = SpentIn (bytes_of files base) (bytes_of files a) (bytes_of files b) DEFAULT_TRIES
+HasSpentLeaves (sample seed parts) files =
+    answer.HasSpentLeaves (made.sample seed parts).base (made.sample seed parts).a (made.sample seed parts).b DEFAULT_TRIES
+HasSpentLeaves _ files = ⊥
 
 abbrev pub IsInterference : List Conflict → Option (List ℕ) → Option (List ℕ) → Status → Type 0
 IsInterference cs old new s = (s ≡ Interference) × (new ≡ taken_then old (conflicts_text cs))

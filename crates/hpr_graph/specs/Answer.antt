@@ -16,10 +16,12 @@
 -- searched_graph_of base vs    == what is searched: the graph that a program is to have
 -- IsSearchedRankOf base vs r   == the rank by which its arrangements are tried
 -- searched_issued_of base vs   == the issued numbers that a program gets
+-- HasSpentLeavesOf base vs tries == by a rank of what is searched, its arrangements have more leaves than tries, and none of the first
+--                          `tries` fits
 -- AreWithoutConflict at base vs == the list of conflicts is empty, where `at` tells their variant, point and edge
 -- IsAnswerBy at base vs tries r == all conflicts where there is one; else what is found for what is searched
 -- merged_of base a b, issued_of base a b, searched_graph base a b, IsSearchedRank base a b r, searched_issued base a b,
--- IsWithoutConflict base a b, IsAnswer base a b tries r == these of two variants
+-- HasSpentLeaves base a b tries, IsWithoutConflict base a b, IsAnswer base a b tries r == these of two variants
 use Rattle.std.specs.Prelude.{◌≡◌, ℕ, ◌<◌, ◌↔◌, List, [], ◌∷◌, ◌++◌, map, Contains, length, take}
 use Rattle.hpr_syntax.specs.Issued.{Issued, raised_by}
 use Rattle.hpr_syntax.specs.Tree.{Tree}
@@ -88,6 +90,10 @@ IsSearchedRankOf base vs r = IsRankOf base vs r
 abbrev pub searched_issued_of : Tree → List Tree → Issued
 searched_issued_of base vs = issued_of_all base vs
 
+abbrev pub HasSpentLeavesOf : Tree → List Tree → ℕ → Type 0
+HasSpentLeavesOf base vs tries =
+    (rank : List Vertex) × IsSearchedRankOf base vs rank × AreLeavesSpent (searched_graph_of base vs) rank (searched_issued_of base vs) tries
+
 abbrev pub AreWithoutConflict : {X : Type 0} → (X → ℕ × Vertex × Edge) → Tree → List Tree → Type 0
 AreWithoutConflict at base vs = AreConflictsBy at (graph_of base) (graphs_of vs) []
 
@@ -118,6 +124,9 @@ IsSearchedRank base a b r = IsSearchedRankOf base (a ∷ b ∷ []) r
 
 abbrev pub searched_issued : Tree → Tree → Tree → Issued
 searched_issued base a b = searched_issued_of base (a ∷ b ∷ [])
+
+abbrev pub HasSpentLeaves : Tree → Tree → Tree → ℕ → Type 0
+HasSpentLeaves base a b tries = HasSpentLeavesOf base (a ∷ b ∷ []) tries
 
 abbrev pub IsWithoutConflict : Tree → Tree → Tree → Type 0
 IsWithoutConflict base a b = AreWithoutConflict told_as base (a ∷ b ∷ [])

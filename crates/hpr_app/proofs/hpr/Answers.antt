@@ -5,7 +5,7 @@ use Rattle.hpr_decisions.specs.Theorem.{KeepsMeaning}
 use Rattle.hpr_decisions.specs.MergedText.{PrintsMerged}
 use Rattle.hpr_decisions.specs.TrialKeeps.{KeepsTrial}
 use Rattle.hpr_decisions.proofs.EndsLemmas.{Ends-for, asked_ends, done_took}
-use Rattle.hpr_decisions.proofs.Reported.{conflict_ends, interference_ends, interferes_ends, no_program_ends, spent_ends}
+use Rattle.hpr_decisions.proofs.Reported.{conflict_ends, interference_ends, interferes_ends, leaves_ends, no_program_ends, spent_ends}
 use Rattle.hpr_decisions.proofs.Once.{asked_refused}
 use Rattle.hpr_decisions.proofs.Theorem.{request_keeps, request_fits}
 use Rattle.hpr_decisions.proofs.TrialTheorem.{trial_keeps, ends_trial}
@@ -59,6 +59,11 @@ returns-in-Ok-clause-no_program g c asked fs is told none =
 pub returns-in-Ok-clause-spent : goal.returns-in-Ok-clause-spent
 returns-in-Ok-clause-spent g c asked fs is told over =
     spent_ends asked fs _ _ _ _ _ _ over
+    (asked_ends _ asked _ (g.S.Shelf.files c.args.shelf.now) fs _ _ _ _ _ _ (sym c.in-Ok.ensures.taken) is told c.run_asked.ensures.ends)
+
+pub returns-in-Ok-clause-leaves : goal.returns-in-Ok-clause-leaves
+returns-in-Ok-clause-leaves g c asked fs is told over =
+    leaves_ends asked fs _ _ _ _ _ _ over
     (asked_ends _ asked _ (g.S.Shelf.files c.args.shelf.now) fs _ _ _ _ _ _ (sym c.in-Ok.ensures.taken) is told c.run_asked.ensures.ends)
 
 pub returns-in-Ok-clause-trial : goal.returns-in-Ok-clause-trial
