@@ -74,29 +74,46 @@ fn over_steady_sinks(
     put_told(told, &status, b"", b"")
 }
 
-// Makes the call over the files of the case, which has none afterwards.
-fn call(alloc: Global, case: &mut Case, words: &[String], told: &mut String) -> Option<()> {
-    let files = std::mem::replace(&mut case.files, Vec::new(alloc));
+// A file with its name, once more.
+fn copy_of(alloc: Global, name: &str, bytes: &[u8]) -> Option<(String, Vec<u8>)> {
+    let name = String::from_str(alloc, name).ok()?;
+    let bytes = Vec::from_slice(alloc, bytes).ok()?;
+    Some((name, bytes))
+}
+
+// The files of the case, once more.
+fn files_of(alloc: Global, case: &Case) -> Option<Vec<(String, Vec<u8>)>> {
+    let mut files = Vec::new(alloc);
+    for (name, bytes) in &case.files {
+        files.push(copy_of(alloc, name, bytes.as_slice())?).ok()?;
+    }
+    Some(files)
+}
+
+// The shelf of the case.
+fn memory_shelf(alloc: Global, case: &Case) -> Option<MemoryShelf> {
+    let files = files_of(alloc, case)?;
+    let failing = Vec::from_slice(alloc, case.failing.as_slice()).ok()?;
+    Some(MemoryShelf::new(files, failing))
+}
+
+// Makes the call over the files of the case.
+fn call(alloc: Global, case: &Case, words: &[String], told: &mut String) -> Option<()> {
     match case.steady {
-        Steady::None => {
-            let failing = std::mem::replace(&mut case.failing, Vec::new(alloc));
-            over_memory(
-                alloc,
-                case,
-                &mut MemoryShelf::new(files, failing),
-                words,
-                told,
-            )
-        }
+        Steady::None => over_memory(alloc, case, &mut memory_shelf(alloc, case)?, words, told),
         Steady::Shelf => {
-            over_steady_shelf(alloc, case, &mut SteadyShelf::new(files), words, told)
+            let mut shelf = SteadyShelf::new(files_of(alloc, case)?);
+            over_steady_shelf(alloc, case, &mut shelf, words, told)
         }
-        Steady::Sinks => over_steady_sinks(alloc, &mut SteadyShelf::new(files), words, told),
+        Steady::Sinks => {
+            let mut shelf = SteadyShelf::new(files_of(alloc, case)?);
+            over_steady_sinks(alloc, &mut shelf, words, told)
+        }
     }
 }
 
-/// Tells what the call with the words of a line comes to. The case has no files afterwards.
-pub(crate) fn tell(alloc: Global, case: &mut Case, line: &str, told: &mut String) -> Option<()> {
+/// Tells what the call with the words of a line comes to.
+pub(crate) fn tell(alloc: Global, case: &Case, line: &str, told: &mut String) -> Option<()> {
     let words = words(alloc, line)?;
     call(alloc, case, words.as_slice(), told)
 }

@@ -9,7 +9,7 @@
 //! - `! shelf CALLS`, `! out STEP ROOM CALLS` and `! err STEP ROOM CALLS` name the calls that fail, from 0 on, and the
 //!   most bytes that a sink takes in a call and in all;
 //! - `! steady shelf` and `! steady sinks` take a shelf and sinks that never fail, of which the sinks keep nothing;
-//! - `$ WORDS` makes the call.
+//! - `$ WORDS` makes the call; a case may make several, over the same files.
 //!
 //! In texts and words `\HH` is the byte of these hexadecimal digits, and `\` alone an empty word.
 #![tactic(auto)]
