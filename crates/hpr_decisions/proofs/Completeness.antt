@@ -186,7 +186,6 @@ request_completes (affected base a) fs old new s d is took o = λ p q hp hq few 
 request_completes (trial base a b words steps) fs old new s d is took o = λ state p q r told hp hq hr few. of_trial state p q r old new s fs base a b words steps d is took o told hp hq hr few
 request_completes (edit file script author) fs old new s d is took o = λ p q cs hp hs made. of_edit old new s fs d is took file script author p q cs o hp hs made
 request_completes (tag file author) fs old new s d is took o = λ p hp. of_tag old new s fs d is took file author p o hp
-
 request_completes (sample seed parts) fs old new s d is took o = λ few.
     (let three = made.sample seed parts in
     (d, of_program_graphs (codes "base") three.base (codes "A") three.a (codes "B") three.b (IsSampled seed parts three.base three.a three.b d) d few o.1, is, took))

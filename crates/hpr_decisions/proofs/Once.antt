@@ -174,7 +174,6 @@ module _ (fs : Files) (r s : Decision) where
       (λ cs h k. inl (h ∙ sym k)) h k) h k
   one_outcome (tag file author) h k =
       one_on_untagged file author (λ p. r ≡ prints Done (text p)) (λ p. s ≡ prints Done (text p)) (λ p h k. inl (h ∙ sym k)) h k
-
   one_outcome (sample seed parts) (size, h) (size_too, k) =
       let three = made.sample seed parts in
       let is = is_sample seed parts size in

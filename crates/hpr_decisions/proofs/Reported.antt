@@ -174,7 +174,6 @@ module _ (fs : Files) (d : Decision) (is : IsReport (status_of d)) where
       let bytes = bytes_of fs file in
       let (p, file_is, shown) = past_read (IsRefusedIn (untagged author) file bytes) (IsFileIn (untagged author) bytes) (λ p. d ≡ prints kind.Done (text p)) o in
       absurd (not_done (λ bytes. bytes ≡ text p) (text p, refl, shown))
-
   reports (sample seed parts) (size, on_graphs) =
       let three = made_by.sample seed parts in
       let (few, (x, answer, shown)) = past_graphs (codes "base") three.base (codes "A") three.a (codes "B") three.b _ on_graphs in

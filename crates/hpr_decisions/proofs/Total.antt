@@ -65,7 +65,6 @@ module _ (fs : Files) where
       on_script fs words (λ cs r. r ≡ edit_decision words (applied p cs author)) (λ cs n. n (edit_decision words (applied p cs author), refl)))
   request_decided (tag file author) range =
       on_untagged fs file author (λ p r. r ≡ prints Done (text p)) (omega (arith, range.1)) (λ p _ n. n (prints Done (text p), refl))
-
   request_decided (sample seed parts) range = sample_decided seed parts (range.1, range.2)
 
 pub has_decision : (request : Option Request) (fs : Files) → IfSome request IsInRange → ¬ (¬ ((r : Decision) × Outcome request fs r))

@@ -15,16 +15,16 @@ use std::alloc::Global;
 
 /// The integration of two variants of a program with their base: the first arrangement, by the rank of
 /// the parts, whose graph is the merged graph (Horwitz, Prins and Reps 1989). Its finals are ascending,
-/// and each author has the greatest of its three issued numbers. At least one try is allowed; each
-/// arrangement whose graph is compared is one (Horwitz, Prins and Reps 1989 leave the order open, and
-/// know no limit on edges and no budget). It keeps the meaning of both variants: from each state on which base and both
+/// and each author has the greatest of its three issued numbers. At least one try is allowed; an
+/// arrangement whose graph is compared is one, and so is a front of parts that is given up with all that begin
+/// with it (Horwitz, Prins and Reps 1989 leave the order open, and know no limit on edges and no budget). It keeps the meaning of both variants: from each state on which base and both
 /// variants end, it ends with what each variant changed and what all three agree on (Reps and Yang 1988).
 ///
 /// Refuses with `TooManyEdges` where a graph of the three programs has more than 1,000,000 edges, and
 /// names the first of base, A and B; else with `Interference` exactly where there is a conflict, and
 /// lists all of them; else with `NoProgram`, only where no program has the merged graph, and counts
 /// the graph's parts; else with `Spent`, only where there are more arrangements than tries and none of
-/// the first that many has the merged graph. `Memory` is want of memory.
+/// the first that many has the merged graph, and where it is so of their leaves. `Memory` is want of memory.
 pub fn integrate(
     alloc: Global,
     base: &Program,

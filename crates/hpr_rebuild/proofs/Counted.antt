@@ -8,8 +8,8 @@ use Rattle.hpr_graph.specs.Arrangements.{IsArrangement}
 use Rattle.hpr_graph.specs.Answer.{HasParts}
 use Rattle.hpr_graph.specs.Rank.{parts_of}
 use Rattle.hpr_order.proofs.Ranks.{parts_once}
-use Rattle.hpr_region.proofs.PartOrder.{part_says, says_part}
 use Rattle.hpr_rebuild.proofs.Parts.{parts_count}
+use Rattle.hpr_region.proofs.PartOrder.{part_says, says_part}
 
 pub parts_of_arrangement : (g : Graph) (issued : Issued) (p : Tree) → IsArrangement g issued p → HasParts g (part_count p.body)
 parts_of_arrangement g issued p is = (

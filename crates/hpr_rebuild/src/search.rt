@@ -65,15 +65,18 @@ fn first_candidate(mut candidates: Candidates, tries: u64) -> Result<Program, Re
 
 /// The first arrangement whose graph is this one (Horwitz, Prins and Reps 1989), with these issued
 /// numbers. Arrangements are the programs that the graph's parts and control edges allow, in the order
-/// of the ranks of their parts. Each that is made and judged is one try, of which at least one is
-/// allowed.
+/// of the ranks of their parts. They are searched part by part. A try, of which at least one is allowed, is
+/// an arrangement that was made and judged, or a front of parts behind which none has the graph, so that
+/// all that begin with it are given up.
 ///
 /// The rank has every part of the graph and nothing twice. Each part's serial is at least 1 and at most
 /// its author's issued number.
 ///
 /// `NoProgram` says that no program has the graph. `Spent` comes only where there are more
 /// arrangements than tries, and none of the first that many has the graph: with exactly as many
-/// arrangements as tries, all are judged, and the answer is `NoProgram`. `Memory` is want of memory.
+/// arrangements as tries, all are judged, and the answer is `NoProgram`. So it is of leaves, too: a leaf is
+/// a preorder cut behind its first part that clashes with those before it, and many arrangements may
+/// share one. `Memory` is want of memory.
 ///
 /// A try takes the graph of one program, which isn't kept. So memory doesn't grow with the tries.
 pub fn rebuild(

@@ -1,6 +1,5 @@
 //! The base of a sample.
-ghost use Rattle.std.specs.Prelude.{◌≡◌, ◌≢◌, ℕ, ◌<◌, ◌≤◌, ◌+◌, ◌-◌, ◌^◌, IfOk};
-ghost use Rattle.hpr_syntax.specs.BodyOf.{body_of};
+ghost use Rattle.std.specs.Prelude.{◌≡◌, ℕ, ◌<◌, ◌≤◌, ◌+◌, ◌-◌, ◌^◌, IfOk};
 ghost use Rattle.hpr_sample.specs.Draws.{Drawn};
 ghost use Rattle.hpr_sample.specs.Private.Making.{after, step};
 ghost use Rattle.hpr_sample.specs.Sample.{IsSampleSize, base_of, groups, variable_names};
