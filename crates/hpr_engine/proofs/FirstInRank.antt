@@ -10,7 +10,7 @@ use Rattle.hpr_graph.specs.Arrangements.{IsArrangement, IsEarlier, AreArrangemen
 use Rattle.hpr_graph.proofs.Lists.{contains_at, place_of, in_none, in_cons, in_here, in_later, get_longer}
 use Rattle.hpr_order.proofs.Ranks.{first_within, parts_once}
 use Rattle.hpr_rebuild.proofs.First.{at_middle, first_listed, in_front}
-use Rattle.hpr_rebuild.proofs.Parts.{part_says, says_part}
+use Rattle.hpr_region.proofs.PartOrder.{part_says, says_part}
 
 -- what stands so in one list stands so in the other
 abbrev pub KeepsOrder : List Vertex → List Vertex → Type 0

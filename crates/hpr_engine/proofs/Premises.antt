@@ -22,7 +22,7 @@ use Rattle.hpr_graph.specs.Answer.{graphs_of, merged_of_all, issued_of_all}
 use Rattle.hpr_order.specs.Arranging.{IsRanking, AreIssued}
 use Rattle.hpr_order.proofs.Ranks.{rank_has, rank_once}
 use Rattle.hpr_rebuild.specs.Settled.{AreProperIssued}
-use Rattle.hpr_rebuild.proofs.Parts.{says_part}
+use Rattle.hpr_region.proofs.PartOrder.{says_part}
 use Rattle.hpr_engine.proofs.Raised.{with_issued, program_raised}
 
 -- where no part is found that wasn't issued, each was
