@@ -34,8 +34,6 @@ returns-in_default-take_back-clause-none g c =
     let live = c.requires.live in
     let q = search.placed now in
     let same = c.walk.invariant.0 in
-    let follows = c.walk.invariant.1 in
-    let short = c.walk.invariant.2 in
     let state = c.walk.invariant.3 in
     let same_can : can ≡ search.can now = laws.same_can first now same in
     let none = none_of can fits n clash it live (search.can now) (search.size now) same_can (laws.same_size first now same) q c.walk.from c.in_default.ensures.none in
@@ -44,21 +42,13 @@ returns-in_default-take_back-clause-none g c =
 pub overflow_add-from : goal.overflow_add-from
 overflow_add-from g c =
     let search = g.T.Backtracking in
-    let laws = g.met.T.Backtracking in
     let first = c.args.search.now in
     let now = c.walk.search in
     let can = search.can first in
-    let fits = search.fits first in
     let n = search.size first in
-    let clash = search.clash first in
     let it = c.requires.choices in
-    let live = c.requires.live in
     let q = search.placed now in
-    let same = c.walk.invariant.0 in
     let follows = c.walk.invariant.1 in
-    let short = c.walk.invariant.2 in
-    let state = c.walk.invariant.3 in
-    let same_can : can ≡ search.can now = laws.same_can first now same in
     let last = c.in-Some-take_back.last in
     let q' = search.placed c.take_back.new.self in
     let p = popped can n q q' last it follows c.in-Some-take_back.ensures.last (omega arith) in
@@ -81,11 +71,9 @@ walk-smaller-in_default g c =
     let same = c.walk.invariant.0 in
     let follows = c.walk.invariant.1 in
     let short = c.walk.invariant.2 in
-    let state = c.walk.invariant.3 in
     let same_can : can ≡ search.can now = laws.same_can first now same in
     let last = c.in-Some-take_back.last in
     let q' = search.placed c.take_back.new.self in
-    let p = popped can n q q' last it follows c.in-Some-take_back.ensures.last (omega arith) in
     let none = none_of can fits n clash it live (search.can now) (search.size now) same_can (laws.same_size first now same) q c.walk.from c.in_default.ensures.none in
     fewer_up n c.walk.left (length q) (length q') c.walk.from last (omega (arith, ap length c.in-Some-take_back.ensures.last, length-append q' (last ∷ []))) (looked_past can fits n clash it live q q' last c.walk.from c.in-Some-take_back.ensures.last follows short none)
 
@@ -104,7 +92,6 @@ walk-preserved-in_default g c =
     let q = search.placed now in
     let same = c.walk.invariant.0 in
     let follows = c.walk.invariant.1 in
-    let short = c.walk.invariant.2 in
     let state = c.walk.invariant.3 in
     let same_can : can ≡ search.can now = laws.same_can first now same in
     let last = c.in-Some-take_back.last in
@@ -142,21 +129,11 @@ returns-then-left-eq0-clause-spent g c =
 pub walk-smaller-then-not-admissible : goal.walk-smaller-then-not-admissible
 walk-smaller-then-not-admissible g c =
     let search = g.T.Backtracking in
-    let laws = g.met.T.Backtracking in
     let first = c.args.search.now in
     let now = c.walk.search in
-    let can = search.can first in
-    let fits = search.fits first in
     let n = search.size first in
-    let clash = search.clash first in
-    let it = c.requires.choices in
-    let live = c.requires.live in
     let q = search.placed now in
-    let same = c.walk.invariant.0 in
-    let follows = c.walk.invariant.1 in
     let short = c.walk.invariant.2 in
-    let state = c.walk.invariant.3 in
-    let same_can : can ≡ search.can now = laws.same_can first now same in
     fewer_tries n c.walk.left (c.walk.left - 1) (length q) (length q) c.walk.from (c.in-Some.child + 1) (omega (arith, c.if-left-eq0.false)) short
 
 pub walk-preserved-then-not-admissible : goal.walk-preserved-then-not-admissible
@@ -190,21 +167,11 @@ walk-preserved-then-not-admissible g c =
 pub walk-smaller-then-count-size : goal.walk-smaller-then-count-size
 walk-smaller-then-count-size g c =
     let search = g.T.Backtracking in
-    let laws = g.met.T.Backtracking in
     let first = c.args.search.now in
     let now = c.walk.search in
-    let can = search.can first in
-    let fits = search.fits first in
     let n = search.size first in
-    let clash = search.clash first in
-    let it = c.requires.choices in
-    let live = c.requires.live in
     let q = search.placed now in
-    let same = c.walk.invariant.0 in
-    let follows = c.walk.invariant.1 in
     let short = c.walk.invariant.2 in
-    let state = c.walk.invariant.3 in
-    let same_can : can ≡ search.can now = laws.same_can first now same in
     let more = c.place.ensures.placed in
     fewer_down n c.walk.left (length q) (length (search.placed c.place.new.self)) c.walk.from (omega (arith, ap length more, length-append q (c.in-Some.child ∷ []))) short
 
@@ -223,7 +190,6 @@ walk-preserved-then-count-size g c =
     let q = search.placed now in
     let same = c.walk.invariant.0 in
     let follows = c.walk.invariant.1 in
-    let short = c.walk.invariant.2 in
     let state = c.walk.invariant.3 in
     let same_can : can ≡ search.can now = laws.same_can first now same in
     let d = c.in-Some.child in
@@ -254,7 +220,6 @@ judge-requires g c =
     let same = c.walk.invariant.0 in
     let follows = c.walk.invariant.1 in
     let short = c.walk.invariant.2 in
-    let state = c.walk.invariant.3 in
     let same_can : can ≡ search.can now = laws.same_can first now same in
     let d = c.in-Some.child in
     let next : IsNext can fits n clash it live q c.walk.from d = next_of can fits n clash it live (search.can now) same_can q c.walk.from d c.in-Some.ensures.from c.in-Some.ensures.ready c.in-Some.ensures.least in
@@ -298,23 +263,12 @@ returns-then-branch-clause-first g c =
 pub walk-smaller : goal.walk-smaller
 walk-smaller g c =
     let search = g.T.Backtracking in
-    let laws = g.met.T.Backtracking in
     let first = c.args.search.now in
     let now = c.walk.search in
-    let can = search.can first in
-    let fits = search.fits first in
     let n = search.size first in
-    let clash = search.clash first in
-    let it = c.requires.choices in
-    let live = c.requires.live in
     let q = search.placed now in
-    let same = c.walk.invariant.0 in
-    let follows = c.walk.invariant.1 in
     let short = c.walk.invariant.2 in
-    let state = c.walk.invariant.3 in
-    let same_can : can ≡ search.can now = laws.same_can first now same in
     let more = c.place.ensures.placed in
-    let len : length (search.placed c.place.new.self) ≡ length q + 1 = omega (arith, ap length more, length-append q (c.in-Some.child ∷ [])) in
     let back : search.placed c.take_back-in-walk.new.self ≡ q = taken_back c.take_back-in-walk.result (search.placed c.place.new.self) (search.placed c.take_back-in-walk.new.self) q c.in-Some.child
     c.take_back-in-walk.ensures.last c.take_back-in-walk.ensures.none more in
     fewer_tries n c.walk.left (c.walk.left - 1) (length q) (length (search.placed c.take_back-in-walk.new.self)) c.walk.from (c.in-Some.child + 1) (omega (arith, c.if-left-eq0.false)) (omega (arith, ap length back, short))
