@@ -8,7 +8,6 @@ pub mod PlaceIn
 pub mod PlaceTurns
 pub mod PlaceLaws
 pub mod PartedLaws
-pub mod InOrder
 pub mod NameRows
 pub mod BridgeNumbers
 pub mod BridgeVertices

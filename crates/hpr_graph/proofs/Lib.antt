@@ -20,3 +20,4 @@ pub mod InOrder
 mod Reordered
 pub mod PutInOrder
 pub mod NameOrder
+pub mod NamesOnce

@@ -10,7 +10,7 @@ use Rattle.hpr_syntax.specs.Issued.{Issued, IsIssued, issued_to}
 use Rattle.hpr_syntax.specs.Nests.{Says}
 use Rattle.hpr_syntax.specs.Parts.{tags_of}
 use Rattle.hpr_syntax.specs.Places.{StandsLeft}
-use Rattle.hpr_syntax.specs.Proper.{IsProperPair, IsProperBody}
+use Rattle.hpr_syntax.specs.Proper.{IsProperPair, IsProperIssued, IsProperBody}
 use Rattle.hpr_syntax.specs.Shape.{IsProgram, first_repeated_tag, first_unissued, first_deep, first_large, too_many}
 use Rattle.hpr_syntax.specs.Skeleton.{skeleton, at}
 use Rattle.hpr_syntax.specs.Tree.{Tree}
@@ -31,7 +31,7 @@ use Rattle.hpr_graph.proofs.Laws.{same_then}
 use Rattle.hpr_build.proofs.BridgeVertices.{finals_once}
 use Rattle.hpr_build.proofs.BridgeLeft.{independent_to_right, order_to_right}
 use Rattle.hpr_order.specs.Arranging.{AreIssued}
-use Rattle.hpr_rebuild.specs.Settled.{AreProperIssued, IsSettled}
+use Rattle.hpr_rebuild.specs.Settled.{IsSettled}
 use Rattle.hpr_rebuild.proofs.Names.{in_order, ascending_once, unrepeated}
 use Rattle.hpr_rebuild.proofs.Parts.{issued_all}
 use Rattle.hpr_rebuild.proofs.Alike.{settled_same}
@@ -43,7 +43,7 @@ settled issued p prog =
     (record { issued = issued; body = p.body; finals = ys }, record { body = refl; numbers = refl; names = moved; ascending = up })
 
 -- where each part's tag was issued, the settled program is a program
-pub settled_program : (issued : Issued) (p q : Tree) → IsProgram p → AreProperIssued issued
+pub settled_program : (issued : Issued) (p q : Tree) → IsProgram p → IsProperIssued issued
     → ((t : Tag) (c : Content) → Says p.body t c → (1 ≤ t.serial) × (t.serial ≤ issued_to t.author issued)) → IsSettled issued p q → IsProgram q
 settled_program issued p q prog (ascending, ranges) allowed s =
     let n = no_refusal p prog.shape in
@@ -109,7 +109,7 @@ outer_controls t (Final x) from label out there = (final_control t x from label,
 pub settled_fits : (g : Graph) (issued : Issued) (p q : Tree) → Fits g p → IsSettled issued p q → Fits g q
 settled_fits g issued p q fits s = same_then (graph_of q) (graph_of p) g (settled_same issued p q s) fits
 
-pub member : (g : Graph) (issued : Issued) (p q : Tree) → IsProgram p → Fits g p → AreProperIssued issued → AreIssued g issued → IsSettled issued p q
+pub member : (g : Graph) (issued : Issued) (p q : Tree) → IsProgram p → Fits g p → IsProperIssued issued → AreIssued g issued → IsSettled issued p q
     → IsArrangement g issued q
 member g issued p q prog fits proper allowed s =
     let new : Fits g q = settled_fits g issued p q fits s in
@@ -132,7 +132,7 @@ member g issued p q prog fits proper allowed s =
     }
 
 -- where no arrangement has the graph, no program has it
-pub none_has : (g : Graph) (rank : List Vertex) (issued : Issued) (ps : List Tree) → AreArrangements g rank issued ps → AreProperIssued issued → AreIssued g issued
+pub none_has : (g : Graph) (rank : List Vertex) (issued : Issued) (ps : List Tree) → AreArrangements g rank issued ps → IsProperIssued issued → AreIssued g issued
     → NoneFits g ps → HasNoProgram g
 none_has g rank issued ps are proper allowed none p prog fits =
     let (q, s) = settled issued p prog in

@@ -10,7 +10,8 @@ use Rattle.hpr_graph.specs.Arrangements.{IsArrangement}
 use Rattle.hpr_graph.specs.Answer.{Answer, interference, printed, no_program, spent, Fits, NoneFits, IsFirstFit, IsFound}
 use Rattle.hpr_graph.proofs.Lists.{in_here}
 use Rattle.hpr_order.specs.Arranging.{AreIssued}
-use Rattle.hpr_rebuild.specs.Settled.{AreProperIssued, IsSettled}
+use Rattle.hpr_syntax.specs.Proper.{IsProperIssued}
+use Rattle.hpr_rebuild.specs.Settled.{IsSettled}
 use Rattle.hpr_rebuild.proofs.Member.{member, settled_fits}
 use Rattle.hpr_rebuild.proofs.First.{settled_first}
 
@@ -28,7 +29,7 @@ not_spent g (suc k) ps qs q one fits e none =
     subst (λ (rs : List Tree). NoneFits g (take (suc k) rs)) e none q (in_here q (take k qs)) fits
 
 pub found_first : (g : Graph) (rank rest : List Vertex) (issued : Issued) (tries : ℕ) (r : Answer) (p q : Tree) → IsOnce rank → IsProgram p → Fits g p
-    → AreProperIssued issued → AreIssued g issued → IsSettled issued p q → rank ≡ parts_of p ++ rest → 1 ≤ tries → IsFound g rank issued tries r → r ≡ printed q
+    → IsProperIssued issued → AreIssued g issued → IsSettled issued p q → rank ≡ parts_of p ++ rest → 1 ≤ tries → IsFound g rank issued tries r → r ≡ printed q
 found_first g rank rest issued tries r p q once prog fits proper allowed s begins one found = at r found
   where
     is_q : IsArrangement g issued q

@@ -16,7 +16,7 @@ use Rattle.hpr_order.specs.Regions.{AreRegionsOf}
 use Rattle.hpr_order.specs.Arranging.{AreIssued}
 use Rattle.hpr_region.specs.declared.plan.Plan.{Plan}
 use Rattle.hpr_region.specs.Plans.{IsPlanOf, vertices_at}
-use Rattle.hpr_rebuild.specs.Settled.{AreProperIssued}
+use Rattle.hpr_syntax.specs.Proper.{IsProperIssued}
 
 abbrev pub FitsInOrder : Numbered → Issued → Plan → List ℕ → Type 0
 FitsInOrder g issued plan order = (p : Tree) × IsArrangement (graph_in g) issued p × (parts_of p ≡ vertices_at g plan order) × Fits (graph_in g) p
@@ -24,7 +24,7 @@ FitsInOrder g issued plan order = (p : Tree) × IsArrangement (graph_in g) issue
 pub record AreCandidates (g : Numbered) (regions : List (Option (ℕ × Bool))) (issued : Issued) (plan : Plan) : Type 0 where
   pub plan_of : (rank : List Vertex) × IsPlanOf g rank plan
   pub regions_of : AreRegionsOf g regions
-  pub proper : AreProperIssued issued
+  pub proper : IsProperIssued issued
   pub allowed : AreIssued (graph_in g) issued
 
 -- both stay where what they speak of stays

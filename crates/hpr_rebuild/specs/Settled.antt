@@ -1,17 +1,12 @@
 -- A program made an arrangement: with other issued numbers, and its finals in ascending order.
 --
--- AreProperIssued issued == the pairs are issued numbers, and each author and each number is in range
--- IsSettled issued p q   == q is p with these issued numbers and its finals in ascending order
-use Rattle.std.specs.Prelude.{◌≡◌, All}
+-- IsSettled issued p q == q is p with these issued numbers and its finals in ascending order
+use Rattle.std.specs.Prelude.{◌≡◌}
 use Rattle.std.specs.List.Sorted.{IsPermutation}
-use Rattle.hpr_syntax.specs.Issued.{Issued, IsIssued}
-use Rattle.hpr_syntax.specs.Proper.{IsProperPair}
+use Rattle.hpr_syntax.specs.Issued.{Issued}
 use Rattle.hpr_syntax.specs.Tree.{Tree}
 use Rattle.hpr_graph.specs.Order.{name_cmp}
 use Rattle.hpr_graph.specs.InOrder.{Ascends}
-
-abbrev pub AreProperIssued : Issued → Type 0
-AreProperIssued issued = IsIssued issued × All IsProperPair issued
 
 pub record IsSettled (issued : Issued) (p q : Tree) : Type 0 where
   pub body : p.body ≡ q.body

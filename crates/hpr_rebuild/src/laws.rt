@@ -18,14 +18,15 @@ ghost use Rattle.hpr_graph.specs.declared.edge.Edge.{Edge};
 ghost use Rattle.hpr_graph.specs.Answer.{Answer, AnswerBy, printed, Fits, NoneFits, HasNoProgram, HasParts, IsFound};
 ghost use Rattle.hpr_graph.specs.Answer.{merged_of, merged_of_all};
 ghost use Rattle.hpr_order.specs.Arranging.{AreIssued};
-ghost use Rattle.hpr_rebuild.specs.Settled.{AreProperIssued, IsSettled};
+ghost use Rattle.hpr_syntax.specs.Proper.{IsProperIssued};
+ghost use Rattle.hpr_rebuild.specs.Settled.{IsSettled};
 
 /// Each program can be settled: its issued numbers replaced, and its finals put in ascending order. Its
 /// graph stays the same, and where each part's tag was issued, it stays a program.
 pub fn settled_stays()
     ensures stands { (issued : Issued) (p : Tree) → IsProgram p → (q : Tree) × IsSettled issued p q }
     ensures graph { (issued : Issued) (p q : Tree) → IsSettled issued p q → Same (graph_of q) (graph_of p) }
-    ensures program { (issued : Issued) (p q : Tree) → IsProgram p → AreProperIssued issued
+    ensures program { (issued : Issued) (p q : Tree) → IsProgram p → IsProperIssued issued
         → ((t : Tag) (c : Content) → Says p.body t c → (1 ≤ t.serial) × (t.serial ≤ issued_to t.author issued))
         → IsSettled issued p q → IsProgram q }
 {}
@@ -34,10 +35,10 @@ pub fn settled_stays()
 /// numbers. So where no arrangement has the graph, no program has it.
 pub fn programs_are_arrangements()
     ensures member { (g : Numbered) (issued : Issued) (p q : Tree) → IsProgram p → Fits (graph_in g) p
-        → AreProperIssued issued → AreIssued (graph_in g) issued
+        → IsProperIssued issued → AreIssued (graph_in g) issued
         → IsSettled issued p q → IsArrangement (graph_in g) issued q }
     ensures none { (g : Numbered) (rank : List Vertex) (issued : Issued) (ps : List Tree)
-        → AreArrangements (graph_in g) rank issued ps → AreProperIssued issued
+        → AreArrangements (graph_in g) rank issued ps → IsProperIssued issued
         → AreIssued (graph_in g) issued → NoneFits (graph_in g) ps → HasNoProgram (graph_in g) }
 {}
 
@@ -52,7 +53,7 @@ pub fn arrangements_have_the_parts()
 pub fn first_by_rank()
     ensures { (g : Numbered) (rank rest : List Vertex) (issued : Issued) (ps : List Tree) (p q : Tree)
         → AreArrangements (graph_in g) rank issued ps → IsOnce rank
-        → IsProgram p → Fits (graph_in g) p → AreProperIssued issued → AreIssued (graph_in g) issued
+        → IsProgram p → Fits (graph_in g) p → IsProperIssued issued → AreIssued (graph_in g) issued
         → IsSettled issued p q → rank ≡ parts_of p ++ rest
         → (qs : List Tree) × (ps ≡ q ∷ qs) }
 {}
@@ -77,7 +78,7 @@ pub fn same_graphs_find_the_same()
 pub fn first_by_rank_is_found()
     ensures { (g : Numbered) (rank rest : List Vertex) (issued : Issued) (tries : ℕ) (r : Answer) (p q : Tree)
         → IsOnce rank → IsProgram p → Fits (graph_in g) p
-        → AreProperIssued issued → AreIssued (graph_in g) issued → IsSettled issued p q → rank ≡ parts_of p ++ rest
+        → IsProperIssued issued → AreIssued (graph_in g) issued → IsSettled issued p q → rank ≡ parts_of p ++ rest
         → 1 ≤ tries
         → IsFound (graph_in g) rank issued tries r → r ≡ printed q }
 {}

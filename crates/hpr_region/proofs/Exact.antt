@@ -1,17 +1,13 @@
 -- What may be placed next is what some arrangement has there, and what clashes is in no arrangement with the graph.
-use Rattle.std.proofs.Common.{◌≡◌, ℕ, zero, suc, ◌+◌, ◌-◌, ◌<◌, ◌≤◌, ◌==◌, ◌||◌, nat_lt, inl, inr, Bool, true, false, IsTrue, Option, Some, None, List, [], ◌∷◌, ◌++◌, map, length, slice_get, Contains, refl, sym, ap, ◌∙◌, subst, arith, append-nil, append_assoc, length-append}
-use Rattle.std.proofs.lemmas.Bool.Decides.{nat_tests}
+use Rattle.std.proofs.Common.{◌≡◌, ℕ, zero, suc, ◌+◌, ◌-◌, ◌<◌, ◌≤◌, Bool, true, false, IsTrue, Option, Some, List, [], ◌∷◌, ◌++◌, map, length, slice_get, Contains, refl, sym, ap, ◌∙◌, subst, arith, append-nil, append_assoc, length-append}
 use Rattle.std.proofs.lemmas.Option.{get_or_from_slice_get, slice_get_within}
 use Rattle.hpr_terms.specs.declared.tag.Tag.{Tag}
-use Rattle.hpr_terms.proofs.Facts.{some_inj, contains_at, get_below, get_in_map, get_map, if_none, place_of}
+use Rattle.hpr_terms.proofs.Facts.{some_inj, contains_at, get_below, get_in_map, get_map, place_of}
 use Rattle.hpr_syntax.specs.declared.rows.Content.{Content}
-use Rattle.hpr_syntax.specs.Body.{Body, done, action, branch, loop}
 use Rattle.hpr_syntax.specs.Issued.{Issued, issued_to}
-use Rattle.hpr_syntax.specs.Nests.{Says}
-use Rattle.hpr_syntax.specs.Parts.{tags_of}
-use Rattle.hpr_syntax.specs.Shape.{IsProgram, first_unissued, is_unissued}
+use Rattle.hpr_syntax.specs.Proper.{IsProperIssued}
 use Rattle.hpr_syntax.specs.Tree.{Tree}
-use Rattle.hpr_syntax.proofs.NoRefusal.{no_refusal}
+use Rattle.hpr_syntax.proofs.IssuedTags.{serial_of}
 use Rattle.hpr_graph.specs.declared.vertex.Vertex.{Vertex}
 use Rattle.hpr_graph.specs.declared.vertex.Vertex.TheVariants.{Entry, Part}
 use Rattle.hpr_graph.specs.Answer.{Fits}
@@ -24,7 +20,7 @@ use Rattle.hpr_forest.proofs.Unique.{in_first, in_later}
 use Rattle.hpr_order.specs.Arranging.{AreIssued}
 use Rattle.hpr_order.proofs.ListFacts.{map_append}
 use Rattle.hpr_region.specs.declared.plan.Plan.{Plan}
-use Rattle.hpr_region.specs.Plans.{BeginsWith, IsBegun, IsPlanOf, IsProperIssued, IsReady, State, clash_in, may_follow, number_at, numbers_at, placed_in, size_of, vertex_at, vertex_by, vertices_at}
+use Rattle.hpr_region.specs.Plans.{BeginsWith, IsBegun, IsPlanOf, IsReady, State, clash_in, may_follow, number_at, numbers_at, placed_in, size_of, vertex_at, vertex_by, vertices_at}
 use Rattle.hpr_region.proofs.ClashExcludes as law
 use Rattle.hpr_region.proofs.ClashTables as tables
 use Rattle.hpr_region.proofs.Searching.{follows_length, follows_within, number_of}
@@ -38,48 +34,6 @@ not_true b h = tables.not_true b h
 
 pub same_item : (plan : Plan) (a b n : ℕ) → slice_get plan.numbers.items a ≡ Some n → slice_get plan.numbers.items b ≡ Some n → a ≡ b
 same_item plan a b n ea eb = plan.once a b n ea eb
-
--- ---- the tags of a program's parts were issued
-
-each_issued : (issued : Issued) (body : Body) (after : List Tag) → first_unissued issued (tags_of body after) ≡ None
-    → (first_unissued issued after ≡ None) × ((u : Tag) (c : Content) → Says body u c → is_unissued issued u ≡ false)
-each_issued issued done after none = (none, λ u c h. absurd h)
-each_issued issued (action t d rest) after none =
-    let (this, more) = if_none (is_unissued issued t) t (first_unissued issued (tags_of rest after)) none in
-    let (last, those) = each_issued issued rest after more in (
-      last,
-      λ u c h. elim h [ inl here ↦ subst (λ (w : Tag). is_unissued issued w ≡ false) (sym here.0) this | inr x ↦ those u c x ],
-    )
-each_issued issued (branch t e a b rest) after none =
-    let (this, more) = if_none (is_unissued issued t) t (first_unissued issued (tags_of a (tags_of b (tags_of rest after)))) none in
-    let (after_a, in_a) = each_issued issued a (tags_of b (tags_of rest after)) more in
-    let (after_b, in_b) = each_issued issued b (tags_of rest after) after_a in
-    let (last, those) = each_issued issued rest after after_b in (
-      last,
-      λ u c h. elim h [
-        | inl here ↦ subst (λ (w : Tag). is_unissued issued w ≡ false) (sym here.0) this
-        | inr within ↦ elim within [
-          | inl x ↦ in_a u c x
-          | inr behind ↦ elim behind [ inl x ↦ in_b u c x | inr x ↦ those u c x ]
-        ]
-      ],
-    )
-each_issued issued (loop t e b rest) after none =
-    let (this, more) = if_none (is_unissued issued t) t (first_unissued issued (tags_of b (tags_of rest after))) none in
-    let (after_b, in_b) = each_issued issued b (tags_of rest after) more in
-    let (last, those) = each_issued issued rest after after_b in (
-      last,
-      λ u c h. elim h [
-        | inl here ↦ subst (λ (w : Tag). is_unissued issued w ≡ false) (sym here.0) this
-        | inr within ↦ elim within [ inl x ↦ in_b u c x | inr x ↦ those u c x ]
-      ],
-    )
-
-in_range : (s n : ℕ) → ((s == 0) || nat_lt n s) ≡ false → (1 ≤ s) × (s ≤ n)
-in_range s n h = (grind (arith, nat_tests), grind (arith, nat_tests))
-
-serial_of : (p : Tree) → IsProgram p → (t : Tag) (c : Content) → Says p.body t c → (1 ≤ t.serial) × (t.serial ≤ issued_to t.author p.issued)
-serial_of p is t c says = in_range t.serial (issued_to t.author p.issued) ((each_issued p.issued p.body [] (no_refusal p is.shape).issued).1 t c says)
 
 -- ---- whole lists
 

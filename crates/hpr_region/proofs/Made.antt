@@ -1,16 +1,13 @@
 -- Steps of the loops that make the tables of clashes, and what the tables say in the end.
-use Rattle.std.proofs.Common.{◌≡◌, ℕ, zero, suc, ◌+◌, ◌<◌, ◌≤◌, ◌↔◌, inl, inr, Bool, true, false, Option, Some, None, List, [], ◌∷◌, ◌++◌, Vec, length, vec_len, take, get_or, Contains, slice_get, refl, sym, ap, ◌∙◌, subst, arith}
+use Rattle.std.proofs.Common.{◌≡◌, ℕ, zero, suc, ◌+◌, ◌<◌, ◌≤◌, ◌↔◌, inl, inr, Bool, true, false, Option, Some, None, List, [], ◌∷◌, ◌++◌, Vec, length, vec_len, take, Contains, slice_get, refl, sym, ap, ◌∙◌, subst, arith}
 use Rattle.std.specs.Global.{Global}
 use Rattle.std.specs.Cmp.Lexicographic.{slice_cmp}
 use Rattle.std.specs.List.Sorted.{IsStrictlySortedBy}
 use Rattle.std.specs.Ordering.{nat_cmp}
-use Rattle.std.specs.declared.cmp.Ordering.TheVariants.{Less, Equal}
-use Rattle.std.proofs.lemmas.Bool.{cases_eq, cases_order, eqb-true, eq-eqb}
-use Rattle.std.proofs.lemmas.Cmp.{nat_list_cmp_total, tied_itself}
+use Rattle.std.proofs.lemmas.Bool.{cases_eq, eqb-true, eq-eqb}
 use Rattle.std.proofs.lemmas.List.{take_all}
 use Rattle.std.proofs.lemmas.List.Elements.{Contains-append_left, Contains-append_right, Contains-append_cases}
-use Rattle.std.proofs.lemmas.Map.Keys.{Less-from_sorted}
-use Rattle.std.proofs.lemmas.Option.{slice_get_within, get_or_from_slice_get}
+use Rattle.std.proofs.lemmas.Option.{slice_get_within}
 use Rattle.hpr_terms.specs.declared.tag.Tag.{Tag}
 use Rattle.hpr_terms.proofs.Facts.{some_inj, contains_at, in_none, in_cons, in_here}
 use Rattle.hpr_syntax.specs.declared.rows.Content.{Content}
@@ -27,6 +24,7 @@ use Rattle.hpr_order.specs.declared.item.Item.{Item}
 use Rattle.hpr_order.specs.Items.{IsItem, IsSource, slot_at, slot_in}
 use Rattle.hpr_order.specs.Numbers.{AreItemsOf}
 use Rattle.hpr_order.proofs.Steps.{take_step}
+use Rattle.hpr_graph.proofs.NamesOnce.{names_once}
 use Rattle.hpr_region.specs.declared.flows.Flows.{Flows}
 use Rattle.hpr_region.specs.Flows as flow
 use Rattle.hpr_region.specs.Making.{AreSlotsOf, AreVariablesOf, AreUsesOf}
@@ -34,27 +32,6 @@ use Rattle.hpr_region.specs.Tables.{AreFlowsBy, AreReaders, AreUsed, IsItemOf, I
 
 abbrev pub HasVariable : List (List ℕ) → List Item → ℕ → Option (Option ℕ) → Type 0
 HasVariable names items k o = (v : Option ℕ) × (o ≡ Some v) × ((i : Item) → slice_get items k ≡ Some i → IsVariable names v (assigned i.content))
-
-less_than_itself : (a b x : List ℕ) → a ≡ x → b ≡ x → ¬ (slice_cmp nat_cmp a b ≡ Less)
-less_than_itself a b x e f less =
-    let tied : slice_cmp nat_cmp x x ≡ Equal = tied_itself nat_list_cmp_total x in
-    let same : slice_cmp nat_cmp a b ≡ slice_cmp nat_cmp x x = ap (λ (y : List ℕ). slice_cmp nat_cmp y b) e ∙ ap (slice_cmp nat_cmp x) f in
-    cc
-
--- no name stands twice
-pub names_once : (xs : List (List ℕ)) → IsStrictlySortedBy (slice_cmp nat_cmp) xs → IsOnce xs
-names_once xs sorted i j x a b =
-    let li : i < length xs = slice_get_within xs i x a in
-    let lj : j < length xs = slice_get_within xs j x b in
-    let ei : get_or xs i x ≡ x = get_or_from_slice_get xs i x x a in
-    let ej : get_or xs j x ≡ x = get_or_from_slice_get xs j x x b in
-    elim (cases_order i j) [
-      | inl e ↦ e
-      | inr ne ↦ elim ne [
-        | inl l ↦ absurd (less_than_itself (get_or xs i x) (get_or xs j x) x ei ej (Less-from_sorted (slice_cmp nat_cmp) xs i j x sorted l lj))
-        | inr l ↦ absurd (less_than_itself (get_or xs j x) (get_or xs i x) x ej ei (Less-from_sorted (slice_cmp nat_cmp) xs j i x sorted l li))
-      ]
-    ]
 
 -- ---- the numbers of names
 

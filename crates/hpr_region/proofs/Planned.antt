@@ -5,7 +5,7 @@ use Rattle.std.proofs.lemmas.Option.{slice_get_within, get_or_from_slice_get}
 use Rattle.hpr_terms.specs.declared.tag.Tag.{Tag}
 use Rattle.hpr_terms.proofs.Facts.{get_below, get_map, get_in_map, in_here, in_later}
 use Rattle.hpr_syntax.specs.Issued.{Issued}
-use Rattle.hpr_syntax.specs.Proper.{IsProperTag}
+use Rattle.hpr_syntax.specs.Proper.{IsProperTag, IsProperIssued}
 use Rattle.hpr_syntax.specs.Tree.{Tree}
 use Rattle.hpr_graph.specs.declared.vertex.Vertex.{Vertex}
 use Rattle.hpr_graph.specs.declared.vertex.Vertex.TheVariants.{Entry, Part}
@@ -34,7 +34,7 @@ use Rattle.hpr_order.proofs.Shapes.{tag_of, vertex_is, vertex_of}
 use Rattle.hpr_order.proofs.Sound.{item_at}
 use Rattle.hpr_region.specs.declared.plan.Plan.{Plan}
 use Rattle.hpr_region.specs.Openings.{IsOpen, IsShut}
-use Rattle.hpr_region.specs.Plans.{IsPlanOf, IsProperIssued, can_by, vertex_by}
+use Rattle.hpr_region.specs.Plans.{IsPlanOf, can_by, vertex_by}
 use Rattle.hpr_region.specs.Tables.{AreFlowsOf}
 use Rattle.hpr_region.proofs.ClashTables.{clash_false, clash_true}
 use Rattle.hpr_region.proofs.IssuedFor.{IsAllowedBy, allowed_at, issued_for, may_be_issued, proper_pairs}

@@ -11,7 +11,6 @@
 -- vertices_at g plan items == the vertices of these items
 -- number_at plan k         == the number of the vertex of the item k
 -- numbers_at plan items    == the numbers of the vertices of these items
--- IsProperIssued issued    == the authors ascend, and the numbers are in range
 -- AreListed g rank issued plan == the whole lists of items, in lexicographic order, are the preorders of the arrangements, in the order of the rank
 -- SomeStands g plan        == there are a whole list, and issued numbers that the tags of all parts allow
 -- IsPlanOf g rank plan     == the plan is that of the graph and the rank: what its tests and its numbers say of arrangements and clashes
@@ -20,9 +19,9 @@
 -- IsReady s n              == n is the number of the vertex of an item that may stand next
 -- BeginsWith g front p     == the preorder of p begins with the vertices with these numbers
 -- IsBegun g front          == some arrangement begins so, with any issued numbers that its tags allow
-use Rattle.std.specs.Prelude.{◌≡◌, ℕ, Bool, true, false, Option, Some, None, List, ◌++◌, All, map, length, get_or, slice_get}
-use Rattle.hpr_syntax.specs.Issued.{Issued, IsIssued}
-use Rattle.hpr_syntax.specs.Proper.{IsProperPair}
+use Rattle.std.specs.Prelude.{◌≡◌, ℕ, Bool, true, false, Option, Some, None, List, ◌++◌, map, length, get_or, slice_get}
+use Rattle.hpr_syntax.specs.Issued.{Issued}
+use Rattle.hpr_syntax.specs.Proper.{IsProperIssued}
 use Rattle.hpr_syntax.specs.Tree.{Tree}
 use Rattle.hpr_graph.specs.declared.vertex.Vertex.{Vertex}
 use Rattle.hpr_graph.specs.declared.vertex.Vertex.TheVariants.{Entry}
@@ -67,9 +66,6 @@ number_at plan k = get_or plan.numbers.items k 0
 
 abbrev pub numbers_at : Plan → List ℕ → List ℕ
 numbers_at plan items = map (number_at plan) items
-
-abbrev pub IsProperIssued : Issued → Type 0
-IsProperIssued issued = IsIssued issued × All IsProperPair issued
 
 abbrev pub AreListed : Numbered → List Vertex → Issued → Plan → Type 0
 AreListed g rank issued plan =

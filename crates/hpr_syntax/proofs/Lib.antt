@@ -19,6 +19,7 @@ pub mod ProperLemmas
 pub mod Shown
 pub mod Printed
 pub mod NoRefusal
+pub mod IssuedTags
 pub mod Repeats
 pub mod ShownParts
 pub mod PrintedParts

@@ -6,6 +6,7 @@
 -- IsProperContent c  == the same of the expression of what a part says, and the name that it assigns is a plain name
 -- IsProperBody body  == the same of all tags and expressions of a block, and each name that a part assigns is a plain name
 -- IsProperPair p     == author and number are at most 4294967295
+-- IsProperIssued ps  == the pairs are issued numbers, and each author and each number is in range
 -- IsProper tree      == the same of all that stands in the tree; the authors of its issued numbers ascend, and the numbers are at least 1
 use Rattle.std.specs.Prelude.{ℕ, ◌<◌, ◌^◌, List, All}
 use Rattle.hpr_terms.specs.declared.tag.Tag.{Tag}
@@ -16,7 +17,7 @@ use Rattle.hpr_syntax.specs.declared.rows.Content.{Content}
 use Rattle.hpr_syntax.specs.declared.rows.Content.TheVariants.{Assign, If, While}
 use Rattle.hpr_syntax.specs.Action.{assigns}
 use Rattle.hpr_syntax.specs.Body.{Body, done, action, branch, loop}
-use Rattle.hpr_syntax.specs.Issued.{IsIssued}
+use Rattle.hpr_syntax.specs.Issued.{Issued, IsIssued}
 use Rattle.hpr_syntax.specs.Tree.{Tree}
 
 abbrev pub IsPlainName : List ℕ → Type 0
@@ -44,6 +45,9 @@ IsProperBody (loop t e b rest) = IsProperTag t × IsProperTerm (term_of e) × Is
 
 abbrev pub IsProperPair : ℕ × ℕ → Type 0
 IsProperPair p = (p.0 < 2 ^ 32) × (p.1 < 2 ^ 32)
+
+abbrev pub IsProperIssued : Issued → Type 0
+IsProperIssued issued = IsIssued issued × All IsProperPair issued
 
 pub record IsProper (t : Tree) : Type 0 where
   pub ascending : IsIssued t.issued

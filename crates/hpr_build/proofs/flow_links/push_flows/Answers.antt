@@ -5,7 +5,7 @@ use Rattle.hpr_build.specs.Links.{IsFlowLink}
 use Rattle.hpr_build.specs.NewLinks.{FlowsOf}
 use Rattle.hpr_build.proofs.Families.{SomeOf, turn_family, fresh_family, whole_family, other_family}
 use Rattle.hpr_build.proofs.FlowFamily.{flow_of_name, name_of_flow, some_name, name_of_some}
-use Rattle.hpr_build.proofs.InOrder.{names_once}
+use Rattle.hpr_graph.proofs.NamesOnce.{names_once}
 use Rattle.hpr_build.proofs.flow_links.push_flows.Goals as goal
 
 pub push_flows_of-requires-clause-fresh : goal.push_flows_of-requires-clause-fresh

@@ -3,7 +3,7 @@ use Rattle.hpr_graph.specs.declared.vertex.Vertex.{Vertex}
 use Rattle.hpr_build.specs.Links.{first_init}
 use Rattle.hpr_build.proofs.ControlFamily.{count_vertices}
 use Rattle.hpr_build.proofs.FlowFamily.{initial_more, initial_none, initial_once}
-use Rattle.hpr_build.proofs.InOrder.{names_once}
+use Rattle.hpr_graph.proofs.NamesOnce.{names_once}
 use Rattle.hpr_build.proofs.flow_links.push_initial.Goals as goal
 
 pub returns-in_ok-push-in-Some-clause-exact : goal.returns-in_ok-push-in-Some-clause-exact

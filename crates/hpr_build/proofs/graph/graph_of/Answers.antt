@@ -9,7 +9,7 @@ use Rattle.hpr_graph.proofs.Laws.{same_then}
 use Rattle.hpr_build.specs.declared.error.BuildError.{BuildError}
 use Rattle.hpr_build.specs.declared.error.BuildError.TheVariants.{TooManyEdges}
 use Rattle.hpr_build.proofs.Bridge.{once_vertices, same_graph, more_edges, no_more_edges}
-use Rattle.hpr_build.proofs.InOrder.{names_once}
+use Rattle.hpr_graph.proofs.NamesOnce.{names_once}
 use Rattle.hpr_build.proofs.LinkTurns.{no_count, same_error}
 use Rattle.hpr_build.proofs.graph.graph_of.Goals as goal
 

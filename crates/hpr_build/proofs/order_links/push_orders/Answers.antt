@@ -5,7 +5,7 @@ use Rattle.hpr_build.specs.Links.{IsOrderLink}
 use Rattle.hpr_build.specs.NewLinks.{OrdersOf}
 use Rattle.hpr_build.proofs.Families.{SomeOf, turn_family, fresh_family, whole_family, other_family}
 use Rattle.hpr_build.proofs.OrderFamily.{order_of_name, name_of_order, some_ordered, ordered_of_some}
-use Rattle.hpr_build.proofs.InOrder.{names_once}
+use Rattle.hpr_graph.proofs.NamesOnce.{names_once}
 use Rattle.hpr_build.proofs.order_links.push_orders.Goals as goal
 
 pub push_orders_of-requires-clause-fresh : goal.push_orders_of-requires-clause-fresh

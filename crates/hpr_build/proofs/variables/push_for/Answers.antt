@@ -1,4 +1,4 @@
-use Rattle.hpr_build.proofs.InOrder.{names_once}
+use Rattle.hpr_graph.proofs.NamesOnce.{names_once}
 use Rattle.hpr_build.proofs.NameRows.{pushed_rows, pushed_once, unpushed_rows}
 use Rattle.hpr_build.proofs.variables.push_for.Goals as goal
 

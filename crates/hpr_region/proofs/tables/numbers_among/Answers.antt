@@ -1,5 +1,6 @@
 use Rattle.hpr_order.proofs.Steps.{read_of}
-use Rattle.hpr_region.proofs.Made.{among_push, among_skip, among_whole, names_once}
+use Rattle.hpr_graph.proofs.NamesOnce.{names_once}
+use Rattle.hpr_region.proofs.Made.{among_push, among_skip, among_whole}
 use Rattle.hpr_region.proofs.tables.numbers_among.Goals as goal
 
 pub loop-name-preserved-in_default : goal.loop-name-preserved-in_default
