@@ -1,12 +1,12 @@
 -- Words that tell a state, one after another.
-use Rattle.std.proofs.Common.{◌≡◌, ℕ, ℤ, ◌+◌, ◌<◌, Bool, false, cond, List, [], ◌∷◌, ◌++◌, length, take, drop, get_or, map, is_some, Bor, Option, Some, None, Ok, refl, sym, ap, subst, ◌∙◌}
+use Rattle.std.proofs.Common.{◌≡◌, ℕ, ◌+◌, ◌<◌, Bool, false, cond, List, [], ◌∷◌, ◌++◌, length, take, drop, get_or, map, is_some, Bor, Option, Some, None, Ok, refl, sym, ap, subst, ◌∙◌}
 use Rattle.std.proofs.lemmas.List.{take_more, drop_more, get_or-map, length-map}
 use Rattle.std.proofs.lemmas.List.Elements.{filter_map-append}
 use Rattle.std.specs.Cmp.Lexicographic.{slice_cmp, nat_list_cmp_total}
 use Rattle.std.specs.FinMap.{contains_key, find, from_entries, from_entries_push, get-from_entries, insert, nat_cmp-IsAntisymmetric, slice_cmp-IsAntisymmetric}
 use Rattle.std.specs.List.{cons_option, filter_map}
 use Rattle.std.specs.Ordering.{nat_cmp}
-use Rattle.hpr_syntax.specs.Values.{Values}
+use Rattle.hpr_syntax.specs.Values.{Value, Values}
 use Rattle.hpr_words.specs.Request.{Text}
 use Rattle.hpr_inputs.specs.ReadsState.{RefusesState, RefusesWord, TakesWord}
 use Rattle.hpr_inputs.specs.States.{assignment, first_refused, refusal, refusal_of, refused_or, state_unless, told}
@@ -20,7 +20,7 @@ none_of None e = refl
 none_of (Some x) e = absurd cc
 
 -- a word behind others whose variable is new
-told_more : (before : List Text) (word : Text) (given : Text × ℤ) → assignment word ≡ Some given → contains_key (told before) given.0 ≡ false
+told_more : (before : List Text) (word : Text) (given : Text × Value) → assignment word ≡ Some given → contains_key (told before) given.0 ≡ false
     → told (before ++ word ∷ []) ≡ insert (told before) given.0 given.1
 told_more before word given gives fresh =
     let es = filter_map assignment before in
@@ -30,7 +30,7 @@ told_more before word given gives fresh =
     ap (from_entries {R = slice_cmp nat_cmp}) all
     ∙ from_entries_push nat_list_cmp_total (slice_cmp-IsAntisymmetric nat_cmp-IsAntisymmetric) es given.0 given.1 absent
 
-passes : (state : Values) (word : Text) (given : Text × ℤ) → assignment word ≡ Some given → contains_key state given.0 ≡ false → refusal state word ≡ None
+passes : (state : Values) (word : Text) (given : Text × Value) → assignment word ≡ Some given → contains_key state given.0 ≡ false → refusal state word ≡ None
 passes state word given gives fresh = ap (refusal_of state) gives ∙ ap (λ (b : Bool). cond b (Some GivenTwice) None) fresh
 
 module _ (words : List Text) where

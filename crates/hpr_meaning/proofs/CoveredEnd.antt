@@ -1,6 +1,6 @@
 -- A program that is covered by others ends where they do: each of its steps is a step of one of them, so it faults nowhere, and it has no
 -- more steps than they have together.
-use Rattle.std.proofs.Common.{◌≡◌, ℕ, zero, suc, ◌<◌, ◌≤◌, ◌+◌, ℤ, pos, Bool, true, false, List, [], ◌∷◌, ◌++◌, ◌⊎◌, Contains, Some, None, length, refl, ap, sym, subst, ◌∙◌, inl, inr, arith, Ok, Err}
+use Rattle.std.proofs.Common.{◌≡◌, ℕ, zero, suc, ◌<◌, ◌≤◌, ◌+◌, pos, Bool, true, false, List, [], ◌∷◌, ◌++◌, ◌⊎◌, Contains, Some, None, length, refl, ap, sym, subst, ◌∙◌, inl, inr, arith, Ok, Err}
 use Rattle.hpr_syntax.specs.Contents.{answer_of}
 use native.Mathlib.Decide.{ℕ_discrete, dec_lt}
 use Rattle.hpr_terms.specs.declared.tag.Tag.{Tag}
@@ -9,7 +9,7 @@ use Rattle.hpr_terms.specs.declared.expr.Expr.TheVariants.{Num}
 use Rattle.hpr_syntax.specs.Tree.{Tree}
 use Rattle.hpr_syntax.specs.Value.{Fault, Answer}
 use Rattle.hpr_syntax.specs.Run.{Outcome, ends, faults, more, run, outcome, FinalValues}
-use Rattle.hpr_syntax.specs.Values.{Values}
+use Rattle.hpr_syntax.specs.Values.{Value, Values}
 use Rattle.hpr_syntax.specs.Skeleton.{Distinct, skeleton}
 use Rattle.hpr_syntax.specs.Nests.{Says}
 use Rattle.hpr_paths.specs.Times.{Place, IsBefore}
@@ -116,7 +116,7 @@ spent_all p s n di m = go (known p s n di).how
 -- a step of m that lies in a slice which m has from a program that ends
 IsDoneBy : (p m : Tree) (s : Values) (n k : ℕ) (dp : Distinct (skeleton p.body)) (dm : Distinct (skeleton m.body)) (N : ℕ) → Type 0
 IsDoneBy p m s n k dp dm N = (i : ℕ) × (i < length (known p s n dp).is) × (spot_of (nth_step p s n dp i) ≡ spot_of (nth_step m s N dm k))
-    × (v : ℤ) × (answer_of (nth_step m s N dm k).1.content (state_after s (log_before (known m s N dm).is [] k)) ≡ Ok v)
+    × (v : Value) × (answer_of (nth_step m s N dm k).1.content (state_after s (log_before (known m s N dm).is [] k)) ≡ Ok v)
 
 done_by : (p m : Tree) (s : Values) (n N : ℕ) (dp : Distinct (skeleton p.body)) (dm : Distinct (skeleton m.body)) → (known p s n dp).over ≡ true → (v : Vertex)
     → Same (slice_at (graph_of p) v) (slice_at (graph_of m) v) → (k : ℕ) → IsStepAt m s N dm k → (slice_at (graph_of p) v).vertex (vertex_at (spot_of (nth_step m s N dm k))) → IsDoneBy p m s n k dp dm N
@@ -168,7 +168,7 @@ module _ (m : Tree) (s : Values) (versions : List Version) (im : IsProgram m) (a
 
   IsDone : ℕ → Type 0
   IsDone k = (y : ℕ) × (y < length all) × (spot_of (item_at all none y) ≡ spot_of (nth_step m s N dm k))
-      × (v : ℤ) × (answer_of (nth_step m s N dm k).1.content (state_after s (log_before (known m s N dm).is [] k)) ≡ Ok v)
+      × (v : Value) × (answer_of (nth_step m s N dm k).1.content (state_after s (log_before (known m s N dm).is [] k)) ≡ Ok v)
 
   -- each step of m is a step of one of the versions, and gives a number
   is_done : (k : ℕ) → IsStepAt m s N dm k → IsDone k
@@ -196,7 +196,7 @@ module _ (m : Tree) (s : Values) (versions : List Version) (im : IsProgram m) (a
       let er = subst (λ z. answer_of z (state_after s (log_before (known m s N dm).is [] k)) ≡ Err x) (says_one m.body dm t b'.2.0 (nth_step m s N dm k).1.content b'.2.1 sy) b'.2.2 in
       ok_or_err _ h.3 x h.4 er
     where
-      ok_or_err : (a : Answer) (v : ℤ) (x : Fault) → a ≡ Ok v → a ≡ Err x → ⊥
+      ok_or_err : (a : Answer) (v : Value) (x : Fault) → a ≡ Ok v → a ≡ Err x → ⊥
       ok_or_err a v x o e = absurd cc
 
   -- it doesn't want steps: N + 1 different steps would be among N items

@@ -1,6 +1,6 @@
 -- The course of a run is an execution of its skeleton, with its log, the place where it stopped, and how many steps it took.
 use Rattle.hpr_paths.specs.Runs as runs
-use Rattle.std.proofs.Common.{◌≡◌, ℕ, zero, suc, ◌+◌, ◌<◌, ◌≤◌, ℤ, Bool, true, false, List, [], ◌∷◌, ◌++◌, Option, Some, None, length, refl, inl, inr, arith, if◌then◌else◌, Ok, Err}
+use Rattle.std.proofs.Common.{◌≡◌, ℕ, zero, suc, ◌+◌, ◌<◌, ◌≤◌, Bool, true, false, List, [], ◌∷◌, ◌++◌, Option, Some, None, length, refl, inl, inr, arith, if◌then◌else◌, Ok, Err}
 use Rattle.hpr_terms.specs.declared.tag.Tag.{Tag}
 use Rattle.hpr_terms.specs.declared.expr.Expr.{Expr}
 use Rattle.hpr_syntax.specs.declared.rows.Content.{Content}
@@ -8,7 +8,7 @@ use Rattle.hpr_syntax.specs.declared.rows.Content.TheVariants.{If, While}
 use Rattle.hpr_syntax.specs.Contents.{answer_of}
 use Rattle.hpr_syntax.specs.Body.{Body, done, action, branch, loop}
 use Rattle.hpr_syntax.specs.Value.{Fault, Answer, value, is_true}
-use Rattle.hpr_syntax.specs.Values.{Values}
+use Rattle.hpr_syntax.specs.Values.{Value, Values}
 use Rattle.hpr_syntax.specs.Skeleton.{Skeleton, act, fork, round, skeleton}
 use Rattle.hpr_syntax.specs.Nests.{Says}
 use Rattle.hpr_paths.specs.Times.{Place}
@@ -111,12 +111,12 @@ module _ (p : Body) (s : Values) where
       ((t, T ++ (j ∷ [])) ∷ x.0, runs.body_stops d w y x.1, x.2, x.3, spent_one why (length h + m) (length g) l left e x.4)
 
   -- what a step did
-  given : (t : Tag) (c : Content) (g : List Instance) (v : ℤ) → Says p t c → answer_of c (state_after s g) ≡ Ok v
+  given : (t : Tag) (c : Content) (g : List Instance) (v : Value) → Says p t c → answer_of c (state_after s g) ≡ Ok v
       → Does t g (record { content = c; reads = reads_of (expr_in c) s g; gave = v })
   given t c g v h e = (h, refl, e)
 
   assign_step : (t : Tag) (c : Content) (k : Skeleton) (T : List ℕ) (g : List Instance) (a : Answer) (left : ℕ) → Says p t c → answer_of c (state_after s g) ≡ a
-      → (go : ℤ → ℕ → Course) → ((v : ℤ) (l : ℕ) → HasRun k 0 T (logged (t, T) c (expr_in c) v s g) l (go v l)) → HasRun (act t k) 0 T g left (step_at (t, T) a g left go)
+      → (go : Value → ℕ → Course) → ((v : Value) (l : ℕ) → HasRun k 0 T (logged (t, T) c (expr_in c) v s g) l (go v l)) → HasRun (act t k) 0 T g left (step_at (t, T) a g left go)
   unfolding where_stopped
   assign_step t c k T g a zero h e go f = ((t, T) ∷ [], runs.act_stops, refl, refl, omega arith)
   assign_step t c k T g (Ok v) (suc l) h e go f = act_has_run t k 0 T g _ l (suc l) (given t c g v h e) refl (go v l) (f v l)

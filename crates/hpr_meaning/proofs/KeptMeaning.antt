@@ -1,5 +1,5 @@
 -- Kept meaning: a program with the merged graph ends with what each variant changed, and with what base and all variants agree on.
-use Rattle.std.proofs.Common.{◌≡◌, ℕ, zero, suc, ◌+◌, ℤ, Bool, true, false, List, [], ◌∷◌, ◌⊎◌, Contains, refl, ap, sym, subst, ◌∙◌, inl, inr, arith}
+use Rattle.std.proofs.Common.{◌≡◌, ℕ, zero, suc, ◌+◌, Bool, true, false, List, [], ◌∷◌, ◌⊎◌, Contains, refl, ap, sym, subst, ◌∙◌, inl, inr, arith}
 use Rattle.std.specs.List.{AllByRecursion}
 use Rattle.std.specs.Ordering.{int_eq}
 use Rattle.std.specs.Cmp.{signed_Decides}
@@ -7,7 +7,7 @@ use Rattle.hpr_syntax.specs.Meaning.{Ends, Keeps}
 use Rattle.hpr_syntax.specs.Run.{FinalValues}
 use Rattle.hpr_syntax.specs.Shape.{IsProgram}
 use Rattle.hpr_syntax.specs.Tree.{Tree}
-use Rattle.hpr_syntax.specs.Values.{Values}
+use Rattle.hpr_syntax.specs.Values.{Value, Values}
 use Rattle.hpr_graph.specs.declared.vertex.Vertex.TheVariants.{Init, Final}
 use Rattle.hpr_graph.specs.Answer.{Fits, graphs_of, merged_of_all}
 use Rattle.hpr_graph.specs.Graphs.{Graph, Same}
@@ -24,32 +24,32 @@ use Rattle.hpr_meaning.proofs.MergedEnd.{in_program, merged_ends}
 use Rattle.hpr_meaning.proofs.SharedSlices.{same_finals, final_name}
 use Rattle.hpr_meaning.proofs.Unions.{keeps_preserved}
 
-int? : (v w : ℤ) → Dec (v ≡ w)
+int? : (v w : Value) → Dec (v ≡ w)
 int? v w = go (int_eq v w) refl
   where
     go : (b : Bool) → int_eq v w ≡ b → Dec (v ≡ w)
     go true e = yes ((signed_Decides v w).0 e)
     go false e = no (λ q. let t = (signed_Decides v w).1 q in let c : true ≡ false = sym t ∙ e in absurd cc)
 
-pair? : (y x : List ℕ) (w v : ℤ) → Dec (y ≡ x) → Dec (w ≡ v) → Dec (◌≡◌ {A = List ℕ × ℤ} (y, w) (x, v))
+pair? : (y x : List ℕ) (w v : Value) → Dec (y ≡ x) → Dec (w ≡ v) → Dec (◌≡◌ {A = List ℕ × Value} (y, w) (x, v))
 pair? y x w v (yes p) (yes q) = yes (λ i. (p i, q i))
-pair? y x w v (no n) d = no (λ e. n (ap (λ (z : List ℕ × ℤ). z.0) e))
-pair? y x w v (yes p) (no n) = no (λ e. n (ap (λ (z : List ℕ × ℤ). z.1) e))
+pair? y x w v (no n) d = no (λ e. n (ap (λ (z : List ℕ × Value). z.0) e))
+pair? y x w v (yes p) (no n) = no (λ e. n (ap (λ (z : List ℕ × Value). z.1) e))
 
-among? : (f' : FinalValues) (x : List ℕ) (v : ℤ) → Dec (Among (x, v) f')
+among? : (f' : FinalValues) (x : List ℕ) (v : Value) → Dec (Among (x, v) f')
 among? [] x v = no (λ h. among_none (x, v) h)
 among? ((y, w) ∷ l) x v = go (pair? y x w v (names_discrete y x) (int? w v)) (among? l x v)
   where
-    go : Dec (◌≡◌ {A = List ℕ × ℤ} (y, w) (x, v)) → Dec (Among (x, v) l) → Dec (Among (x, v) ((y, w) ∷ l))
+    go : Dec (◌≡◌ {A = List ℕ × Value} (y, w) (x, v)) → Dec (Among (x, v) l) → Dec (Among (x, v) ((y, w) ∷ l))
     go (yes e) d = yes (subst (λ z. Among z ((y, w) ∷ l)) e here)
     go (no n) (yes h) = yes (there h)
     go (no n) (no m) = no (λ h. both (among_cons h))
       where
-        both : (◌≡◌ {A = List ℕ × ℤ} (y, w) (x, v)) ⊎ Among (x, v) l → ⊥
+        both : (◌≡◌ {A = List ℕ × Value} (y, w) (x, v)) ⊎ Among (x, v) l → ⊥
         both (inl e) = n e
         both (inr h) = m h
 
-pub in_finals? : (f' : FinalValues) (x : List ℕ) (v : ℤ) → Dec (Contains f' (x, v))
+pub in_finals? : (f' : FinalValues) (x : List ℕ) (v : Value) → Dec (Contains f' (x, v))
 in_finals? f' x v = go (among? f' x v)
   where
     go : Dec (Among (x, v) f') → Dec (Contains f' (x, v))
@@ -66,14 +66,14 @@ at_final p x is = (is, (Final x, [], refl, refl))
 module _ (base m : Tree) (ib : IsProgram base) (im : IsProgram m) (whole : Graph) (fits : Fits whole m) where
   -- a final value of a program whose slice m has
   carried_over : (p : Tree) (ip : IsProgram p) (s : Values) (n N : ℕ) (g f' : FinalValues) → Ends p s n g → Ends m s N f'
-      → (x : List ℕ) (v : ℤ) → Same (slice_at whole (Final x)) (slice_at (graph_of p) (Final x)) → Contains g (x, v) → Contains f' (x, v)
+      → (x : List ℕ) (v : Value) → Same (slice_at whole (Final x)) (slice_at (graph_of p) (Final x)) → Contains g (x, v) → Contains f' (x, v)
   carried_over p ip s n N g f' ep em x v same c =
       (same_finals p m s n N (distinct_program p ip) (distinct_program m im) (λ z. z ≡ Final x) (in_program whole m fits (graph_of p) (Final x) same) g f' ep.0 em.0 ep.1 em.1 x v
       (at_final p x (final_name p s n (distinct_program p ip) g ep.0 ep.1 x v c))).0 c
 
   -- a changed final is an affected point
   changed_is_affected : (p : Tree) (ip : IsProgram p) (s : Values) (n n0 : ℕ) (g f0 : FinalValues) → Ends p s n g → Ends base s n0 f0
-      → (x : List ℕ) (v : ℤ) → Contains g (x, v) → ¬ Contains f0 (x, v) → IsAffected (graph_of p) (graph_of base) (Final x)
+      → (x : List ℕ) (v : Value) → Contains g (x, v) → ¬ Contains f0 (x, v) → IsAffected (graph_of p) (graph_of base) (Final x)
   changed_is_affected p ip s n n0 g f0 ep e0 x v c no_c =
       let is = final_name p s n (distinct_program p ip) g ep.0 ep.1 x v c in (
         is,
@@ -91,7 +91,7 @@ module _ (base m : Tree) (ib : IsProgram base) (im : IsProgram m) (whole : Graph
     )
 
     -- what base and all have: unless some variant changed its slice, so that it is that one's, it is base's
-    module _ (x : List ℕ) (v : ℤ) (out : ¬ Contains f (x, v)) where
+    module _ (x : List ℕ) (v : Value) (out : ¬ Contains f (x, v)) where
       one_shares : (r : Finished) → IsProgram r.program → DoesFinish s r
           → (IsAffected (graph_of r.program) (graph_of base) (Final x) → Same (slice_at whole (Final x)) (slice_at (graph_of r.program) (Final x)))
           → Contains r.finals (x, v) → ¬ (¬ IsShared (graph_of base) (graph_of r.program) (Final x))
@@ -118,7 +118,7 @@ module _ (base m : Tree) (rs : List Finished) (ib : IsProgram base) (all : AllBy
   abbrev Whole : Graph
   Whole = merged_of_all base (programs_of rs)
 
-  agreed : (f : FinalValues) → Ends m s N f → (x : List ℕ) (v : ℤ) → Contains f0 (x, v) → AllByRecursion (HasValue x v) rs → Contains f (x, v)
+  agreed : (f : FinalValues) → Ends m s N f → (x : List ℕ) (v : Value) → Contains f0 (x, v) → AllByRecursion (HasValue x v) rs → Contains f (x, v)
   agreed f em x v c0 cs = go (in_finals? f x v)
     where
       is : (graph_of base).vertex (Final x)

@@ -1,12 +1,12 @@
 -- What is known of a program's run, by the numbers of its steps, as the record of TwoRuns.
-use Rattle.std.proofs.Common.{◌≡◌, ℕ, ◌<◌, ℤ, pos, Bool, true, false, List, [], ◌∷◌, ◌⊎◌, None, length, refl, ap, sym, subst, ◌∙◌, inl, inr, arith, Ok}
+use Rattle.std.proofs.Common.{◌≡◌, ℕ, ◌<◌, pos, Bool, true, false, List, [], ◌∷◌, ◌⊎◌, None, length, refl, ap, sym, subst, ◌∙◌, inl, inr, arith, Ok}
 use Rattle.hpr_terms.specs.declared.expr.Expr.TheVariants.{Num}
 use Rattle.hpr_syntax.specs.declared.rows.Content.{Content}
 use Rattle.hpr_syntax.specs.declared.rows.Content.TheVariants.{If}
 use Rattle.hpr_syntax.specs.Contents.{UsesIn, answer_of}
 use Rattle.hpr_syntax.specs.Body.{Body}
 use Rattle.hpr_syntax.specs.Tree.{Tree}
-use Rattle.hpr_syntax.specs.Values.{Values, value_at}
+use Rattle.hpr_syntax.specs.Values.{Value, Values, value_at}
 use Rattle.hpr_syntax.specs.Value.{Answer, is_true}
 use Rattle.hpr_terms.proofs.Facts.{compared}
 use Rattle.hpr_syntax.proofs.ActByUses.{act_by_uses}
@@ -37,14 +37,14 @@ use Rattle.hpr_meaning.proofs.FlowPaths.{flow_of}
 use Rattle.hpr_meaning.proofs.TwoRuns.{Language, OneRun}
 use Rattle.hpr_graph.specs.declared.vertex.Vertex.TheVariants.{Part}
 
-pub same_ok : (a b : ℤ) → ◌≡◌ {A = Answer} (Ok a) (Ok b) → a ≡ b
+pub same_ok : (a b : Value) → ◌≡◌ {A = Answer} (Ok a) (Ok b) → a ≡ b
 same_ok a b e = cc
 
 abbrev pub language : Values → Language
 language s = record {
   Spot = Spot;
   Name = List ℕ;
-  Value = ℤ;
+  Value = Value;
   State = Values;
   Answer = Answer;
   get = value_at;

@@ -1,14 +1,14 @@
 -- The law of shared slices: what one program does in a slice, the other does too.
 use Rattle.hpr_syntax.specs.Contents.{UsesIn, answer_of}
 use Rattle.hpr_syntax.proofs.ActByUses.{uses_in}
-use Rattle.std.proofs.Common.{◌≡◌, ◌↔◌, ℕ, ◌<◌, ◌≤◌, ℤ, true, false, List, [], ◌∷◌, ◌⊎◌, Option, Some, None, length, Contains, refl, ap, sym, subst, ◌∙◌, inl, inr, arith, Ok, Err, map}
+use Rattle.std.proofs.Common.{◌≡◌, ◌↔◌, ℕ, ◌<◌, ◌≤◌, true, false, List, [], ◌∷◌, ◌⊎◌, Option, Some, None, length, Contains, refl, ap, sym, subst, ◌∙◌, inl, inr, arith, Ok, Err, map}
 use Rattle.hpr_terms.specs.declared.tag.Tag.{Tag}
 use Rattle.hpr_syntax.specs.declared.rows.Content.{Content}
 use Rattle.hpr_syntax.specs.Tree.{Tree}
 use Rattle.hpr_syntax.specs.Shape.{IsProgram}
 use Rattle.hpr_syntax.specs.Value.{Fault, Answer}
-use Rattle.hpr_syntax.specs.Run.{Outcome, ends, faults, more, run, outcome, final_values}
-use Rattle.hpr_syntax.specs.Values.{Values, value_at}
+use Rattle.hpr_syntax.specs.Run.{FinalValues, Outcome, ends, faults, more, run, outcome, final_values}
+use Rattle.hpr_syntax.specs.Values.{Value, Values, value_at}
 use Rattle.hpr_terms.specs.Uses.{Uses}
 use Rattle.hpr_syntax.specs.Skeleton.{Distinct, skeleton, at, exit}
 use Rattle.hpr_syntax.specs.Pairs.{first_of, FollowsIn}
@@ -112,13 +112,13 @@ module _ (p q : Tree) (s : Values) (n m : ℕ) (dp : Distinct (skeleton p.body))
 
   -- where q stops in the slice, it is no fault
   pub stop_shared : (known q s m dq).over ≡ false → InBoth p q S (spot_of (nth_step q s m dq (length (known q s m dq).is)))
-      → (v : ℤ) × (i : ℕ) × (i < length (known p s n dp).is) × (spot_of (nth_step p s n dp i) ≡ spot_of (nth_step q s m dq (length (known q s m dq).is)))
+      → (v : Value) × (i : ℕ) × (i < length (known p s n dp).is) × (spot_of (nth_step p s n dp i) ≡ spot_of (nth_step q s m dq (length (known q s m dq).is)))
       × (answer_of (nth_step q s m dq (length (known q s m dq).is)).1.content (state_after s (log_before (known q s m dq).is [] (length (known q s m dq).is))) ≡ Ok v)
   stop_shared e b =
       let h = shared (run_record p s n dp) (run_record q s m dq) (InBoth p q S) runs_share (length (known q s m dq).is) (inr (refl, e)) b in
       ((nth_step p s n dp h.0).1.gave, h.0, h.1, h.2, h.4)
 
-ok_or_err : (a : Answer) (v : ℤ) (x : Fault) → a ≡ Ok v → a ≡ Err x → ⊥
+ok_or_err : (a : Answer) (v : Value) (x : Fault) → a ≡ Ok v → a ≡ Err x → ⊥
 ok_or_err a v x o e = absurd cc
 
 -- outcomes
@@ -127,7 +127,7 @@ IsFaultOf (ends g k) t x = ⊥
 IsFaultOf (faults u y k) t x = (u ≡ t) × (y ≡ x)
 IsFaultOf (more k) t x = ⊥
 
-abbrev EndsWith : Outcome → List (List ℕ × ℤ) → Type 0
+abbrev EndsWith : Outcome → FinalValues → Type 0
 EndsWith (ends g k) h = g ≡ h
 EndsWith (faults u y k) h = ⊥
 EndsWith (more k) h = ⊥
@@ -164,7 +164,7 @@ module _ (q : Tree) (s : Values) (m : ℕ) (dq : Distinct (skeleton q.body)) whe
       go (inl (a, (log, left, b, c))) = absurd (subst (λ tr. IsFaultOf (outcome q.finals m (after_of s tr)) t x) b is)
       go (inr (a, (why, log, left, b, w, c))) = faults_by t x why log left a b w (subst (λ tr. IsFaultOf (outcome q.finals m (after_of s tr)) t x) b is)
 
-  finals_by : (finals : List (List ℕ × ℤ)) → EndsWith (outcome q.finals m (after_of s (trace s q.body [] [] m))) finals
+  finals_by : (finals : FinalValues) → EndsWith (outcome q.finals m (after_of s (trace s q.body [] [] m))) finals
       → Ending q.body s m (trace s q.body [] [] m) (known q s m dq).over (known q s m dq).stop
       → finals ≡ final_values q.finals (state_after s (log_before (known q s m dq).is [] (length (known q s m dq).is)))
   finals_by finals h (inl (a, (log, left, b, c))) =
@@ -172,7 +172,7 @@ module _ (q : Tree) (s : Values) (m : ℕ) (dq : Distinct (skeleton q.body)) whe
   finals_by finals h (inr (a, (None, log, left, b, w, c))) = absurd (subst (λ tr. EndsWith (outcome q.finals m (after_of s tr)) finals) b h)
   finals_by finals h (inr (a, (Some y, log, left, b, w, c))) = absurd (subst (λ tr. EndsWith (outcome q.finals m (after_of s tr)) finals) b h)
 
-  pub finals_are : (finals : List (List ℕ × ℤ)) (steps : ℕ) → run q s m ≡ ends finals steps → finals ≡ final_values q.finals (state_after s (log_before (known q s m dq).is [] (length (known q s m dq).is)))
+  pub finals_are : (finals : FinalValues) (steps : ℕ) → run q s m ≡ ends finals steps → finals ≡ final_values q.finals (state_after s (log_before (known q s m dq).is [] (length (known q s m dq).is)))
   finals_are finals steps e = finals_by finals (subst (λ o. EndsWith o finals) (sym e ∙ sym (run_of_course q s m)) refl) (known q s m dq).how
 
   -- the last definition of a final name flows to it
@@ -188,28 +188,28 @@ module _ (q : Tree) (s : Values) (m : ℕ) (dq : Distinct (skeleton q.body)) whe
       defines_here j k y = assigns_at q.body dq x (nth_step q s m dq j).0.0 (nth_step q s m dq j).1.content (step_says q s m dq j (inl k)) y
 
 -- final values
-value_in_finals : (names : List (List ℕ)) (st : Values) (x : List ℕ) (v : ℤ) → Among (x, v) (final_values names st) → v ≡ value_at st x
+value_in_finals : (names : List (List ℕ)) (st : Values) (x : List ℕ) (v : Value) → Among (x, v) (final_values names st) → v ≡ value_at st x
 value_in_finals [] st x v h = absurd (among_none (x, v) h)
 value_in_finals (y ∷ ys) st x v h = go (among_cons h) (λ g. value_in_finals ys st x v g)
   where
-    go : (◌≡◌ {A = List ℕ × ℤ} (y, value_at st y) (x, v)) ⊎ Among (x, v) (final_values ys st) → (Among (x, v) (final_values ys st) → v ≡ value_at st x) → v ≡ value_at st x
-    go (inl e) r = sym (ap (λ (z : List ℕ × ℤ). z.1) e) ∙ ap (λ (z : List ℕ × ℤ). value_at st z.0) e
+    go : (◌≡◌ {A = List ℕ × Value} (y, value_at st y) (x, v)) ⊎ Among (x, v) (final_values ys st) → (Among (x, v) (final_values ys st) → v ≡ value_at st x) → v ≡ value_at st x
+    go (inl e) r = sym (ap (λ (z : List ℕ × Value). z.1) e) ∙ ap (λ (z : List ℕ × Value). value_at st z.0) e
     go (inr g) r = r g
 
 in_finals : (x : List ℕ) (st : Values) (names : List (List ℕ)) → Among x names → Among (x, value_at st x) (final_values names st)
 in_finals x st _ (here {ms = ms}) = here
 in_finals x st _ (there {n = n} {ms = ms} h) = there (in_finals x st ms h)
 
-name_in_finals : (st : Values) (x : List ℕ) (v : ℤ) (names : List (List ℕ)) → Among (x, v) (final_values names st) → Among x names
+name_in_finals : (st : Values) (x : List ℕ) (v : Value) (names : List (List ℕ)) → Among (x, v) (final_values names st) → Among x names
 name_in_finals st x v [] h = absurd (among_none (x, v) h)
 name_in_finals st x v (y ∷ ys) h = go (among_cons h) (λ g. name_in_finals st x v ys g)
   where
-    go : (◌≡◌ {A = List ℕ × ℤ} (y, value_at st y) (x, v)) ⊎ Among (x, v) (final_values ys st) → (Among (x, v) (final_values ys st) → Among x ys) → Among x (y ∷ ys)
-    go (inl e) r = subst (λ (z : List ℕ). Among z (y ∷ ys)) (ap (λ (z : List ℕ × ℤ). z.0) e) here
+    go : (◌≡◌ {A = List ℕ × Value} (y, value_at st y) (x, v)) ⊎ Among (x, v) (final_values ys st) → (Among (x, v) (final_values ys st) → Among x ys) → Among x (y ∷ ys)
+    go (inl e) r = subst (λ (z : List ℕ). Among z (y ∷ ys)) (ap (λ (z : List ℕ × Value). z.0) e) here
     go (inr g) r = there (r g)
 
-pub final_name : (p : Tree) (s : Values) (n : ℕ) (dp : Distinct (skeleton p.body)) (finals : List (List ℕ × ℤ)) (steps : ℕ) → run p s n ≡ ends finals steps
-    → (x : List ℕ) (v : ℤ) → Contains finals (x, v) → Contains p.finals x
+pub final_name : (p : Tree) (s : Values) (n : ℕ) (dp : Distinct (skeleton p.body)) (finals : FinalValues) (steps : ℕ) → run p s n ≡ ends finals steps
+    → (x : List ℕ) (v : Value) → Contains finals (x, v) → Contains p.finals x
 final_name p s n dp finals steps e x v c =
     let l = finals_are p s n dp finals steps e in
     contains_among x p.finals (name_in_finals _ x v p.finals (among_contains (x, v) _ (subst (λ y. Contains y (x, v)) l c)))
@@ -240,7 +240,7 @@ module _ (p q : Tree) (s : Values) (n m : ℕ) (dp : Distinct (skeleton p.body))
       vq : (graph_of p).vertex (vertex_at (spot_of (nth_step q s m dq k))) × ReachesOne (graph_of p) S (vertex_at (spot_of (nth_step q s m dq k)))
       vq = subst (λ z. (slice_of (graph_of p) S).vertex z) ev v
 
-      w : (v : ℤ) × (i : ℕ) × (i < length (known p s n dp).is) × (spot_of (nth_step p s n dp i) ≡ spot_of (nth_step q s m dq k))
+      w : (v : Value) × (i : ℕ) × (i < length (known p s n dp).is) × (spot_of (nth_step p s n dp i) ≡ spot_of (nth_step q s m dq k))
           × (answer_of (nth_step q s m dq k).1.content (state_after s (log_before (known q s m dq).is [] k)) ≡ Ok v)
       w = stop_shared p q s n m dp dq S same is_over b.0 (both_of_first p q s n m dp dq S same (spot_of (nth_step q s m dq k)) vq.0 vq.1)
 
@@ -279,8 +279,8 @@ module _ (p q : Tree) (s : Values) (n m : ℕ) (dp : Distinct (skeleton p.body))
           let fi = subst (λ (z : Spot). HasFlow p x (vertex_at z) (Final x)) (sym e) fk in
           use_before_to q p dq dp S same x (Final x) (spot_of (nth_step p s n dp i)) (spot_of (nth_step p s n dp j)) v.1 fi (flows_to_final p s n dp x v.0 ep j b dj nj) h
 
-  pub same_finals : (finals finals' : List (List ℕ × ℤ)) (steps steps' : ℕ) → run p s n ≡ ends finals steps → run q s m ≡ ends finals' steps'
-      → (x : List ℕ) (v : ℤ) → (slice_of (graph_of p) S).vertex (Final x) → Contains finals (x, v) ↔ Contains finals' (x, v)
+  pub same_finals : (finals finals' : FinalValues) (steps steps' : ℕ) → run p s n ≡ ends finals steps → run q s m ≡ ends finals' steps'
+      → (x : List ℕ) (v : Value) → (slice_of (graph_of p) S).vertex (Final x) → Contains finals (x, v) ↔ Contains finals' (x, v)
   same_finals finals finals' steps steps' ep eq x v sv = (forth, turned_back)
     where
       sp : Values
@@ -310,7 +310,7 @@ module _ (p q : Tree) (s : Values) (n m : ℕ) (dp : Distinct (skeleton p.body))
           let g = contains_among (x, value_at sp x) (final_values p.finals sp) (in_finals x sp p.finals (among_contains x p.finals sv.0)) in
           subst (λ l. Contains l (x, v)) (sym lp) (subst (λ z. Contains (final_values p.finals sp) (x, z)) (sym (e ∙ sym value_same)) g)
 
-pub slice_shared : (p q : Tree) (S : Vertex → Type 0) (s : Values) (n m steps : ℕ) (finals : List (List ℕ × ℤ)) → IsProgram p → IsProgram q
+pub slice_shared : (p q : Tree) (S : Vertex → Type 0) (s : Values) (n m steps : ℕ) (finals : FinalValues) → IsProgram p → IsProgram q
     → Same (slice_of (graph_of p) S) (slice_of (graph_of q) S) → run p s n ≡ ends finals steps → SharesSlice p q S s n m
 slice_shared p q S s n m steps finals ip iq same e = record {
   done_alike = found_in_first p q s n m dp dq S same is_over;

@@ -1,11 +1,11 @@
 -- The law of time: the steps of a run come in time order, each is due, what is due before one of them is among them, and the place where
 -- a run stops is the next.
-use Rattle.std.proofs.Common.{◌≡◌, ◌≢◌, ℕ, ℤ, true, false, List, [], ◌∷◌, ◌++◌, Option, Some, None, Contains, refl, ap, sym, subst, ◌∙◌, inl, inr}
+use Rattle.std.proofs.Common.{◌≡◌, ◌≢◌, ℕ, true, false, List, [], ◌∷◌, ◌++◌, Option, Some, None, Contains, refl, ap, sym, subst, ◌∙◌, inl, inr}
 use Rattle.std.specs.List.{AllByRecursion}
 use Rattle.hpr_syntax.specs.Tree.{Tree}
 use Rattle.hpr_syntax.specs.Shape.{IsProgram}
 use Rattle.hpr_syntax.specs.Value.{Fault}
-use Rattle.hpr_syntax.specs.Run.{ends, faults, more, Outcome, run, outcome}
+use Rattle.hpr_syntax.specs.Run.{FinalValues, ends, faults, more, Outcome, run, outcome}
 use Rattle.hpr_syntax.specs.Values.{Values}
 use Rattle.hpr_syntax.specs.Skeleton.{Skeleton, Distinct, skeleton}
 use Rattle.hpr_paths.specs.Times.{Place, ComesBefore, IsBefore}
@@ -59,7 +59,7 @@ not_stopped p s n at (Some f) log left h = h
 pub run_of_course : (p : Tree) (s : Values) (n : ℕ) → outcome p.finals n (after_of s (trace s p.body [] [] n)) ≡ run p s n
 run_of_course p s n = ap (outcome p.finals n) (trace_run s p.body [] [] n)
 
-pub ends_over : (p : Tree) (s : Values) (n steps : ℕ) (finals : List (List ℕ × ℤ)) (f : RunFacts p.body s n (trace s p.body [] [] n)) → run p s n ≡ ends finals steps → f.over ≡ true
+pub ends_over : (p : Tree) (s : Values) (n steps : ℕ) (finals : FinalValues) (f : RunFacts p.body s n (trace s p.body [] [] n)) → run p s n ≡ ends finals steps → f.over ≡ true
 ends_over p s n steps finals f e = go f.how
   where
     go : Ending p.body s n (trace s p.body [] [] n) f.over f.stop → f.over ≡ true

@@ -1,20 +1,20 @@
 -- A trace is the run: it goes on where the run goes on, in the same state, and stops where the run stops.
-use Rattle.std.proofs.Common.{◌≡◌, ℕ, zero, suc, ◌+◌, ℤ, Bool, true, false, List, [], ◌∷◌, ◌++◌, Some, None, refl, ap, ◌∙◌, if◌then◌else◌, Ok, Err}
+use Rattle.std.proofs.Common.{◌≡◌, ℕ, zero, suc, ◌+◌, Bool, true, false, List, [], ◌∷◌, ◌++◌, Some, None, refl, ap, ◌∙◌, if◌then◌else◌, Ok, Err}
 use Rattle.hpr_terms.specs.declared.tag.Tag.{Tag}
 use Rattle.hpr_terms.specs.declared.expr.Expr.{Expr}
 use Rattle.hpr_syntax.specs.declared.rows.Content.TheVariants.{If, While}
 use Rattle.hpr_syntax.specs.Rows.{content_by, expr_in}
 use Rattle.hpr_syntax.specs.Contents.{answer_of}
 use Rattle.hpr_syntax.specs.Body.{Body, done, action, branch, loop}
-use Rattle.hpr_syntax.specs.Values.{Values}
+use Rattle.hpr_syntax.specs.Values.{Value, Values}
 use Rattle.hpr_syntax.specs.Value.{Answer, is_true}
 use Rattle.hpr_syntax.specs.Run.{After, run_body}
 use Rattle.hpr_syntax.specs.Run as run
 use Rattle.hpr_paths.specs.Times.{Place}
 use Rattle.hpr_meaning.specs.Instances.{Instance, state_after, logged, Course, goes, stops, step_at, then_go, turns_from, trace, after_of}
 
-step_run : (s : Values) (a : Place) (answer : Answer) (log : List Instance) (left : ℕ) (go : ℤ → ℕ → Course) (go' : ℤ → ℕ → After)
-    → ((v : ℤ) (l : ℕ) → after_of s (go v l) ≡ go' v l) → after_of s (step_at a answer log left go) ≡ run.step a.0 answer left go'
+step_run : (s : Values) (a : Place) (answer : Answer) (log : List Instance) (left : ℕ) (go : Value → ℕ → Course) (go' : Value → ℕ → After)
+    → ((v : Value) (l : ℕ) → after_of s (go v l) ≡ go' v l) → after_of s (step_at a answer log left go) ≡ run.step a.0 answer left go'
 step_run s a answer log zero go go' h = refl
 step_run s a (Ok v) log (suc left) go go' h = h v left
 step_run s a (Err f) log (suc left) go go' h = refl

@@ -3,7 +3,7 @@
 -- numbers_of log == the numbers of the steps of a log, newest first, that last defined the names
 -- notes_of log   == what is kept after the log
 -- way_of s course == the course from the state s with its notes
-use Rattle.std.proofs.Common.{◌≡◌, ℕ, zero, suc, ◌+◌, ◌-◌, ℤ, Bool, true, false, List, [], ◌∷◌, ◌++◌, map, length, reverse, Option, Some, None, refl, sym, ap, ◌∙◌, arith, if◌then◌else◌, cond, Ok, Err}
+use Rattle.std.proofs.Common.{◌≡◌, ℕ, zero, suc, ◌+◌, ◌-◌, Bool, true, false, List, [], ◌∷◌, ◌++◌, map, length, reverse, Option, Some, None, refl, sym, ap, ◌∙◌, arith, if◌then◌else◌, cond, Ok, Err}
 use Rattle.hpr_syntax.specs.Action.{assigns}
 use Rattle.hpr_syntax.specs.Contents.{answer_of}
 use mathlib.Core.List.{reverse_aux, reverse-cons}
@@ -18,7 +18,7 @@ use Rattle.hpr_syntax.specs.declared.rows.Content.TheVariants.{Assign, If, While
 use Rattle.hpr_syntax.specs.Body.{Body, done, action, branch, loop}
 use Rattle.hpr_syntax.specs.Rows.{assigned}
 use Rattle.hpr_syntax.specs.Tree.{Tree}
-use Rattle.hpr_syntax.specs.Values.{Values, value_at}
+use Rattle.hpr_syntax.specs.Values.{Value, Values, value_at}
 use Rattle.hpr_syntax.specs.Value.{Answer, is_true}
 use Rattle.hpr_graph.specs.Order.{name_cmp}
 use Rattle.hpr_run.specs.Observed.{Way, step_way, then_way, walk_turns, walk, known_in}
@@ -72,7 +72,7 @@ all_reads s log (x ∷ names) =
     ap (λ (r : Read). r ∷ map (read_at (state_after s log) (notes_of log)) names) (one_read s log x)
     ∙ ap (λ (l : List Read). read_after log (read_of s log x) ∷ l) (all_reads s log names)
 
-one_item : (s : Values) (a : Place) (c : Content) (e : Expr) (v : ℤ) (log : List Instance)
+one_item : (s : Values) (a : Place) (c : Content) (e : Expr) (v : Value) (log : List Instance)
     → item_at a e v (state_after s log) (notes_of log) ≡ item_after log (a, record { content = c; reads = reads_of e s log; gave = v })
 one_item s a c e v log = ap (λ (l : List Read). record { tag = a.0; turns = a.1; reads = l; value = v }) (all_reads s log (names_of e))
 
@@ -94,22 +94,22 @@ items_length log (x ∷ xs) = ap suc (items_length (x ∷ log) xs)
 items_count : (log : List Instance) → length (items_of (reverse log)) ≡ length log
 items_count log = items_length [] (reverse log) ∙ length-reverse log
 
-logged_items : (s : Values) (a : Place) (c : Content) (e : Expr) (v : ℤ) (log : List Instance)
+logged_items : (s : Values) (a : Place) (c : Content) (e : Expr) (v : Value) (log : List Instance)
     → items_of (reverse (logged a c e v s log)) ≡ items_of (reverse log) ++ item_at a e v (state_after s log) (notes_of log) ∷ []
 logged_items s a c e v log =
     items_more log (a, record { content = c; reads = reads_of e s log; gave = v })
     ∙ ap (λ (i : Item). items_of (reverse log) ++ i ∷ []) (sym (one_item s a c e v log))
 
 -- one step
-if_noted : (s : Values) (t : Tag) (around : List ℕ) (e : Expr) (v : ℤ) (log : List Instance)
+if_noted : (s : Values) (t : Tag) (around : List ℕ) (e : Expr) (v : Value) (log : List Instance)
     → notes_of (logged (t, around) (If e) e v s log) ≡ noted around t e v (state_after s log) (notes_of log)
 if_noted s t around e v log = ap (λ (l : List Item). record { definers = numbers_of log; items = l }) (logged_items s (t, around) (If e) e v log)
 
-while_noted : (s : Values) (t : Tag) (around : List ℕ) (e : Expr) (v : ℤ) (log : List Instance)
+while_noted : (s : Values) (t : Tag) (around : List ℕ) (e : Expr) (v : Value) (log : List Instance)
     → notes_of (logged (t, around) (While e) e v s log) ≡ noted around t e v (state_after s log) (notes_of log)
 while_noted s t around e v log = ap (λ (l : List Item). record { definers = numbers_of log; items = l }) (logged_items s (t, around) (While e) e v log)
 
-assign_noted : (s : Values) (t : Tag) (around : List ℕ) (x : List ℕ) (e : Expr) (v : ℤ) (log : List Instance)
+assign_noted : (s : Values) (t : Tag) (around : List ℕ) (x : List ℕ) (e : Expr) (v : Value) (log : List Instance)
     → notes_of (logged (t, around) (Assign x e) e v s log) ≡ defined x (noted around t e v (state_after s log) (notes_of log))
 assign_noted s t around x e v log =
     let before = items_of (reverse log) in
@@ -119,8 +119,8 @@ assign_noted s t around x e v log =
     ∙ ap (λ (n : ℕ). record { definers = insert (numbers_of log) x n; items = before ++ new ∷ [] }) count
 
 -- the whole
-step_walk : (s : Values) (a : Place) (answer : Answer) (log : List Instance) (left : ℕ) (go : ℤ → ℕ → Course) (go' : ℤ → ℕ → Way Notes)
-    → ((v : ℤ) (l : ℕ) → way_of s (go v l) ≡ go' v l) → way_of s (step_at a answer log left go) ≡ step_way a.0 answer (notes_of log) left go'
+step_walk : (s : Values) (a : Place) (answer : Answer) (log : List Instance) (left : ℕ) (go : Value → ℕ → Course) (go' : Value → ℕ → Way Notes)
+    → ((v : Value) (l : ℕ) → way_of s (go v l) ≡ go' v l) → way_of s (step_at a answer log left go) ≡ step_way a.0 answer (notes_of log) left go'
 step_walk s a answer log zero go go' h = refl
 step_walk s a (Ok v) log (suc left) go go' h = h v left
 step_walk s a (Err f) log (suc left) go go' h = refl

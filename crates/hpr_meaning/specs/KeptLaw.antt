@@ -11,12 +11,12 @@
 -- KeepsAll base vs m == from every state from which base and all variants end normally, m ends normally within as many
 --                       steps as they took together, with the variant's value for each final variable that a variant
 --                       changed, and the common value where all agree
-use Rattle.std.specs.Prelude.{◌≡◌, ℕ, ◌+◌, ℤ, List, [], ◌∷◌, Contains}
+use Rattle.std.specs.Prelude.{◌≡◌, ℕ, ◌+◌, List, [], ◌∷◌, Contains}
 use Rattle.std.specs.List.{AllByRecursion}
 use Rattle.hpr_syntax.specs.Meaning.{Ends}
 use Rattle.hpr_syntax.specs.Run.{FinalValues}
 use Rattle.hpr_syntax.specs.Tree.{Tree}
-use Rattle.hpr_syntax.specs.Values.{Values}
+use Rattle.hpr_syntax.specs.Values.{Value, Values}
 
 pub record Finished : Type 0 where
   pub program : Tree
@@ -36,14 +36,14 @@ steps_in (r ∷ rs) = r.steps + steps_in rs
 
 -- A final value that base lacks or has with another number is changed.
 abbrev pub HasChanged : FinalValues → FinalValues → Finished → Type 0
-HasChanged f0 f r = (x : List ℕ) (v : ℤ) → Contains r.finals (x, v) → ¬ Contains f0 (x, v) → Contains f (x, v)
+HasChanged f0 f r = (x : List ℕ) (v : Value) → Contains r.finals (x, v) → ¬ Contains f0 (x, v) → Contains f (x, v)
 
-abbrev pub HasValue : List ℕ → ℤ → Finished → Type 0
+abbrev pub HasValue : List ℕ → Value → Finished → Type 0
 HasValue x v r = Contains r.finals (x, v)
 
 pub record IsKeptOf (f0 : FinalValues) (rs : List Finished) (f : FinalValues) : Type 0 where
   pub changed : AllByRecursion (HasChanged f0 f) rs
-  pub agreed : (x : List ℕ) (v : ℤ) → Contains f0 (x, v) → AllByRecursion (HasValue x v) rs → Contains f (x, v)
+  pub agreed : (x : List ℕ) (v : Value) → Contains f0 (x, v) → AllByRecursion (HasValue x v) rs → Contains f (x, v)
 
 abbrev pub KeepsAll : Tree → List Tree → Tree → Type 0
 KeepsAll base vs m =

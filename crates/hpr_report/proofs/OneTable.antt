@@ -1,7 +1,7 @@
 -- Four lists of final values have one table. Where the merged values keep the meaning, the columns of the table show it.
-use Rattle.std.proofs.Common.{◌≡◌, ℕ, suc, ℤ, inl, inr, Option, Some, None, List, [], ◌∷◌, map, All, Contains, refl, sym, ap, ap₂, ◌∙◌, subst, arith}
+use Rattle.std.proofs.Common.{◌≡◌, ℕ, suc, inl, inr, Option, Some, None, List, [], ◌∷◌, map, All, Contains, refl, sym, ap, ap₂, ◌∙◌, subst, arith}
 use Rattle.hpr_syntax.specs.Tree.{Tree}
-use Rattle.hpr_syntax.specs.Values.{Values, value_at}
+use Rattle.hpr_syntax.specs.Values.{Value, Values, value_at}
 use Rattle.hpr_syntax.specs.Run.{FinalValues, After, goes, stops, spent, outcome, final_values, ends, run, run_body}
 use Rattle.hpr_syntax.specs.Meaning.{IsKept}
 use Rattle.hpr_graph.proofs.Lists.{in_none, in_cons}
@@ -10,7 +10,7 @@ use Rattle.hpr_report.specs.TableText.{IsSingleValued, Row, IsValueIn, IsRow, na
 use Rattle.hpr_graph.proofs.NameOrder.{one_order}
 
 -- a name has one cell in a list
-same_cell : (values : FinalValues) (x : List ℕ) (c d : Option ℤ) → IsValueIn values x c → IsValueIn values x d → c ≡ d
+same_cell : (values : FinalValues) (x : List ℕ) (c d : Option Value) → IsValueIn values x c → IsValueIn values x d → c ≡ d
 same_cell values x None None p q = refl
 same_cell values x None (Some w) p q = (p w).1 ((q w).0 refl)
 same_cell values x (Some v) d p q = sym ((q v).1 ((p v).0 refl))
@@ -54,10 +54,10 @@ module _ (base a b merged : FinalValues) where
   kept_in_rows rows kept are k d l = kept_in_row kept _ (are.cells k d l)
 
 -- the final values of a run that ends give no name two values
-value_is : (names : List (List ℕ)) (s : Values) (x : List ℕ) (v : ℤ) → Contains (final_values names s) (x, v) → v ≡ value_at s x
+value_is : (names : List (List ℕ)) (s : Values) (x : List ℕ) (v : Value) → Contains (final_values names s) (x, v) → v ≡ value_at s x
 value_is [] s x v h = absurd (in_none (x, v) h)
 value_is (y ∷ names) s x v h = elim (in_cons (y, value_at s y) (x, v) (final_values names s) h) [
-  | inl e ↦ sym (ap (λ (z : List ℕ × ℤ). z.1) e) ∙ ap (value_at s) (ap (λ (z : List ℕ × ℤ). z.0) e)
+  | inl e ↦ sym (ap (λ (z : List ℕ × Value). z.1) e) ∙ ap (value_at s) (ap (λ (z : List ℕ × Value). z.0) e)
   | inr later ↦ value_is names s x v later
 ]
 

@@ -1,5 +1,5 @@
 -- Four lists of final values have a table.
-use Rattle.std.proofs.Common.{◌≡◌, ◌↔◌, ℕ, ℤ, Option, Some, None, List, [], ◌∷◌, ◌++◌, map, Contains, refl, sym, ap, ap₂, subst}
+use Rattle.std.proofs.Common.{◌≡◌, ◌↔◌, ℕ, Option, Some, None, List, [], ◌∷◌, ◌++◌, map, Contains, refl, sym, ap, ap₂, subst}
 use Rattle.std.specs.Cmp.Lexicographic.{nat_list_cmp_total}
 use Rattle.std.specs.List.{AllByRecursion}
 use Rattle.std.proofs.lemmas.List.Elements.{All-from_recursion}
@@ -12,11 +12,12 @@ use Rattle.hpr_graph.proofs.PutInOrder.{ascending}
 use Rattle.hpr_graph.proofs.VertexOrder.{name_tied}
 use Rattle.hpr_report.specs.GraphTexts.{on_lines}
 use Rattle.hpr_report.specs.TableText.{names_in, IsSingleValued, Row, IsValueIn, IsRow, names_of, table_line, IsTableText}
+use Rattle.hpr_syntax.specs.Values.{Value}
 
 -- each name has a cell in a list
-some_cell : (values : FinalValues) (x : List ℕ) → IsSingleValued values → ¬ (¬ ((cell : Option ℤ) × IsValueIn values x cell))
+some_cell : (values : FinalValues) (x : List ℕ) → IsSingleValued values → ¬ (¬ ((cell : Option Value) × IsValueIn values x cell))
 some_cell values x single =
-    by_both ((v : ℤ) × Contains values (x, v)) ((cell : Option ℤ) × IsValueIn values x cell)
+    by_both ((v : Value) × Contains values (x, v)) ((cell : Option Value) × IsValueIn values x cell)
     (λ found n. n (
       Some found.0,
       λ v. (

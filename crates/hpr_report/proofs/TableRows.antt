@@ -1,5 +1,5 @@
 -- The rows of a table, and the value of a name in a list.
-use Rattle.std.proofs.Common.{◌≡◌, ℕ, ℤ, ◌+◌, ◌<◌, ◌↔◌, inl, inr, Some, None, List, [], ◌∷◌, ◌++◌, codes, length, map, take, get_or, All, Contains, refl, sym, ap, ap₂, ◌∙◌, subst}
+use Rattle.std.proofs.Common.{◌≡◌, ℕ, ◌+◌, ◌<◌, ◌↔◌, inl, inr, Some, None, List, [], ◌∷◌, ◌++◌, codes, length, map, take, get_or, All, Contains, refl, sym, ap, ap₂, ◌∙◌, subst}
 use Rattle.std.proofs.lemmas.List.{take_more, map-append, append-nil}
 use Rattle.std.proofs.lemmas.List.Elements.{All-nil, All-append, All-from_recursion}
 use Rattle.std.proofs.lemmas.Grind.{flat_map-append}
@@ -9,23 +9,24 @@ use Rattle.hpr_graph.specs.InOrder.{Ascends}
 use Rattle.hpr_graph.proofs.Lists.{some_inj, in_taken}
 use Rattle.hpr_report.specs.GraphTexts.{on_lines}
 use Rattle.hpr_report.specs.TableText.{names_in, IsSingleValued, Row, IsValueIn, IsRow, names_of, table_line, IsTableText}
+use Rattle.hpr_syntax.specs.Values.{Value}
 
 -- the value of a name, where a look-up finds one and where it doesn't
-pub value_found : (values : FinalValues) (x : List ℕ) (w : ℤ) → IsSingleValued values → Contains values (x, w) → IsValueIn values x (Some w)
+pub value_found : (values : FinalValues) (x : List ℕ) (w : Value) → IsSingleValued values → Contains values (x, w) → IsValueIn values x (Some w)
 value_found values x w single h v = (
   λ e. subst (λ u. Contains values (x, u)) (some_inj w v e) h,
   λ k. ap (λ u. Some u) (single x w v h k),
 )
 
-pub none_found : (values : FinalValues) (x : List ℕ) → ((v : ℤ) → ¬ Contains values (x, v)) → IsValueIn values x None
+pub none_found : (values : FinalValues) (x : List ℕ) → ((v : Value) → ¬ Contains values (x, v)) → IsValueIn values x None
 none_found values x none v = (λ e. absurd cc, λ h. absurd (none v h))
 
 -- with one pair more that has another name
-pub none_more : (values : FinalValues) (i : ℕ) (d : List ℕ × ℤ) (x : List ℕ) → i < length values → ¬ ((get_or values i d).0 ≡ x)
-    → ((v : ℤ) → ¬ Contains (take i values) (x, v)) → (v : ℤ) → ¬ Contains (take (i + 1) values) (x, v)
+pub none_more : (values : FinalValues) (i : ℕ) (d : List ℕ × Value) (x : List ℕ) → i < length values → ¬ ((get_or values i d).0 ≡ x)
+    → ((v : Value) → ¬ Contains (take i values) (x, v)) → (v : Value) → ¬ Contains (take (i + 1) values) (x, v)
 none_more values i d x within other none v h = elim ((in_taken values i d (x, v) within).0 h) [
   | inl before ↦ none v before
-  | inr here ↦ other (ap (λ (e : List ℕ × ℤ). e.0) here)
+  | inr here ↦ other (ap (λ (e : List ℕ × Value). e.0) here)
 ]
 
 module _ (base a b merged : FinalValues) where

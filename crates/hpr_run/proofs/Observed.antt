@@ -1,5 +1,5 @@
 -- Laws of observed runs: an observer changes nothing, and what the code does with a block and a loop, part by part and turn by turn.
-use Rattle.std.proofs.Common.{subst, sym, ◌≡◌, ℕ, zero, suc, ◌+◌, ◌-◌, ◌<◌, ◌∷◌, List, length, get_or, drop, drop-cons, ℤ, Bool, true, false, refl, ap, ◌∙◌, arith, add-one, if◌then◌else◌, Ok, Err}
+use Rattle.std.proofs.Common.{subst, sym, ◌≡◌, ℕ, zero, suc, ◌+◌, ◌-◌, ◌<◌, ◌∷◌, List, length, get_or, drop, drop-cons, Bool, true, false, refl, ap, ◌∙◌, arith, add-one, if◌then◌else◌, Ok, Err}
 use Rattle.std.specs.FinMap.{insert}
 use Rattle.hpr_terms.specs.declared.tag.Tag.{Tag}
 use Rattle.hpr_terms.specs.declared.expr.Expr.{Expr}
@@ -9,7 +9,7 @@ use Rattle.hpr_syntax.specs.BodyOf.{before, body_of}
 use Rattle.hpr_syntax.specs.Action.{assigns}
 use Rattle.hpr_syntax.specs.Body.{Body, done, action, branch, loop}
 use Rattle.hpr_syntax.specs.Tree.{Tree}
-use Rattle.hpr_syntax.specs.Values.{Values}
+use Rattle.hpr_syntax.specs.Values.{Value, Values}
 use Rattle.hpr_syntax.specs.Value.{Answer, value, is_true}
 use Rattle.hpr_syntax.specs.Run.{After, step, then_go, turns, run_body, faults, more, outcome, run}
 use Rattle.hpr_run.specs.declared.values.Fault.{Fault}
@@ -19,8 +19,8 @@ use Rattle.hpr_run.specs.Outcomes.{fault_of, Did}
 use Rattle.hpr_run.specs.Observed.{Observing, Way, goes, stops, spent, step_way, then_way, walk_turns, walk, after_in}
 
 -- without its observer, an observed run is the run
-step_after : {O : Type 0} (t : Tag) (a : Answer) (o : O) (left : ℕ) (f : ℤ → ℕ → Way O) (g : ℤ → ℕ → After)
-    → ((v : ℤ) (l : ℕ) → after_in (f v l) ≡ g v l) → after_in (step_way t a o left f) ≡ step t a left g
+step_after : {O : Type 0} (t : Tag) (a : Answer) (o : O) (left : ℕ) (f : Value → ℕ → Way O) (g : Value → ℕ → After)
+    → ((v : Value) (l : ℕ) → after_in (f v l) ≡ g v l) → after_in (step_way t a o left f) ≡ step t a left g
 step_after t a o zero f g h = refl
 step_after t (Ok v) o (suc l) f g h = h v l
 step_after t (Err e) o (suc l) f g h = refl
@@ -78,13 +78,13 @@ module _ {O A : Type 0} (w : Observing O A) where
       ∙ outcome_at p b a o s s' n body same (stops t (fault_of f) o' left) (subst (λ (x : Stop). Did (Err x) (walk w b a o s n) o' s'' left) is did)
 
 -- what follows a part that stopped is not reached
-step_ends : {O : Type 0} (t : Tag) (a : Answer) (o : O) (left : ℕ) (f : ℤ → ℕ → Way O) (go : O → Values → ℕ → Way O)
+step_ends : {O : Type 0} (t : Tag) (a : Answer) (o : O) (left : ℕ) (f : Value → ℕ → Way O) (go : O → Values → ℕ → Way O)
     → step_way t a o left (λ v l. then_way (f v l) go) ≡ then_way (step_way t a o left f) go
 step_ends t a o zero f go = refl
 step_ends t (Ok v) o (suc l) f go = refl
 step_ends t (Err e) o (suc l) f go = refl
 
-step_same : {O : Type 0} (t : Tag) (a : Answer) (o : O) (left : ℕ) (f g : ℤ → ℕ → Way O) → ((v : ℤ) (l : ℕ) → f v l ≡ g v l) → step_way t a o left f ≡ step_way t a o left g
+step_same : {O : Type 0} (t : Tag) (a : Answer) (o : O) (left : ℕ) (f g : Value → ℕ → Way O) → ((v : Value) (l : ℕ) → f v l ≡ g v l) → step_way t a o left f ≡ step_way t a o left g
 step_same t a o zero f g h = refl
 step_same t (Ok v) o (suc l) f g h = h v l
 step_same t (Err e) o (suc l) f g h = refl
@@ -130,7 +130,7 @@ module _ {O A : Type 0} (w : Observing O A) where
     one_more : whole ≡ walk_turns w k (suc (most - (k + 1))) t e (walk w b) a o s l
     one_more = let n : most - k ≡ suc (most - (k + 1)) = omega arith in so_far ∙ ap (λ (m : ℕ). walk_turns w k m t e (walk w b) a o s l) n
 
-    module _ (v : ℤ) (o' : O) (l' : ℕ) (one : l ≡ suc l') (is : value e s ≡ Ok v) (new : o' ≡ w.told inside t e v s o) where
+    module _ (v : Value) (o' : O) (l' : ℕ) (one : l ≡ suc l') (is : value e s ≡ Ok v) (new : o' ≡ w.told inside t e v s o) where
       seen : o' ≡ w.told (w.in_turn a k) t e v s o
       seen = new ∙ ap (λ (x : A). w.told x t e v s o) at
 

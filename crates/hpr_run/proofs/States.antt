@@ -1,12 +1,13 @@
 -- A map of names against the ordered map that keeps it.
-use Rattle.std.proofs.Common.{◌≡◌, ℕ, ℤ, List, [], ◌∷◌, ◌++◌, refl, ap, ◌∙◌, cond, Some}
+use Rattle.std.proofs.Common.{◌≡◌, ℕ, List, [], ◌∷◌, ◌++◌, refl, ap, ◌∙◌, cond, Some}
 use Rattle.std.specs.Map.{lookup}
 use Rattle.std.specs.BTreeMap.{is_at}
 use Rattle.std.specs.Ordering.{nat_cmp, eq_by_cmp}
 use Rattle.std.specs.Cmp.{eq_by_cmp_equiv}
 use Rattle.std.specs.Cmp.Lexicographic.{slice_cmp, nat_list_cmp_total}
 use Rattle.std.specs.FinMap.{empty, find, get, insert, get-insert, get-from_entries, from_entries, same_map, nat_cmp-IsAntisymmetric, slice_cmp-IsAntisymmetric}
-use Rattle.hpr_syntax.specs.Values.{Values}
+use Rattle.hpr_syntax.specs.Values.{Value, Values}
+use Rattle.hpr_syntax.specs.Run.{FinalValues}
 
 module _ {V : Type 0} where
   find-lookup : (q : List ℕ) (es : List (List ℕ × V)) → find (slice_cmp nat_cmp) q es ≡ lookup (is_at (slice_cmp nat_cmp q)) es
@@ -28,14 +29,14 @@ module _ {V : Type 0} where
       a ∙ h q ∙ rw (c, b, d) refl)
 
 -- the entries put into a state, the last one first
-abbrev pub onto : List (List ℕ × ℤ) → Values → Values
+abbrev pub onto : FinalValues → Values → Values
 onto [] m = m
 onto (e ∷ es) m = insert (onto es m) e.0 e.1
 
-pub onto_empty : (es : List (List ℕ × ℤ)) → onto es empty ≡ from_entries es
+pub onto_empty : (es : FinalValues) → onto es empty ≡ from_entries es
 onto_empty [] = refl
 onto_empty (e ∷ es) = ap (λ m. insert m e.0 e.1) (onto_empty es)
 
-pub onto_last : (es : List (List ℕ × ℤ)) (e : List ℕ × ℤ) (m : Values) → onto (es ++ e ∷ []) m ≡ onto es (insert m e.0 e.1)
+pub onto_last : (es : FinalValues) (e : List ℕ × Value) (m : Values) → onto (es ++ e ∷ []) m ≡ onto es (insert m e.0 e.1)
 onto_last [] e m = refl
 onto_last (d ∷ es) e m = ap (λ n. insert n d.0 d.1) (onto_last es e m)

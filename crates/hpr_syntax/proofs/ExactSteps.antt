@@ -1,5 +1,5 @@
 -- A run that ends needs no more steps than it takes.
-use Rattle.std.proofs.Common.{◌≡◌, ℕ, zero, suc, ◌+◌, ◌-◌, ◌≤◌, ◌<◌, ℤ, Bool, true, false, List, arith, ap, sym, ◌∙◌, subst, if◌then◌else◌, Ok, Err}
+use Rattle.std.proofs.Common.{◌≡◌, ℕ, zero, suc, ◌+◌, ◌-◌, ◌≤◌, ◌<◌, Bool, true, false, List, arith, ap, sym, ◌∙◌, subst, if◌then◌else◌, Ok, Err}
 use Rattle.hpr_terms.specs.declared.tag.Tag.{Tag}
 use Rattle.hpr_terms.specs.declared.expr.Expr.{Expr}
 use Rattle.hpr_syntax.specs.declared.rows.Content.TheVariants.{If, While}
@@ -9,7 +9,7 @@ use Rattle.hpr_syntax.specs.Body.{Body, done, action, branch, loop}
 use Rattle.hpr_syntax.specs.Run.{FinalValues, ends, final_values, run, outcome, After, goes, stops, spent, step, then_go, turns, run_body}
 use Rattle.hpr_syntax.specs.Tree.{Tree}
 use Rattle.hpr_syntax.specs.Value.{Answer, Fault, is_true}
-use Rattle.hpr_syntax.specs.Values.{Values}
+use Rattle.hpr_syntax.specs.Values.{Value, Values}
 use Rattle.hpr_syntax.proofs.Runs.{LeavesAtMost, then_leaves, if_leaves, turns_leaves, run_body_leaves}
 
 same_left : (s : Values) (l : ℕ) → LeavesAtMost (goes s l) l
@@ -41,8 +41,8 @@ module _ (k : ℕ) where
       let fewer : n ≡ l = omega (arith, is, same) in
       ap (λ t. goes t n) (goes_state s u m (l + k) e) ∙ ap (goes u) fewer
 
-  step_less : (t : Tag) (a : Answer) (m n : ℕ) (f g : ℤ → ℕ → After) → m ≡ n + k → ((v : ℤ) (l : ℕ) → LeavesAtMost (f v l) l)
-      → ((v : ℤ) (m n : ℕ) → m ≡ n + k → IsLess (f v m) (g v n)) → IsLess (step t a m f) (step t a n g)
+  step_less : (t : Tag) (a : Answer) (m n : ℕ) (f g : Value → ℕ → After) → m ≡ n + k → ((v : Value) (l : ℕ) → LeavesAtMost (f v l) l)
+      → ((v : Value) (m n : ℕ) → m ≡ n + k → IsLess (f v m) (g v n)) → IsLess (step t a m f) (step t a n g)
   step_less t a zero n f g is leaves h s l e = absurd (never_goes s (l + k) e)
   step_less t (Ok v) (suc m) zero f g is leaves h s l e =
       let within : l + k ≤ m = left_within (f v m) m s (l + k) (leaves v m) e in
@@ -67,10 +67,10 @@ module _ (k : ℕ) where
   module _ (t : Tag) (e : Expr) (f : Values → ℕ → After) (leaves : (s : Values) (l : ℕ) → LeavesAtMost (f s l) l)
       (h : (s : Values) (m n : ℕ) → m ≡ n + k → IsLess (f s m) (f s n)) where
     -- what follows the test of a loop that may make so many turns more
-    abbrev behind_test : ℕ → Values → ℤ → ℕ → After
+    abbrev behind_test : ℕ → Values → Value → ℕ → After
     behind_test n s v l = if is_true v then then_go (f s l) (turns n t e f) else goes s l
 
-    test_leaves : (n : ℕ) (s : Values) (v : ℤ) (l : ℕ) → LeavesAtMost (behind_test n s v l) l
+    test_leaves : (n : ℕ) (s : Values) (v : Value) (l : ℕ) → LeavesAtMost (behind_test n s v l) l
     test_leaves n s v l = if_leaves (is_true v) _ _ l (then_leaves (f s l) l (turns n t e f) (turns_leaves n t e f leaves) (leaves s l)) (same_left s l)
 
     module _ (many few : ℕ) (rest : (s : Values) (m n : ℕ) → m ≡ n + k → n < few → IsLess (turns many t e f s m) (turns few t e f s n)) where

@@ -1,5 +1,5 @@
 -- A run with more steps to spend.
-use Rattle.std.proofs.Common.{◌≡◌, ℕ, zero, suc, ◌+◌, ◌-◌, ◌≤◌, ℤ, Bool, true, false, List, refl, sym, ◌∙◌, subst, arith, if◌then◌else◌, Ok, Err}
+use Rattle.std.proofs.Common.{◌≡◌, ℕ, zero, suc, ◌+◌, ◌-◌, ◌≤◌, Bool, true, false, List, refl, sym, ◌∙◌, subst, arith, if◌then◌else◌, Ok, Err}
 use Rattle.hpr_terms.specs.declared.tag.Tag.{Tag}
 use Rattle.hpr_terms.specs.declared.expr.Expr.{Expr}
 use Rattle.hpr_syntax.specs.Tree.{Tree}
@@ -9,7 +9,7 @@ use Rattle.hpr_syntax.specs.Contents.{answer_of, next_state}
 use Rattle.hpr_syntax.specs.Body.{Body, done, action, branch, loop}
 use Rattle.hpr_syntax.specs.Run.{ends, FinalValues, After, goes, stops, spent, step, then_go, turns, run_body, run, outcome}
 use Rattle.hpr_syntax.specs.Meaning.{Ends}
-use Rattle.hpr_syntax.specs.Values.{Values}
+use Rattle.hpr_syntax.specs.Values.{Value, Values}
 use Rattle.hpr_syntax.specs.Value.{Answer, is_true}
 use Rattle.hpr_syntax.proofs.Runs.{LeavesAtMost, run_body_leaves}
 
@@ -24,7 +24,7 @@ then_more k (goes s l) y f g h p = rw p (h s l)
 then_more k (stops t e l) y f g h p = rw p refl
 then_more k spent y f g h p = tt
 
-step_more : (k : ℕ) (t : Tag) (a : Answer) (left : ℕ) (f g : ℤ → ℕ → After) → ((v : ℤ) (l : ℕ) → IsMore k (f v l) (g v (l + k))) → IsMore k (step t a left f) (step t a (left + k) g)
+step_more : (k : ℕ) (t : Tag) (a : Answer) (left : ℕ) (f g : Value → ℕ → After) → ((v : Value) (l : ℕ) → IsMore k (f v l) (g v (l + k))) → IsMore k (step t a left f) (step t a (left + k) g)
 step_more k t a zero f g h = tt
 step_more k t (Ok v) (suc l) f g h = let e : suc l + k ≡ suc (l + k) = omega arith in rw e (h v l)
 step_more k t (Err x) (suc l) f g h = let e : suc l + k ≡ suc (l + k) = omega arith in rw e refl
@@ -47,13 +47,13 @@ run_body-more k (branch t e a b rest) s left =
 run_body-more k (loop t e b rest) s left =
     then_more k _ _ _ _ (run_body-more k rest) (turns_more k (left + 1) (left + k + 1) t e (run_body b) (omega arith) (run_body-more k b) s left)
 
-outcome-more : (p : Tree) (n k steps : ℕ) (finals : List (List ℕ × ℤ)) (x y : After) → LeavesAtMost x n → IsMore k x y → outcome p.finals n x ≡ ends finals steps → outcome p.finals (n + k) y ≡ ends finals steps
+outcome-more : (p : Tree) (n k steps : ℕ) (finals : FinalValues) (x y : After) → LeavesAtMost x n → IsMore k x y → outcome p.finals n x ≡ ends finals steps → outcome p.finals (n + k) y ≡ ends finals steps
 outcome-more p n k steps finals (goes s l) y le m e =
     let d : n + k - (l + k) ≡ n - l = omega arith in rw (m, d) e
 outcome-more p n k steps finals (stops t f l) y le m e = absurd cc
 outcome-more p n k steps finals spent y le m e = absurd cc
 
-pub run-more : (p : Tree) (s : Values) (n k steps : ℕ) (finals : List (List ℕ × ℤ)) → run p s n ≡ ends finals steps → run p s (n + k) ≡ ends finals steps
+pub run-more : (p : Tree) (s : Values) (n k steps : ℕ) (finals : FinalValues) → run p s n ≡ ends finals steps → run p s (n + k) ≡ ends finals steps
 run-more p s n k steps finals e = outcome-more p n k steps finals (run_body p.body s n) _ (run_body_leaves p.body s n) (run_body-more k p.body s n) e
 
 ends_more : (p : Tree) (s : Values) (n k : ℕ) (f : FinalValues) → Ends p s n f → Ends p s (n + k) f
