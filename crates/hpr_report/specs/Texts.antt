@@ -15,7 +15,7 @@ abbrev pub fault_word : Fault → List ℕ
 fault_word overflow = codes "overflow"
 fault_word zero_divide = codes "zero-divide"
 
-abbrev pub value_line : List ℕ × Value → List ℕ
+unfoldable pub value_line : List ℕ × Value → List ℕ
 value_line x = x.0 ++ codes " = " ++ signed_decimal x.1 ++ codes "\n"
 
 abbrev pub outcome_line : Outcome → List ℕ

@@ -68,6 +68,7 @@ fn put_values(alloc: Global, out: &mut Vec<u8>, values: &[(Name, Value)]) -> Res
     Ok(())
 }
 
+#[tactic(auto, unfolding(crate::specs::Texts::value_line))]
 fn value_line(alloc: Global, name: &Name, value: Value) -> Result<String, AllocError>
     ensures { IfOk result (λ text. string_bytes text ≡ value_line (name.now, value)) }
 {

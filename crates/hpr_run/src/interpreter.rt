@@ -1,6 +1,7 @@
 //! Runs of programs.
 ghost use Rattle.std.specs.Prelude.{◌≡◌, ◌≤◌, ◌+◌, IfOk, OnOk};
-ghost use Rattle.hpr_syntax.specs.Body.{done};
+ghost use Rattle.hpr_syntax.specs.Action.{assigns};
+ghost use Rattle.hpr_syntax.specs.Body.{done, action};
 ghost use Rattle.hpr_syntax.specs.BodyOf.{before};
 ghost use Rattle.hpr_syntax.specs.Value.{value, is_true};
 ghost use Rattle.hpr_syntax.specs.Run.{run, final_values};
@@ -168,10 +169,7 @@ fn walk_stmt<O: Observer>(
 {
     match stmt {
         Stmt::Assign(tag, name, expr) => {
-            let value = take_step(alloc, *tag, expr, around, state, left, observer)?;
-            observer.assign(alloc, name)?;
-            state.assign(alloc, name, value)?;
-            Ok(())
+            walk_assignment(alloc, *tag, name, expr, around, state, left, observer)
         }
         Stmt::If(tag, test, yes, no) => {
             if is_true(take_step(alloc, *tag, test, around, state, left, observer)?) {
@@ -184,6 +182,27 @@ fn walk_stmt<O: Observer>(
             walk_loop(alloc, *tag, body, test, around, state, left, observer)
         }
     }
+}
+
+fn walk_assignment<O: Observer>(
+    alloc: Global,
+    tag: Tag,
+    name: &Name,
+    expr: &Expr,
+    around: &O::Turns,
+    state: &mut State,
+    left: &mut u64,
+    observer: &mut O,
+) -> Result<(), Stop>
+    ensures did { let w = observing O.in_turn O.told O.assigned in
+        Did result (walk w (action tag (assigns name.now expr.now) done) around.now observer.old state.old left.old)
+        observer.new state.new left.new }
+    ensures fewer { left.new ≤ left.old }
+{
+    let value = take_step(alloc, tag, expr, around, state, left, observer)?;
+    observer.assign(alloc, name)?;
+    state.assign(alloc, name, value)?;
+    Ok(())
 }
 
 // A loop makes no more turns than it has steps, and one to see that none is left.
