@@ -1,9 +1,9 @@
 -- By tables that say what the parts are, the test of a clash is true exactly where the vertices clash.
-use Rattle.std.proofs.Common.{◌≡◌, ℕ, zero, suc, ◌≤◌, ◌⊎◌, inl, inr, Bool, true, false, cond, eqb, Option, Some, None, List, [], ◌∷◌, ◌++◌, map, length, vec_len, get_or, Contains, slice_get, refl, sym, ap, ◌∙◌, subst, arith, rules}
+use Rattle.std.proofs.Common.{◌≡◌, ℕ, zero, suc, ◌≤◌, ◌⊎◌, inl, inr, true, false, eqb, Option, Some, None, List, [], ◌∷◌, ◌++◌, map, length, vec_len, get_or, Contains, slice_get, refl, sym, ap, ◌∙◌, subst, arith, rules}
 use Rattle.std.proofs.lemmas.Bool.{cases_lt, eqb-true, eq-eqb}
 use Rattle.std.proofs.lemmas.Option.{slice_get_past, get_or_from_slice_get}
 use Rattle.hpr_terms.specs.declared.tag.Tag.{Tag}
-use Rattle.hpr_terms.proofs.Facts.{some_inj, in_none, in_cons, in_here, in_later, get_below, in_map, map_in}
+use Rattle.hpr_terms.proofs.Facts.{some_inj, in_none, get_below, in_map, map_in}
 use Rattle.hpr_syntax.specs.declared.rows.Content.{Content}
 use Rattle.hpr_syntax.specs.Contents.{UsesIn}
 use Rattle.hpr_syntax.specs.Rows.{assigned}
@@ -25,73 +25,7 @@ use Rattle.hpr_region.specs.declared.flows.Flows.{Flows}
 use Rattle.hpr_region.specs.Flows as flow
 use Rattle.hpr_region.specs.Plans.{vertex_by}
 use Rattle.hpr_region.specs.Tables.{AreFlowsBy, IsItemOf, IsVariable}
-
--- the parts of a chain of tests
-four : (a b c d : Bool) → cond a (cond b (cond c false (cond d false true)) false) false ≡ true → (a ≡ true) × (b ≡ true) × (c ≡ false) × (d ≡ false)
-four true true false false e = (refl, refl, refl, refl)
-four true true false true e = absurd cc
-four true true true d e = absurd cc
-four true false c d e = absurd cc
-four false b c d e = absurd cc
-
-four_true : (a b c d : Bool) → a ≡ true → b ≡ true → c ≡ false → d ≡ false → cond a (cond b (cond c false (cond d false true)) false) false ≡ true
-four_true a b c d ea eb ec ed =
-    ap (λ z. cond z (cond b (cond c false (cond d false true)) false) false) ea ∙ ap (λ z. cond z (cond c false (cond d false true)) false) eb
-    ∙ ap (λ z. cond z false (cond d false true)) ec ∙ ap (λ z. cond z false true) ed
-
-three : (a b c : Bool) → cond a false (cond b false c) ≡ true → (a ≡ false) × (b ≡ false) × (c ≡ true)
-three false false c e = (refl, refl, e)
-three false true c e = absurd cc
-three true b c e = absurd cc
-
-three_true : (a b c : Bool) → a ≡ false → b ≡ false → c ≡ true → cond a false (cond b false c) ≡ true
-three_true a b c ea eb ec = ap (λ z. cond z false (cond b false c)) ea ∙ ap (λ z. cond z false c) eb ∙ ec
-
-both : (a b c : Bool) → cond a (cond b c false) false ≡ true → (a ≡ true) × (b ≡ true) × (c ≡ true)
-both true true c e = (refl, refl, e)
-both true false c e = absurd cc
-both false b c e = absurd cc
-
-both_true : (a b c : Bool) → a ≡ true → b ≡ true → c ≡ true → cond a (cond b c false) false ≡ true
-both_true a b c ea eb ec = ap (λ z. cond z (cond b c false) false) ea ∙ ap (λ z. cond z c false) eb ∙ ec
-
-either : (a b : Bool) → cond a true b ≡ true → (a ≡ true) ⊎ (b ≡ true)
-either true b e = inl refl
-either false b e = inr e
-
-either_left : (a b : Bool) → a ≡ true → cond a true b ≡ true
-either_left a b e = ap (λ z. cond z true b) e
-
-either_right : (a b : Bool) → b ≡ true → cond a true b ≡ true
-either_right true b e = refl
-either_right false b e = e
-
-never : (b : Bool) → b ≡ true → b ≡ false → ⊥
-never b t f = absurd (let e : true ≡ false = sym t ∙ f in cc)
-
-pub not_true : (b : Bool) → (b ≡ true → ⊥) → b ≡ false
-not_true true h = absurd (h refl)
-not_true false h = refl
-
-is_in_in : (xs : List ℕ) (c : ℕ) → is_in xs c ≡ true → Contains xs c
-is_in_in [] c e = absurd cc
-is_in_in (x ∷ xs) c e = elim (either (eqb x c) (is_in xs c) e) [
-  | inl same ↦ subst (Contains (x ∷ xs)) (eqb-true x c same) (in_here x xs)
-  | inr later ↦ in_later x c xs (is_in_in xs c later)
-]
-
--- a variable that a test finds
-among_some : (v : Option ℕ) (xs : List ℕ) → flow.is_among v xs ≡ true → (r : ℕ) × (v ≡ Some r) × Contains xs r
-among_some None xs e = absurd cc
-among_some (Some r) xs e = (r, refl, is_in_in xs r e)
-
-same_some : (u v : Option ℕ) → flow.same_variable u v ≡ true → (r : ℕ) × (u ≡ Some r) × (v ≡ Some r)
-same_some None v e = absurd cc
-same_some (Some x) None e = absurd cc
-same_some (Some x) (Some y) e = (x, refl, ap Some (sym (eqb-true x y e)))
-
-same_true : (u v : Option ℕ) (r : ℕ) → u ≡ Some r → v ≡ Some r → flow.same_variable u v ≡ true
-same_true u v r eu ev = ap (λ z. flow.same_variable z v) eu ∙ ap (λ z. flow.same_variable (Some r) z) ev ∙ eq-eqb r r refl
+use Rattle.hpr_region.proofs.Judging.{four, four_true, three, three_true, both, both_true, either, either_left, either_right, never, not_true, is_in_in, among_some, same_some, same_true, defined_some, some_defined, reach_found, found_reach, kill_found, found_kill, left_found, found_left}
 
 some_not_none : (o : Option ℕ) (r : ℕ) → o ≡ Some r → o ≡ None → ⊥
 some_not_none o r e f = absurd (let h : Some r ≡ None = sym e ∙ f in cc)
@@ -201,21 +135,6 @@ module _ (g : Numbered) (numbers : List ℕ) (names : List (List ℕ)) (f : Flow
     | inr (is, _) ↦ absurd (let no : None ≡ Some x = sym (ap name_of is) ∙ e in cc)
   ]
 
-  -- whether one of these defines the variable
-  defined_some : (v : Option ℕ) (items : List ℕ) → flow.defined_in f v items ≡ true → (k : ℕ) × Contains items k × (flow.same_variable v (flow.variable_of f k) ≡ true)
-  defined_some v [] e = absurd cc
-  defined_some v (k ∷ items) e = elim (either (flow.same_variable v (flow.variable_of f k)) (flow.defined_in f v items) e) [
-    | inl here ↦ (k, in_here k items, here)
-    | inr later ↦ (let (j, h, is) = defined_some v items later in (j, in_later k j items h, is))
-  ]
-
-  some_defined : (v : Option ℕ) (items : List ℕ) (k : ℕ) → Contains items k → flow.same_variable v (flow.variable_of f k) ≡ true → flow.defined_in f v items ≡ true
-  some_defined v [] k h e = absurd (in_none k h)
-  some_defined v (j ∷ items) k h e = elim (in_cons j k items h) [
-    | inl is ↦ either_left (flow.same_variable v (flow.variable_of f j)) (flow.defined_in f v items) (subst (λ z. flow.same_variable v (flow.variable_of f z) ≡ true) (sym is) e)
-    | inr later ↦ either_right (flow.same_variable v (flow.variable_of f j)) (flow.defined_in f v items) (some_defined v items k later e)
-  ]
-
   -- the name of an independent flow edge is the one that its source defines
   edge_name : (s : Tag) (k : Content) (w : Vertex) (y : List ℕ) → (graph_in g).edge (edge_into (Part s k) w (Independent y)) → name_of (Part s k) ≡ Some y
   edge_name s k w y (to, link, there, (target, source, kind)) = independent_name g.vertices link.kind (Part s k) y kind
@@ -230,23 +149,12 @@ module _ (g : Numbered) (numbers : List ℕ) (names : List (List ℕ)) (f : Flow
   item_for p m (n, there) = let (u, e) = parts.all n p m there in (u, (n, e, there))
 
   -- ---- wrong reach
-  reach_found : (q : List ℕ) (c : ℕ) → flow.reached_wrongly f q c ≡ true → (front : List ℕ) × (d : ℕ) × (back : List ℕ) × (q ≡ front ++ d ∷ back) × (flow.reaches_wrongly f d back c ≡ true)
-  reach_found [] c e = absurd cc
-  reach_found (d ∷ back) c e = elim (either (flow.reaches_wrongly f d back c) (flow.reached_wrongly f back c) e) [
-    | inl here ↦ ([], d, back, refl, here)
-    | inr later ↦ (let (front, j, rest, is, h) = reach_found back c later in (d ∷ front, j, rest, ap (λ z. d ∷ z) is, h))
-  ]
-
-  found_reach : (front : List ℕ) (d : ℕ) (back : List ℕ) (c : ℕ) → flow.reaches_wrongly f d back c ≡ true → flow.reached_wrongly f (front ++ d ∷ back) c ≡ true
-  found_reach [] d back c e = either_left (flow.reaches_wrongly f d back c) (flow.reached_wrongly f back c) e
-  found_reach (k ∷ front) d back c e = either_right (flow.reaches_wrongly f k (front ++ d ∷ back) c) (flow.reached_wrongly f (front ++ d ∷ back) c) (found_reach front d back c e)
-
   use_name : (k : ℕ) (t : Tag) (c : Content) (x : List ℕ) → at k ≡ Part t c → UsesIn c x → UsesName (at k) x
   use_name k t c x e h = subst (λ v. UsesName v x) (sym e) h
 
   reach_clash : (q : List ℕ) (c : ℕ) → flow.reached_wrongly f q c ≡ true → IsWrongReach (graph_in g) (map at q) (at c)
   reach_clash q c e =
-      let (front, d, back, split, here) = reach_found q c e in
+      let (front, d, back, split, here) = reach_found f q c e in
       let (block, among, unread, last) = four (flow.same_block f d c) (flow.is_among (flow.variable_of f d) (flow.uses_of f c)) (is_in (flow.readers_of f d) c) (flow.defined_in f (flow.variable_of f d) back) here in
       let (r, var, used) = among_some (flow.variable_of f d) (flow.uses_of f c) among in
       let (s, k, source, is_d) = defining d r var in
@@ -265,7 +173,7 @@ module _ (g : Numbered) (numbers : List ℕ) (names : List (List ℕ)) (f : Flow
             let (j, in_back, is_v) = map_in at back v h in
             let (u, m, item, assigns) = defines_name j x (ap name_of is_v ∙ name) in
             let var_j = variable_for j r u m x item assigns is_x in
-            never (flow.defined_in f (flow.variable_of f d) back) (some_defined (flow.variable_of f d) back j in_back (same_true (flow.variable_of f d) (flow.variable_of f j) r var var_j)) last)),
+            never (flow.defined_in f (flow.variable_of f d) back) (some_defined f (flow.variable_of f d) back j in_back (same_true (flow.variable_of f d) (flow.variable_of f j) r var var_j)) last)),
         use_name c t l x is_c (subst (UsesIn l) same uses),
         (λ edge. never (is_in (flow.readers_of f d) c) (in_is_in (flow.readers_of f d) c ((are.readers d c s t k l source child).1
             (x, subst (λ v. (graph_in g).edge (edge_into v (Part t l) (Independent x))) is_d (subst (λ v. (graph_in g).edge (edge_into (at d) v (Independent x))) is_c edge)))) unread),
@@ -295,7 +203,7 @@ module _ (g : Numbered) (numbers : List ℕ) (names : List (List ℕ)) (f : Flow
       absent (subst (λ z. (graph_in g).edge (edge_into v (at c) (Independent z))) same
       (subst (λ w. (graph_in g).edge (edge_into w (at c) (Independent y))) (sym at_d ∙ is_d) (subst (λ w. (graph_in g).edge (edge_into (Part s k) w (Independent y))) (sym at_c) edge))))) in
       let last : flow.defined_in f (flow.variable_of f d) back ≡ false = not_true (flow.defined_in f (flow.variable_of f d) back) (λ h. (
-      let (j, in_back, alike) = defined_some (flow.variable_of f d) back h in
+      let (j, in_back, alike) = defined_some f (flow.variable_of f d) back h in
       let (p, var_d, var_j) = same_some (flow.variable_of f d) (flow.variable_of f j) alike in
       let same : p ≡ r = some_inj p r (sym var_d ∙ var) in
       let (u, m, item, at_j) = defining j p var_j in
@@ -303,42 +211,14 @@ module _ (g : Numbered) (numbers : List ℕ) (names : List (List ℕ)) (f : Flow
       let names_ : y ≡ x = some_inj y x (sym is_y ∙ ap (slice_get names) same ∙ is_x) in
       still (at j) (subst (λ z. Contains z (at j)) is_back (in_map at back j in_back)) (ap name_of at_j ∙ assigns ∙ ap Some names_))) in
       subst (λ z. flow.reached_wrongly f z c ≡ true) (sym is)
-      (found_reach front d back c (four_true (flow.same_block f d c) (flow.is_among (flow.variable_of f d) (flow.uses_of f c)) (is_in (flow.readers_of f d) c) (flow.defined_in f (flow.variable_of f d) back) one two three_ last))
+      (found_reach f front d back c (four_true (flow.same_block f d c) (flow.is_among (flow.variable_of f d) (flow.uses_of f c)) (is_in (flow.readers_of f d) c) (flow.defined_in f (flow.variable_of f d) back) one two three_ last))
 
   -- ---- kill
-  kill_found : (placed items : List ℕ) (c : ℕ) → flow.kills_one f placed items c ≡ true → (d : ℕ) × Contains items d × (flow.kills_of f placed c d ≡ true)
-  kill_found placed [] c e = absurd cc
-  kill_found placed (d ∷ items) c e = elim (either (flow.kills_of f placed c d) (flow.kills_one f placed items c) e) [
-    | inl here ↦ (d, in_here d items, here)
-    | inr later ↦ (let (j, h, is) = kill_found placed items c later in (j, in_later d j items h, is))
-  ]
-
-  found_kill : (placed items : List ℕ) (c d : ℕ) → Contains items d → flow.kills_of f placed c d ≡ true → flow.kills_one f placed items c ≡ true
-  found_kill placed [] c d h e = absurd (in_none d h)
-  found_kill placed (j ∷ items) c d h e = elim (in_cons j d items h) [
-    | inl is ↦ either_left (flow.kills_of f placed c j) (flow.kills_one f placed items c) (subst (λ z. flow.kills_of f placed c z ≡ true) (sym is) e)
-    | inr later ↦ either_right (flow.kills_of f placed c j) (flow.kills_one f placed items c) (found_kill placed items c d later e)
-  ]
-
-  left_found : (placed : List ℕ) (c : ℕ) (us : List ℕ) → flow.some_left f placed c us ≡ true → (u : ℕ) × Contains us u × (flow.is_left f placed c u ≡ true)
-  left_found placed c [] e = absurd cc
-  left_found placed c (u ∷ us) e = elim (either (flow.is_left f placed c u) (flow.some_left f placed c us) e) [
-    | inl here ↦ (u, in_here u us, here)
-    | inr later ↦ (let (j, h, is) = left_found placed c us later in (j, in_later u j us h, is))
-  ]
-
-  found_left : (placed : List ℕ) (c : ℕ) (us : List ℕ) (u : ℕ) → Contains us u → flow.is_left f placed c u ≡ true → flow.some_left f placed c us ≡ true
-  found_left placed c [] u h e = absurd (in_none u h)
-  found_left placed c (j ∷ us) u h e = elim (in_cons j u us h) [
-    | inl is ↦ either_left (flow.is_left f placed c j) (flow.some_left f placed c us) (subst (λ z. flow.is_left f placed c z ≡ true) (sym is) e)
-    | inr later ↦ either_right (flow.is_left f placed c j) (flow.some_left f placed c us) (found_left placed c us u later e)
-  ]
-
   kill_clash : (q : List ℕ) (c : ℕ) → flow.kills_one f q q c ≡ true → IsKill (graph_in g) (map at q) (at c)
   kill_clash q c e =
-      let (d, in_q, here) = kill_found q q c e in
+      let (d, in_q, here) = kill_found f q q c e in
       let (block, alike, left) = both (flow.same_block f d c) (flow.same_variable (flow.variable_of f d) (flow.variable_of f c)) (flow.some_left f q c (flow.readers_of f d)) here in
-      let (u, reader, is_left_) = left_found q c (flow.readers_of f d) left in
+      let (u, reader, is_left_) = left_found f q c (flow.readers_of f d) left in
       let (other, fresh, block') = three (eqb u c) (is_in q u) (flow.same_block f c u) is_left_ in
       let (r, var_d, var_c) = same_some (flow.variable_of f d) (flow.variable_of f c) alike in
       let (s, k, source, at_d) = defining d r var_d in
@@ -385,9 +265,9 @@ module _ (g : Numbered) (numbers : List ℕ) (names : List (List ℕ)) (f : Flow
       (x, subst (λ z. (graph_in g).edge (edge_into z (Part p m) (Independent x))) (sym is_d ∙ at_d) (subst (λ z. (graph_in g).edge (edge_into v z (Independent x))) is_w edge)) in
       let differs : eqb u c ≡ false = not_true (eqb u c) (λ h. other (sym at_u ∙ ap at (eqb-true u c h))) in
       let unplaced : is_in q u ≡ false = not_true (is_in q u) (λ h. fresh (subst (Contains (map at q)) at_u (in_map at q u (is_in_in q u h)))) in
-      found_kill q q c d in_q (both_true (flow.same_block f d c) (flow.same_variable (flow.variable_of f d) (flow.variable_of f c)) (flow.some_left f q c (flow.readers_of f d)) one
+      found_kill f q q c d in_q (both_true (flow.same_block f d c) (flow.same_variable (flow.variable_of f d) (flow.variable_of f c)) (flow.some_left f q c (flow.readers_of f d)) one
       (same_true (flow.variable_of f d) (flow.variable_of f c) r var_d var_c)
-      (found_left q c (flow.readers_of f d) u reader (three_true (eqb u c) (is_in q u) (flow.same_block f c u) differs unplaced two)))
+      (found_left f q c (flow.readers_of f d) u reader (three_true (eqb u c) (is_in q u) (flow.same_block f c u) differs unplaced two)))
 
   pub clash_true : (q : List ℕ) (c : ℕ) → flow.clash f q c ≡ true → Clashes (graph_in g) (map at q) (at c)
   clash_true q c e = elim (either (flow.reached_wrongly f q c) (flow.kills_one f q q c) e) [

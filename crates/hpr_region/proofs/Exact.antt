@@ -22,7 +22,6 @@ use Rattle.hpr_order.proofs.ListFacts.{map_append}
 use Rattle.hpr_region.specs.declared.plan.Plan.{Plan}
 use Rattle.hpr_region.specs.Plans.{BeginsWith, IsBegun, IsPlanOf, IsReady, State, clash_in, may_follow, number_at, numbers_at, placed_in, size_of, vertex_at, vertex_by, vertices_at}
 use Rattle.hpr_region.proofs.ClashExcludes as law
-use Rattle.hpr_region.proofs.ClashTables as tables
 use Rattle.hpr_region.proofs.Searching.{follows_length, follows_within, number_of}
 
 pub is_true : (b : Bool) → IsTrue b → b ≡ true
@@ -30,7 +29,8 @@ is_true true t = refl
 is_true false t = absurd cc
 
 pub not_true : (b : Bool) → (b ≡ true → ⊥) → b ≡ false
-not_true b h = tables.not_true b h
+not_true true h = absurd (h refl)
+not_true false h = refl
 
 pub same_item : (plan : Plan) (a b n : ℕ) → slice_get plan.numbers.items a ≡ Some n → slice_get plan.numbers.items b ≡ Some n → a ≡ b
 same_item plan a b n ea eb = plan.once a b n ea eb

@@ -3,6 +3,8 @@ pub mod Subblocks
 pub mod OneBlock
 pub mod PartOrder
 pub mod ClashExcludes
+pub mod Judging
+pub mod Latest
 pub mod ClashTables
 pub mod Readers
 pub mod IssuedFor

@@ -1,5 +1,5 @@
 -- Steps of the loops that make the tables of clashes, and what the tables say in the end.
-use Rattle.std.proofs.Common.{◌≡◌, ℕ, zero, suc, ◌+◌, ◌<◌, ◌≤◌, ◌↔◌, inl, inr, Bool, true, false, Option, Some, None, List, [], ◌∷◌, ◌++◌, Vec, length, vec_len, take, Contains, slice_get, refl, sym, ap, ◌∙◌, subst, arith}
+use Rattle.std.proofs.Common.{◌≡◌, ℕ, zero, suc, ◌+◌, ◌<◌, ◌≤◌, ◌↔◌, inl, inr, Bool, true, false, Option, Some, None, List, [], ◌∷◌, ◌++◌, Vec, length, vec_len, take, get_or, Contains, slice_get, refl, sym, ap, ◌∙◌, subst, arith, rules}
 use Rattle.std.specs.Global.{Global}
 use Rattle.std.specs.Cmp.Lexicographic.{slice_cmp}
 use Rattle.std.specs.List.Sorted.{IsStrictlySortedBy}
@@ -9,7 +9,7 @@ use Rattle.std.proofs.lemmas.List.{take_all}
 use Rattle.std.proofs.lemmas.List.Elements.{Contains-append_left, Contains-append_right, Contains-append_cases}
 use Rattle.std.proofs.lemmas.Option.{slice_get_within}
 use Rattle.hpr_terms.specs.declared.tag.Tag.{Tag}
-use Rattle.hpr_terms.proofs.Facts.{some_inj, contains_at, in_none, in_cons, in_here}
+use Rattle.hpr_terms.proofs.Facts.{some_inj, contains_at, get_below, in_none, in_cons, in_here}
 use Rattle.hpr_syntax.specs.declared.rows.Content.{Content}
 use Rattle.hpr_syntax.specs.Rows.{assigned}
 use Rattle.hpr_graph.specs.declared.vertex.Vertex.{Vertex}
@@ -28,10 +28,20 @@ use Rattle.hpr_graph.proofs.NamesOnce.{names_once}
 use Rattle.hpr_region.specs.declared.flows.Flows.{Flows}
 use Rattle.hpr_region.specs.Flows as flow
 use Rattle.hpr_region.specs.Making.{AreSlotsOf, AreVariablesOf, AreUsesOf}
+use Rattle.hpr_region.proofs.Latest.{get_small}
 use Rattle.hpr_region.specs.Tables.{AreFlowsBy, AreReaders, AreUsed, IsItemOf, IsReadBy, IsVariable}
 
 abbrev pub HasVariable : List (List ℕ) → List Item → ℕ → Option (Option ℕ) → Type 0
 HasVariable names items k o = (v : Option ℕ) × (o ≡ Some v) × ((i : Item) → slice_get items k ≡ Some i → IsVariable names v (assigned i.content))
+
+-- the number of a variable is that of a name
+pub names_below : (names : List (List ℕ)) (items : List Item) (vs : Vec (Option ℕ) Global) → vec_len vs ≡ length items → AreVariablesOf names items vs.items → (k v : ℕ) → get_or vs.items k None ≡ Some v → v < length names
+names_below names items vs count are k v e =
+    let lt = get_small vs.items k v e in
+    let l : length vs.items ≡ vec_len vs = search rules in
+    let (i, at) = get_below items k (let m : k < length items = omega (arith, lt, l, count) in m) in
+    let (x, _, there) = subst (λ o. IsVariable names o (assigned i.content)) e (are k i at) in
+    slice_get_within names v x there
 
 -- ---- the numbers of names
 
@@ -83,7 +93,7 @@ defined_more items index i names more x here defines grown all k j y lt at is = 
 
 -- ---- the tables in the end
 
-same_slots : (u v : Slot) → same_slot u v ≡ true → u ≡ v
+pub same_slots : (u v : Slot) → same_slot u v ≡ true → u ≡ v
 same_slots None None e = refl
 same_slots None (Some b) e = absurd cc
 same_slots (Some a) None e = absurd cc
@@ -92,7 +102,7 @@ same_slots (Some (a, false)) (Some (b, false)) e = ap (λ z. Some (z, false)) (e
 same_slots (Some (a, true)) (Some (b, false)) e = absurd cc
 same_slots (Some (a, false)) (Some (b, true)) e = absurd cc
 
-slot_itself : (v : Slot) → same_slot v v ≡ true
+pub slot_itself : (v : Slot) → same_slot v v ≡ true
 slot_itself None = refl
 slot_itself (Some (a, true)) = eq-eqb a a refl
 slot_itself (Some (a, false)) = eq-eqb a a refl

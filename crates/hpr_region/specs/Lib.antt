@@ -4,3 +4,4 @@ pub mod Tables
 pub mod States
 pub mod Openings
 pub mod Making
+pub mod Summaries

@@ -1,16 +1,19 @@
 -- What a search keeps.
 --
--- IsState plan places items placed marks == the items may stand so, one behind the other, and have marks; `placed` has the numbers of their
---                                           vertices; `places` has the item of each number; there is room for all items
+-- IsState plan places items placed marks summary == the items may stand so, one behind the other, and have marks; `placed` has the numbers of their
+--                                           vertices; `places` has the item of each number; there is room for all items; the
+--                                           summary is that of the items
 use Rattle.std.specs.Prelude.{◌≡◌, ℕ, ◌≤◌, Bool, Option, List, [], Vec, vec_len, vec_capacity}
 use Rattle.std.specs.Global.{Global}
 use Rattle.hpr_forest.specs.Choices.{Follows}
 use Rattle.hpr_forest.specs.Marks.{IsMarksOf}
 use Rattle.hpr_order.specs.Numbers.{ArePlaces}
 use Rattle.hpr_region.specs.declared.plan.Plan.{Plan}
+use Rattle.hpr_region.specs.declared.summary.Summary.{Summary}
 use Rattle.hpr_region.specs.Plans.{may_follow, numbers_at, size_of}
+use Rattle.hpr_region.specs.Summaries.{IsSummary}
 
-pub record IsState (plan : Plan) (places : List (Option ℕ)) (items placed : Vec ℕ Global) (marks : Vec Bool Global) : Type 0 where
+pub record IsState (plan : Plan) (places : List (Option ℕ)) (items placed : Vec ℕ Global) (marks : Vec Bool Global) (summary : Summary) : Type 0 where
   pub front : Follows (may_follow plan) [] items.items
   pub numbers : placed.items ≡ numbers_at plan items.items
   pub row : vec_len marks ≡ size_of plan
@@ -18,3 +21,4 @@ pub record IsState (plan : Plan) (places : List (Option ℕ)) (items placed : Ve
   pub items_room : size_of plan ≤ vec_capacity items
   pub placed_room : size_of plan ≤ vec_capacity placed
   pub placing : ArePlaces plan.numbers.items places
+  pub summed : IsSummary plan.flows items.items summary

@@ -1,10 +1,13 @@
 //! Which item clashes with those placed before it.
-ghost use Rattle.std.specs.Prelude.{◌≡◌, ◌<◌, All, length, vec_len};
+ghost use Rattle.std.specs.Prelude.{◌≡◌, ℕ, ◌<◌, Some, None, List, All, IfSome, length, get_or, vec_len};
 ghost use Rattle.hpr_forest.specs.Marks.{IsMarksOf, is_in};
 ghost use Rattle.hpr_forest.specs.Trees.{same_slot};
-ghost use Rattle.hpr_region.specs.Flows.{same_variable, is_among, slot_of, variable_of, uses_of, readers_of, same_block, defined_in, reaches_wrongly, reached_wrongly, is_left, some_left, kills_of, kills_one, clash};
+ghost use Rattle.hpr_region.specs.Flows.{same_variable, slot_of, variable_of, uses_of, readers_of, same_block, reached_wrongly, is_left, some_left, kills_of, kills_one, clash};
+ghost use Rattle.hpr_region.specs.Summaries.{IsSummary, is_reached_by, some_reach};
 
 use crate::Flows;
+use crate::summary::Summary;
+use hpr_graph::links::number_at;
 
 fn is_same_slot(a: Option<(usize, bool)>, b: Option<(usize, bool)>) -> bool
     ensures { result ≡ same_slot a b }
@@ -38,16 +41,6 @@ fn has(numbers: &[usize], number: usize) -> bool
     false
 }
 
-/// Whether the variable is one of these.
-fn is_variable_among(variable: Option<usize>, variables: &[usize]) -> bool
-    ensures { result ≡ is_among variable variables.now }
-{
-    match variable {
-        None => false,
-        Some(variable) => has(variables, variable),
-    }
-}
-
 impl Flows {
     /// How many items there are.
     pub fn size(&self) -> usize
@@ -63,7 +56,7 @@ impl Flows {
         self.slots[item]
     }
 
-    fn variable(&self, item: usize) -> Option<usize>
+    pub(crate) fn variable(&self, item: usize) -> Option<usize>
         requires { item < vec_len self.now.slots }
         ensures { result ≡ variable_of self.now item }
     {
@@ -93,52 +86,44 @@ impl Flows {
         is_same_slot(self.slot(a), self.slot(b))
     }
 
-    /// Whether one of the items defines the variable.
-    fn is_defined_in(&self, variable: Option<usize>, items: &[usize]) -> bool
-        requires { All (λ k. k < vec_len self.now.slots) items.now }
-        ensures { result ≡ defined_in self.now variable items.now }
-    {
-        for item in items {
-            if is_same_variable(variable, self.variable(*item)) {
-                return true;
-            }
-        }
-        false
-    }
-
-    /// Whether the child, placed next, is reached by `source` without an independent flow edge, where these
-    /// items are placed behind the source.
-    fn reaches_wrongly(&self, source: usize, behind: &[usize], child: usize) -> bool
-        requires source { source < vec_len self.now.slots }
-        requires behind { All (λ k. k < vec_len self.now.slots) behind.now }
+    /// Whether the child, placed next, is reached without an independent flow edge by `last`, the last placed item
+    /// that defines a variable which it uses.
+    fn is_reached_by(&self, last: Option<usize>, child: usize) -> bool
+        requires last { IfSome last (λ d. d < vec_len self.now.slots) }
         requires child { child < vec_len self.now.slots }
-        ensures { result ≡ reaches_wrongly self.now source behind.now child }
+        ensures { result ≡ is_reached_by self.now last child }
     {
+        let Some(source) = last else {
+            return false;
+        };
         if !self.in_one_block(source, child) {
             return false;
         }
-        let variable = self.variable(source);
-        if !is_variable_among(variable, self.uses_of(child)) {
-            return false;
-        }
-        if has(self.readers_of(source), child) {
-            return false;
-        }
-        !self.is_defined_in(variable, behind)
+        !has(self.readers_of(source), child)
     }
 
-    /// Whether the child, placed next, is reached wrongly by one of the placed items.
-    fn is_reached_wrongly(&self, placed: &[usize], child: usize) -> bool
-        requires placed { All (λ k. k < vec_len self.now.slots) placed.now }
+    /// Whether the child is so reached by the last definition of one of these variables.
+    fn is_one_reaching(&self, last: &[Option<usize>], child: usize, variables: &[usize]) -> bool
+        requires last { (v d : ℕ) → get_or last.now v None ≡ Some d → d < vec_len self.now.slots }
         requires child { child < vec_len self.now.slots }
-        ensures { result ≡ reached_wrongly self.now placed.now child }
+        ensures { result ≡ some_reach self.now last.now child variables.now }
     {
-        for (at, source) in placed.iter().enumerate() {
-            if self.reaches_wrongly(*source, &placed[at + 1..], child) {
+        for variable in variables {
+            if self.is_reached_by(number_at(last, *variable), child) {
                 return true;
             }
         }
         false
+    }
+
+    /// Whether the child, placed next, is reached wrongly by one of the placed items.
+    fn is_reached_wrongly(&self, summary: &Summary, child: usize) -> bool
+        requires last { (v d : ℕ) → get_or summary.now.last.items v None ≡ Some d → d < vec_len self.now.slots }
+        requires child { child < vec_len self.now.slots }
+        ensures { (placed : List ℕ) → IsSummary self.now placed summary.now
+            → result ≡ reached_wrongly self.now placed child }
+    {
+        self.is_one_reaching(&summary.last, child, self.uses_of(child))
     }
 
     /// Whether the reader is another item of the child's block that is not yet placed.
@@ -208,15 +193,22 @@ impl Flows {
         false
     }
 
-    /// Whether the child clashes with the placed items, which have marks.
-    pub(crate) fn clashes(&self, marks: &[bool], placed: &[usize], child: usize) -> bool
+    /// Whether the child clashes with the placed items, which have marks and a summary.
+    pub(crate) fn clashes(
+        &self,
+        summary: &Summary,
+        marks: &[bool],
+        placed: &[usize],
+        child: usize,
+    ) -> bool
+        requires summary { IsSummary self.now placed.now summary.now }
         requires row { length marks.now ≡ vec_len self.now.slots }
         requires marks { IsMarksOf marks.now placed.now }
         requires placed { All (λ k. k < vec_len self.now.slots) placed.now }
         requires child { child < vec_len self.now.slots }
         ensures { result ≡ clash self.now placed.now child }
     {
-        if self.is_reached_wrongly(placed, child) {
+        if self.is_reached_wrongly(summary, child) {
             return true;
         }
         self.kills(marks, placed, child)

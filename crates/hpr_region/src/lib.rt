@@ -8,6 +8,7 @@ pub mod laws;
 mod plan;
 mod planning;
 mod search;
+mod summary;
 mod tables;
 
 pub use flows::Flows;

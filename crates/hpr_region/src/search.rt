@@ -14,6 +14,7 @@ ghost use Rattle.hpr_region.specs.Plans.{BeginsWith, IsBegun, IsPlanOf, IsReady,
 
 use crate::Plan;
 use crate::planning::{blank_row, plan_of};
+use crate::summary::Summary;
 use hpr_forest::Choices;
 use hpr_graph::links::number_at;
 use hpr_graph::{Graph, NoMemory, Vertex};
@@ -33,6 +34,7 @@ pub struct Search {
     items: Vec<usize>,
     placed: Vec<usize>,
     marks: Vec<bool>,
+    summary: Summary,
 }
 
 impl Model for Search {
@@ -47,7 +49,7 @@ impl Model for Search {
 
     ghost view = { λ s. record { plan = s.plan; placed = s.items.items } };
 
-    ghost invariant = { λ s. IsState s.plan s.places.items s.items s.placed s.marks };
+    ghost invariant = { λ s. IsState s.plan s.places.items s.items s.placed s.marks s.summary };
 }
 
 /// All are dropped in one call.
@@ -59,6 +61,7 @@ impl Drop for Search {
             items: _,
             placed: _,
             marks: _,
+            summary: _,
         } = self;
     }
 }
@@ -135,7 +138,10 @@ impl Search {
         requires ready { may_follow self.now.plan self.now.placed item ≡ true }
         ensures { IsTrue result ↔ (clash_in self.now.plan self.now.placed item ≡ false) }
     {
-        !self.plan.flows.clashes(&self.marks, &self.items, item)
+        !self
+            .plan
+            .flows
+            .clashes(&self.summary, &self.marks, &self.items, item)
     }
 
     /// Places the item, which may be placed next.
@@ -145,6 +151,7 @@ impl Search {
         ensures placed { self.new.placed ≡ self.old.placed ++ item ∷ [] }
     {
         let number = self.plan.numbers[item];
+        self.summary.push(&self.plan, item);
         self.items.push_reserved(item);
         self.placed.push_reserved(number);
         self.marks[item] = true;
@@ -158,6 +165,7 @@ impl Search {
         ensures none { IfNone result ((self.old.placed ≡ []) × (self.new.placed ≡ [])) }
     {
         let item = self.items.pop()?;
+        self.summary.pop(&self.plan, item);
         self.placed.pop();
         self.marks[item] = false;
         Some(item)
@@ -238,11 +246,13 @@ fn started(alloc: Global, vertices: usize, plan: Plan) -> Result<Search, NoMemor
     let items = Vec::with_capacity(alloc, size)?;
     let placed = Vec::with_capacity(alloc, size)?;
     let marks = blank_row(alloc, size)?;
+    let summary = Summary::start(alloc, &plan.flows)?;
     Ok(Search {
         plan,
         places,
         items,
         placed,
         marks,
+        summary,
     })
 }

@@ -65,6 +65,7 @@ fn flows_by(
         variables,
         uses,
         readers,
+        names: names.len(),
     })
 }
 

@@ -1,0 +1,20 @@
+use Rattle.std.proofs.Common.{◌≡◌, ◌<◌, Some, length, set, vec_len, refl, sym, ap, ◌∙◌, arith, rules}
+use Rattle.hpr_region.specs.Flows.{variable_of}
+use Rattle.hpr_region.proofs.Latest.{popped_definition, popped_other, read_is}
+use Rattle.hpr_region.proofs.summary.Summary.pop.Goals as goal
+
+pub returns-in_default : goal.returns-in_default
+returns-in_default c = λ q is. popped_other c.args.plan.now.flows c.args.self.now q c.args.item (sym c.variable.ensures ∙ c.in_default.is) is
+
+pub returns : goal.returns
+returns c = λ q is.
+    let s = c.args.self.now in
+    let t = c.args.plan.now.flows in
+    let u = c.in-Some.variable in
+    let defines : variable_of t c.args.item ≡ Some u = sym c.variable.ensures ∙ c.in-Some.is in
+    let l : length s.last.items ≡ vec_len s.last = search rules in
+    let k : length s.earlier.items ≡ vec_len s.earlier = search rules in
+    let small : u < length s.last.items = (let lt = t.named c.args.item u defines in let n = c.requires.sized.names in omega (arith, lt, n, l)) in
+    let within : c.args.item < length s.earlier.items = (let lt = c.requires.item in let n = c.requires.sized.items in omega (arith, lt, n, k)) in
+    popped_definition t s _ q c.args.item u defines small (record { names = c.requires.sized.names; items = c.requires.sized.items }) refl
+    (ap (λ o. set s.last.items u o) (read_is s.earlier.items c.args.item c.index.result.now within c.index.ensures)) is
