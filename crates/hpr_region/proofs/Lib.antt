@@ -5,6 +5,7 @@ pub mod PartOrder
 pub mod ClashExcludes
 pub mod Judging
 pub mod Latest
+pub mod Definers
 pub mod ClashTables
 pub mod Readers
 pub mod IssuedFor

@@ -66,11 +66,11 @@ pub number_is : (xs : List ℕ) (c n : ℕ) → c < length xs → n ≡ get_or x
 number_is xs c n lt e = sym (get_or_from_slice_get xs c n 0 (slice_get_read xs (length xs) c n refl lt e))
 
 module _ (plan : Plan) (places : List (Option ℕ)) where
-  pub pushed : (items placed items' placed' : Vec ℕ Global) (marks marks' : Vec Bool Global) (summary summary' : Summary) (c n : ℕ) → IsState plan places items placed marks summary → may_follow plan items.items c ≡ true → n ≡ number_at plan c
+  pub pushed : (items placed items' placed' : Vec ℕ Global) (marks marks' : Vec Bool Global) (summary summary' : Summary) (definers : Vec (Vec ℕ Global) Global) (c n : ℕ) → IsState plan places items placed marks summary definers → may_follow plan items.items c ≡ true → n ≡ number_at plan c
       → items'.items ≡ items.items ++ c ∷ [] → vec_capacity items' ≡ vec_capacity items → placed'.items ≡ placed.items ++ n ∷ [] → vec_capacity placed' ≡ vec_capacity placed
       → marks'.items ≡ set marks.items c true → vec_len marks' ≡ vec_len marks
-      → ((q : List ℕ) → IsSummary plan.flows q summary → is_in q c ≡ false → IsSummary plan.flows (q ++ c ∷ []) summary') → IsState plan places items' placed' marks' summary'
-  pushed items placed items' placed' marks marks' summary summary' c n s may is grown room grown' room' marked row summed =
+      → ((q : List ℕ) → IsSummary plan.flows q summary → is_in q c ≡ false → IsSummary plan.flows (q ++ c ∷ []) summary') → IsState plan places items' placed' marks' summary' definers
+  pushed items placed items' placed' marks marks' summary summary' definers c n s may is grown room grown' room' marked row summed =
       let free = plan_free plan in
       let small : c < size_of plan = free.within items.items c may in
       let l : length marks.items ≡ vec_len marks = search rules in
@@ -82,14 +82,15 @@ module _ (plan : Plan) (places : List (Option ℕ)) where
         items_room = omega (arith, s.items_room, room);
         placed_room = omega (arith, s.placed_room, room');
         placing = s.placing;
+        rivals = s.rivals;
         summed = subst (λ q. IsSummary plan.flows q summary') (sym grown) (summed items.items s.summed (free.fresh items.items c may));
       }
 
-  pub popped : (items placed items' placed' : Vec ℕ Global) (marks marks' : Vec Bool Global) (summary summary' : Summary) (c : ℕ) → IsState plan places items placed marks summary
+  pub popped : (items placed items' placed' : Vec ℕ Global) (marks marks' : Vec Bool Global) (summary summary' : Summary) (definers : Vec (Vec ℕ Global) Global) (c : ℕ) → IsState plan places items placed marks summary definers
       → items.items ≡ items'.items ++ c ∷ [] → vec_capacity items' ≡ vec_capacity items → placed'.items ≡ numbers_at plan items'.items → vec_capacity placed' ≡ vec_capacity placed
       → marks'.items ≡ set marks.items c false → vec_len marks' ≡ vec_len marks
-      → ((q : List ℕ) → IsSummary plan.flows (q ++ c ∷ []) summary → IsSummary plan.flows q summary') → IsState plan places items' placed' marks' summary'
-  popped items placed items' placed' marks marks' summary summary' c s split room numbers room' marked row summed =
+      → ((q : List ℕ) → IsSummary plan.flows (q ++ c ∷ []) summary → IsSummary plan.flows q summary') → IsState plan places items' placed' marks' summary' definers
+  popped items placed items' placed' marks marks' summary summary' definers c s split room numbers room' marked row summed =
       let free = plan_free plan in
       let whole : Follows (may_follow plan) [] (items'.items ++ c ∷ []) = subst (Follows (may_follow plan) []) split s.front in
       let may : may_follow plan items'.items c ≡ true = follows_last (may_follow plan) (size_of plan) [] items'.items c whole in
@@ -103,6 +104,7 @@ module _ (plan : Plan) (places : List (Option ℕ)) where
         items_room = omega (arith, s.items_room, room);
         placed_room = omega (arith, s.placed_room, room');
         placing = s.placing;
+        rivals = s.rivals;
         summed = summed items'.items (subst (λ q. IsSummary plan.flows q summary) split s.summed);
       }
 

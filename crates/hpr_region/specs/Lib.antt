@@ -5,3 +5,4 @@ pub mod States
 pub mod Openings
 pub mod Making
 pub mod Summaries
+pub mod Rivals

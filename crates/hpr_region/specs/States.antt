@@ -1,8 +1,8 @@
 -- What a search keeps.
 --
--- IsState plan places items placed marks summary == the items may stand so, one behind the other, and have marks; `placed` has the numbers of their
+-- IsState plan places items placed marks summary definers == the items may stand so, one behind the other, and have marks; `placed` has the numbers of their
 --                                           vertices; `places` has the item of each number; there is room for all items; the
---                                           summary is that of the items
+--                                           summary is that of the items, and the rows have the definers of each variable
 use Rattle.std.specs.Prelude.{◌≡◌, ℕ, ◌≤◌, Bool, Option, List, [], Vec, vec_len, vec_capacity}
 use Rattle.std.specs.Global.{Global}
 use Rattle.hpr_forest.specs.Choices.{Follows}
@@ -11,9 +11,10 @@ use Rattle.hpr_order.specs.Numbers.{ArePlaces}
 use Rattle.hpr_region.specs.declared.plan.Plan.{Plan}
 use Rattle.hpr_region.specs.declared.summary.Summary.{Summary}
 use Rattle.hpr_region.specs.Plans.{may_follow, numbers_at, size_of}
+use Rattle.hpr_region.specs.Rivals.{AreDefiners}
 use Rattle.hpr_region.specs.Summaries.{IsSummary}
 
-pub record IsState (plan : Plan) (places : List (Option ℕ)) (items placed : Vec ℕ Global) (marks : Vec Bool Global) (summary : Summary) : Type 0 where
+pub record IsState (plan : Plan) (places : List (Option ℕ)) (items placed : Vec ℕ Global) (marks : Vec Bool Global) (summary : Summary) (definers : Vec (Vec ℕ Global) Global) : Type 0 where
   pub front : Follows (may_follow plan) [] items.items
   pub numbers : placed.items ≡ numbers_at plan items.items
   pub row : vec_len marks ≡ size_of plan
@@ -22,3 +23,4 @@ pub record IsState (plan : Plan) (places : List (Option ℕ)) (items placed : Ve
   pub placed_room : size_of plan ≤ vec_capacity placed
   pub placing : ArePlaces plan.numbers.items places
   pub summed : IsSummary plan.flows items.items summary
+  pub rivals : AreDefiners plan.flows definers.items

@@ -3,6 +3,7 @@ ghost use Rattle.std.specs.Prelude.{◌≡◌, ℕ, ◌<◌, Some, None, List, A
 ghost use Rattle.hpr_forest.specs.Marks.{IsMarksOf, is_in};
 ghost use Rattle.hpr_forest.specs.Trees.{same_slot};
 ghost use Rattle.hpr_region.specs.Flows.{same_variable, slot_of, variable_of, uses_of, readers_of, same_block, reached_wrongly, is_left, some_left, kills_of, kills_one, clash};
+ghost use Rattle.hpr_region.specs.Rivals.{AreDefiners, kills_among};
 ghost use Rattle.hpr_region.specs.Summaries.{IsSummary, is_reached_by, some_reach};
 
 use crate::Flows;
@@ -177,15 +178,24 @@ impl Flows {
         self.is_one_left(marks, placed, child, self.readers_of(source))
     }
 
-    /// Whether the child, placed next, kills what one of the placed items defines.
-    fn kills(&self, marks: &[bool], placed: &[usize], child: usize) -> bool
+    /// Whether the child, placed next, kills what one of these items defines, where that is placed.
+    fn kills_among(
+        &self,
+        marks: &[bool],
+        placed: &[usize],
+        child: usize,
+        definers: &[usize],
+    ) -> bool
         requires row { length marks.now ≡ vec_len self.now.slots }
         requires marks { IsMarksOf marks.now placed.now }
-        requires placed { All (λ k. k < vec_len self.now.slots) placed.now }
         requires child { child < vec_len self.now.slots }
-        ensures { result ≡ kills_one self.now placed.now placed.now child }
+        requires definers { All (λ k. k < vec_len self.now.slots) definers.now }
+        ensures { result ≡ kills_among self.now placed.now child definers.now }
     {
-        for source in placed {
+        for source in definers {
+            if !marks[*source] {
+                continue;
+            }
             if self.kills_of(marks, placed, child, *source) {
                 return true;
             }
@@ -193,15 +203,31 @@ impl Flows {
         false
     }
 
+    /// Whether the child, placed next, kills what one of the placed items defines.
+    fn kills(&self, definers: &[Vec<usize>], marks: &[bool], placed: &[usize], child: usize) -> bool
+        requires definers { AreDefiners self.now definers.now }
+        requires row { length marks.now ≡ vec_len self.now.slots }
+        requires marks { IsMarksOf marks.now placed.now }
+        requires child { child < vec_len self.now.slots }
+        ensures { result ≡ kills_one self.now placed.now placed.now child }
+    {
+        let Some(variable) = self.variable(child) else {
+            return false;
+        };
+        self.kills_among(marks, placed, child, &definers[variable])
+    }
+
     /// Whether the child clashes with the placed items, which have marks and a summary.
     pub(crate) fn clashes(
         &self,
         summary: &Summary,
+        definers: &[Vec<usize>],
         marks: &[bool],
         placed: &[usize],
         child: usize,
     ) -> bool
         requires summary { IsSummary self.now placed.now summary.now }
+        requires definers { AreDefiners self.now definers.now }
         requires row { length marks.now ≡ vec_len self.now.slots }
         requires marks { IsMarksOf marks.now placed.now }
         requires placed { All (λ k. k < vec_len self.now.slots) placed.now }
@@ -211,6 +237,6 @@ impl Flows {
         if self.is_reached_wrongly(summary, child) {
             return true;
         }
-        self.kills(marks, placed, child)
+        self.kills(definers, marks, placed, child)
     }
 }

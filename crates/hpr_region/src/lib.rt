@@ -7,6 +7,7 @@ mod flows;
 pub mod laws;
 mod plan;
 mod planning;
+mod rivals;
 mod search;
 mod summary;
 mod tables;

@@ -14,6 +14,7 @@ ghost use Rattle.hpr_region.specs.Plans.{BeginsWith, IsBegun, IsPlanOf, IsReady,
 
 use crate::Plan;
 use crate::planning::{blank_row, plan_of};
+use crate::rivals::definers_of;
 use crate::summary::Summary;
 use hpr_forest::Choices;
 use hpr_graph::links::number_at;
@@ -35,6 +36,7 @@ pub struct Search {
     placed: Vec<usize>,
     marks: Vec<bool>,
     summary: Summary,
+    definers: Vec<Vec<usize>>,
 }
 
 impl Model for Search {
@@ -49,7 +51,7 @@ impl Model for Search {
 
     ghost view = { λ s. record { plan = s.plan; placed = s.items.items } };
 
-    ghost invariant = { λ s. IsState s.plan s.places.items s.items s.placed s.marks s.summary };
+    ghost invariant = { λ s. IsState s.plan s.places.items s.items s.placed s.marks s.summary s.definers };
 }
 
 /// All are dropped in one call.
@@ -62,6 +64,7 @@ impl Drop for Search {
             placed: _,
             marks: _,
             summary: _,
+            definers: _,
         } = self;
     }
 }
@@ -138,10 +141,13 @@ impl Search {
         requires ready { may_follow self.now.plan self.now.placed item ≡ true }
         ensures { IsTrue result ↔ (clash_in self.now.plan self.now.placed item ≡ false) }
     {
-        !self
-            .plan
-            .flows
-            .clashes(&self.summary, &self.marks, &self.items, item)
+        !self.plan.flows.clashes(
+            &self.summary,
+            &self.definers,
+            &self.marks,
+            &self.items,
+            item,
+        )
     }
 
     /// Places the item, which may be placed next.
@@ -247,6 +253,7 @@ fn started(alloc: Global, vertices: usize, plan: Plan) -> Result<Search, NoMemor
     let placed = Vec::with_capacity(alloc, size)?;
     let marks = blank_row(alloc, size)?;
     let summary = Summary::start(alloc, &plan.flows)?;
+    let definers = definers_of(alloc, &plan.flows)?;
     Ok(Search {
         plan,
         places,
@@ -254,5 +261,6 @@ fn started(alloc: Global, vertices: usize, plan: Plan) -> Result<Search, NoMemor
         placed,
         marks,
         summary,
+        definers,
     })
 }

@@ -195,7 +195,7 @@ fn readers_by(
 }
 
 /// So many empty rows.
-fn blank_rows(alloc: Global, count: usize) -> Result<Vec<Vec<usize>>, NoMemory>
+pub(crate) fn blank_rows(alloc: Global, count: usize) -> Result<Vec<Vec<usize>>, NoMemory>
     ensures count { IfOk result (λ rows. length rows.items ≡ count) }
     ensures blank { IfOk result (λ rows. (at n : ℕ) → ¬ Contains (numbers_at (numbers_of rows.items) at) n) }
 {
@@ -241,7 +241,7 @@ fn add_readers(
 }
 
 /// Puts the number at the end of a row.
-fn push_at(rows: &mut Vec<Vec<usize>>, at: usize, number: usize) -> Result<(), NoMemory>
+pub(crate) fn push_at(rows: &mut Vec<Vec<usize>>, at: usize, number: usize) -> Result<(), NoMemory>
     requires { at < length rows.old.items }
     ensures count { length rows.new.items ≡ length rows.old.items }
     ensures pushed { OnOk result (IsPushed (numbers_of rows.old.items) at number (numbers_of rows.new.items)) }

@@ -21,7 +21,7 @@ pub invariant_of-self-2 : goal.invariant_of-self-2
 invariant_of-self-2 c =
     let s = c.self.inside in
     let l : vec_len s.placed ≡ length s.placed.items = search rules in
-    popped s.plan s.places.items s.items s.placed c.pop.new.self c.pop-3.new.self s.marks _ s.summary c.pop-2.new.self c.in_ok-item.item c.self.invariant c.in_ok-item.ensures.items c.pop.ensures.capacity
+    popped s.plan s.places.items s.items s.placed c.pop.new.self c.pop-3.new.self s.marks _ s.summary c.pop-2.new.self s.definers c.in_ok-item.item c.self.invariant c.in_ok-item.ensures.items c.pop.ensures.capacity
     (front_taken (number_at s.plan) s.items.items c.pop.new.self.items c.in_ok-item.item (vec_len s.placed) s.placed.items c.pop-3.new.self.items c.in_ok-item.ensures.items c.self.invariant.numbers l c.pop-3.ensures.rest)
     c.pop-3.ensures.capacity refl refl c.pop-2.ensures
 

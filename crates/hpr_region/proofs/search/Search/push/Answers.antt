@@ -24,6 +24,6 @@ invariant_of-self c =
     let s = c.self.inside in
     let may : may_follow s.plan s.items.items c.args.item ≡ true = subst (λ (z : State). may_follow z.plan z.placed c.args.item ≡ true) (sym c.self.view_is) c.requires.ready in
     let small = plan_free s.plan in
-    pushed s.plan s.places.items s.items s.placed c.push_reserved.new.self c.push_reserved-2.new.self s.marks _ s.summary c.push.new.self c.args.item c.index-number.result.now c.self.invariant may
+    pushed s.plan s.places.items s.items s.placed c.push_reserved.new.self c.push_reserved-2.new.self s.marks _ s.summary c.push.new.self s.definers c.args.item c.index-number.result.now c.self.invariant may
     (number_is s.plan.numbers.items c.args.item c.index-number.result.now (small.within s.items.items c.args.item may) c.index-number.ensures)
     c.push_reserved.ensures.items c.push_reserved.ensures.capacity c.push_reserved-2.ensures.items c.push_reserved-2.ensures.capacity refl refl c.push.ensures
