@@ -6,6 +6,9 @@ pub mod ClashExcludes
 pub mod Judging
 pub mod Latest
 pub mod Definers
+pub mod Totals
+pub mod Needed
+pub mod Rivalry
 pub mod ClashTables
 pub mod Readers
 pub mod IssuedFor

@@ -7,16 +7,18 @@ use Rattle.std.proofs.lemmas.Option.{slice_get_read, get_or_from_slice_get}
 use Rattle.hpr_forest.specs.declared.blocks.Blocks.{Blocks}
 use Rattle.hpr_forest.specs.Choices.{Follows, IsBacktrackFree}
 use Rattle.hpr_forest.specs.Forest.{IsDistinct}
-use Rattle.hpr_forest.specs.Marks.{is_in}
+use Rattle.hpr_forest.specs.Marks.{IsMarksOf, is_in}
 use Rattle.hpr_forest.proofs.Leaves.{follows_push, follows_front, follows_last}
 use Rattle.hpr_forest.proofs.Marked.{marks_push, marks_pop}
 use Rattle.hpr_forest.proofs.Members.{below, below_has, in_is_in, length-below, no_longer}
 use Rattle.hpr_forest.proofs.Unique.{in_none, in_cons, in_first}
 use Rattle.hpr_order.proofs.ListFacts.{map_append}
 use Rattle.hpr_region.specs.declared.plan.Plan.{Plan}
+use Rattle.hpr_region.specs.declared.rivals.Rivals.{Rivals}
 use Rattle.hpr_region.specs.declared.summary.Summary.{Summary}
 use Rattle.hpr_region.specs.Plans.{State, may_follow, number_at, numbers_at, placed_in, size_of}
 use Rattle.hpr_region.specs.States.{IsState}
+use Rattle.hpr_region.specs.Needs.{AreNeeds}
 use Rattle.hpr_region.specs.Summaries.{IsSummary}
 use Rattle.hpr_region.proofs.Planned.{choices_free}
 
@@ -62,15 +64,26 @@ plan_free plan =
     let e : vec_len plan.numbers ≡ length plan.numbers.items = search rules in
     choices_free plan.choices (length plan.numbers.items) (counted plan.choices (vec_len plan.numbers) (length plan.numbers.items) e plan.choice_count)
 
+pub placed_once : (plan : Plan) (items : List ℕ) → Follows (may_follow plan) [] items → IsDistinct items
+placed_once plan items f = let (apart, once) = follows_once (may_follow plan) (size_of plan) (plan_free plan) [] items f in once
+
+-- there is a place for an item more, as the tables count them
+pub more_room : (plan : Plan) (q : List ℕ) (c : ℕ) → Follows (may_follow plan) [] q → may_follow plan q c ≡ true → length q < vec_len plan.flows.slots
+more_room plan q c f may =
+    let lt = room_for (may_follow plan) (size_of plan) (plan_free plan) q c f may in
+    let l : length plan.numbers.items ≡ vec_len plan.numbers = search rules in
+    let e = plan.flow_count in
+    omega (arith, lt, l, e)
+
 pub number_is : (xs : List ℕ) (c n : ℕ) → c < length xs → n ≡ get_or xs c n → n ≡ get_or xs c 0
 number_is xs c n lt e = sym (get_or_from_slice_get xs c n 0 (slice_get_read xs (length xs) c n refl lt e))
 
 module _ (plan : Plan) (places : List (Option ℕ)) where
-  pub pushed : (items placed items' placed' : Vec ℕ Global) (marks marks' : Vec Bool Global) (summary summary' : Summary) (definers : Vec (Vec ℕ Global) Global) (c n : ℕ) → IsState plan places items placed marks summary definers → may_follow plan items.items c ≡ true → n ≡ number_at plan c
+  pub pushed : (items placed items' placed' : Vec ℕ Global) (marks marks' : Vec Bool Global) (summary summary' : Summary) (rivals : Rivals) (needs needs' : Vec ℕ Global) (c n : ℕ) → IsState plan places items placed marks summary rivals needs → may_follow plan items.items c ≡ true → n ≡ number_at plan c
       → items'.items ≡ items.items ++ c ∷ [] → vec_capacity items' ≡ vec_capacity items → placed'.items ≡ placed.items ++ n ∷ [] → vec_capacity placed' ≡ vec_capacity placed
       → marks'.items ≡ set marks.items c true → vec_len marks' ≡ vec_len marks
-      → ((q : List ℕ) → IsSummary plan.flows q summary → is_in q c ≡ false → IsSummary plan.flows (q ++ c ∷ []) summary') → IsState plan places items' placed' marks' summary' definers
-  pushed items placed items' placed' marks marks' summary summary' definers c n s may is grown room grown' room' marked row summed =
+      → ((q : List ℕ) → IsSummary plan.flows q summary → is_in q c ≡ false → IsSummary plan.flows (q ++ c ∷ []) summary') → AreNeeds plan.flows rivals items'.items needs'.items → IsState plan places items' placed' marks' summary' rivals needs'
+  pushed items placed items' placed' marks marks' summary summary' rivals needs needs' c n s may is grown room grown' room' marked row summed counted =
       let free = plan_free plan in
       let small : c < size_of plan = free.within items.items c may in
       let l : length marks.items ≡ vec_len marks = search rules in
@@ -82,15 +95,16 @@ module _ (plan : Plan) (places : List (Option ℕ)) where
         items_room = omega (arith, s.items_room, room);
         placed_room = omega (arith, s.placed_room, room');
         placing = s.placing;
-        rivals = s.rivals;
+        rivalry = s.rivalry;
+        counted = counted;
         summed = subst (λ q. IsSummary plan.flows q summary') (sym grown) (summed items.items s.summed (free.fresh items.items c may));
       }
 
-  pub popped : (items placed items' placed' : Vec ℕ Global) (marks marks' : Vec Bool Global) (summary summary' : Summary) (definers : Vec (Vec ℕ Global) Global) (c : ℕ) → IsState plan places items placed marks summary definers
+  pub popped : (items placed items' placed' : Vec ℕ Global) (marks marks' : Vec Bool Global) (summary summary' : Summary) (rivals : Rivals) (needs needs' : Vec ℕ Global) (c : ℕ) → IsState plan places items placed marks summary rivals needs
       → items.items ≡ items'.items ++ c ∷ [] → vec_capacity items' ≡ vec_capacity items → placed'.items ≡ numbers_at plan items'.items → vec_capacity placed' ≡ vec_capacity placed
       → marks'.items ≡ set marks.items c false → vec_len marks' ≡ vec_len marks
-      → ((q : List ℕ) → IsSummary plan.flows (q ++ c ∷ []) summary → IsSummary plan.flows q summary') → IsState plan places items' placed' marks' summary' definers
-  popped items placed items' placed' marks marks' summary summary' definers c s split room numbers room' marked row summed =
+      → ((q : List ℕ) → IsSummary plan.flows (q ++ c ∷ []) summary → IsSummary plan.flows q summary') → AreNeeds plan.flows rivals items'.items needs'.items → IsState plan places items' placed' marks' summary' rivals needs'
+  popped items placed items' placed' marks marks' summary summary' rivals needs needs' c s split room numbers room' marked row summed counted =
       let free = plan_free plan in
       let whole : Follows (may_follow plan) [] (items'.items ++ c ∷ []) = subst (Follows (may_follow plan) []) split s.front in
       let may : may_follow plan items'.items c ≡ true = follows_last (may_follow plan) (size_of plan) [] items'.items c whole in
@@ -104,9 +118,35 @@ module _ (plan : Plan) (places : List (Option ℕ)) where
         items_room = omega (arith, s.items_room, room);
         placed_room = omega (arith, s.placed_room, room');
         placing = s.placing;
-        rivals = s.rivals;
+        rivalry = s.rivalry;
+        counted = counted;
         summed = summed items'.items (subst (λ q. IsSummary plan.flows q summary) split s.summed);
       }
+
+-- what is known when the last item is taken back
+pub record IsFrontKept (plan : Plan) (marks : Vec Bool Global) (front : List ℕ) (c : ℕ) : Type 0 where
+  pub marked : IsMarksOf (set marks.items c false) front
+  pub within : c < size_of plan
+  pub once : IsDistinct front
+  pub fresh : is_in front c ≡ false
+  pub room : length front < vec_len plan.flows.slots
+
+pub front_kept : (plan : Plan) (places : List (Option ℕ)) (items placed : Vec ℕ Global) (marks : Vec Bool Global) (summary : Summary) (rivals : Rivals) (needs : Vec ℕ Global) (front : List ℕ) (c : ℕ)
+    → IsState plan places items placed marks summary rivals needs → items.items ≡ front ++ c ∷ [] → IsFrontKept plan marks front c
+front_kept plan places items placed marks summary rivals needs front c s split =
+    let free = plan_free plan in
+    let whole : Follows (may_follow plan) [] (front ++ c ∷ []) = subst (Follows (may_follow plan) []) split s.front in
+    let may : may_follow plan front c ≡ true = follows_last (may_follow plan) (size_of plan) [] front c whole in
+    let before : Follows (may_follow plan) [] front = follows_front (may_follow plan) (size_of plan) [] front (c ∷ []) whole in
+    let small : c < size_of plan = free.within front c may in
+    let l : length marks.items ≡ vec_len marks = search rules in
+    record {
+      marked = marks_pop marks.items (set marks.items c false) front items.items c (omega (arith, small, l, s.row)) s.marked split (free.fresh front c may) refl;
+      within = small;
+      once = placed_once plan front before;
+      fresh = free.fresh front c may;
+      room = more_room plan front c before may;
+    }
 
 -- the front of the images is the image of the front
 pub front_taken : (f : ℕ → ℕ) (items front : List ℕ) (c m : ℕ) (placed placed' : List ℕ) → items ≡ front ++ c ∷ [] → placed ≡ map f items → m ≡ length placed → placed' ≡ take (m - 1) placed → placed' ≡ map f front

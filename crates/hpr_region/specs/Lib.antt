@@ -6,3 +6,4 @@ pub mod Openings
 pub mod Making
 pub mod Summaries
 pub mod Rivals
+pub mod Needs

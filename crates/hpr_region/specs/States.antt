@@ -1,20 +1,21 @@
 -- What a search keeps.
 --
--- IsState plan places items placed marks summary definers == the items may stand so, one behind the other, and have marks; `placed` has the numbers of their
+-- IsState plan places items placed marks summary rivals needs == the items may stand so, one behind the other, and have marks; `placed` has the numbers of their
 --                                           vertices; `places` has the item of each number; there is room for all items; the
---                                           summary is that of the items, and the rows have the definers of each variable
+--                                           summary and the counts of needs are those of the items
 use Rattle.std.specs.Prelude.{◌≡◌, ℕ, ◌≤◌, Bool, Option, List, [], Vec, vec_len, vec_capacity}
 use Rattle.std.specs.Global.{Global}
 use Rattle.hpr_forest.specs.Choices.{Follows}
 use Rattle.hpr_forest.specs.Marks.{IsMarksOf}
 use Rattle.hpr_order.specs.Numbers.{ArePlaces}
 use Rattle.hpr_region.specs.declared.plan.Plan.{Plan}
+use Rattle.hpr_region.specs.declared.rivals.Rivals.{Rivals}
 use Rattle.hpr_region.specs.declared.summary.Summary.{Summary}
 use Rattle.hpr_region.specs.Plans.{may_follow, numbers_at, size_of}
-use Rattle.hpr_region.specs.Rivals.{AreDefiners}
+use Rattle.hpr_region.specs.Needs.{AreNeeds, AreRivals}
 use Rattle.hpr_region.specs.Summaries.{IsSummary}
 
-pub record IsState (plan : Plan) (places : List (Option ℕ)) (items placed : Vec ℕ Global) (marks : Vec Bool Global) (summary : Summary) (definers : Vec (Vec ℕ Global) Global) : Type 0 where
+pub record IsState (plan : Plan) (places : List (Option ℕ)) (items placed : Vec ℕ Global) (marks : Vec Bool Global) (summary : Summary) (rivals : Rivals) (needs : Vec ℕ Global) : Type 0 where
   pub front : Follows (may_follow plan) [] items.items
   pub numbers : placed.items ≡ numbers_at plan items.items
   pub row : vec_len marks ≡ size_of plan
@@ -23,4 +24,5 @@ pub record IsState (plan : Plan) (places : List (Option ℕ)) (items placed : Ve
   pub placed_room : size_of plan ≤ vec_capacity placed
   pub placing : ArePlaces plan.numbers.items places
   pub summed : IsSummary plan.flows items.items summary
-  pub rivals : AreDefiners plan.flows definers.items
+  pub rivalry : AreRivals plan.flows rivals
+  pub counted : AreNeeds plan.flows rivals items.items needs.items

@@ -1,12 +1,14 @@
 //! Which item clashes with those placed before it.
-ghost use Rattle.std.specs.Prelude.{◌≡◌, ℕ, ◌<◌, Some, None, List, All, IfSome, length, get_or, vec_len};
+ghost use Rattle.std.specs.Prelude.{◌≡◌, ℕ, ◌<◌, Some, None, false, List, IfSome, length, get_or, vec_len};
+ghost use Rattle.hpr_forest.specs.Forest.{IsDistinct};
 ghost use Rattle.hpr_forest.specs.Marks.{IsMarksOf, is_in};
 ghost use Rattle.hpr_forest.specs.Trees.{same_slot};
-ghost use Rattle.hpr_region.specs.Flows.{same_variable, slot_of, variable_of, uses_of, readers_of, same_block, reached_wrongly, is_left, some_left, kills_of, kills_one, clash};
-ghost use Rattle.hpr_region.specs.Rivals.{AreDefiners, kills_among};
+ghost use Rattle.hpr_region.specs.Flows.{same_variable, slot_of, variable_of, uses_of, readers_of, same_block, reached_wrongly, is_left, kills_one, clash};
+ghost use Rattle.hpr_region.specs.Needs.{AreNeeds, AreRivals};
 ghost use Rattle.hpr_region.specs.Summaries.{IsSummary, is_reached_by, some_reach};
 
 use crate::Flows;
+use crate::rivals::Rivals;
 use crate::summary::Summary;
 use hpr_graph::links::number_at;
 
@@ -21,7 +23,7 @@ fn is_same_slot(a: Option<(usize, bool)>, b: Option<(usize, bool)>) -> bool
     }
 }
 
-fn is_same_variable(a: Option<usize>, b: Option<usize>) -> bool
+pub(crate) fn is_same_variable(a: Option<usize>, b: Option<usize>) -> bool
     ensures { result ≡ same_variable a b }
 {
     match (a, b) {
@@ -71,7 +73,7 @@ impl Flows {
         &self.uses[item]
     }
 
-    fn readers_of(&self, item: usize) -> &[usize]
+    pub(crate) fn readers_of(&self, item: usize) -> &[usize]
         requires { item < vec_len self.now.slots }
         ensures { result.now ≡ readers_of self.now item }
     {
@@ -79,7 +81,7 @@ impl Flows {
     }
 
     /// Whether both items stand in one block.
-    fn in_one_block(&self, a: usize, b: usize) -> bool
+    pub(crate) fn in_one_block(&self, a: usize, b: usize) -> bool
         requires first { a < vec_len self.now.slots }
         requires second { b < vec_len self.now.slots }
         ensures { result ≡ same_block self.now a b }
@@ -128,7 +130,13 @@ impl Flows {
     }
 
     /// Whether the reader is another item of the child's block that is not yet placed.
-    fn is_left(&self, marks: &[bool], placed: &[usize], child: usize, reader: usize) -> bool
+    pub(crate) fn is_left(
+        &self,
+        marks: &[bool],
+        placed: &[usize],
+        child: usize,
+        reader: usize,
+    ) -> bool
         requires row { length marks.now ≡ vec_len self.now.slots }
         requires marks { IsMarksOf marks.now placed.now }
         requires child { child < vec_len self.now.slots }
@@ -144,99 +152,54 @@ impl Flows {
         self.in_one_block(child, reader)
     }
 
-    /// Whether one of the readers is another item of the child's block that is not yet placed.
-    fn is_one_left(&self, marks: &[bool], placed: &[usize], child: usize, readers: &[usize]) -> bool
-        requires row { length marks.now ≡ vec_len self.now.slots }
-        requires marks { IsMarksOf marks.now placed.now }
-        requires child { child < vec_len self.now.slots }
-        requires readers { All (λ k. k < vec_len self.now.slots) readers.now }
-        ensures { result ≡ some_left self.now placed.now child readers.now }
-    {
-        for reader in readers {
-            if self.is_left(marks, placed, child, *reader) {
-                return true;
-            }
-        }
-        false
-    }
-
-    /// Whether the child, placed next, kills what the item `source` defines: another item of its block, not yet
-    /// placed, still needs it.
-    fn kills_of(&self, marks: &[bool], placed: &[usize], child: usize, source: usize) -> bool
-        requires row { length marks.now ≡ vec_len self.now.slots }
-        requires marks { IsMarksOf marks.now placed.now }
-        requires child { child < vec_len self.now.slots }
-        requires source { source < vec_len self.now.slots }
-        ensures { result ≡ kills_of self.now placed.now child source }
-    {
-        if !self.in_one_block(source, child) {
-            return false;
-        }
-        if !is_same_variable(self.variable(source), self.variable(child)) {
-            return false;
-        }
-        self.is_one_left(marks, placed, child, self.readers_of(source))
-    }
-
-    /// Whether the child, placed next, kills what one of these items defines, where that is placed.
-    fn kills_among(
+    /// Whether the child, placed next, kills what one of the placed items defines: more is needed of the items of its
+    /// group than what the child itself is given.
+    fn kills(
         &self,
+        rivals: &Rivals,
+        needs: &[u128],
         marks: &[bool],
         placed: &[usize],
         child: usize,
-        definers: &[usize],
     ) -> bool
+        requires rivals { AreRivals self.now rivals.now }
+        requires needs { AreNeeds self.now rivals.now placed.now needs.now }
         requires row { length marks.now ≡ vec_len self.now.slots }
         requires marks { IsMarksOf marks.now placed.now }
         requires child { child < vec_len self.now.slots }
-        requires definers { All (λ k. k < vec_len self.now.slots) definers.now }
-        ensures { result ≡ kills_among self.now placed.now child definers.now }
-    {
-        for source in definers {
-            if !marks[*source] {
-                continue;
-            }
-            if self.kills_of(marks, placed, child, *source) {
-                return true;
-            }
-        }
-        false
-    }
-
-    /// Whether the child, placed next, kills what one of the placed items defines.
-    fn kills(&self, definers: &[Vec<usize>], marks: &[bool], placed: &[usize], child: usize) -> bool
-        requires definers { AreDefiners self.now definers.now }
-        requires row { length marks.now ≡ vec_len self.now.slots }
-        requires marks { IsMarksOf marks.now placed.now }
-        requires child { child < vec_len self.now.slots }
+        requires once { IsDistinct placed.now }
+        requires fresh { is_in placed.now child ≡ false }
         ensures { result ≡ kills_one self.now placed.now placed.now child }
     {
-        let Some(variable) = self.variable(child) else {
+        let Some(group) = rivals.group(child) else {
             return false;
         };
-        self.kills_among(marks, placed, child, &definers[variable])
+        needs[group] != rivals.own(self, marks, placed, child, group) as u128
     }
 
-    /// Whether the child clashes with the placed items, which have marks and a summary.
+    /// Whether the child clashes with the placed items, which have marks, a summary and counts.
     pub(crate) fn clashes(
         &self,
         summary: &Summary,
-        definers: &[Vec<usize>],
+        rivals: &Rivals,
+        needs: &[u128],
         marks: &[bool],
         placed: &[usize],
         child: usize,
     ) -> bool
         requires summary { IsSummary self.now placed.now summary.now }
-        requires definers { AreDefiners self.now definers.now }
+        requires rivals { AreRivals self.now rivals.now }
+        requires needs { AreNeeds self.now rivals.now placed.now needs.now }
         requires row { length marks.now ≡ vec_len self.now.slots }
         requires marks { IsMarksOf marks.now placed.now }
-        requires placed { All (λ k. k < vec_len self.now.slots) placed.now }
         requires child { child < vec_len self.now.slots }
+        requires once { IsDistinct placed.now }
+        requires fresh { is_in placed.now child ≡ false }
         ensures { result ≡ clash self.now placed.now child }
     {
         if self.is_reached_wrongly(summary, child) {
             return true;
         }
-        self.kills(definers, marks, placed, child)
+        self.kills(rivals, needs, marks, placed, child)
     }
 }

@@ -5,6 +5,7 @@
 mod clashing;
 mod flows;
 pub mod laws;
+mod needs;
 mod plan;
 mod planning;
 mod rivals;

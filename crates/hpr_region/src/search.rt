@@ -13,8 +13,9 @@ ghost use Rattle.hpr_order.specs.Arranging.{IsRanking};
 ghost use Rattle.hpr_region.specs.Plans.{BeginsWith, IsBegun, IsPlanOf, IsReady, clash_in, may_follow, number_at, placed_in, size_of, vertex_at, vertices_at};
 
 use crate::Plan;
+use crate::needs::{add_needs, no_needs, take_needs};
 use crate::planning::{blank_row, plan_of};
-use crate::rivals::definers_of;
+use crate::rivals::Rivals;
 use crate::summary::Summary;
 use hpr_forest::Choices;
 use hpr_graph::links::number_at;
@@ -36,7 +37,8 @@ pub struct Search {
     placed: Vec<usize>,
     marks: Vec<bool>,
     summary: Summary,
-    definers: Vec<Vec<usize>>,
+    rivals: Rivals,
+    needs: Vec<u128>,
 }
 
 impl Model for Search {
@@ -51,7 +53,7 @@ impl Model for Search {
 
     ghost view = { λ s. record { plan = s.plan; placed = s.items.items } };
 
-    ghost invariant = { λ s. IsState s.plan s.places.items s.items s.placed s.marks s.summary s.definers };
+    ghost invariant = { λ s. IsState s.plan s.places.items s.items s.placed s.marks s.summary s.rivals s.needs };
 }
 
 /// All are dropped in one call.
@@ -64,7 +66,8 @@ impl Drop for Search {
             placed: _,
             marks: _,
             summary: _,
-            definers: _,
+            rivals: _,
+            needs: _,
         } = self;
     }
 }
@@ -143,7 +146,8 @@ impl Search {
     {
         !self.plan.flows.clashes(
             &self.summary,
-            &self.definers,
+            &self.rivals,
+            &self.needs,
             &self.marks,
             &self.items,
             item,
@@ -158,6 +162,14 @@ impl Search {
     {
         let number = self.plan.numbers[item];
         self.summary.push(&self.plan, item);
+        add_needs(
+            &mut self.needs,
+            &self.plan,
+            &self.rivals,
+            &self.marks,
+            &self.items,
+            item,
+        );
         self.items.push_reserved(item);
         self.placed.push_reserved(number);
         self.marks[item] = true;
@@ -174,6 +186,14 @@ impl Search {
         self.summary.pop(&self.plan, item);
         self.placed.pop();
         self.marks[item] = false;
+        take_needs(
+            &mut self.needs,
+            &self.plan,
+            &self.rivals,
+            &self.marks,
+            &self.items,
+            item,
+        );
         Some(item)
     }
 
@@ -253,7 +273,8 @@ fn started(alloc: Global, vertices: usize, plan: Plan) -> Result<Search, NoMemor
     let placed = Vec::with_capacity(alloc, size)?;
     let marks = blank_row(alloc, size)?;
     let summary = Summary::start(alloc, &plan.flows)?;
-    let definers = definers_of(alloc, &plan.flows)?;
+    let rivals = Rivals::start(alloc, &plan.flows)?;
+    let needs = no_needs(alloc, plan.flows.size())?;
     Ok(Search {
         plan,
         places,
@@ -261,6 +282,7 @@ fn started(alloc: Global, vertices: usize, plan: Plan) -> Result<Search, NoMemor
         placed,
         marks,
         summary,
-        definers,
+        rivals,
+        needs,
     })
 }

@@ -8,7 +8,7 @@ ghost use Rattle.hpr_syntax.specs.Rows.{assigned};
 ghost use Rattle.hpr_graph.specs.Numbered.{IsNumbered, graph_in};
 ghost use Rattle.hpr_forest.specs.Blocks.{row_at};
 ghost use Rattle.hpr_graph.specs.Moves.{number_at};
-ghost use Rattle.hpr_search.specs.Rows.{IsPushed, numbers_at, numbers_of};
+ghost use Rattle.hpr_search.specs.Rows.{IsPushed, numbers_at, numbers_of, with_number};
 ghost use Rattle.hpr_order.specs.declared.item.Item.{Item};
 ghost use Rattle.hpr_order.specs.Numbers.{ArePartsOf, AreItemsOf, ArePlaces};
 ghost use Rattle.hpr_region.specs.Making.{AreDefinedIn, AreSlotsOf, AreVariablesOf, AreUsesOf, IsReadFrom};
@@ -245,6 +245,7 @@ pub(crate) fn push_at(rows: &mut Vec<Vec<usize>>, at: usize, number: usize) -> R
     requires { at < length rows.old.items }
     ensures count { length rows.new.items ≡ length rows.old.items }
     ensures pushed { OnOk result (IsPushed (numbers_of rows.old.items) at number (numbers_of rows.new.items)) }
+    ensures exact { OnOk result (numbers_of rows.new.items ≡ with_number (numbers_of rows.old.items) at number) }
 {
     let row = &mut rows[at];
     row.push(number)?;

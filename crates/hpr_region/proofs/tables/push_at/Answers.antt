@@ -8,3 +8,6 @@ pub returns-clause-pushed : goal.returns-clause-pushed
 returns-clause-pushed c =
     subst (IsPushed (numbers_of c.args.rows.now.items) c.args.at c.args.number) (sym (rows_with _ _ _ _ _ c.requires c.index_mut-row.ensures.value c.in_ok-push.ensures.items))
     (pushed_at (numbers_of c.args.rows.now.items) c.args.at c.args.number (omega (arith, c.requires, length_rows c.args.rows.now.items)))
+
+pub returns-clause-exact : goal.returns-clause-exact
+returns-clause-exact c = rows_with _ _ _ _ _ c.requires c.index_mut-row.ensures.value c.in_ok-push.ensures.items

@@ -1,8 +1,21 @@
-use Rattle.std.proofs.Common.{◌≡◌, true, length, vec_len, refl, sym, ap, ◌∙◌, subst, arith, rules}
+use Rattle.std.proofs.Common.{◌≡◌, ◌<◌, ℕ, List, [], ◌∷◌, ◌++◌, true, length, vec_len, refl, sym, ap, ◌∙◌, subst, arith, rules}
 use Rattle.std.proofs.lemmas.List.{length-map}
+use Rattle.hpr_forest.specs.Forest.{IsDistinct}
+use Rattle.hpr_region.specs.Needs.{AreNeeds}
 use Rattle.hpr_region.specs.Plans.{State, may_follow, number_at, size_of}
-use Rattle.hpr_region.proofs.Searching.{number_is, plan_free, pushed, room_for}
+use Rattle.hpr_region.proofs.Searching.{more_room, number_is, placed_once, plan_free, pushed, room_for}
 use Rattle.hpr_region.proofs.search.Search.push.Goals as goal
+
+pub add_needs-requires-clause-once : goal.add_needs-requires-clause-once
+add_needs-requires-clause-once c =
+    let s = c.self.inside in
+    subst (λ (xs : List ℕ). IsDistinct xs) (sym c.deref-2.ensures.value) (placed_once s.plan s.items.items c.self.invariant.front)
+
+pub add_needs-requires-clause-room : goal.add_needs-requires-clause-room
+add_needs-requires-clause-room c =
+    let s = c.self.inside in
+    let may : may_follow s.plan s.items.items c.args.item ≡ true = subst (λ (z : State). may_follow z.plan z.placed c.args.item ≡ true) (sym c.self.view_is) c.requires.ready in
+    subst (λ (xs : List ℕ). length xs < vec_len s.plan.flows.slots) (sym c.deref-2.ensures.value) (more_room s.plan s.items.items c.args.item c.self.invariant.front may)
 
 pub push_reserved-requires : goal.push_reserved-requires
 push_reserved-requires c =
@@ -24,6 +37,7 @@ invariant_of-self c =
     let s = c.self.inside in
     let may : may_follow s.plan s.items.items c.args.item ≡ true = subst (λ (z : State). may_follow z.plan z.placed c.args.item ≡ true) (sym c.self.view_is) c.requires.ready in
     let small = plan_free s.plan in
-    pushed s.plan s.places.items s.items s.placed c.push_reserved.new.self c.push_reserved-2.new.self s.marks _ s.summary c.push.new.self s.definers c.args.item c.index-number.result.now c.self.invariant may
+    pushed s.plan s.places.items s.items s.placed c.push_reserved.new.self c.push_reserved-2.new.self s.marks _ s.summary c.push.new.self s.rivals s.needs c.add_needs.new.needs c.args.item c.index-number.result.now c.self.invariant may
     (number_is s.plan.numbers.items c.args.item c.index-number.result.now (small.within s.items.items c.args.item may) c.index-number.ensures)
     c.push_reserved.ensures.items c.push_reserved.ensures.capacity c.push_reserved-2.ensures.items c.push_reserved-2.ensures.capacity refl refl c.push.ensures
+    (subst (λ (xs : List ℕ). AreNeeds s.plan.flows s.rivals xs c.add_needs.new.needs.items) (ap (λ (xs : List ℕ). xs ++ c.args.item ∷ []) c.deref-2.ensures.value ∙ sym c.push_reserved.ensures.items) c.add_needs.ensures)

@@ -1,0 +1,36 @@
+use Rattle.std.proofs.Common.{◌≡◌, ◌-◌, Some, get_or, sym, ◌∙◌, arith}
+use Rattle.std.proofs.lemmas.List.{length-set}
+use Rattle.hpr_region.specs.Needs.{tie}
+use Rattle.hpr_region.proofs.Needed.{read_number, release_enough, release_step, tie_group}
+use Rattle.hpr_region.proofs.needs.release.Goals as goal
+
+pub overflow_sub-index_mut : goal.overflow_sub-index_mut
+overflow_sub-index_mut c =
+    let t = c.args.flows.now in
+    let r = c.args.rivals.now in
+    let i = c.loop-source.source-index in
+    let k = c.in-Some.group in
+    let is : tie t r c.args.placed.now c.args.child (get_or c.args.sources.now i 0) ≡ Some k = sym c.tie.ensures ∙ c.in-Some.is in
+    let within = c.requires.rivals.within (get_or c.args.sources.now i 0) k (tie_group t r c.args.placed.now c.args.child (get_or c.args.sources.now i 0) k is) in
+    let enough = release_enough t r c.requires.rivals c.args.placed.now c.args.child c.args.needs.now.items c.loop-source.needs.items c.args.sources.now i k c.loop-source-test.true is within c.loop-source.invariant.count
+    c.loop-source.invariant.each (c.requires.enough k within) in
+    let read = read_number c.loop-source.needs.items k c.index_mut.result.now (omega (arith, within, c.loop-source.invariant.count)) c.index_mut.ensures.value in
+    omega (arith, enough, read)
+
+pub loop-source-preserved : goal.loop-source-preserved
+loop-source-preserved c =
+    let t = c.args.flows.now in
+    let r = c.args.rivals.now in
+    let i = c.loop-source.source-index in
+    let k = c.in-Some.group in
+    let m = c.index_mut.result.now in
+    let is : tie t r c.args.placed.now c.args.child (get_or c.args.sources.now i 0) ≡ Some k = sym c.tie.ensures ∙ c.in-Some.is in
+    let within = c.requires.rivals.within (get_or c.args.sources.now i 0) k (tie_group t r c.args.placed.now c.args.child (get_or c.args.sources.now i 0) k is) in
+    let enough = release_enough t r c.requires.rivals c.args.placed.now c.args.child c.args.needs.now.items c.loop-source.needs.items c.args.sources.now i k c.loop-source-test.true is within c.loop-source.invariant.count
+    c.loop-source.invariant.each (c.requires.enough k within) in
+    let read = read_number c.loop-source.needs.items k m (omega (arith, within, c.loop-source.invariant.count)) c.index_mut.ensures.value in
+    record {
+      count = length-set c.loop-source.needs.items k (m - 1) ∙ c.loop-source.invariant.count;
+      each = release_step t r c.requires.rivals c.args.placed.now c.args.child c.args.needs.now.items c.loop-source.needs.items c.args.sources.now i k c.loop-source-test.true is within c.loop-source.invariant.count m read
+          (omega (arith, enough, read)) c.loop-source.invariant.each;
+    }
