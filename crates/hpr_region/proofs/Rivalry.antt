@@ -1,12 +1,14 @@
 -- Rivals are found by the definers of each variable, and readers are turned round.
 use Rattle.std.proofs.Common.{◌≡◌, ℕ, zero, ◌+◌, ◌<◌, ◌≤◌, ◌⊎◌, inl, inr, Bool, true, false, cond, eqb, Option, Some, None, List, [], ◌∷◌, ◌++◌, All, Vec, length, vec_len, get_or, slice_get, drop, Contains, refl, sym, ap, ◌∙◌, subst, arith, rules, get_or-set_same, get_or-set_other}
 use Rattle.std.specs.Global.{Global}
-use Rattle.std.proofs.lemmas.Bool.{cases_eq, cases_lt, eq-eqb, ne_eqb}
+use Rattle.std.proofs.lemmas.Bool.{cases_eq, cases_lt, eqb-true, eq-eqb, ne_eqb}
 use Rattle.std.proofs.lemmas.List.Elements.{Contains-get_or}
 use Rattle.std.proofs.lemmas.Option.{slice_get_past}
 use Rattle.hpr_terms.proofs.Facts.{in_none, in_cons, in_here, in_later, some_inj}
 use Rattle.hpr_forest.specs.Blocks.{row_at}
+use Rattle.hpr_forest.specs.Marks.{is_in}
 use Rattle.hpr_forest.specs.Trees.{same_slot}
+use Rattle.hpr_forest.proofs.Members.{in_is_in}
 use Rattle.hpr_search.specs.Rows.{numbers_at, numbers_of, with_number}
 use Rattle.hpr_region.specs.declared.flows.Flows.{Flows}
 use Rattle.hpr_region.specs.declared.rivals.Rivals.{Rivals}
@@ -14,7 +16,7 @@ use Rattle.hpr_region.specs.Flows as flow
 use Rattle.hpr_region.specs.Needs.{AreRivals, is_rival, occurrences, one_if, sources_of}
 use Rattle.hpr_region.specs.Rivals.{AreDefiners, AreGroupsBy, AreTurned, first_in, first_of, group_by}
 use Rattle.hpr_region.proofs.Definers.{defining_within}
-use Rattle.hpr_region.proofs.Judging.{same_some, same_true}
+use Rattle.hpr_region.proofs.Judging.{is_in_in, same_some, same_true}
 use Rattle.hpr_region.proofs.Latest.{get_small, same_bool}
 use Rattle.hpr_region.proofs.Made.{row_same, same_slots, slot_itself}
 use Rattle.hpr_region.proofs.Totals.{total_drop, total_least, total_push, total_some}
@@ -163,6 +165,28 @@ module _ (t : Flows) where
 
   pub sources_within : (r : Rivals) → AreRivals t r → (k : ℕ) → All (λ j. j < vec_len t.slots) (sources_of r k)
   sources_within r are k = λ i d lt. source_within r are (get_or (sources_of r k) i d) k (Contains-get_or (sources_of r k) i d lt)
+
+  -- the sources of an item are those that it reads
+  pub source_reader : (r : Rivals) → AreRivals t r → (d u : ℕ) → is_in (sources_of r u) d ≡ is_in (flow.readers_of t d) u
+  source_reader r are d u = same_bool (is_in (sources_of r u) d) (is_in (flow.readers_of t d) u)
+      (λ e. often (flow.readers_of t d) u (let one = there (sources_of r u) d e in let same = are.sources d u in omega (arith, one, same)))
+      (λ e. often (sources_of r u) d (let one = there (flow.readers_of t d) u e in let same = are.sources d u in omega (arith, one, same)))
+    where
+      there : (xs : List ℕ) (x : ℕ) → is_in xs x ≡ true → 1 ≤ occurrences xs x
+      there xs x e =
+          let one = total_least (λ y. one_if (eqb y x)) xs x (is_in_in xs x e) in
+          let is : one_if (eqb x x) ≡ 1 = ap one_if (eq-eqb x x refl) in
+          omega (arith, one, is)
+
+      equal : (b : Bool) → 0 < one_if b → b ≡ true
+      equal true lt = refl
+      equal false lt = absurd (omega (arith, lt))
+
+      often : (xs : List ℕ) (x : ℕ) → 1 ≤ occurrences xs x → is_in xs x ≡ true
+      often xs x le = elim (total_some (λ y. one_if (eqb y x)) xs) [
+        | inl none ↦ absurd (omega (arith, none, le))
+        | inr (y, h, lt) ↦ in_is_in xs x (subst (Contains xs) (eqb-true y x (equal (eqb y x) lt)) h)
+      ]
 
 -- one number more at the end of a row
 pub one_more : (rows : List (List ℕ)) (at number d u : ℕ) → at < length rows

@@ -33,7 +33,7 @@ pub(crate) fn is_same_variable(a: Option<usize>, b: Option<usize>) -> bool
 }
 
 /// Whether the number is one of these.
-fn has(numbers: &[usize], number: usize) -> bool
+pub(crate) fn has(numbers: &[usize], number: usize) -> bool
     ensures { result ≡ is_in numbers.now number }
 {
     for one in numbers {
@@ -91,7 +91,8 @@ impl Flows {
 
     /// Whether the child, placed next, is reached without an independent flow edge by `last`, the last placed item
     /// that defines a variable which it uses.
-    fn is_reached_by(&self, last: Option<usize>, child: usize) -> bool
+    fn is_reached_by(&self, rivals: &Rivals, last: Option<usize>, child: usize) -> bool
+        requires rivals { AreRivals self.now rivals.now }
         requires last { IfSome last (λ d. d < vec_len self.now.slots) }
         requires child { child < vec_len self.now.slots }
         ensures { result ≡ is_reached_by self.now last child }
@@ -102,17 +103,24 @@ impl Flows {
         if !self.in_one_block(source, child) {
             return false;
         }
-        !has(self.readers_of(source), child)
+        !rivals.leads(self, source, child)
     }
 
     /// Whether the child is so reached by the last definition of one of these variables.
-    fn is_one_reaching(&self, last: &[Option<usize>], child: usize, variables: &[usize]) -> bool
+    fn is_one_reaching(
+        &self,
+        rivals: &Rivals,
+        last: &[Option<usize>],
+        child: usize,
+        variables: &[usize],
+    ) -> bool
+        requires rivals { AreRivals self.now rivals.now }
         requires last { (v d : ℕ) → get_or last.now v None ≡ Some d → d < vec_len self.now.slots }
         requires child { child < vec_len self.now.slots }
         ensures { result ≡ some_reach self.now last.now child variables.now }
     {
         for variable in variables {
-            if self.is_reached_by(number_at(last, *variable), child) {
+            if self.is_reached_by(rivals, number_at(last, *variable), child) {
                 return true;
             }
         }
@@ -120,13 +128,14 @@ impl Flows {
     }
 
     /// Whether the child, placed next, is reached wrongly by one of the placed items.
-    fn is_reached_wrongly(&self, summary: &Summary, child: usize) -> bool
+    fn is_reached_wrongly(&self, summary: &Summary, rivals: &Rivals, child: usize) -> bool
+        requires rivals { AreRivals self.now rivals.now }
         requires last { (v d : ℕ) → get_or summary.now.last.items v None ≡ Some d → d < vec_len self.now.slots }
         requires child { child < vec_len self.now.slots }
         ensures { (placed : List ℕ) → IsSummary self.now placed summary.now
             → result ≡ reached_wrongly self.now placed child }
     {
-        self.is_one_reaching(&summary.last, child, self.uses_of(child))
+        self.is_one_reaching(rivals, &summary.last, child, self.uses_of(child))
     }
 
     /// Whether the reader is another item of the child's block that is not yet placed.
@@ -197,7 +206,7 @@ impl Flows {
         requires fresh { is_in placed.now child ≡ false }
         ensures { result ≡ clash self.now placed.now child }
     {
-        if self.is_reached_wrongly(summary, child) {
+        if self.is_reached_wrongly(summary, rivals, child) {
             return true;
         }
         self.kills(rivals, needs, marks, placed, child)

@@ -1,12 +1,14 @@
 //! Which items define one variable in one block, and from which items flow edges come.
-ghost use Rattle.std.specs.Prelude.{◌≡◌, ℕ, ◌+◌, ◌<◌, ◌≤◌, Some, None, All, cond, eqb, length, get_or, slice_get, vec_len, IfOk, OnOk};
+ghost use Rattle.std.specs.Prelude.{◌≡◌, ℕ, ◌+◌, ◌<◌, All, cond, eqb, length, slice_get, vec_len, IfOk, OnOk};
 ghost use Rattle.hpr_forest.specs.Blocks.{row_at};
+ghost use Rattle.hpr_forest.specs.Marks.{is_in};
 ghost use Rattle.hpr_search.specs.Rows.{numbers_at, numbers_of};
-ghost use Rattle.hpr_region.specs.Flows.{variable_of};
+ghost use Rattle.hpr_region.specs.Flows.{readers_of};
 ghost use Rattle.hpr_region.specs.Needs.{AreRivals, group_of, occurrences, sources_of};
 ghost use Rattle.hpr_region.specs.Rivals.{AreDefiners, AreGroupsBy, AreTurned, first_in, group_by};
 
 use crate::Flows;
+use crate::clashing::has;
 use crate::tables::{blank_rows, push_at};
 use hpr_graph::NoMemory;
 use std::alloc::Global;
@@ -53,6 +55,15 @@ impl Rivals {
         ensures { result.now ≡ sources_of self.now item }
     {
         &self.sources[item]
+    }
+
+    /// Whether an independent flow edge goes from the source into the item.
+    pub fn leads(&self, flows: &Flows, source: usize, item: usize) -> bool
+        requires rivals { AreRivals flows.now self.now }
+        requires item { item < vec_len flows.now.slots }
+        ensures { result ≡ is_in (readers_of flows.now source) item }
+    {
+        has(self.sources_of(item), source)
     }
 }
 
