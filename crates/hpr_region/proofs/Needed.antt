@@ -11,7 +11,7 @@ use Rattle.hpr_forest.specs.Trees.{Slot, same_slot}
 use Rattle.hpr_region.specs.declared.flows.Flows.{Flows}
 use Rattle.hpr_region.specs.declared.rivals.Rivals.{Rivals}
 use Rattle.hpr_region.specs.Flows as flow
-use Rattle.hpr_region.specs.Needs.{AreNeeds, AreRivals, group_of, in_group, is_open, is_rival, left_over, needed, occurrences, one_if, open_readers, sources_of, tie, tied, total}
+use Rattle.hpr_region.specs.Needs.{AreNeeds, AreReleased, AreRestored, AreRivals, group_of, in_group, is_open, is_rival, left_over, needed, occurrences, one_if, open_readers, sources_of, tie, tied, total}
 use Rattle.hpr_region.proofs.Judging.{both, both_true, found_kill, found_left, kill_found, left_found, same_some}
 use Rattle.hpr_region.proofs.Latest.{same_bool}
 use Rattle.hpr_region.proofs.Totals.{counted_there, total_drop, total_least, total_most, total_ones, total_plus, total_push, total_same, total_some, total_zero}
@@ -314,16 +314,10 @@ module _ (t : Flows) where
         pub enough_needs : (needs : List ℕ) → AreNeeds t r q needs → (g : ℕ) → g < vec_len t.slots → tied t r q c g (sources_of r c) ≤ get_or needs g 0
         enough_needs needs are_needs g small = let e = are_needs.each g small in let b = before g in omega (arith, e, b)
 
-        abbrev AreReleased : List ℕ → List ℕ → Type 0
-        AreReleased old needs = (g : ℕ) → g < vec_len t.slots → get_or needs g 0 + tied t r q c g (sources_of r c) ≡ get_or old g 0
-
-        abbrev AreRestored : List ℕ → List ℕ → Type 0
-        AreRestored old needs = (g : ℕ) → g < vec_len t.slots → get_or needs g 0 ≡ get_or old g 0 + tied t r q c g (sources_of r c)
-
-        released_still : (old needs : List ℕ) → AreNeeds t r q old → AreReleased old needs → (g : ℕ) → g < vec_len t.slots → get_or needs g 0 ≡ still q c g
+        released_still : (old needs : List ℕ) → AreNeeds t r q old → AreReleased t r q c (sources_of r c) old needs → (g : ℕ) → g < vec_len t.slots → get_or needs g 0 ≡ still q c g
         released_still old needs was each g small = let e = was.each g small in let b = before g in let h = each g small in omega (arith, e, b, h)
 
-        pub added_none : (old needs : List ℕ) → AreNeeds t r q old → length needs ≡ vec_len t.slots → AreReleased old needs → group_of r c ≡ None → AreNeeds t r (q ++ c ∷ []) needs
+        pub added_none : (old needs : List ℕ) → AreNeeds t r q old → length needs ≡ vec_len t.slots → AreReleased t r q c (sources_of r c) old needs → group_of r c ≡ None → AreNeeds t r (q ++ c ∷ []) needs
         added_none old needs was count each none = record {
           count = count;
           each = λ g small.
@@ -333,7 +327,7 @@ module _ (t : Flows) where
               omega (arith, s, a, z));
         }
 
-        pub added_some : (old needs : List ℕ) (k m n : ℕ) → AreNeeds t r q old → length needs ≡ vec_len t.slots → AreReleased old needs → group_of r c ≡ Some k → m ≡ get_or needs k 0 → n ≡ left
+        pub added_some : (old needs : List ℕ) (k m n : ℕ) → AreNeeds t r q old → length needs ≡ vec_len t.slots → AreReleased t r q c (sources_of r c) old needs → group_of r c ≡ Some k → m ≡ get_or needs k 0 → n ≡ left
             → AreNeeds t r (q ++ c ∷ []) (set needs k (m + n))
         added_some old needs k m n was count each e em en = record {
           count = length-set needs k (m + n) ∙ count;
@@ -354,7 +348,7 @@ module _ (t : Flows) where
           ];
         }
 
-        pub added_room : (old needs : List ℕ) (k m n : ℕ) → AreNeeds t r q old → AreReleased old needs → group_of r c ≡ Some k → m ≡ get_or needs k 0 → n ≡ left → length q < vec_len t.slots → m + n < 2 ^ 128
+        pub added_room : (old needs : List ℕ) (k m n : ℕ) → AreNeeds t r q old → AreReleased t r q c (sources_of r c) old needs → group_of r c ≡ Some k → m ≡ get_or needs k 0 → n ≡ left → length q < vec_len t.slots → m + n < 2 ^ 128
         added_room old needs k m n was each e em en room =
             let s = released_still old needs was each k (are.within c k e) in
             let small = still_small q c k in
@@ -363,19 +357,19 @@ module _ (t : Flows) where
             few (length q) (vec_len t.slots) (still q c k) left m n room most small l (em ∙ s) en
 
         -- ---- an item is taken back
-        taken_with : (old needs : List ℕ) → AreNeeds t r (q ++ c ∷ []) old → AreRestored old needs → (g : ℕ) → g < vec_len t.slots → get_or needs g 0 ≡ needed t r q g q + cond (in_group t r g c) left 0
+        taken_with : (old needs : List ℕ) → AreNeeds t r (q ++ c ∷ []) old → AreRestored t r q c (sources_of r c) old needs → (g : ℕ) → g < vec_len t.slots → get_or needs g 0 ≡ needed t r q g q + cond (in_group t r g c) left 0
         taken_with old needs was each g small = let e = was.each g small in let b = before g in let a = needed_after q c g in let h = each g small in omega (arith, e, b, a, h)
 
-        pub taken_none : (old needs : List ℕ) → AreNeeds t r (q ++ c ∷ []) old → length needs ≡ vec_len t.slots → AreRestored old needs → group_of r c ≡ None → AreNeeds t r q needs
+        pub taken_none : (old needs : List ℕ) → AreNeeds t r (q ++ c ∷ []) old → length needs ≡ vec_len t.slots → AreRestored t r q c (sources_of r c) old needs → group_of r c ≡ None → AreNeeds t r q needs
         taken_none old needs was count each none = record {
           count = count;
           each = λ g small. (let s = taken_with old needs was each g small in let z = in_no_group g none in omega (arith, s, z));
         }
 
-        pub taken_enough : (old needs : List ℕ) (k m n : ℕ) → AreNeeds t r (q ++ c ∷ []) old → AreRestored old needs → group_of r c ≡ Some k → m ≡ get_or needs k 0 → n ≡ left → n ≤ m
+        pub taken_enough : (old needs : List ℕ) (k m n : ℕ) → AreNeeds t r (q ++ c ∷ []) old → AreRestored t r q c (sources_of r c) old needs → group_of r c ≡ Some k → m ≡ get_or needs k 0 → n ≡ left → n ≤ m
         taken_enough old needs k m n was each e em en = let s = taken_with old needs was each k (are.within c k e) in let z = in_own_group k e in omega (arith, s, z, em, en)
 
-        pub taken_some : (old needs : List ℕ) (k m n : ℕ) → AreNeeds t r (q ++ c ∷ []) old → length needs ≡ vec_len t.slots → AreRestored old needs → group_of r c ≡ Some k → m ≡ get_or needs k 0 → n ≡ left
+        pub taken_some : (old needs : List ℕ) (k m n : ℕ) → AreNeeds t r (q ++ c ∷ []) old → length needs ≡ vec_len t.slots → AreRestored t r q c (sources_of r c) old needs → group_of r c ≡ Some k → m ≡ get_or needs k 0 → n ≡ left
             → AreNeeds t r q (set needs k (m - n))
         taken_some old needs k m n was count each e em en = record {
           count = length-set needs k (m - n) ∙ count;

@@ -13,6 +13,8 @@
 -- needed t r placed g items == how many open readers the items of the group g among these have
 -- tie t r placed c d    == the group of d, where d is placed in the block of c
 -- tied t r placed c g ds == how many of these items d have the group g so
+-- AreReleased t r placed c ds old new == the count of each group is less by what is tied of these items
+-- AreRestored t r placed c ds old new == it is more by that
 -- AreNeeds t r placed needs == the count of each group is that of the placed items
 use Rattle.std.specs.Prelude.{◌≡◌, ℕ, ◌+◌, ◌<◌, Bool, true, false, cond, eqb, Option, Some, None, List, [], ◌∷◌, length, get_or, slice_get, vec_len}
 use Rattle.hpr_forest.specs.Blocks.{row_at}
@@ -70,6 +72,12 @@ module _ (t : Flows) where
 
     abbrev pub tied : List ℕ → ℕ → ℕ → List ℕ → ℕ
     tied placed c g ds = total (λ d. one_if (same_variable (tie placed c d) (Some g))) ds
+
+    abbrev pub AreReleased : List ℕ → ℕ → List ℕ → List ℕ → List ℕ → Type 0
+    AreReleased placed c ds old new = (g : ℕ) → g < vec_len t.slots → get_or new g 0 + tied placed c g ds ≡ get_or old g 0
+
+    abbrev pub AreRestored : List ℕ → ℕ → List ℕ → List ℕ → List ℕ → Type 0
+    AreRestored placed c ds old new = (g : ℕ) → g < vec_len t.slots → get_or new g 0 ≡ get_or old g 0 + tied placed c g ds
 
     pub record AreNeeds (placed needs : List ℕ) : Type 0 where
       pub count : length needs ≡ vec_len t.slots

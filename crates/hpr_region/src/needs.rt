@@ -2,7 +2,7 @@
 ghost use Rattle.std.specs.Prelude.{◌≡◌, ℕ, ◌+◌, ◌<◌, ◌≤◌, ◌^◌, ◌++◌, [], ◌∷◌, false, All, get_or, length, replicate, vec_len, IfOk};
 ghost use Rattle.hpr_forest.specs.Forest.{IsDistinct};
 ghost use Rattle.hpr_forest.specs.Marks.{IsMarksOf, is_in};
-ghost use Rattle.hpr_region.specs.Needs.{AreNeeds, AreRivals, left_over, sources_of, tie, tied};
+ghost use Rattle.hpr_region.specs.Needs.{AreNeeds, AreReleased, AreRestored, AreRivals, left_over, sources_of, tie, tied};
 
 use crate::clashing::is_same_variable;
 use crate::rivals::Rivals;
@@ -126,8 +126,7 @@ fn release(
     requires enough { (g : ℕ) → g < vec_len flows.now.slots
         → tied flows.now rivals.now placed.now child g sources.now ≤ get_or needs.old.items g 0 }
     ensures count { length needs.new.items ≡ vec_len flows.now.slots }
-    ensures each { (g : ℕ) → g < vec_len flows.now.slots
-        → get_or needs.new.items g 0 + tied flows.now rivals.now placed.now child g sources.now ≡ get_or needs.old.items g 0 }
+    ensures each { AreReleased flows.now rivals.now placed.now child sources.now needs.old.items needs.new.items }
 {
     for source in sources {
         let Some(group) = rivals.tie(flows, marks, placed, child, *source) else {
@@ -156,8 +155,7 @@ fn restore(
     requires room { (g : ℕ) → g < vec_len flows.now.slots
         → get_or needs.old.items g 0 + tied flows.now rivals.now placed.now child g sources.now < 2 ^ 128 }
     ensures count { length needs.new.items ≡ vec_len flows.now.slots }
-    ensures each { (g : ℕ) → g < vec_len flows.now.slots
-        → get_or needs.new.items g 0 ≡ get_or needs.old.items g 0 + tied flows.now rivals.now placed.now child g sources.now }
+    ensures each { AreRestored flows.now rivals.now placed.now child sources.now needs.old.items needs.new.items }
 {
     for source in sources {
         let Some(group) = rivals.tie(flows, marks, placed, child, *source) else {

@@ -101,9 +101,7 @@ fn group_by(flows: &Flows, definers: &[Vec<usize>], item: usize) -> Option<usize
     requires item { item < vec_len flows.now.slots }
     ensures { result ≡ group_by flows.now definers.now item }
 {
-    let Some(variable) = flows.variable(item) else {
-        return None;
-    };
+    let variable = flows.variable(item)?;
     first_in(flows, &definers[variable], item)
 }
 

@@ -139,7 +139,8 @@ impl Search {
         choices.next_child(&self.marks, &self.items, from)
     }
 
-    /// Whether the item, which may be placed next, doesn't clash with the parts placed so far.
+    /// Whether the item, which may be placed next, doesn't clash with the parts placed so far. Looks at what it uses and
+    /// what goes into it alone.
     pub fn admits(&self, item: usize) -> bool
         requires ready { may_follow self.now.plan self.now.placed item ≡ true }
         ensures { IsTrue result ↔ (clash_in self.now.plan self.now.placed item ≡ false) }

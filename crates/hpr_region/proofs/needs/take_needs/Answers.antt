@@ -1,5 +1,5 @@
-use Rattle.std.proofs.Common.{◌≡◌, ◌+◌, ◌<◌, ◌^◌, ℕ, List, All, get_or, vec_len, sym, ap, ◌∙◌, subst, arith}
-use Rattle.hpr_region.specs.Needs.{left_over, tied}
+use Rattle.std.proofs.Common.{◌+◌, ◌<◌, ◌^◌, ℕ, List, All, get_or, vec_len, sym, ap, ◌∙◌, subst, arith}
+use Rattle.hpr_region.specs.Needs.{AreRestored, left_over, tied}
 use Rattle.hpr_region.proofs.Needed.{read_number, taken_enough, taken_none, taken_room, taken_some}
 use Rattle.hpr_region.proofs.Rivalry.{readers_within, sources_within}
 use Rattle.hpr_region.proofs.needs.take_needs.Goals as goal
@@ -18,7 +18,7 @@ returns-in_default c =
     let t = c.args.plan.now.flows in
     let r = c.args.rivals.now in
     taken_none t r c.requires.rivals c.args.placed.now c.args.item c.requires.once c.requires.fresh c.args.needs.now.items c.restore.new.needs.items c.requires.needs c.restore.ensures.count
-    (λ g small. subst (λ (ds : List ℕ). get_or c.restore.new.needs.items g 0 ≡ get_or c.args.needs.now.items g 0 + tied t r c.args.placed.now c.args.item g ds) c.sources_of-sources.ensures (c.restore.ensures.each g small))
+    (subst (λ (ds : List ℕ). AreRestored t r c.args.placed.now c.args.item ds c.args.needs.now.items c.restore.new.needs.items) c.sources_of-sources.ensures c.restore.ensures.each)
     (sym c.group.ensures ∙ c.in_default.is)
 
 pub left_over-left-requires-clause-readers : goal.left_over-left-requires-clause-readers
@@ -33,7 +33,7 @@ overflow_sub-index_mut c =
     let grouped = sym c.group.ensures ∙ c.in-Some.is in
     let within = c.requires.rivals.within c.args.item k grouped in
     taken_enough t r c.requires.rivals c.args.placed.now c.args.item c.requires.once c.requires.fresh c.args.needs.now.items c.restore.new.needs.items k c.index_mut.result.now c.left_over-left.result c.requires.needs
-    (λ g small. subst (λ (ds : List ℕ). get_or c.restore.new.needs.items g 0 ≡ get_or c.args.needs.now.items g 0 + tied t r c.args.placed.now c.args.item g ds) c.sources_of-sources.ensures (c.restore.ensures.each g small))
+    (subst (λ (ds : List ℕ). AreRestored t r c.args.placed.now c.args.item ds c.args.needs.now.items c.restore.new.needs.items) c.sources_of-sources.ensures c.restore.ensures.each)
     grouped (read_number c.restore.new.needs.items k c.index_mut.result.now (omega (arith, within, c.restore.ensures.count)) c.index_mut.ensures.value)
     (c.left_over-left.ensures ∙ ap (λ (us : List ℕ). left_over t c.args.placed.now c.args.item us) c.readers_of.ensures)
 
@@ -46,6 +46,6 @@ returns c =
     let within = c.requires.rivals.within c.args.item k grouped in
     taken_some t r c.requires.rivals c.args.placed.now c.args.item c.requires.once c.requires.fresh c.args.needs.now.items c.restore.new.needs.items k c.index_mut.result.now c.left_over-left.result c.requires.needs
     c.restore.ensures.count
-    (λ g small. subst (λ (ds : List ℕ). get_or c.restore.new.needs.items g 0 ≡ get_or c.args.needs.now.items g 0 + tied t r c.args.placed.now c.args.item g ds) c.sources_of-sources.ensures (c.restore.ensures.each g small))
+    (subst (λ (ds : List ℕ). AreRestored t r c.args.placed.now c.args.item ds c.args.needs.now.items c.restore.new.needs.items) c.sources_of-sources.ensures c.restore.ensures.each)
     grouped (read_number c.restore.new.needs.items k c.index_mut.result.now (omega (arith, within, c.restore.ensures.count)) c.index_mut.ensures.value)
     (c.left_over-left.ensures ∙ ap (λ (us : List ℕ). left_over t c.args.placed.now c.args.item us) c.readers_of.ensures)
