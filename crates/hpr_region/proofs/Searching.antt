@@ -1,6 +1,7 @@
 -- Steps of a search: what stays when an item is placed or taken back, and what may be placed next.
-use Rattle.std.proofs.Common.{◌≡◌, ℕ, ◌-◌, ◌<◌, ◌≤◌, inl, inr, Bool, true, false, Option, Some, None, IfSome, List, [], ◌∷◌, ◌++◌, All, Vec, map, length, set, take, vec_len, vec_capacity, get_or, slice_get, Contains, refl, sym, ap, ◌∙◌, subst, arith, rules, length-append}
+use Rattle.std.proofs.Common.{◌≡◌, ℕ, ◌-◌, ◌<◌, ◌≤◌, inl, inr, Bool, true, false, Option, Some, None, IfSome, List, [], ◌∷◌, ◌++◌, All, Vec, map, length, set, take, vec_len, vec_capacity, max, get_or, slice_get, Contains, refl, sym, ap, ◌∙◌, subst, arith, rules, length-append, get_or-set_same, get_or-set_other}
 use Rattle.std.specs.Global.{Global}
+use Rattle.std.proofs.lemmas.Bool.{cases_eq, cases_lt}
 use Rattle.std.proofs.Math.Seq.{take-append_seam}
 use Rattle.std.proofs.lemmas.List.Elements.{Contains-append_left, Contains-append_right, Contains-get_or}
 use Rattle.std.proofs.lemmas.Option.{slice_get_read, get_or_from_slice_get}
@@ -20,6 +21,7 @@ use Rattle.hpr_region.specs.Plans.{State, may_follow, number_at, numbers_at, pla
 use Rattle.hpr_region.specs.States.{IsState}
 use Rattle.hpr_region.specs.Needs.{AreNeeds}
 use Rattle.hpr_region.specs.Summaries.{IsSummary}
+use Rattle.hpr_region.proofs.Judging.{not_true}
 use Rattle.hpr_region.proofs.Planned.{choices_free}
 
 module _ (can : List ℕ → ℕ → Bool) (n : ℕ) (free : IsBacktrackFree can n) where
@@ -79,11 +81,12 @@ pub number_is : (xs : List ℕ) (c n : ℕ) → c < length xs → n ≡ get_or x
 number_is xs c n lt e = sym (get_or_from_slice_get xs c n 0 (slice_get_read xs (length xs) c n refl lt e))
 
 module _ (plan : Plan) (places : List (Option ℕ)) where
-  pub pushed : (items placed items' placed' : Vec ℕ Global) (marks marks' : Vec Bool Global) (summary summary' : Summary) (rivals : Rivals) (needs needs' : Vec ℕ Global) (c n : ℕ) → IsState plan places items placed marks summary rivals needs → may_follow plan items.items c ≡ true → n ≡ number_at plan c
+  pub pushed : (items placed items' placed' : Vec ℕ Global) (marks marks' : Vec Bool Global) (summary summary' : Summary) (rivals : Rivals) (needs needs' : Vec ℕ Global) (low low' : ℕ) (c n : ℕ) → IsState plan places items placed marks summary rivals needs low → may_follow plan items.items c ≡ true → n ≡ number_at plan c
       → items'.items ≡ items.items ++ c ∷ [] → vec_capacity items' ≡ vec_capacity items → placed'.items ≡ placed.items ++ n ∷ [] → vec_capacity placed' ≡ vec_capacity placed
       → marks'.items ≡ set marks.items c true → vec_len marks' ≡ vec_len marks
-      → ((q : List ℕ) → IsSummary plan.flows q summary → is_in q c ≡ false → IsSummary plan.flows (q ++ c ∷ []) summary') → AreNeeds plan.flows rivals items'.items needs'.items → IsState plan places items' placed' marks' summary' rivals needs'
-  pushed items placed items' placed' marks marks' summary summary' rivals needs needs' c n s may is grown room grown' room' marked row summed counted =
+      → ((q : List ℕ) → IsSummary plan.flows q summary → is_in q c ≡ false → IsSummary plan.flows (q ++ c ∷ []) summary') → AreNeeds plan.flows rivals items'.items needs'.items
+      → low' ≤ length marks'.items → ((d : ℕ) → low ≤ d → d < low' → get_or marks'.items d false ≡ true) → IsState plan places items' placed' marks' summary' rivals needs' low'
+  pushed items placed items' placed' marks marks' summary summary' rivals needs needs' low low' c n s may is grown room grown' room' marked row summed counted within opened =
       let free = plan_free plan in
       let small : c < size_of plan = free.within items.items c may in
       let l : length marks.items ≡ vec_len marks = search rules in
@@ -97,14 +100,23 @@ module _ (plan : Plan) (places : List (Option ℕ)) where
         placing = s.placing;
         rivalry = s.rivalry;
         counted = counted;
+        low_within = (let l' : length marks'.items ≡ vec_len marks' = search rules in omega (arith, within, l', row, s.row));
+        low_marked = λ d lt. elim (cases_lt d low) [
+          | inl old ↦ elim (cases_eq d c) [
+            | inl same ↦ ap (λ (ms : List Bool). get_or ms d false) marked ∙ ap (λ k. get_or (set marks.items c true) k false) same ∙ get_or-set_same marks.items c true false (omega (arith, small, l, s.row))
+            | inr ne ↦ ap (λ (ms : List Bool). get_or ms d false) marked ∙ get_or-set_other marks.items c d true false ne ∙ s.low_marked d old
+          ]
+          | inr new ↦ opened d new lt
+        ];
         summed = subst (λ q. IsSummary plan.flows q summary') (sym grown) (summed items.items s.summed (free.fresh items.items c may));
       }
 
-  pub popped : (items placed items' placed' : Vec ℕ Global) (marks marks' : Vec Bool Global) (summary summary' : Summary) (rivals : Rivals) (needs needs' : Vec ℕ Global) (c : ℕ) → IsState plan places items placed marks summary rivals needs
+  pub popped : (items placed items' placed' : Vec ℕ Global) (marks marks' : Vec Bool Global) (summary summary' : Summary) (rivals : Rivals) (needs needs' : Vec ℕ Global) (low low' : ℕ) (c : ℕ) → IsState plan places items placed marks summary rivals needs low
       → items.items ≡ items'.items ++ c ∷ [] → vec_capacity items' ≡ vec_capacity items → placed'.items ≡ numbers_at plan items'.items → vec_capacity placed' ≡ vec_capacity placed
       → marks'.items ≡ set marks.items c false → vec_len marks' ≡ vec_len marks
-      → ((q : List ℕ) → IsSummary plan.flows (q ++ c ∷ []) summary → IsSummary plan.flows q summary') → AreNeeds plan.flows rivals items'.items needs'.items → IsState plan places items' placed' marks' summary' rivals needs'
-  popped items placed items' placed' marks marks' summary summary' rivals needs needs' c s split room numbers room' marked row summed counted =
+      → ((q : List ℕ) → IsSummary plan.flows (q ++ c ∷ []) summary → IsSummary plan.flows q summary') → AreNeeds plan.flows rivals items'.items needs'.items
+      → low' ≤ low → low' ≤ c → IsState plan places items' placed' marks' summary' rivals needs' low'
+  popped items placed items' placed' marks marks' summary summary' rivals needs needs' low low' c s split room numbers room' marked row summed counted lower below =
       let free = plan_free plan in
       let whole : Follows (may_follow plan) [] (items'.items ++ c ∷ []) = subst (Follows (may_follow plan) []) split s.front in
       let may : may_follow plan items'.items c ≡ true = follows_last (may_follow plan) (size_of plan) [] items'.items c whole in
@@ -120,6 +132,10 @@ module _ (plan : Plan) (places : List (Option ℕ)) where
         placing = s.placing;
         rivalry = s.rivalry;
         counted = counted;
+        low_within = omega (arith, lower, s.low_within);
+        low_marked = λ d lt.
+            (let ne : ¬ (d ≡ c) = λ same. omega (arith, same, lt, below) in
+            ap (λ (ms : List Bool). get_or ms d false) marked ∙ get_or-set_other marks.items c d false false ne ∙ s.low_marked d (omega (arith, lt, lower)));
         summed = summed items'.items (subst (λ q. IsSummary plan.flows q summary) split s.summed);
       }
 
@@ -131,9 +147,9 @@ pub record IsFrontKept (plan : Plan) (marks : Vec Bool Global) (front : List ℕ
   pub fresh : is_in front c ≡ false
   pub room : length front < vec_len plan.flows.slots
 
-pub front_kept : (plan : Plan) (places : List (Option ℕ)) (items placed : Vec ℕ Global) (marks : Vec Bool Global) (summary : Summary) (rivals : Rivals) (needs : Vec ℕ Global) (front : List ℕ) (c : ℕ)
-    → IsState plan places items placed marks summary rivals needs → items.items ≡ front ++ c ∷ [] → IsFrontKept plan marks front c
-front_kept plan places items placed marks summary rivals needs front c s split =
+pub front_kept : (plan : Plan) (places : List (Option ℕ)) (items placed : Vec ℕ Global) (marks : Vec Bool Global) (summary : Summary) (rivals : Rivals) (needs : Vec ℕ Global) (low : ℕ) (front : List ℕ) (c : ℕ)
+    → IsState plan places items placed marks summary rivals needs low → items.items ≡ front ++ c ∷ [] → IsFrontKept plan marks front c
+front_kept plan places items placed marks summary rivals needs low front c s split =
     let free = plan_free plan in
     let whole : Follows (may_follow plan) [] (front ++ c ∷ []) = subst (Follows (may_follow plan) []) split s.front in
     let may : may_follow plan front c ≡ true = follows_last (may_follow plan) (size_of plan) [] front c whole in
@@ -147,6 +163,22 @@ front_kept plan places items placed marks summary rivals needs front c s split =
       fresh = free.fresh front c may;
       room = more_room plan front c before may;
     }
+
+-- a placed item may not be placed again
+pub placed_shut : (plan : Plan) (items : List ℕ) (row : List Bool) (low : ℕ) → IsMarksOf row items → ((d : ℕ) → d < low → get_or row d false ≡ true) → (d : ℕ) → d < low → may_follow plan items d ≡ false
+placed_shut plan items row low are marked d lt =
+    not_true (may_follow plan items d) (λ may.
+    let free = plan_free plan in
+    let out : is_in items d ≡ false = free.fresh items d may in
+    absurd (let no : true ≡ false = sym (marked d lt) ∙ are d ∙ out in cc))
+
+-- a search that begins later finds the same, where nothing before may be placed
+pub least_from : (P : ℕ → Type 0) (o : Option ℕ) (from low top : ℕ) → top ≡ max from low → ((d : ℕ) → d < low → P d) → IfSome o (λ x. (d : ℕ) → top ≤ d → d < x → P d) → IfSome o (λ x. (d : ℕ) → from ≤ d → d < x → P d)
+least_from P None from low top e shut h = tt
+least_from P (Some x) from low top e shut h = λ d le lt. elim (cases_lt d low) [
+  | inl below ↦ shut d below
+  | inr above ↦ h d (omega (arith, e, le, above)) lt
+]
 
 -- the front of the images is the image of the front
 pub front_taken : (f : ℕ → ℕ) (items front : List ℕ) (c m : ℕ) (placed placed' : List ℕ) → items ≡ front ++ c ∷ [] → placed ≡ map f items → m ≡ length placed → placed' ≡ take (m - 1) placed → placed' ≡ map f front

@@ -1,9 +1,9 @@
 -- What a search keeps.
 --
--- IsState plan places items placed marks summary rivals needs == the items may stand so, one behind the other, and have marks; `placed` has the numbers of their
+-- IsState plan places items placed marks summary rivals needs low == the items may stand so, one behind the other, and have marks; `placed` has the numbers of their
 --                                           vertices; `places` has the item of each number; there is room for all items; the
---                                           summary and the counts of needs are those of the items
-use Rattle.std.specs.Prelude.{◌≡◌, ℕ, ◌≤◌, Bool, Option, List, [], Vec, vec_len, vec_capacity}
+--                                           summary and the counts of needs are those of the items; all items below `low` are among them
+use Rattle.std.specs.Prelude.{◌≡◌, ℕ, ◌<◌, ◌≤◌, Bool, true, false, Option, List, [], Vec, vec_len, vec_capacity, get_or}
 use Rattle.std.specs.Global.{Global}
 use Rattle.hpr_forest.specs.Choices.{Follows}
 use Rattle.hpr_forest.specs.Marks.{IsMarksOf}
@@ -15,7 +15,7 @@ use Rattle.hpr_region.specs.Plans.{may_follow, numbers_at, size_of}
 use Rattle.hpr_region.specs.Needs.{AreNeeds, AreRivals}
 use Rattle.hpr_region.specs.Summaries.{IsSummary}
 
-pub record IsState (plan : Plan) (places : List (Option ℕ)) (items placed : Vec ℕ Global) (marks : Vec Bool Global) (summary : Summary) (rivals : Rivals) (needs : Vec ℕ Global) : Type 0 where
+pub record IsState (plan : Plan) (places : List (Option ℕ)) (items placed : Vec ℕ Global) (marks : Vec Bool Global) (summary : Summary) (rivals : Rivals) (needs : Vec ℕ Global) (low : ℕ) : Type 0 where
   pub front : Follows (may_follow plan) [] items.items
   pub numbers : placed.items ≡ numbers_at plan items.items
   pub row : vec_len marks ≡ size_of plan
@@ -26,3 +26,5 @@ pub record IsState (plan : Plan) (places : List (Option ℕ)) (items placed : Ve
   pub summed : IsSummary plan.flows items.items summary
   pub rivalry : AreRivals plan.flows rivals
   pub counted : AreNeeds plan.flows rivals items.items needs.items
+  pub low_within : low ≤ size_of plan
+  pub low_marked : (d : ℕ) → d < low → get_or marks.items d false ≡ true

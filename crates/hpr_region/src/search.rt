@@ -1,5 +1,5 @@
 //! The search itself: what is placed, what may stand next, and what clashes.
-ghost use Rattle.std.specs.Prelude.{◌≡◌, ℕ, ◌<◌, ◌≤◌, ◌↔◌, ◌++◌, [], ◌∷◌, List, Some, None, true, false, slice_get, length, IfOk, IfSome, IfNone, IsTrue};
+ghost use Rattle.std.specs.Prelude.{◌≡◌, ℕ, ◌<◌, ◌≤◌, ◌↔◌, ◌++◌, [], ◌∷◌, List, Some, None, true, false, slice_get, get_or, length, IfOk, IfSome, IfNone, IsTrue};
 ghost use Rattle.hpr_syntax.specs.Issued.{Issued};
 ghost use Rattle.hpr_syntax.specs.Tree.{Tree};
 ghost use Rattle.hpr_graph.specs.declared.vertex.Vertex.{Vertex};
@@ -39,6 +39,8 @@ pub struct Search {
     summary: Summary,
     rivals: Rivals,
     needs: Vec<u128>,
+    /// Each item below this one is placed.
+    low: usize,
 }
 
 impl Model for Search {
@@ -53,7 +55,7 @@ impl Model for Search {
 
     ghost view = { λ s. record { plan = s.plan; placed = s.items.items } };
 
-    ghost invariant = { λ s. IsState s.plan s.places.items s.items s.placed s.marks s.summary s.rivals s.needs };
+    ghost invariant = { λ s. IsState s.plan s.places.items s.items s.placed s.marks s.summary s.rivals s.needs s.low };
 }
 
 /// All are dropped in one call.
@@ -68,6 +70,7 @@ impl Drop for Search {
             summary: _,
             rivals: _,
             needs: _,
+            low: _,
         } = self;
     }
 }
@@ -123,7 +126,7 @@ impl Search {
     }
 
     /// The least item, from `from` on, that may be placed next; `None` where there is none. One pass over the
-    /// items.
+    /// items, from the first that is not placed.
     pub fn next_ready(&self, from: usize) -> Option<usize>
         ensures can { IfSome result (λ c. may_follow self.now.plan self.now.placed c ≡ true) }
         ensures within { IfSome result (λ c. c < size_of self.now.plan) }
@@ -136,7 +139,7 @@ impl Search {
         let Some(choices) = &self.plan.choices else {
             return None;
         };
-        choices.next_child(&self.marks, &self.items, from)
+        choices.next_child(&self.marks, &self.items, from.max(self.low))
     }
 
     /// Whether the item, which may be placed next, doesn't clash with the parts placed so far. Looks at what it uses and
@@ -174,6 +177,7 @@ impl Search {
         self.items.push_reserved(item);
         self.placed.push_reserved(number);
         self.marks[item] = true;
+        self.low = first_open(&self.marks, self.low);
     }
 
     /// Takes the last item back; `None` where nothing is placed, which stays so.
@@ -187,6 +191,7 @@ impl Search {
         self.summary.pop(&self.plan, item);
         self.placed.pop();
         self.marks[item] = false;
+        self.low = self.low.min(item);
         take_needs(
             &mut self.needs,
             &self.plan,
@@ -285,5 +290,20 @@ fn started(alloc: Global, vertices: usize, plan: Plan) -> Result<Search, NoMemor
         summary,
         rivals,
         needs,
+        low: 0,
     })
+}
+
+/// The first item without a mark, from `from` on; the count of the items where each has one.
+fn first_open(marks: &[bool], from: usize) -> usize
+    requires { from ≤ length marks.now }
+    ensures within { result ≤ length marks.now }
+    ensures marked { (d : ℕ) → from ≤ d → d < result → get_or marks.now d false ≡ true }
+{
+    for at in from..marks.len() {
+        if !marks[at] {
+            return at;
+        }
+    }
+    marks.len()
 }

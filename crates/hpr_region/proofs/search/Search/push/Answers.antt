@@ -1,4 +1,4 @@
-use Rattle.std.proofs.Common.{◌≡◌, ◌<◌, ℕ, List, [], ◌∷◌, ◌++◌, true, length, vec_len, refl, sym, ap, ◌∙◌, subst, arith, rules}
+use Rattle.std.proofs.Common.{◌≡◌, ◌<◌, ◌≤◌, ℕ, Bool, List, [], ◌∷◌, ◌++◌, get_or, true, false, length, vec_len, refl, sym, ap, ◌∙◌, subst, arith, rules}
 use Rattle.std.proofs.lemmas.List.{length-map}
 use Rattle.hpr_forest.specs.Forest.{IsDistinct}
 use Rattle.hpr_region.specs.Needs.{AreNeeds}
@@ -37,7 +37,9 @@ invariant_of-self c =
     let s = c.self.inside in
     let may : may_follow s.plan s.items.items c.args.item ≡ true = subst (λ (z : State). may_follow z.plan z.placed c.args.item ≡ true) (sym c.self.view_is) c.requires.ready in
     let small = plan_free s.plan in
-    pushed s.plan s.places.items s.items s.placed c.push_reserved.new.self c.push_reserved-2.new.self s.marks _ s.summary c.push.new.self s.rivals s.needs c.add_needs.new.needs c.args.item c.index-number.result.now c.self.invariant may
+    pushed s.plan s.places.items s.items s.placed c.push_reserved.new.self c.push_reserved-2.new.self s.marks _ s.summary c.push.new.self s.rivals s.needs c.add_needs.new.needs s.low c.first_open-self-inside.result c.args.item c.index-number.result.now c.self.invariant may
     (number_is s.plan.numbers.items c.args.item c.index-number.result.now (small.within s.items.items c.args.item may) c.index-number.ensures)
     c.push_reserved.ensures.items c.push_reserved.ensures.capacity c.push_reserved-2.ensures.items c.push_reserved-2.ensures.capacity refl refl c.push.ensures
     (subst (λ (xs : List ℕ). AreNeeds s.plan.flows s.rivals xs c.add_needs.new.needs.items) (ap (λ (xs : List ℕ). xs ++ c.args.item ∷ []) c.deref-2.ensures.value ∙ sym c.push_reserved.ensures.items) c.add_needs.ensures)
+    (subst (λ (ms : List Bool). c.first_open-self-inside.result ≤ length ms) c.deref-3.ensures.value c.first_open-self-inside.ensures.within)
+    (λ d le lt. ap (λ (ms : List Bool). get_or ms d false) (sym c.deref-3.ensures.value) ∙ c.first_open-self-inside.ensures.marked d le lt)
