@@ -6,7 +6,7 @@ use Rattle.hpr_terms.proofs.Facts.{some_inj}
 use Rattle.hpr_search.specs.Rows.{IsPushed, numbers_at, numbers_of}
 use Rattle.hpr_region.specs.declared.flows.Flows.{Flows}
 use Rattle.hpr_region.specs.Flows as flow
-use Rattle.hpr_region.specs.Rivals.{AreDefiners}
+use Rattle.hpr_region.specs.Private.Rivals.{AreDefiners}
 use Rattle.hpr_region.proofs.Latest.{get_small}
 
 module _ (t : Flows) where

@@ -10,7 +10,7 @@ use Rattle.hpr_forest.proofs.Members.{in_is_in}
 use Rattle.hpr_region.specs.declared.flows.Flows.{Flows}
 use Rattle.hpr_region.specs.declared.summary.Summary.{Summary}
 use Rattle.hpr_region.specs.Flows as flow
-use Rattle.hpr_region.specs.Summaries.{IsSized, IsSummary, is_reached_by, last_of, or_else, some_reach}
+use Rattle.hpr_region.specs.Private.Summaries.{IsSized, IsSummary, is_reached_by, last_of, or_else, some_reach}
 use Rattle.hpr_region.proofs.Judging.{among_some, either, either_left, either_right, found_reach, four, four_true, never, reach_found, same_some, same_true}
 
 pub same_bool : (a b : Bool) → (a ≡ true → b ≡ true) → (b ≡ true → a ≡ true) → a ≡ b

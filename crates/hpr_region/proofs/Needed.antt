@@ -11,7 +11,7 @@ use Rattle.hpr_forest.specs.Trees.{Slot, same_slot}
 use Rattle.hpr_region.specs.declared.flows.Flows.{Flows}
 use Rattle.hpr_region.specs.declared.rivals.Rivals.{Rivals}
 use Rattle.hpr_region.specs.Flows as flow
-use Rattle.hpr_region.specs.Needs.{AreNeeds, AreReleased, AreRestored, AreRivals, group_of, in_group, is_open, is_rival, left_over, needed, occurrences, one_if, open_readers, sources_of, tie, tied, total}
+use Rattle.hpr_region.specs.Private.Needs.{AreNeeds, AreReleased, AreRestored, AreRivals, group_of, in_group, is_open, is_rival, left_over, needed, occurrences, one_if, open_readers, sources_of, tie, tied, total}
 use Rattle.hpr_region.proofs.Judging.{both, both_true, found_kill, found_left, kill_found, left_found, same_some}
 use Rattle.hpr_region.proofs.Latest.{same_bool}
 use Rattle.hpr_region.proofs.Totals.{counted_there, total_drop, total_least, total_most, total_ones, total_plus, total_push, total_same, total_some, total_zero}

@@ -13,8 +13,8 @@ use Rattle.hpr_search.specs.Rows.{numbers_at, numbers_of, with_number}
 use Rattle.hpr_region.specs.declared.flows.Flows.{Flows}
 use Rattle.hpr_region.specs.declared.rivals.Rivals.{Rivals}
 use Rattle.hpr_region.specs.Flows as flow
-use Rattle.hpr_region.specs.Needs.{AreRivals, is_rival, occurrences, one_if, sources_of}
-use Rattle.hpr_region.specs.Rivals.{AreDefiners, AreGroupsBy, AreTurned, first_in, first_of, group_by}
+use Rattle.hpr_region.specs.Private.Needs.{AreRivals, is_rival, occurrences, one_if, sources_of}
+use Rattle.hpr_region.specs.Private.Rivals.{AreDefiners, AreGroupsBy, AreTurned, first_in, first_of, group_by}
 use Rattle.hpr_region.proofs.Definers.{defining_within}
 use Rattle.hpr_region.proofs.Judging.{is_in_in, same_some, same_true}
 use Rattle.hpr_region.proofs.Latest.{get_small, same_bool}

@@ -19,8 +19,8 @@ use Rattle.hpr_region.specs.declared.rivals.Rivals.{Rivals}
 use Rattle.hpr_region.specs.declared.summary.Summary.{Summary}
 use Rattle.hpr_region.specs.Plans.{State, may_follow, number_at, numbers_at, placed_in, size_of}
 use Rattle.hpr_region.specs.States.{IsState}
-use Rattle.hpr_region.specs.Needs.{AreNeeds}
-use Rattle.hpr_region.specs.Summaries.{IsSummary}
+use Rattle.hpr_region.specs.Private.Needs.{AreNeeds}
+use Rattle.hpr_region.specs.Private.Summaries.{IsSummary}
 use Rattle.hpr_region.proofs.Judging.{not_true}
 use Rattle.hpr_region.proofs.Planned.{choices_free}
 

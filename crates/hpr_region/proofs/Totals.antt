@@ -5,7 +5,7 @@ use Rattle.hpr_terms.proofs.Facts.{in_none, in_cons, in_here, in_later}
 use Rattle.hpr_forest.specs.Forest.{IsDistinct}
 use Rattle.hpr_forest.specs.Marks.{is_in}
 use Rattle.hpr_forest.proofs.Members.{out_is_in}
-use Rattle.hpr_region.specs.Needs.{occurrences, one_if, total}
+use Rattle.hpr_region.specs.Private.Needs.{occurrences, one_if, total}
 
 pub total_same : (f h : ℕ → ℕ) (xs : List ℕ) → ((x : ℕ) → f x ≡ h x) → total f xs ≡ total h xs
 total_same f h [] same = refl

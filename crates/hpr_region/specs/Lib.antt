@@ -4,6 +4,4 @@ pub mod Tables
 pub mod States
 pub mod Openings
 pub mod Making
-pub mod Summaries
-pub mod Rivals
-pub mod Needs
+pub mod Private

@@ -12,8 +12,8 @@ use Rattle.hpr_region.specs.declared.plan.Plan.{Plan}
 use Rattle.hpr_region.specs.declared.rivals.Rivals.{Rivals}
 use Rattle.hpr_region.specs.declared.summary.Summary.{Summary}
 use Rattle.hpr_region.specs.Plans.{may_follow, numbers_at, size_of}
-use Rattle.hpr_region.specs.Needs.{AreNeeds, AreRivals}
-use Rattle.hpr_region.specs.Summaries.{IsSummary}
+use Rattle.hpr_region.specs.Private.Needs.{AreNeeds, AreRivals}
+use Rattle.hpr_region.specs.Private.Summaries.{IsSummary}
 
 pub record IsState (plan : Plan) (places : List (Option ℕ)) (items placed : Vec ℕ Global) (marks : Vec Bool Global) (summary : Summary) (rivals : Rivals) (needs : Vec ℕ Global) (low : ℕ) : Type 0 where
   pub front : Follows (may_follow plan) [] items.items

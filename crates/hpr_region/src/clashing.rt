@@ -4,8 +4,8 @@ ghost use Rattle.hpr_forest.specs.Forest.{IsDistinct};
 ghost use Rattle.hpr_forest.specs.Marks.{IsMarksOf, is_in};
 ghost use Rattle.hpr_forest.specs.Trees.{same_slot};
 ghost use Rattle.hpr_region.specs.Flows.{same_variable, slot_of, variable_of, uses_of, readers_of, same_block, reached_wrongly, is_left, kills_one, clash};
-ghost use Rattle.hpr_region.specs.Needs.{AreNeeds, AreRivals};
-ghost use Rattle.hpr_region.specs.Summaries.{IsSummary, is_reached_by, some_reach};
+ghost use Rattle.hpr_region.specs.Private.Needs.{AreNeeds, AreRivals};
+ghost use Rattle.hpr_region.specs.Private.Summaries.{IsSummary, is_reached_by, some_reach};
 
 use crate::Flows;
 use crate::rivals::Rivals;

@@ -2,7 +2,7 @@
 ghost use Rattle.std.specs.Prelude.{◌≡◌, ℕ, ◌+◌, ◌<◌, ◌≤◌, ◌^◌, ◌++◌, [], ◌∷◌, false, All, get_or, length, replicate, vec_len, IfOk};
 ghost use Rattle.hpr_forest.specs.Forest.{IsDistinct};
 ghost use Rattle.hpr_forest.specs.Marks.{IsMarksOf, is_in};
-ghost use Rattle.hpr_region.specs.Needs.{AreNeeds, AreReleased, AreRestored, AreRivals, left_over, sources_of, tie, tied};
+ghost use Rattle.hpr_region.specs.Private.Needs.{AreNeeds, AreReleased, AreRestored, AreRivals, left_over, sources_of, tie, tied};
 
 use crate::clashing::is_same_variable;
 use crate::rivals::Rivals;

@@ -4,8 +4,8 @@ ghost use Rattle.hpr_forest.specs.Blocks.{row_at};
 ghost use Rattle.hpr_forest.specs.Marks.{is_in};
 ghost use Rattle.hpr_search.specs.Rows.{numbers_at, numbers_of};
 ghost use Rattle.hpr_region.specs.Flows.{readers_of};
-ghost use Rattle.hpr_region.specs.Needs.{AreRivals, group_of, occurrences, sources_of};
-ghost use Rattle.hpr_region.specs.Rivals.{AreDefiners, AreGroupsBy, AreTurned, first_in, group_by};
+ghost use Rattle.hpr_region.specs.Private.Needs.{AreRivals, group_of, occurrences, sources_of};
+ghost use Rattle.hpr_region.specs.Private.Rivals.{AreDefiners, AreGroupsBy, AreTurned, first_in, group_by};
 
 use crate::Flows;
 use crate::clashing::has;

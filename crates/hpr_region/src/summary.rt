@@ -1,7 +1,7 @@
 //! What a search keeps of the items placed so far.
 ghost use Rattle.std.specs.Prelude.{◌≡◌, ℕ, ◌<◌, None, List, [], ◌∷◌, ◌++◌, false, replicate, vec_len, IfOk};
 ghost use Rattle.hpr_forest.specs.Marks.{is_in};
-ghost use Rattle.hpr_region.specs.Summaries.{IsSized, IsSummary};
+ghost use Rattle.hpr_region.specs.Private.Summaries.{IsSized, IsSummary};
 
 use crate::{Flows, Plan};
 use hpr_graph::NoMemory;

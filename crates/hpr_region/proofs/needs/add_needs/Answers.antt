@@ -1,5 +1,5 @@
 use Rattle.std.proofs.Common.{◌<◌, ◌≤◌, ℕ, List, All, get_or, vec_len, sym, ap, ◌∙◌, subst, arith}
-use Rattle.hpr_region.specs.Needs.{AreReleased, left_over, tied}
+use Rattle.hpr_region.specs.Private.Needs.{AreReleased, left_over, tied}
 use Rattle.hpr_region.proofs.Needed.{added_none, added_room, added_some, enough_needs, read_number}
 use Rattle.hpr_region.proofs.Rivalry.{readers_within, sources_within}
 use Rattle.hpr_region.proofs.needs.add_needs.Goals as goal

@@ -1,6 +1,6 @@
 use Rattle.std.proofs.Common.{◌≡◌, ◌+◌, Some, get_or, sym, ◌∙◌, arith}
 use Rattle.std.proofs.lemmas.List.{length-set}
-use Rattle.hpr_region.specs.Needs.{tie}
+use Rattle.hpr_region.specs.Private.Needs.{tie}
 use Rattle.hpr_region.proofs.Needed.{read_number, restore_room, restore_step, tie_group}
 use Rattle.hpr_region.proofs.needs.restore.Goals as goal
 

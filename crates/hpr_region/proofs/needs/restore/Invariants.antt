@@ -1,5 +1,5 @@
 use Rattle.std.proofs.Common.{◌≡◌, ◌+◌, ◌<◌, ℕ, drop, get_or, length, vec_len}
-use Rattle.hpr_region.specs.Needs.{tied}
+use Rattle.hpr_region.specs.Private.Needs.{tied}
 use Rattle.hpr_region.proofs.needs.restore.Given as goal
 
 abbrev pub invariant-loop-source : goal.invariant-loop-source

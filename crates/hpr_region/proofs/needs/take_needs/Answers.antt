@@ -1,5 +1,5 @@
 use Rattle.std.proofs.Common.{◌+◌, ◌<◌, ◌^◌, ℕ, List, All, get_or, vec_len, sym, ap, ◌∙◌, subst, arith}
-use Rattle.hpr_region.specs.Needs.{AreRestored, left_over, tied}
+use Rattle.hpr_region.specs.Private.Needs.{AreRestored, left_over, tied}
 use Rattle.hpr_region.proofs.Needed.{read_number, taken_enough, taken_none, taken_room, taken_some}
 use Rattle.hpr_region.proofs.Rivalry.{readers_within, sources_within}
 use Rattle.hpr_region.proofs.needs.take_needs.Goals as goal

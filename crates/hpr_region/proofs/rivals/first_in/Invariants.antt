@@ -1,5 +1,5 @@
 use Rattle.std.proofs.Common.{◌≡◌, drop}
-use Rattle.hpr_region.specs.Rivals.{first_in}
+use Rattle.hpr_region.specs.Private.Rivals.{first_in}
 use Rattle.hpr_region.proofs.rivals.first_in.Given as goal
 
 abbrev pub invariant-loop-definer : goal.invariant-loop-definer

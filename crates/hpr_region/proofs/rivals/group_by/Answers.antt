@@ -3,7 +3,7 @@ use Rattle.std.proofs.lemmas.List.Elements.{Contains-get_or}
 use Rattle.hpr_search.specs.Rows.{numbers_at, numbers_of}
 use Rattle.hpr_search.proofs.RowLists.{read_slice}
 use Rattle.hpr_region.specs.Flows.{variable_of}
-use Rattle.hpr_region.specs.Rivals.{first_in, first_of}
+use Rattle.hpr_region.specs.Private.Rivals.{first_in, first_of}
 use Rattle.hpr_region.proofs.Definers.{defining_within}
 use Rattle.hpr_region.proofs.rivals.group_by.Goals as goal
 

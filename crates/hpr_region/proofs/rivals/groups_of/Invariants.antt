@@ -1,5 +1,5 @@
 use Rattle.std.proofs.Common.{◌≡◌, ◌<◌, ◌≤◌, ℕ, None, get_or, vec_len}
-use Rattle.hpr_region.specs.Rivals.{group_by}
+use Rattle.hpr_region.specs.Private.Rivals.{group_by}
 use Rattle.hpr_region.proofs.rivals.groups_of.Given as goal
 
 abbrev pub invariant-loop-item : goal.invariant-loop-item

@@ -1,6 +1,6 @@
 use Rattle.std.proofs.Common.{◌≡◌, ◌+◌, ℕ, cond, eqb, drop, length}
 use Rattle.hpr_search.specs.Rows.{numbers_at, numbers_of}
-use Rattle.hpr_region.specs.Needs.{occurrences}
+use Rattle.hpr_region.specs.Private.Needs.{occurrences}
 use Rattle.hpr_region.proofs.rivals.push_to_each.Given as goal
 
 abbrev pub invariant-loop-at : goal.invariant-loop-at

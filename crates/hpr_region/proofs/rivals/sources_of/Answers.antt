@@ -1,7 +1,7 @@
 use Rattle.std.proofs.Common.{◌+◌, ◌<◌, ℕ, cond, eqb, List, All, length, sym, ap, ◌∙◌, subst, arith}
 use Rattle.hpr_search.specs.Rows.{numbers_at, numbers_of}
 use Rattle.hpr_region.specs.Flows.{readers_of}
-use Rattle.hpr_region.specs.Needs.{occurrences}
+use Rattle.hpr_region.specs.Private.Needs.{occurrences}
 use Rattle.hpr_region.proofs.Rivalry.{readers_within, turned_more, turned_none, turned_whole}
 use Rattle.hpr_region.proofs.rivals.sources_of.Goals as goal
 

@@ -1,5 +1,5 @@
 use Rattle.std.proofs.Common.{◌≡◌, length, vec_len}
-use Rattle.hpr_region.specs.Rivals.{AreTurned}
+use Rattle.hpr_region.specs.Private.Rivals.{AreTurned}
 use Rattle.hpr_region.proofs.rivals.sources_of.Given as goal
 
 abbrev pub invariant-loop-item : goal.invariant-loop-item

@@ -1,5 +1,5 @@
 use Rattle.std.proofs.Common.{◌≡◌, drop}
-use Rattle.hpr_region.specs.Summaries.{some_reach}
+use Rattle.hpr_region.specs.Private.Summaries.{some_reach}
 use Rattle.hpr_region.proofs.flows.Flows.is_one_reaching.Given as goal
 
 abbrev pub invariant-loop-variable : goal.invariant-loop-variable

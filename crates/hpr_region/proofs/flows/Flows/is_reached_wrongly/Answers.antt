@@ -1,5 +1,5 @@
 use Rattle.std.proofs.Common.{Option, List, ℕ, ap, ◌∙◌}
-use Rattle.hpr_region.specs.Summaries.{some_reach}
+use Rattle.hpr_region.specs.Private.Summaries.{some_reach}
 use Rattle.hpr_region.proofs.Latest.{reach_same}
 use Rattle.hpr_region.proofs.flows.Flows.is_reached_wrongly.Goals as goal
 

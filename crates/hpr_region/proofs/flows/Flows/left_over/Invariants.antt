@@ -1,5 +1,5 @@
 use Rattle.std.proofs.Common.{◌≡◌, ◌+◌, ◌≤◌, drop}
-use Rattle.hpr_region.specs.Needs.{left_over}
+use Rattle.hpr_region.specs.Private.Needs.{left_over}
 use Rattle.hpr_region.proofs.flows.Flows.left_over.Given as goal
 
 abbrev pub invariant-loop-reader : goal.invariant-loop-reader

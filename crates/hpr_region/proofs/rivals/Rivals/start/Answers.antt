@@ -1,6 +1,6 @@
 use Rattle.std.proofs.Common.{List, Vec, ℕ, subst}
 use Rattle.std.specs.Global.{Global}
-use Rattle.hpr_region.specs.Rivals.{AreGroupsBy}
+use Rattle.hpr_region.specs.Private.Rivals.{AreGroupsBy}
 use Rattle.hpr_region.proofs.Rivalry.{are_rivals}
 use Rattle.hpr_region.proofs.rivals.Rivals.start.Goals as goal
 

@@ -1,5 +1,5 @@
 use Rattle.std.proofs.Common.{◌≡◌, ◌+◌, ◌≤◌, drop}
-use Rattle.hpr_region.specs.Needs.{tied}
+use Rattle.hpr_region.specs.Private.Needs.{tied}
 use Rattle.hpr_region.proofs.rivals.Rivals.tied.Given as goal
 
 abbrev pub invariant-loop-source : goal.invariant-loop-source

@@ -1,7 +1,7 @@
 use Rattle.std.proofs.Common.{◌≡◌, ◌<◌, ℕ, Bool, List, [], ◌∷◌, ◌++◌, sym, ap, ◌∙◌, length, vec_len, refl, subst, arith, rules}
 use Rattle.hpr_forest.specs.Forest.{IsDistinct}
 use Rattle.hpr_forest.specs.Marks.{IsMarksOf, is_in}
-use Rattle.hpr_region.specs.Needs.{AreNeeds}
+use Rattle.hpr_region.specs.Private.Needs.{AreNeeds}
 use Rattle.hpr_region.specs.Plans.{State, number_at, size_of}
 use Rattle.hpr_region.proofs.Searching.{front_kept, front_taken, last_small, popped}
 use Rattle.hpr_region.proofs.search.Search.pop.Goals as goal

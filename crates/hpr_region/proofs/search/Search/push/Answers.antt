@@ -1,7 +1,7 @@
 use Rattle.std.proofs.Common.{◌≡◌, ◌<◌, ◌≤◌, ℕ, Bool, List, [], ◌∷◌, ◌++◌, get_or, true, false, length, vec_len, refl, sym, ap, ◌∙◌, subst, arith, rules}
 use Rattle.std.proofs.lemmas.List.{length-map}
 use Rattle.hpr_forest.specs.Forest.{IsDistinct}
-use Rattle.hpr_region.specs.Needs.{AreNeeds}
+use Rattle.hpr_region.specs.Private.Needs.{AreNeeds}
 use Rattle.hpr_region.specs.Plans.{State, may_follow, number_at, size_of}
 use Rattle.hpr_region.proofs.Searching.{more_room, number_is, placed_once, plan_free, pushed, room_for}
 use Rattle.hpr_region.proofs.search.Search.push.Goals as goal

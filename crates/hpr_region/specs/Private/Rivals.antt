@@ -11,7 +11,7 @@ use Rattle.std.specs.Global.{Global}
 use Rattle.hpr_search.specs.Rows.{numbers_at, numbers_of}
 use Rattle.hpr_region.specs.declared.flows.Flows.{Flows}
 use Rattle.hpr_region.specs.Flows.{readers_of, same_block, variable_of}
-use Rattle.hpr_region.specs.Needs.{occurrences}
+use Rattle.hpr_region.specs.Private.Needs.{occurrences}
 
 module _ (t : Flows) where
   pub record AreDefiners (rows : List (Vec ℕ Global)) : Type 0 where
