@@ -1,6 +1,6 @@
 //! Calls of hpr_expressions, of the expressions of hpr_terms, and of `eval`.
 use crate::state::read_state;
-use hpr_expressions::Reading;
+use hpr_expressions::Reader;
 use hpr_print::expr_text;
 use hpr_rows::{Out, Row, put_comparison, put_count, put_made};
 use hpr_run::{Fault, State, eval};
@@ -23,7 +23,7 @@ fn put_expression(alloc: Global, out: &mut Out, expr: &Expr) {
     out.put_piece("\n");
 }
 
-fn put_read(alloc: Global, out: &mut Out, reading: Reading) {
+fn put_read(alloc: Global, out: &mut Out, reading: Reader) {
     match reading.ended(alloc) {
         Ok(expr) => put_expression(alloc, out, &expr),
         Err(_) => out.cut(),
@@ -33,7 +33,7 @@ fn put_read(alloc: Global, out: &mut Out, reading: Reading) {
 // `show TEXT`: the expression in its canonical form.
 fn show(row: Row<'_>, out: &mut Out) -> Option<()> {
     let bytes = row.bytes(2)?;
-    match read(row.alloc, Reading::start(row.alloc), bytes) {
+    match read(row.alloc, Reader::start(row.alloc), bytes) {
         Ok(reading) => put_read(row.alloc, out, reading),
         Err(Refusal::Stuck { place }) => put_count(out, "stuck at ", place as u64),
         Err(Refusal::Memory) => out.cut(),
@@ -41,9 +41,9 @@ fn show(row: Row<'_>, out: &mut Out) -> Option<()> {
     Some(())
 }
 
-fn reading(row: Row<'_>, at: usize) -> Option<Reading> {
+fn reading(row: Row<'_>, at: usize) -> Option<Reader> {
     let bytes = row.bytes(at)?;
-    read(row.alloc, Reading::start(row.alloc), bytes).ok()
+    read(row.alloc, Reader::start(row.alloc), bytes).ok()
 }
 
 fn expression(row: Row<'_>, at: usize) -> Option<Expr> {

@@ -93,7 +93,7 @@ impl Drop for Context {
     }
 }
 
-/// How far an expression was read: a machine of its tokens.
+/// How far an expression was read. A contract sees a `Reader` as one of these.
 ///
 /// A token can stand next exactly where the grammar of expressions lets it: operands are names,
 /// literals up to 9,223,372,036,854,775,807 and brackets, at most 256 of these in one another;
@@ -107,24 +107,34 @@ pub enum Reading {
     After(Context, Expr),
 }
 
+/// A machine of the tokens of an expression: what stands before an operand, and the operand, if one
+/// was read.
+pub struct Reader {
+    context: Context,
+    value: Option<Expr>,
+}
+
 /// All of it is dropped in one call.
-impl Drop for Reading {
+impl Drop for Reader {
     fn drop(self) {
-        match self {
-            Reading::Before(_) => {}
-            Reading::After(_, _) => {}
-        }
+        let Reader {
+            context: _,
+            value: _,
+        } = self;
     }
 }
 
-// The reading in a context: an operand with this value was read, or one must stand next.
-fn behind(context: Context, value: Option<Expr>) -> Reading
-    ensures { result ≡ reading_of context value }
-{
-    match value {
-        Some(value) => Reading::After(context, value),
-        None => Reading::Before(context),
-    }
+impl Model for Reader {
+    ghost use Rattle.std.specs.Coded.{codes};
+    ghost use Rattle.hpr_terms.specs.Private.TermCode.{term_coded};
+    ghost use Rattle.hpr_expressions.specs.declared.expression.Reading.{Reading};
+    ghost use Rattle.hpr_expressions.specs.Private.Leads.{reading_of};
+
+    ghost Value = { Reading };
+
+    ghost coded = { Prim.hlevel (codes, term_coded) };
+
+    ghost view = { λ r. reading_of r.context r.value };
 }
 
 // Each of these takes a token, or what one stands for, in place. It answers the value of the operand that was read
@@ -362,7 +372,7 @@ impl Context {
     }
 }
 
-impl TokenMachine for Reading {
+impl TokenMachine for Reader {
     ghost use Rattle.hpr_expressions.specs.Expression as expression;
     ghost use Rattle.hpr_expressions.specs.Laws.{reading_is_token_machine, reading_live};
 
@@ -375,65 +385,58 @@ impl TokenMachine for Reading {
     ghost live = { reading_live };
 
     #[tactic(auto, unfolding(crate::specs::Expression::read))]
-    fn step(self, alloc: Global, token: Token) -> Result<Reading, Fault> {
-        match self {
-            Reading::Before(mut context) => {
-                let value = context.operand_next(alloc, token)?;
-                Ok(behind(context, value))
-            }
-            Reading::After(mut context, value) => {
-                let value = context.operator_next(alloc, value, token)?;
-                Ok(behind(context, value))
-            }
-        }
+    fn step(&mut self, alloc: Global, token: Token) -> Result<(), Fault> {
+        self.value = match self.value.take() {
+            None => self.context.operand_next(alloc, token)?,
+            Some(value) => self.context.operator_next(alloc, value, token)?,
+        };
+        Ok(())
     }
 
     #[tactic(auto, unfolding(crate::specs::Expression::read))]
     fn takes_keyword(&self, keyword: Keyword) -> bool {
-        match self {
-            Reading::Before(context) => matches!(keyword, Keyword::Not) && context.counts(),
-            Reading::After(context, _) => {
-                matches!(keyword, Keyword::Or | Keyword::And) && context.counts()
-            }
+        match &self.value {
+            None => matches!(keyword, Keyword::Not) && self.context.counts(),
+            Some(_) => matches!(keyword, Keyword::Or | Keyword::And) && self.context.counts(),
         }
     }
 
     #[tactic(auto, unfolding(crate::specs::Expression::read))]
     fn takes_name(&self) -> bool {
-        matches!(self, Reading::Before(_))
+        self.value.is_none()
     }
 
     #[tactic(auto, unfolding(crate::specs::Expression::read))]
     fn takes_number(&self, number: u64) -> bool {
-        matches!(self, Reading::Before(_)) && number <= i64::MAX as u64
+        self.value.is_none() && number <= i64::MAX as u64
     }
 
     #[tactic(auto, unfolding(crate::specs::Expression::read))]
     fn takes_sign(&self, sign: Sign) -> bool {
-        match self {
-            Reading::Before(context) => context.operand_sign(sign),
-            Reading::After(context, _) => context.operator_sign(sign),
+        match &self.value {
+            None => self.context.operand_sign(sign),
+            Some(_) => self.context.operator_sign(sign),
         }
     }
 
     fn can_end(&self) -> bool {
-        match self {
-            Reading::Before(_) => false,
-            Reading::After(context, _) => context.outer.is_empty(),
-        }
+        self.value.is_some() && self.context.outer.is_empty()
     }
 }
 
-impl Reading {
+impl Reader {
     /// Nothing of the expression was read.
-    pub fn start(alloc: Global) -> Reading
+    pub fn start(alloc: Global) -> Reader
         ensures { result ≡ expression.start }
     {
-        Reading::Before(Context {
-            outer: Brackets::new(alloc),
-            here: Pending::new(alloc),
-            count: 0,
-        })
+        Reader {
+            context: Context {
+                outer: Brackets::new(alloc),
+                here: Pending::new(alloc),
+                count: 0,
+            },
+            value: None,
+        }
     }
 
     /// The expression whose tokens were read.
@@ -443,9 +446,10 @@ impl Reading {
     pub fn ended(self, alloc: Global) -> Result<Expr, Fault>
         ensures { Steps (expression.ended self) result }
     {
-        match self {
-            Reading::Before(_) => Err(Fault::Refused),
-            Reading::After(context, value) => context.ended(alloc, value),
+        let Reader { context, value } = self;
+        match value {
+            None => Err(Fault::Refused),
+            Some(value) => context.ended(alloc, value),
         }
     }
 }

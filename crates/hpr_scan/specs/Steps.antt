@@ -1,6 +1,7 @@
 -- Where tokens and bytes lead a machine.
 --
 -- Steps o result           == the step's answer is o: a machine, or a refusal; memory may run out
+-- Moves o s result         == a step in place left s, and that is what it leads to, o; or it was refused, and o is none; memory may run out
 -- runs next s tokens       == where the tokens lead from s
 -- IsReading next s bytes m == the bytes are the text of tokens that lead from s to m, and of no tokens that lead elsewhere
 use Rattle.std.specs.Prelude.{◌≡◌, ℕ, false, List, [], ◌∷◌, Option, Some, None, Result, Ok, Err}
@@ -13,6 +14,11 @@ abbrev pub Steps : {S : Type 0} → Option S → Result S Fault → Type 0
 Steps o (Ok n) = o ≡ Some n
 Steps o (Err Refused) = o ≡ None
 Steps o (Err Memory) = Unit {0}
+
+abbrev pub Moves : {S A : Type 0} → Option S → S → Result A Fault → Type 0
+Moves o s (Ok _) = o ≡ Some s
+Moves o s (Err Refused) = o ≡ None
+Moves o s (Err Memory) = Unit {0}
 
 abbrev pub and_then : {A B : Type 0} → Option A → (A → Option B) → Option B
 and_then None f = None

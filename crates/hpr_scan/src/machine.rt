@@ -3,7 +3,7 @@ ghost use Rattle.std.specs.Prelude.{◌≡◌, ℕ, Bool, true, List, Option, So
 ghost use Rattle.hpr_terms.specs.declared.token.Token.{Token};
 ghost use Rattle.hpr_terms.specs.declared.token.Token.TheVariants.{Word, Name, Number, Mark};
 ghost use Rattle.hpr_scan.specs.Machine.{IsTokenMachine, Live, EndsAtOnce};
-ghost use Rattle.hpr_scan.specs.Steps.{Steps};
+ghost use Rattle.hpr_scan.specs.Steps.{Moves};
 
 use hpr_terms::{Keyword, NoMemory, Sign, Token};
 use std::alloc::{AllocError, AllocFailed, Global};
@@ -58,9 +58,10 @@ pub trait TokenMachine: Sized {
     // whether a text may end here
     ghost may_end: { Self → Bool };
 
-    /// The machine after the token. `Refused` comes exactly where the token cannot stand next.
-    fn step(self, alloc: Global, token: Token) -> Result<Self, Fault>
-        ensures { Steps (next self token) result };
+    /// Takes the token, in place. `Refused` comes exactly where the token cannot stand next. After an
+    /// `Err` the machine is of no use: nothing is known of how far it went.
+    fn step(&mut self, alloc: Global, token: Token) -> Result<(), Fault>
+        ensures { Moves (next self.old token) self.new result };
 
     /// Whether the keyword can stand next.
     fn takes_keyword(&self, keyword: Keyword) -> bool

@@ -44,11 +44,10 @@ fn scan<M: TokenMachine + Drop>(
         if passed > 0 {
             place += passed;
         } else {
-            scanner = match scanner.feed(alloc, bytes[place]) {
-                Ok(next) => next,
+            match scanner.feed(alloc, bytes[place]) {
+                Ok(()) => place += 1,
                 Err(fault) => return Err(refused(fault, place)),
-            };
-            place += 1;
+            }
         }
     }
     Ok(scanner)
@@ -105,10 +104,10 @@ pub fn read_front<M: FrontMachine + Drop>(
         if passed > 0 {
             place += passed;
         } else {
-            scanner = match scanner.feed(alloc, bytes[place]) {
-                Ok(next) => next,
+            match scanner.feed(alloc, bytes[place]) {
+                Ok(()) => {}
                 Err(fault) => return Err(refused(fault, place)),
-            };
+            }
             if scanner.machine.can_end() {
                 return Ok((scanner.machine, place));
             }

@@ -5,7 +5,7 @@ ghost use Rattle.hpr_terms.specs.declared.token.Token.TheVariants as tokens;
 ghost use Rattle.hpr_terms.specs.declared.token.Sign.TheVariants as signs;
 ghost use Rattle.hpr_terms.specs.Names.{is_name_byte};
 ghost use Rattle.hpr_terms.specs.Tokens.{is_blank};
-ghost use Rattle.hpr_scan.specs.Steps.{and_then, Steps};
+ghost use Rattle.hpr_scan.specs.Steps.{and_then, Moves, Steps};
 ghost use Rattle.hpr_scan.specs.Words.{word_token};
 ghost use Rattle.hpr_scan.specs.declared.scanner.Lex.TheVariants.{Gap, Comment};
 ghost use Rattle.hpr_scan.specs.Scanner.{at, sign_of, longer, after_sign, waiting, feed_sign, grown, feed_gap, finish, feed_half, feed, feeds, goes_on_comment, Waits};
@@ -14,6 +14,7 @@ use crate::machine::{Fault, TokenMachine};
 use crate::word::{Letters, begins, word_before, word_token};
 use hpr_terms::{Sign, Token, is_name_byte};
 use std::alloc::{AllocError, Global};
+use std::mem;
 
 /// What has begun before the next byte.
 #[derive(Drop)]
@@ -102,170 +103,136 @@ fn count_comment(bytes: &[u8]) -> usize
     bytes.len()
 }
 
-fn take_sign<M: TokenMachine + Drop>(
-    alloc: Global,
-    machine: M,
-    sign: Sign,
-) -> Result<Scanner<M>, Fault>
-    ensures { Steps (after_sign (M.next machine (tokens.Mark sign))) result }
-{
-    let machine = machine.step(alloc, Token::Mark(sign))?;
-    Ok(Scanner {
-        lex: Lex::Gap,
-        machine,
-    })
-}
-
-fn wait<M: TokenMachine + Drop>(machine: M, sign: Sign, can: bool) -> Result<Scanner<M>, Fault>
-    ensures { Steps (waiting machine sign can) result }
-{
-    if can {
-        Ok(Scanner {
-            lex: Lex::Half(sign),
-            machine,
-        })
-    } else {
-        Err(Fault::Refused)
-    }
-}
-
-fn feed_sign<M: TokenMachine + Drop>(
-    alloc: Global,
-    machine: M,
-    sign: Sign,
-) -> Result<Scanner<M>, Fault>
-    ensures { Steps (feed_sign M.next machine sign) result }
-{
-    match sign {
-        Sign::Colon => {
-            let can = machine.takes_sign(Sign::Colon) || machine.takes_sign(Sign::Becomes);
-            wait(machine, sign, can)
-        }
-        Sign::Less => {
-            let can = machine.takes_sign(Sign::Less)
-                || machine.takes_sign(Sign::LessEqual)
-                || machine.takes_sign(Sign::Differ);
-            wait(machine, sign, can)
-        }
-        Sign::Greater => {
-            let can = machine.takes_sign(Sign::Greater) || machine.takes_sign(Sign::GreaterEqual);
-            wait(machine, sign, can)
-        }
-        _ => take_sign(alloc, machine, sign),
-    }
-}
-
-fn grow<M: TokenMachine + Drop>(machine: M, letters: Letters, byte: u8) -> Result<Scanner<M>, Fault>
-    requires { IsTrue (is_name_byte byte) }
-    ensures { Steps (grown M.next machine (letters ++ byte ∷ [])) result }
-{
-    let mut letters = letters;
-    letters.push(byte)?;
-    if begins(&machine, &letters) {
-        Ok(Scanner {
-            lex: Lex::InWord(letters),
-            machine,
-        })
-    } else {
-        Err(Fault::Refused)
-    }
-}
-
-fn begin_sign<M: TokenMachine + Drop>(
-    alloc: Global,
-    machine: M,
-    byte: u8,
-) -> Result<Scanner<M>, Fault>
-    ensures { Steps (and_then (sign_of byte) (feed_sign M.next machine)) result }
-{
-    match sign_of(byte) {
-        None => Err(Fault::Refused),
-        Some(sign) => feed_sign(alloc, machine, sign),
-    }
-}
-
-#[tactic(auto, unfolding(crate::specs::Scanner::feed_gap))]
-fn feed_gap<M: TokenMachine + Drop>(
-    alloc: Global,
-    machine: M,
-    byte: u8,
-) -> Result<Scanner<M>, Fault>
-    ensures { Steps (feed_gap M.next machine byte) result }
-{
-    if is_blank(byte) {
-        return Ok(Scanner {
-            lex: Lex::Gap,
-            machine,
-        });
-    }
-    if byte == b'#' {
-        return Ok(Scanner {
-            lex: Lex::Comment,
-            machine,
-        });
-    }
-    if is_name_byte(byte) {
-        return grow(machine, Letters::new(alloc), byte);
-    }
-    begin_sign(alloc, machine, byte)
-}
-
-fn feed_comment<M: TokenMachine + Drop>(machine: M, byte: u8) -> Scanner<M>
-    ensures { result ≡ at (if byte == 10 then Gap else Comment) machine }
-{
-    let lex = if byte == b'\n' {
-        Lex::Gap
-    } else {
-        Lex::Comment
-    };
-    Scanner { lex, machine }
-}
-
-fn take_word<M: TokenMachine + Drop>(
+fn take_word<M: TokenMachine>(
     alloc: Global,
     letters: &Letters,
-    machine: M,
-) -> Result<M, Fault>
-    ensures { Steps (and_then (word_token letters.now) (M.next machine)) result }
+    machine: &mut M,
+) -> Result<(), Fault>
+    ensures { Moves (and_then (word_token letters.now) (M.next machine.old)) machine.new result }
 {
     let token = word_token(alloc, letters)?;
     machine.step(alloc, token)
 }
 
 #[tactic(auto, unfolding(crate::specs::Scanner::finish))]
-fn finish<M: TokenMachine + Drop>(alloc: Global, lex: Lex, machine: M) -> Result<M, Fault>
-    ensures { Steps (finish M.next lex machine) result }
+fn finish<M: TokenMachine>(alloc: Global, lex: Lex, machine: &mut M) -> Result<(), Fault>
+    ensures { Moves (finish M.next lex machine.old) machine.new result }
 {
     match lex {
-        Lex::Gap | Lex::Comment => Ok(machine),
+        Lex::Gap | Lex::Comment => Ok(()),
         Lex::InWord(letters) => take_word(alloc, &letters, machine),
         Lex::Half(sign) => machine.step(alloc, Token::Mark(sign)),
     }
 }
 
-fn finish_by<M: TokenMachine + Drop>(
-    alloc: Global,
-    lex: Lex,
-    machine: M,
-    byte: u8,
-) -> Result<Scanner<M>, Fault>
-    ensures { Steps (and_then (finish M.next lex machine) (λ n. feed_gap M.next n byte)) result }
-{
-    let machine = finish(alloc, lex, machine)?;
-    feed_gap(alloc, machine, byte)
-}
+// Each of these goes on in place, from what its machine is; what has begun before it doesn't matter. What a refusal
+// leaves is of no use.
+impl<M: TokenMachine + Drop> Scanner<M> {
+    fn take_sign(&mut self, alloc: Global, sign: Sign) -> Result<(), Fault>
+        ensures { Moves (after_sign (M.next self.old.machine (tokens.Mark sign))) self.new result }
+    {
+        self.machine.step(alloc, Token::Mark(sign))?;
+        self.lex = Lex::Gap;
+        Ok(())
+    }
 
-fn feed_half<M: TokenMachine + Drop>(
-    alloc: Global,
-    sign: Sign,
-    machine: M,
-    byte: u8,
-) -> Result<Scanner<M>, Fault>
-    ensures { Steps (feed_half M.next (longer sign byte) sign machine byte) result }
-{
-    match longer(sign, byte) {
-        Some(long) => take_sign(alloc, machine, long),
-        None => finish_by(alloc, Lex::Half(sign), machine, byte),
+    fn wait(&mut self, sign: Sign, can: bool) -> Result<(), Fault>
+        ensures { Moves (waiting self.old.machine sign can) self.new result }
+    {
+        if !can {
+            return Err(Fault::Refused);
+        }
+        self.lex = Lex::Half(sign);
+        Ok(())
+    }
+
+    fn feed_sign(&mut self, alloc: Global, sign: Sign) -> Result<(), Fault>
+        ensures { Moves (feed_sign M.next self.old.machine sign) self.new result }
+    {
+        match sign {
+            Sign::Colon => {
+                let can = self.machine.takes_sign(Sign::Colon)
+                    || self.machine.takes_sign(Sign::Becomes);
+                self.wait(sign, can)
+            }
+            Sign::Less => {
+                let can = self.machine.takes_sign(Sign::Less)
+                    || self.machine.takes_sign(Sign::LessEqual)
+                    || self.machine.takes_sign(Sign::Differ);
+                self.wait(sign, can)
+            }
+            Sign::Greater => {
+                let can = self.machine.takes_sign(Sign::Greater)
+                    || self.machine.takes_sign(Sign::GreaterEqual);
+                self.wait(sign, can)
+            }
+            _ => self.take_sign(alloc, sign),
+        }
+    }
+
+    fn grow(&mut self, mut letters: Letters, byte: u8) -> Result<(), Fault>
+        requires { IsTrue (is_name_byte byte) }
+        ensures { Moves (grown M.next self.old.machine (letters ++ byte ∷ [])) self.new result }
+    {
+        letters.push(byte)?;
+        if !begins(&self.machine, &letters) {
+            return Err(Fault::Refused);
+        }
+        self.lex = Lex::InWord(letters);
+        Ok(())
+    }
+
+    fn begin_sign(&mut self, alloc: Global, byte: u8) -> Result<(), Fault>
+        ensures { Moves (and_then (sign_of byte) (feed_sign M.next self.old.machine)) self.new result }
+    {
+        match sign_of(byte) {
+            None => Err(Fault::Refused),
+            Some(sign) => self.feed_sign(alloc, sign),
+        }
+    }
+
+    #[tactic(auto, unfolding(crate::specs::Scanner::feed_gap))]
+    fn feed_gap(&mut self, alloc: Global, byte: u8) -> Result<(), Fault>
+        ensures { Moves (feed_gap M.next self.old.machine byte) self.new result }
+    {
+        if is_blank(byte) {
+            self.lex = Lex::Gap;
+            return Ok(());
+        }
+        if byte == b'#' {
+            self.lex = Lex::Comment;
+            return Ok(());
+        }
+        if is_name_byte(byte) {
+            return self.grow(Letters::new(alloc), byte);
+        }
+        self.begin_sign(alloc, byte)
+    }
+
+    fn feed_comment(&mut self, byte: u8)
+        ensures { self.new ≡ at (if byte == 10 then Gap else Comment) self.old.machine }
+    {
+        self.lex = if byte == b'\n' {
+            Lex::Gap
+        } else {
+            Lex::Comment
+        };
+    }
+
+    fn finish_by(&mut self, alloc: Global, lex: Lex, byte: u8) -> Result<(), Fault>
+        ensures { Moves (and_then (finish M.next lex self.old.machine) (λ n. feed_gap M.next n byte)) self.new result }
+    {
+        finish(alloc, lex, &mut self.machine)?;
+        self.feed_gap(alloc, byte)
+    }
+
+    fn feed_half(&mut self, alloc: Global, sign: Sign, byte: u8) -> Result<(), Fault>
+        ensures { Moves (feed_half M.next (longer sign byte) sign self.old.machine byte) self.new result }
+    {
+        match longer(sign, byte) {
+            Some(long) => self.take_sign(alloc, long),
+            None => self.finish_by(alloc, Lex::Half(sign), byte),
+        }
     }
 }
 
@@ -310,23 +277,26 @@ impl<M: TokenMachine + Drop> Scanner<M> {
         }
     }
 
-    /// The place after the byte. `Refused` comes exactly where the byte cannot stand here.
+    /// Takes the byte, in place. `Refused` comes exactly where the byte cannot stand here. After an
+    /// `Err` the place is of no use.
     #[tactic(auto, unfolding(crate::specs::Scanner::feed))]
-    pub fn feed(self, alloc: Global, byte: u8) -> Result<Scanner<M>, Fault>
-        ensures { Steps (feed M.next self.lex self.machine byte) result }
+    pub fn feed(&mut self, alloc: Global, byte: u8) -> Result<(), Fault>
+        ensures { Moves (feed M.next self.old.lex self.old.machine byte) self.new result }
     {
-        let Scanner { lex, machine } = self;
-        match lex {
-            Lex::Gap => feed_gap(alloc, machine, byte),
-            Lex::Comment => Ok(feed_comment(machine, byte)),
+        match mem::replace(&mut self.lex, Lex::Gap) {
+            Lex::Gap => self.feed_gap(alloc, byte),
+            Lex::Comment => {
+                self.feed_comment(byte);
+                Ok(())
+            }
             Lex::InWord(letters) => {
                 if is_name_byte(byte) {
-                    grow(machine, letters, byte)
+                    self.grow(letters, byte)
                 } else {
-                    finish_by(alloc, Lex::InWord(letters), machine, byte)
+                    self.finish_by(alloc, Lex::InWord(letters), byte)
                 }
             }
-            Lex::Half(sign) => feed_half(alloc, sign, machine, byte),
+            Lex::Half(sign) => self.feed_half(alloc, sign, byte),
         }
     }
 
@@ -334,7 +304,8 @@ impl<M: TokenMachine + Drop> Scanner<M> {
     pub fn end(self, alloc: Global) -> Result<M, Fault>
         ensures { Steps (finish M.next self.lex self.machine) result }
     {
-        let Scanner { lex, machine } = self;
-        finish(alloc, lex, machine)
+        let Scanner { lex, mut machine } = self;
+        finish(alloc, lex, &mut machine)?;
+        Ok(machine)
     }
 }

@@ -8,12 +8,13 @@ ghost use Rattle.hpr_text.specs.Contents.{IsContentText, HasContent, IsPlaceFrom
 ghost use Rattle.hpr_text.specs.ContentMachine as machine;
 ghost use Rattle.hpr_expressions.specs.Expression as expression;
 
+use crate::boxed::BoxedReader;
 use crate::reader::TextError;
-use hpr_expressions::Reading;
 use hpr_scan::{Fault, FrontMachine, Refusal, TokenMachine, read_front};
 use hpr_syntax::Content;
 use hpr_terms::{Expr, Keyword, Name, Sign, Token};
 use std::alloc::Global;
+use std::mem;
 
 /// What the expression of a content is read for.
 #[derive(Drop)]
@@ -33,7 +34,7 @@ pub enum ContentState {
     /// The name that is assigned to.
     AfterTarget(Name),
     /// A front of the expression.
-    InExpression(Aim, Reading),
+    InExpression(Aim, BoxedReader),
     /// The content and its `;`.
     Ended(Content),
 }
@@ -66,10 +67,10 @@ fn begin_next(alloc: Global, token: Token) -> Result<ContentState, Fault>
     match token {
         Token::Name(name) => Ok(ContentState::AfterTarget(name)),
         Token::Word(Keyword::If) => {
-            Ok(ContentState::InExpression(Aim::Test, Reading::start(alloc)))
+            Ok(ContentState::InExpression(Aim::Test, BoxedReader::start(alloc)?))
         }
         Token::Word(Keyword::While) => {
-            Ok(ContentState::InExpression(Aim::Guard, Reading::start(alloc)))
+            Ok(ContentState::InExpression(Aim::Guard, BoxedReader::start(alloc)?))
         }
         _ => Err(Fault::Refused),
     }
@@ -80,30 +81,35 @@ fn becomes_next(alloc: Global, name: Name, token: Token) -> Result<ContentState,
 {
     match token {
         Token::Mark(Sign::Becomes) => {
-            Ok(ContentState::InExpression(Aim::Assign(name), Reading::start(alloc)))
+            Ok(ContentState::InExpression(Aim::Assign(name), BoxedReader::start(alloc)?))
         }
         _ => Err(Fault::Refused),
     }
 }
 
-fn ends(alloc: Global, aim: Aim, reading: Reading) -> Result<ContentState, Fault>
+fn ends(alloc: Global, aim: Aim, reading: BoxedReader) -> Result<ContentState, Fault>
     ensures { Steps (machine.content_ends aim (expression.ended reading)) result }
 {
     let value = reading.ended(alloc)?;
     Ok(ContentState::Ended(content(aim, value)))
 }
 
-fn goes_on(alloc: Global, aim: Aim, reading: Reading, token: Token) -> Result<ContentState, Fault>
+fn goes_on(
+    alloc: Global,
+    aim: Aim,
+    mut reading: BoxedReader,
+    token: Token,
+) -> Result<ContentState, Fault>
     ensures { Steps (machine.content_goes_on aim (expression.read reading token)) result }
 {
-    let reading = reading.step(alloc, token)?;
+    reading.step(alloc, token)?;
     Ok(ContentState::InExpression(aim, reading))
 }
 
 fn inside_next(
     alloc: Global,
     aim: Aim,
-    reading: Reading,
+    reading: BoxedReader,
     token: Token,
 ) -> Result<ContentState, Fault>
     ensures { Steps (machine.inside_next aim reading token) result }
@@ -126,21 +132,16 @@ impl TokenMachine for ContentState {
 
     ghost live = { content_live };
 
-    #[tactic(auto, unfolding(crate::specs::ContentMachine::content_next))]
-    fn step(self, alloc: Global, token: Token) -> Result<ContentState, Fault> {
-        match self {
-            ContentState::Start => begin_next(alloc, token),
-            ContentState::AfterTarget(name) => becomes_next(alloc, name, token),
-            ContentState::InExpression(aim, reading) => inside_next(alloc, aim, reading, token),
-            ContentState::Ended(_) => Err(Fault::Refused),
-        }
+    fn step(&mut self, alloc: Global, token: Token) -> Result<(), Fault> {
+        *self = mem::replace(self, ContentState::Start).after(alloc, token)?;
+        Ok(())
     }
 
     #[tactic(auto, unfolding(crate::specs::ContentMachine::content_next), using(crate::proofs::ContentGoing::content_goes_on_is_some))]
     fn takes_keyword(&self, keyword: Keyword) -> bool {
         match self {
             ContentState::Start => matches!(keyword, Keyword::If | Keyword::While),
-            ContentState::InExpression(_, reading) => reading.takes_keyword(keyword),
+            ContentState::InExpression(_, reading) => reading.reader().takes_keyword(keyword),
             _ => false,
         }
     }
@@ -149,7 +150,7 @@ impl TokenMachine for ContentState {
     fn takes_name(&self) -> bool {
         match self {
             ContentState::Start => true,
-            ContentState::InExpression(_, reading) => reading.takes_name(),
+            ContentState::InExpression(_, reading) => reading.reader().takes_name(),
             _ => false,
         }
     }
@@ -157,7 +158,7 @@ impl TokenMachine for ContentState {
     #[tactic(auto, unfolding(crate::specs::ContentMachine::content_next), using(crate::proofs::ContentGoing::content_goes_on_is_some))]
     fn takes_number(&self, number: u64) -> bool {
         match self {
-            ContentState::InExpression(_, reading) => reading.takes_number(number),
+            ContentState::InExpression(_, reading) => reading.reader().takes_number(number),
             _ => false,
         }
     }
@@ -167,8 +168,8 @@ impl TokenMachine for ContentState {
         match self {
             ContentState::AfterTarget(_) => matches!(sign, Sign::Becomes),
             ContentState::InExpression(_, reading) => match sign {
-                Sign::Semicolon => reading.can_end(),
-                _ => reading.takes_sign(sign),
+                Sign::Semicolon => reading.reader().can_end(),
+                _ => reading.reader().takes_sign(sign),
             },
             _ => false,
         }
@@ -186,6 +187,19 @@ impl FrontMachine for ContentState {
 }
 
 impl ContentState {
+    /// How far a content was read with the token, which can stand next, or else is refused.
+    #[tactic(auto, unfolding(crate::specs::ContentMachine::content_next))]
+    fn after(self, alloc: Global, token: Token) -> Result<ContentState, Fault>
+        ensures { Steps (machine.content_next self token) result }
+    {
+        match self {
+            ContentState::Start => begin_next(alloc, token),
+            ContentState::AfterTarget(name) => becomes_next(alloc, name, token),
+            ContentState::InExpression(aim, reading) => inside_next(alloc, aim, reading, token),
+            ContentState::Ended(_) => Err(Fault::Refused),
+        }
+    }
+
     /// The content, whose `;` was read.
     fn ended(self) -> Content
         requires { machine.content_may_end self ≡ true }

@@ -6,6 +6,7 @@
 #![tactic(auto)]
 
 mod blocks;
+mod boxed;
 mod content;
 mod form;
 mod found;

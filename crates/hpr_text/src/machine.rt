@@ -1,6 +1,6 @@
 //! The machine of the tokens of a program.
 ghost use Rattle.std.specs.Prelude.{◌≡◌, ℕ, List, Option, is_some};
-ghost use Rattle.hpr_scan.specs.Steps.{Steps};
+ghost use Rattle.hpr_scan.specs.Steps.{Moves};
 ghost use Rattle.hpr_text.specs.Machine as machine;
 
 use crate::places::{
@@ -11,6 +11,7 @@ use crate::state::{Place, State};
 use hpr_scan::{Fault, TokenMachine};
 use hpr_terms::{Keyword, Sign, Token};
 use std::alloc::Global;
+use std::mem;
 
 impl TokenMachine for State {
     ghost use Rattle.hpr_text.specs.Machine as machine;
@@ -26,10 +27,10 @@ impl TokenMachine for State {
     ghost live = { live };
 
     #[tactic(auto, unfolding(crate::specs::Machine::next))]
-    fn step(self, alloc: Global, token: Token) -> Result<State, Fault> {
-        let State { mut found, place } = self;
-        let place = found.next_at(alloc, place, token)?;
-        Ok(State { found, place })
+    fn step(&mut self, alloc: Global, token: Token) -> Result<(), Fault> {
+        let place = mem::replace(&mut self.place, Place::Start);
+        self.place = self.found.next_at(alloc, place, token)?;
+        Ok(())
     }
 
     #[tactic(auto, unfolding(crate::specs::Machine::next))]
@@ -44,7 +45,7 @@ impl TokenMachine for State {
             Place::AtPart => takes_block(&self.found, keyword),
             Place::AfterColon(_) => matches!(keyword, Keyword::If | Keyword::While),
             Place::InExpression(purpose, reading) => {
-                takes_expression_keyword(&self.found, purpose, reading, keyword)
+                takes_expression_keyword(&self.found, purpose, reading.reader(), keyword)
             }
             _ => false,
         }
@@ -57,7 +58,7 @@ impl TokenMachine for State {
             Place::AfterPair => self.found.can_begin(),
             Place::AtPart => self.found.can_begin(),
             Place::AfterColon(_) => true,
-            Place::InExpression(_, reading) => reading.takes_name(),
+            Place::InExpression(_, reading) => reading.reader().takes_name(),
             Place::AfterOpen => true,
             Place::AfterComma => true,
             _ => false,
@@ -73,7 +74,7 @@ impl TokenMachine for State {
             Place::AtPart => takes_tag(&self.found, number),
             Place::AfterPairColon(_) => is_serial(number),
             Place::AfterDot(_) => is_serial(number),
-            Place::InExpression(_, reading) => reading.takes_number(number),
+            Place::InExpression(_, reading) => reading.reader().takes_number(number),
             _ => false,
         }
     }
@@ -87,7 +88,7 @@ impl TokenMachine for State {
             Place::AfterSerial(_) => matches!(sign, Sign::Colon),
             Place::AfterTarget(_, _) => matches!(sign, Sign::Becomes),
             Place::InExpression(purpose, reading) => {
-                takes_expression_sign(&self.found, purpose, reading, sign)
+                takes_expression_sign(&self.found, purpose, reading.reader(), sign)
             }
             Place::AfterEnd => matches!(sign, Sign::Open),
             Place::AfterOpen => matches!(sign, Sign::Close),

@@ -6,10 +6,11 @@ ghost use Rattle.hpr_text.specs.Private.InPlace.{InPlace};
 ghost use Rattle.hpr_terms.specs.declared.token.Token.TheVariants as tokens;
 
 use crate::blocks::Kind;
+use crate::boxed::BoxedReader;
 use crate::form::Mode;
 use crate::found::Found;
 use crate::state::{Place, Purpose};
-use hpr_expressions::Reading;
+use hpr_expressions::Reader;
 use hpr_scan::{Fault, TokenMachine};
 use hpr_terms::{Keyword, Name, Sign, Tag, Token};
 use std::alloc::Global;
@@ -68,7 +69,7 @@ pub fn takes_block(found: &Found, keyword: Keyword) -> bool
 pub fn takes_expression_keyword(
     found: &Found,
     purpose: &Purpose,
-    reading: &Reading,
+    reading: &Reader,
     keyword: Keyword,
 ) -> bool
     ensures { result ≡ is_some (machine.expression_next machine.limit found.now purpose.now reading.now
@@ -83,12 +84,7 @@ pub fn takes_expression_keyword(
 
 /// Whether the sign can stand next in an expression, or behind it.
 #[tactic(auto, using(crate::proofs::Going::goes_on_is_some, crate::proofs::Going::ends_here_is_some))]
-pub fn takes_expression_sign(
-    found: &Found,
-    purpose: &Purpose,
-    reading: &Reading,
-    sign: Sign,
-) -> bool
+pub fn takes_expression_sign(found: &Found, purpose: &Purpose, reading: &Reader, sign: Sign) -> bool
     ensures { result ≡ is_some (machine.expression_next machine.limit found.now purpose.now reading.now
         (tokens.Mark sign)) }
 {
@@ -287,11 +283,11 @@ impl Found {
             Token::Name(name) => Ok(Place::AfterTarget(tag, name)),
             Token::Word(Keyword::If) => Ok(Place::InExpression(
                 Purpose::Test(tag),
-                Reading::start(alloc),
+                BoxedReader::start(alloc)?,
             )),
             Token::Word(Keyword::While) => Ok(Place::InExpression(
                 Purpose::Guard(tag),
-                Reading::start(alloc),
+                BoxedReader::start(alloc)?,
             )),
             _ => Err(Fault::Refused),
         }
@@ -309,7 +305,7 @@ impl Found {
         match token {
             Token::Mark(Sign::Becomes) => Ok(Place::InExpression(
                 Purpose::Assign(tag, name),
-                Reading::start(alloc),
+                BoxedReader::start(alloc)?,
             )),
             _ => Err(Fault::Refused),
         }
@@ -319,13 +315,13 @@ impl Found {
         &mut self,
         alloc: Global,
         purpose: Purpose,
-        reading: Reading,
+        mut reading: BoxedReader,
         token: Token,
     ) -> Result<Place, Fault>
         ensures { InPlace (machine.state_at self.new) (machine.goes_on self.old purpose
             (expression.read reading token)) result }
     {
-        let reading = reading.step(alloc, token)?;
+        reading.step(alloc, token)?;
         Ok(Place::InExpression(purpose, reading))
     }
 
@@ -333,7 +329,7 @@ impl Found {
         &mut self,
         alloc: Global,
         purpose: Purpose,
-        reading: Reading,
+        reading: BoxedReader,
     ) -> Result<Place, Fault>
         ensures { InPlace (machine.state_at self.new) (machine.ends_here machine.limit self.old purpose
             (expression.ended reading)) result }
@@ -359,7 +355,7 @@ impl Found {
         &mut self,
         alloc: Global,
         purpose: Purpose,
-        reading: Reading,
+        reading: BoxedReader,
         token: Token,
     ) -> Result<Place, Fault>
         ensures { InPlace (machine.state_at self.new)

@@ -2,9 +2,9 @@
 ghost use Rattle.std.specs.Prelude.{◌≡◌};
 ghost use Rattle.hpr_text.specs.Machine as machine;
 
+use crate::boxed::BoxedReader;
 use crate::form::Mode;
 use crate::found::Found;
-use hpr_expressions::Reading;
 use hpr_terms::{Name, Tag};
 use std::alloc::Global;
 
@@ -47,7 +47,7 @@ pub enum Place {
     /// The name that a part assigns to.
     AfterTarget(Tag, Name),
     /// A front of an expression.
-    InExpression(Purpose, Reading),
+    InExpression(Purpose, BoxedReader),
     /// `end`.
     AfterEnd,
     /// The opening bracket of `end`.

@@ -41,7 +41,7 @@ returns-then-can_end-clause-reads g c =
     let m = g.M.TokenMachine in
     let l = c.loop-place in
     let front = none_passed m.next c.args.machine c.args.bytes.now l.place c.in-Ok.passed l.scanner c.pass.new.self c.if-passed-gt0.false l.invariant.front c.in-Ok.ensures.fed in
-    front_reads m.next m.may_end g.met.M.TokenMachine.laws g.met.M.FrontMachine.ends_at_once c.args.machine c.args.bytes.now l.place c.pass.new.self c.in-Ok-feed.next
+    front_reads m.next m.may_end g.met.M.TokenMachine.laws g.met.M.FrontMachine.ends_at_once c.args.machine c.args.bytes.now l.place c.pass.new.self c.feed.new.self
     c.loop-place-test.true front (ap m.may_end c.in-Ok.ensures.machine ∙ l.invariant.goes_on) c.in-Ok-feed.ensures (sym c.can_end.ensures ∙ c.if-can_end.true)
 
 pub loop-place-preserved : goal.loop-place-preserved
@@ -49,13 +49,13 @@ loop-place-preserved g c =
     let m = g.M.TokenMachine in
     let l = c.loop-place in
     let front = none_passed m.next c.args.machine c.args.bytes.now l.place c.in-Ok.passed l.scanner c.pass.new.self c.if-passed-gt0.false l.invariant.front c.in-Ok.ensures.fed in
-    let fed = feeds_more m.next c.args.machine c.args.bytes.now l.place c.pass.new.self c.in-Ok-feed.next c.loop-place-test.true front c.in-Ok-feed.ensures in
+    let fed = feeds_more m.next c.args.machine c.args.bytes.now l.place c.pass.new.self c.feed.new.self c.loop-place-test.true front c.in-Ok-feed.ensures in
     let goes = sym c.can_end.ensures ∙ c.if-can_end.false in
     record {
       within = omega (arith, c.loop-place-test.true);
       front = fed;
       goes_on = goes;
-      no_front = no_front_more m.next m.may_end g.met.M.TokenMachine.laws g.met.M.FrontMachine.ends_at_once c.args.machine c.args.bytes.now l.place c.in-Ok-feed.next fed goes l.invariant.no_front;
+      no_front = no_front_more m.next m.may_end g.met.M.TokenMachine.laws g.met.M.FrontMachine.ends_at_once c.args.machine c.args.bytes.now l.place c.feed.new.self fed goes l.invariant.no_front;
     }
 
 pub returns-clause-place : goal.returns-clause-place

@@ -29,5 +29,5 @@ loop-place-preserved g c =
     let front = none_passed next c.args.machine c.args.bytes.now l.place c.in-Ok.passed l.scanner c.pass.new.self c.if-passed-gt0.false l.invariant.front c.in-Ok.ensures.fed in
     record {
       within = omega (arith, c.loop-place-test.true);
-      front = feeds_more next c.args.machine c.args.bytes.now l.place c.pass.new.self c.in-Ok-feed.next c.loop-place-test.true front c.in-Ok-feed.ensures;
+      front = feeds_more next c.args.machine c.args.bytes.now l.place c.pass.new.self c.feed.new.self c.loop-place-test.true front c.in-Ok-feed.ensures;
     }
