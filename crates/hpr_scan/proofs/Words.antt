@@ -229,42 +229,47 @@ keyword_found Not = refl
 keyword_found Write = refl
 keyword_found Out = refl
 
-keyword_no_numeral : (k : Keyword) → is_numeral (keyword_text k) ≡ false
-unfolding is_digit
-keyword_no_numeral Program = refl
-keyword_no_numeral Issued = refl
-keyword_no_numeral If = refl
-keyword_no_numeral Then = refl
-keyword_no_numeral Else = refl
-keyword_no_numeral Fi = refl
-keyword_no_numeral While = refl
-keyword_no_numeral Do = refl
-keyword_no_numeral Od = refl
-keyword_no_numeral End = refl
-keyword_no_numeral And = refl
-keyword_no_numeral Or = refl
-keyword_no_numeral Not = refl
-keyword_no_numeral Write = refl
-keyword_no_numeral Out = refl
-
 pub true_false : {b : Bool} → b ≡ true → b ≡ false → ⊥
 true_false p q = absurd cc
-
-numeral_no_keyword : (w : List ℕ) (o : Option Keyword) → keyword_of w ≡ o → is_numeral w ≡ true → keyword_of w ≡ None
-numeral_no_keyword w None h e = h
-numeral_no_keyword w (Some k) h e = absurd (true_false (sym (ap is_numeral (keyword_is w k h)) ∙ e) (keyword_no_numeral k))
 
 numeral_begins : (w : List ℕ) → is_numeral w ≡ true → begins_with_digit w ≡ true
 unfolding is_digit
 numeral_begins [] e = absurd cc
 numeral_begins (b ∷ bs) e = (and_parts (is_digit b) (list_all is_digit bs) (numeral_digits (b ∷ bs) e)).0
 
-numeral_no_name : (w : List ℕ) → is_numeral w ≡ true → is_name w ≡ false
-numeral_no_name w e = at_test (is_name w) refl
+-- ---- a word that begins with a digit is a number, or nothing
+
+keyword_no_digit : (k : Keyword) → begins_with_digit (keyword_text k) ≡ false
+keyword_no_digit Program = refl
+keyword_no_digit Issued = refl
+keyword_no_digit If = refl
+keyword_no_digit Then = refl
+keyword_no_digit Else = refl
+keyword_no_digit Fi = refl
+keyword_no_digit While = refl
+keyword_no_digit Do = refl
+keyword_no_digit Od = refl
+keyword_no_digit End = refl
+keyword_no_digit And = refl
+keyword_no_digit Or = refl
+keyword_no_digit Not = refl
+keyword_no_digit Write = refl
+keyword_no_digit Out = refl
+
+digit_no_keyword : (w : List ℕ) (o : Option Keyword) → keyword_of w ≡ o → begins_with_digit w ≡ true → keyword_of w ≡ None
+digit_no_keyword w None h d = h
+digit_no_keyword w (Some k) h d = absurd (true_false (sym (ap begins_with_digit (keyword_is w k h)) ∙ d) (keyword_no_digit k))
+
+digit_no_name : (w : List ℕ) → begins_with_digit w ≡ true → is_name w ≡ false
+digit_no_name w d = at_test (is_name w) refl
   where
     at_test : (v : Bool) → is_name w ≡ v → v ≡ false
-    at_test true h = absurd (true_false (numeral_begins w e) (not-true (begins_with_digit w) (name_parts w (name_like w h).0).first))
+    at_test true h = absurd (true_false d (not-true (begins_with_digit w) (name_parts w (name_like w h).0).first))
     at_test false h = refl
+
+pub digit_word : (w : List ℕ) → begins_with_digit w ≡ true → word_token w ≡ number_token w
+unfolding word_token
+digit_word w d = rw (digit_no_keyword w (keyword_of w) refl d, digit_no_name w d) refl
 
 -- ---- words and their tokens
 
@@ -287,7 +292,7 @@ word_is text (Word k) h w s = rw (h, keyword_found k) refl
 word_is text (Name x) h w s = rw (h.0, (name_like x h.1).1, h.1) refl
 word_is text (Number n) h w s =
     let v = number_value text n h s in
-    rw (numeral_no_keyword text (keyword_of text) refl v.0, numeral_no_name text v.0, v.0, v.1) refl
+    rw (digit_no_keyword text (keyword_of text) refl (numeral_begins text v.0), digit_no_name text (numeral_begins text v.0), v.0, v.1) refl
 word_is text (Mark x) h w s = absurd cc
 
 abbrev IsWord : List ℕ → Token → Type 0

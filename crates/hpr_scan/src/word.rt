@@ -3,7 +3,7 @@ ghost use Rattle.std.specs.Prelude.{◌≡◌, ◌^◌, ◌+◌, ◌*◌, ◌-�
 ghost use Rattle.std.specs.List.{list_all, list_any, prefix_len};
 ghost use Rattle.hpr_terms.specs.declared.token.Token.TheVariants as tokens;
 ghost use Rattle.hpr_terms.specs.Keywords.{keywords};
-ghost use Rattle.hpr_terms.specs.Names.{is_name_byte, is_name_like};
+ghost use Rattle.hpr_terms.specs.Names.{begins_with_digit, is_name_byte, is_name_like};
 ghost use Rattle.hpr_scan.specs.Words.{is_digit, is_numeral, value_after, number_token, other_token, word_token, IsNoToken, ReadsWord, begins_name, begins_number, begins_keyword, begins, IsFirstWord};
 
 use crate::machine::{Fault, TokenMachine};
@@ -117,15 +117,31 @@ fn number_token(word: &[u8]) -> Option<Token>
     None
 }
 
+// The number whose text the word is.
+fn numeral(word: &[u8]) -> Result<Token, Fault>
+    ensures { ReadsWord (number_token word.now) result }
+{
+    match number_token(word) {
+        Some(token) => Ok(token),
+        None => Err(Fault::Refused),
+    }
+}
+
+fn begins_with_digit(word: &[u8]) -> bool
+    ensures { result ≡ begins_with_digit word.now }
+{
+    match word {
+        [] => false,
+        [first, ..] => first.is_ascii_digit(),
+    }
+}
+
 fn other_token(alloc: Global, word: &str) -> Result<Token, Fault>
     ensures { ReadsWord (other_token word.now) result }
 {
     match Name::new(alloc, word) {
         Ok(name) => Ok(Token::Name(name)),
-        Err(NameError::NotAName) => match number_token(word.as_bytes()) {
-            Some(token) => Ok(token),
-            None => Err(Fault::Refused),
-        },
+        Err(NameError::NotAName) => numeral(word.as_bytes()),
         Err(NameError::Memory) => Err(Fault::Memory),
     }
 }
@@ -133,11 +149,14 @@ fn other_token(alloc: Global, word: &str) -> Result<Token, Fault>
 /// The token whose text the word is.
 ///
 /// `Refused` comes where there is none, or a number from 2 ^ 64 on.
-#[tactic(auto, unfolding(crate::specs::Words::word_token))]
+#[tactic(auto, unfolding(crate::specs::Words::word_token), using(crate::proofs::Words::digit_word))]
 pub(crate) fn word_token(alloc: Global, letters: &Letters) -> Result<Token, Fault>
     ensures { ReadsWord (word_token letters.now) result }
 {
     let word = letters.text();
+    if begins_with_digit(word.as_bytes()) {
+        return numeral(word.as_bytes());
+    }
     match Keyword::of(word.as_bytes()) {
         Some(keyword) => Ok(Token::Word(keyword)),
         None => other_token(alloc, word),

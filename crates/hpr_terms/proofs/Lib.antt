@@ -4,3 +4,4 @@ pub mod Equal
 pub mod InOrder
 pub mod Few
 pub mod NamesUsed
+pub mod OfLength

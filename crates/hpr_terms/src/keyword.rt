@@ -1,7 +1,8 @@
 //! Keywords.
-ghost use Rattle.std.specs.Prelude.{◌≡◌, find};
+ghost use Rattle.std.specs.Prelude.{◌≡◌, ℕ, nat_eq, length, find};
+ghost use Rattle.std.specs.List.{filter};
 ghost use Rattle.std.specs.Str.{bytes_eq};
-ghost use Rattle.hpr_terms.specs.Keywords.{keyword_text, keyword_of};
+ghost use Rattle.hpr_terms.specs.Keywords.{keyword_text, keywords, keyword_of};
 
 /// A word that no name may be.
 #[derive(Clone, Copy)]
@@ -53,13 +54,33 @@ fn find_in(keywords: &[Keyword], text: &[u8]) -> Option<Keyword>
     None
 }
 
+/// The keywords with so many letters, in the declared order.
+fn of_length(letters: usize) -> &'static [Keyword]
+    ensures { result.now ≡ filter (λ k. nat_eq (length (keyword_text k)) letters) keywords }
+{
+    match letters {
+        2 => &[
+            Keyword::If,
+            Keyword::Fi,
+            Keyword::Do,
+            Keyword::Od,
+            Keyword::Or,
+        ],
+        3 => &[Keyword::End, Keyword::And, Keyword::Not, Keyword::Out],
+        4 => &[Keyword::Then, Keyword::Else],
+        5 => &[Keyword::While, Keyword::Write],
+        6 => &[Keyword::Issued],
+        7 => &[Keyword::Program],
+        _ => &[],
+    }
+}
+
 impl Keyword {
     /// The keyword with this text, if it is one.
-    #[tactic(auto, unfolding(crate::specs::Keywords::keyword_of))]
     pub fn of(text: &[u8]) -> Option<Keyword>
         ensures { result ≡ keyword_of text.now }
     {
-        find_in(&KEYWORDS, text)
+        find_in(of_length(text.len()), text)
     }
 
     /// The keyword as it stands in a text.
