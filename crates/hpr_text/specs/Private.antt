@@ -1,2 +1,3 @@
 -- What the contracts of private functions say: no public clause cites it.
 pub mod InPlace
+pub mod EndsAt

@@ -13,6 +13,18 @@ use hpr_terms::{Keyword, Sign, Token};
 use std::alloc::Global;
 use std::mem;
 
+impl State {
+    /// Takes the token, and goes to another place.
+    #[tactic(auto, unfolding(crate::specs::Machine::next))]
+    fn leave(&mut self, alloc: Global, token: Token) -> Result<(), Fault>
+        ensures { Moves (machine.next machine.limit self.old token) self.new result }
+    {
+        let place = mem::replace(&mut self.place, Place::Start);
+        self.place = self.found.next_at(alloc, place, token)?;
+        Ok(())
+    }
+}
+
 impl TokenMachine for State {
     ghost use Rattle.hpr_text.specs.Machine as machine;
     ghost use Rattle.hpr_text.specs.Laws.{is_token_machine};
@@ -26,11 +38,14 @@ impl TokenMachine for State {
 
     ghost live = { live };
 
-    #[tactic(auto, unfolding(crate::specs::Machine::next))]
+    #[tactic(auto, unfolding(crate::specs::Machine::next), using(crate::proofs::Going::goes_on_within))]
     fn step(&mut self, alloc: Global, token: Token) -> Result<(), Fault> {
-        let place = mem::replace(&mut self.place, Place::Start);
-        self.place = self.found.next_at(alloc, place, token)?;
-        Ok(())
+        if let Place::InExpression(purpose, reading) = &mut self.place {
+            if !purpose.ends_at(&token) {
+                return reading.step(alloc, token);
+            }
+        }
+        self.leave(alloc, token)
     }
 
     #[tactic(auto, unfolding(crate::specs::Machine::next))]

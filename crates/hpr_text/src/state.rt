@@ -1,11 +1,12 @@
 //! The places of the grammar at which a text can stand.
 ghost use Rattle.std.specs.Prelude.{◌≡◌};
 ghost use Rattle.hpr_text.specs.Machine as machine;
+ghost use Rattle.hpr_text.specs.Private.EndsAt.{ends_at};
 
 use crate::boxed::BoxedReader;
 use crate::form::Mode;
 use crate::found::Found;
-use hpr_terms::{Name, Tag};
+use hpr_terms::{Keyword, Name, Sign, Tag, Token};
 use std::alloc::Global;
 
 /// What an expression is read for.
@@ -17,6 +18,19 @@ pub enum Purpose {
     Test(Tag),
     /// The test of a loop.
     Guard(Tag),
+}
+
+impl Purpose {
+    /// Whether an expression that is read for this ends before the token.
+    pub fn ends_at(&self, token: &Token) -> bool
+        ensures { result ≡ ends_at self.now token.now }
+    {
+        match self {
+            Purpose::Assign(_, _) => matches!(token, Token::Mark(Sign::Semicolon)),
+            Purpose::Test(_) => matches!(token, Token::Word(Keyword::Then)),
+            Purpose::Guard(_) => matches!(token, Token::Word(Keyword::Do)),
+        }
+    }
 }
 
 /// What was read last.
