@@ -1,20 +1,23 @@
 -- Runs of bytes at which the machine waits: blanks, the bytes of a comment, and words.
-use Rattle.std.proofs.Common.{◌≡◌, ℕ, zero, suc, ◌+◌, ◌-◌, ◌≤◌, List, [], ◌∷◌, ◌++◌, length, take, drop, Bool, true, false, cond, eqb, Option, Some, refl, sym, ap, subst, ◌∙◌, append_assoc, arith}
+use Rattle.std.proofs.Common.{◌≡◌, ℕ, zero, suc, ◌+◌, ◌-◌, ◌≤◌, ◌<◌, List, [], ◌∷◌, ◌++◌, length, get_or, take, drop, Bool, true, false, cond, eqb, Option, Some, Result, Ok, Err, refl, sym, ap, subst, ◌∙◌, append_assoc, arith}
 use Rattle.std.specs.List.{list_all, prefix_len, take_while}
 use Rattle.std.proofs.lemmas.Bool.{and_parts, and_from, not-true}
 use Rattle.std.proofs.Math.Seq.{take-add}
-use Rattle.std.proofs.lemmas.List.{append-nil, length-take-le, length-drop, take_all}
+use Rattle.std.proofs.lemmas.List.{append-nil, length-take-le, length-drop, take_all, get_or-drop}
 use Rattle.std.proofs.lemmas.List.Elements.{All-take}
-use Rattle.std.proofs.lemmas.List.Sums.{AllPass-from_list_all, list_all-from_AllPass, take_while-cons, prefix_len-le-length}
+use Rattle.std.proofs.lemmas.List.Sums.{AllPass-from_list_all, list_all-from_AllPass, take_while-cons, prefix_len-le-length, prefix_len_stops}
 use Rattle.hpr_terms.specs.declared.token.Token.{Token}
 use Rattle.hpr_terms.specs.Names.{is_name_byte}
 use Rattle.hpr_terms.specs.Tokens.{IsToken, is_blank}
+use Rattle.hpr_scan.specs.declared.machine.Fault.{Fault}
+use Rattle.hpr_scan.specs.declared.machine.Fault.TheVariants.{Refused, Memory}
 use Rattle.hpr_scan.specs.declared.scanner.Lex.{Lex}
 use Rattle.hpr_scan.specs.declared.scanner.Lex.TheVariants.{Gap, Comment, InWord}
 use Rattle.hpr_scan.specs.declared.scanner.Scanner.{Scanner}
 use Rattle.hpr_scan.specs.Machine.{IsTokenMachine}
-use Rattle.hpr_scan.specs.Words.{begins, IsFirstWord}
-use Rattle.hpr_scan.specs.Scanner.{at, feed_gap, feed, feeds, goes_on_comment, Waits}
+use Rattle.hpr_scan.specs.Steps.{Moves}
+use Rattle.hpr_scan.specs.Words.{begins, IsFirstWord, IsNextWord}
+use Rattle.hpr_scan.specs.Scanner.{at, feed_gap, feed, feeds, goes_on_comment, Waits, Takes, advanced, Advances}
 use Rattle.hpr_scan.proofs.Words.{fronts_begin}
 use Rattle.hpr_scan.proofs.WholeText.{word_no_blank, word_no_comment}
 use Rattle.hpr_scan.proofs.Live.{completes}
@@ -145,6 +148,39 @@ first_word next s bytes w n e long front h = record {
   begun = h;
 }
 
+-- the same where another byte stands behind it
+pub next_word_is : {S : Type 0} (next : S → Token → Option S) (s : S) (bytes w : List ℕ) (n : ℕ) → n ≡ prefix_len is_name_byte bytes → 1 ≤ n → n < length bytes → w ≡ take n bytes → begins next s w ≡ true → IsNextWord next s bytes w
+next_word_is next s bytes w n e long more front h =
+    let same : n ≡ length w = sym (ap length front ∙ length-take-le n bytes (omega arith)) in
+    let first : IsFirstWord next s bytes w n = first_word next s bytes w n e long front h in
+    let stops : is_name_byte (get_or bytes n 0) ≡ false =
+    subst (λ (k : ℕ). is_name_byte (get_or bytes k 0) ≡ false) (sym e) (prefix_len_stops is_name_byte bytes 0 (omega (arith, e, more))) in
+    record {
+      first = subst (λ (k : ℕ). IsFirstWord next s bytes w k) same first;
+      more = subst (λ (k : ℕ). k < length bytes) same more;
+      outside = subst (λ (k : ℕ). is_name_byte (get_or bytes k 0) ≡ false) same stops;
+    }
+
+-- ---- a byte behind bytes at which the machine waits
+
+pub word_taken : {S : Type 0} (next : S → Token → Option S) → IsTokenMachine next → (a : Scanner S) (bytes w : List ℕ) (P : Option (Scanner S) → Type 0) → a.lex ≡ Gap → IsNextWord next a.machine bytes w → P (feed next (InWord w) a.machine (get_or bytes (length w) 0)) → Takes next a bytes (length w) P
+word_taken next laws a bytes w P e h p = record {
+  begun = InWord w;
+  within = h.more;
+  fed = word_feeds next laws a.lex a.machine bytes w (length w) e h.first;
+  waits = word_waits next laws a.lex a.machine bytes w (length w) e h.first;
+  taken = p;
+}
+
+pub byte_taken : {S : Type 0} (next : S → Token → Option S) (a : Scanner S) (bytes : List ℕ) (P : Option (Scanner S) → Type 0) → 1 ≤ length bytes → P (feed next a.lex a.machine (get_or bytes 0 0)) → Takes next a bytes 0 P
+unfolding feeds
+byte_taken next a bytes P long p = record { begun = a.lex; within = omega (arith, long); fed = refl; waits = nothing_waits next a.lex a.machine bytes; taken = p }
+
+pub took_by : {S A : Type 0} (next : S → Token → Option S) (a b : Scanner S) (bytes : List ℕ) (n : ℕ) (step : Result A Fault) → Takes next a bytes n (λ o. Moves o b step) → Advances next a bytes b (advanced n step)
+took_by next a b bytes n (Ok x) h = h
+took_by next a b bytes n (Err Refused) h = h
+took_by next a b bytes n (Err Memory) h = h
+
 -- ---- in a longer run of bytes
 
 -- the bytes behind the first i
@@ -163,8 +199,21 @@ within_rest i n bytes le h =
 pub passed_on : {S : Type 0} (next : S → Token → Option S) (s : S) (bytes : List ℕ) (i n : ℕ) (a b : Scanner S) → feeds next Gap s (take i bytes) ≡ Some a → feeds next a.lex a.machine (take n (rest i bytes)) ≡ Some b → feeds next Gap s (take (i + n) bytes) ≡ Some b
 passed_on next s bytes i n a b e f = rw (take-add i n bytes) (feeds_then next (take i bytes) (take n (drop i bytes)) Gap s a b e (subst (λ (x : List ℕ). feeds next a.lex a.machine (take n x) ≡ Some b) (rest_is i bytes) f))
 
--- no bytes behind the first i
-pub none_passed : {S : Type 0} (next : S → Token → Option S) (s : S) (bytes : List ℕ) (i n : ℕ) (a b : Scanner S) → n ≤ 0 → feeds next Gap s (take i bytes) ≡ Some a → feeds next a.lex a.machine (take n (rest i bytes)) ≡ Some b → feeds next Gap s (take i bytes) ≡ Some b
-none_passed next s bytes i n a b z e f =
-    let same : i + n ≡ i = omega (arith, z) in
-    subst (λ (k : ℕ). feeds next Gap s (take k bytes) ≡ Some b) same (passed_on next s bytes i n a b e f)
+-- the first j bytes lead to a place where the machine is m, and P of where the next byte leads
+pub record Stands {S : Type 0} (next : S → Token → Option S) (s : S) (bytes : List ℕ) (j : ℕ) (m : S) (P : Option (Scanner S) → Type 0) : Type 0 where
+  pub begun : Lex
+  pub within : j < length bytes
+  pub front : feeds next Gap s (take j bytes) ≡ Some (at begun m)
+  pub taken : P (feed next begun m (get_or bytes j 0))
+
+-- a byte behind n bytes behind the first i
+pub stands_at : {S : Type 0} (next : S → Token → Option S) (s : S) (bytes : List ℕ) (i n : ℕ) (a : Scanner S) (P : Option (Scanner S) → Type 0) → i ≤ length bytes → feeds next Gap s (take i bytes) ≡ Some a → Takes next a (rest i bytes) n P → Stands next s bytes (i + n) a.machine P
+stands_at next s bytes i n a P le e h =
+    let long : length (rest i bytes) ≡ length bytes - i = ap length (rest_is i bytes) ∙ length-drop i bytes in
+    let same : get_or (rest i bytes) n 0 ≡ get_or bytes (i + n) 0 = ap (λ (x : List ℕ). get_or x n 0) (rest_is i bytes) ∙ get_or-drop i bytes n 0 in
+    record {
+      begun = h.begun;
+      within = omega (arith, le, long, h.within);
+      front = passed_on next s bytes i n a (at h.begun a.machine) e h.fed;
+      taken = subst (λ (b : ℕ). P (feed next h.begun a.machine b)) same h.taken;
+    }

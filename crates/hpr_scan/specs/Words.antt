@@ -14,7 +14,8 @@
 -- begins_keyword next s w k == s takes the keyword k, and w is a front of its text
 -- begins next s w           == w is the front of a word that s takes
 -- IsFirstWord next s bytes w n == w is the first n bytes, all bytes of words, and the front of a word that s takes
-use Rattle.std.specs.Prelude.{◌≡◌, ℕ, ◌+◌, ◌*◌, ◌-◌, ◌^◌, ◌≤◌, Bool, false, ◌||◌, ◌&&◌, nat_eq, nat_lt, true, List, [], ◌∷◌, length, take, Option, Some, None, is_some, Result, Ok, Err, if◌then◌else◌}
+-- IsNextWord next s bytes w    == w is all bytes of words at the front of these, and the front of a word that s takes; another byte stands behind it
+use Rattle.std.specs.Prelude.{◌≡◌, ℕ, ◌+◌, ◌*◌, ◌-◌, ◌^◌, ◌≤◌, ◌<◌, slice_index, Bool, false, ◌||◌, ◌&&◌, nat_eq, nat_lt, true, List, [], ◌∷◌, length, take, Option, Some, None, is_some, Result, Ok, Err, if◌then◌else◌}
 use Rattle.std.specs.Char.{is_ascii_digit}
 use Rattle.std.specs.List.{list_all, list_any, starts_with}
 use Rattle.hpr_terms.specs.declared.keyword.Keyword.{Keyword}
@@ -78,3 +79,8 @@ pub record IsFirstWord {S : Type 0} (next : S → Token → Option S) (s : S) (b
   pub front : w ≡ take n bytes
   pub letters : list_all is_name_byte w ≡ true
   pub begun : begins next s w ≡ true
+
+pub record IsNextWord {S : Type 0} (next : S → Token → Option S) (s : S) (bytes w : List ℕ) : Type 0 where
+  pub first : IsFirstWord next s bytes w (length w)
+  pub more : length w < length bytes
+  pub outside : is_name_byte (slice_index bytes (length w)) ≡ false

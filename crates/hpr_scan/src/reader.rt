@@ -5,7 +5,7 @@ ghost use Rattle.hpr_scan.specs.Scanner.{refusal_at, Scans};
 ghost use Rattle.hpr_scan.specs.Steps.{IsReading};
 
 use crate::machine::{Fault, FrontMachine, TokenMachine};
-use crate::scanner::Scanner;
+use crate::scanner::{Advance, Scanner};
 use std::alloc::Global;
 
 /// Why there is no machine after the bytes of a text.
@@ -38,16 +38,10 @@ fn scan<M: TokenMachine + Drop>(
     let mut scanner = Scanner::new(machine);
     let mut place = 0;
     while place < bytes.len() {
-        let Ok(passed) = scanner.pass(alloc, &bytes[place..]) else {
-            return Err(Refusal::Memory);
-        };
-        if passed > 0 {
-            place += passed;
-        } else {
-            match scanner.feed(alloc, bytes[place]) {
-                Ok(()) => place += 1,
-                Err(fault) => return Err(refused(fault, place)),
-            }
+        match scanner.advance(alloc, &bytes[place..]) {
+            Advance::Passed(count) => place += count,
+            Advance::Took(count) => place += count + 1,
+            Advance::Failed(count, fault) => return Err(refused(fault, place + count)),
         }
     }
     Ok(scanner)
@@ -98,20 +92,16 @@ pub fn read_front<M: FrontMachine + Drop>(
     let mut scanner = Scanner::new(machine);
     let mut place = 0;
     while place < bytes.len() {
-        let Ok(passed) = scanner.pass(alloc, &bytes[place..]) else {
-            return Err(Refusal::Memory);
-        };
-        if passed > 0 {
-            place += passed;
-        } else {
-            match scanner.feed(alloc, bytes[place]) {
-                Ok(()) => {}
-                Err(fault) => return Err(refused(fault, place)),
+        match scanner.advance(alloc, &bytes[place..]) {
+            Advance::Passed(count) => place += count,
+            Advance::Took(count) => {
+                place += count;
+                if scanner.machine.can_end() {
+                    return Ok((scanner.machine, place));
+                }
+                place += 1;
             }
-            if scanner.machine.can_end() {
-                return Ok((scanner.machine, place));
-            }
-            place += 1;
+            Advance::Failed(count, fault) => return Err(refused(fault, place + count)),
         }
     }
     let place = bytes.len();

@@ -1,19 +1,19 @@
 //! Finds the tokens in bytes, from one byte to the next.
-ghost use Rattle.std.specs.Prelude.{◌≡◌, ◌++◌, ◌∷◌, [], ◌||◌, is_some, IsTrue, ◌==◌, if◌then◌else◌, ◌≤◌, length, take, Some, IfOk};
+ghost use Rattle.std.specs.Prelude.{◌≡◌, ◌++◌, ◌∷◌, [], ◌||◌, is_some, IsTrue, ◌==◌, if◌then◌else◌, ◌≤◌, length, take, Some, IfSome, false};
 ghost use Rattle.std.specs.List.{prefix_len};
 ghost use Rattle.hpr_terms.specs.declared.token.Token.TheVariants as tokens;
 ghost use Rattle.hpr_terms.specs.declared.token.Sign.TheVariants as signs;
 ghost use Rattle.hpr_terms.specs.Names.{is_name_byte};
 ghost use Rattle.hpr_terms.specs.Tokens.{is_blank};
 ghost use Rattle.hpr_scan.specs.Steps.{and_then, Moves, Steps};
-ghost use Rattle.hpr_scan.specs.Words.{word_token};
-ghost use Rattle.hpr_scan.specs.declared.scanner.Lex.TheVariants.{Gap, Comment};
-ghost use Rattle.hpr_scan.specs.Scanner.{at, sign_of, longer, after_sign, waiting, feed_sign, grown, feed_gap, finish, feed_half, feed, feeds, goes_on_comment, Waits};
+ghost use Rattle.hpr_scan.specs.Words.{word_token, IsNextWord};
+ghost use Rattle.hpr_scan.specs.declared.scanner.Lex.TheVariants.{Gap, Comment, InWord};
+ghost use Rattle.hpr_scan.specs.Scanner.{at, sign_of, longer, after_sign, waiting, feed_sign, grown, feed_gap, finish, feed_half, feed, feeds, goes_on_comment, Waits, advanced, Advances};
 
 use crate::machine::{Fault, TokenMachine};
-use crate::word::{Letters, begins, word_before, word_token};
+use crate::word::{Letters, begins, next_word, word_token};
 use hpr_terms::{Sign, Token, is_name_byte};
-use std::alloc::{AllocError, Global};
+use std::alloc::Global;
 use std::mem;
 
 /// What has begun before the next byte.
@@ -27,6 +27,16 @@ pub enum Lex {
     InWord(Letters),
     /// A sign that may be the front of a longer one.
     Half(Sign),
+}
+
+/// How a scanner went on over bytes.
+pub enum Advance {
+    /// It passed over so many of them, at least one, and its machine waits.
+    Passed(usize),
+    /// It passed over so many, and took the next.
+    Took(usize),
+    /// It passed over so many, and the next cannot stand there, or memory ran out.
+    Failed(usize, Fault),
 }
 
 /// A place in a text: what has begun there, and the machine before it.
@@ -103,14 +113,20 @@ fn count_comment(bytes: &[u8]) -> usize
     bytes.len()
 }
 
-fn take_word<M: TokenMachine>(
-    alloc: Global,
-    letters: &Letters,
-    machine: &mut M,
-) -> Result<(), Fault>
-    ensures { Moves (and_then (word_token letters.now) (M.next machine.old)) machine.new result }
+// How a scanner went on that passed over so many bytes, and has this answer of the next one.
+fn advanced(count: usize, step: Result<(), Fault>) -> Advance
+    ensures { result ≡ advanced count step }
 {
-    let token = word_token(alloc, letters)?;
+    match step {
+        Ok(()) => Advance::Took(count),
+        Err(fault) => Advance::Failed(count, fault),
+    }
+}
+
+fn take_word<M: TokenMachine>(alloc: Global, word: &str, machine: &mut M) -> Result<(), Fault>
+    ensures { Moves (and_then (word_token word.now) (M.next machine.old)) machine.new result }
+{
+    let token = word_token(alloc, word)?;
     machine.step(alloc, token)
 }
 
@@ -120,7 +136,7 @@ fn finish<M: TokenMachine>(alloc: Global, lex: Lex, machine: &mut M) -> Result<(
 {
     match lex {
         Lex::Gap | Lex::Comment => Ok(()),
-        Lex::InWord(letters) => take_word(alloc, &letters, machine),
+        Lex::InWord(letters) => take_word(alloc, letters.text(), machine),
         Lex::Half(sign) => machine.step(alloc, Token::Mark(sign)),
     }
 }
@@ -175,7 +191,7 @@ impl<M: TokenMachine + Drop> Scanner<M> {
         ensures { Moves (grown M.next self.old.machine (letters ++ byte ∷ [])) self.new result }
     {
         letters.push(byte)?;
-        if !begins(&self.machine, &letters) {
+        if !begins(&self.machine, letters.text().as_bytes()) {
             return Err(Fault::Refused);
         }
         self.lex = Lex::InWord(letters);
@@ -247,40 +263,63 @@ impl<M: TokenMachine + Drop> Scanner<M> {
         }
     }
 
-    /// Passes over bytes at the front of these while the machine waits: a run of blanks, the rest
-    /// of a comment, or all letters of a word that can stand next. Answers how many bytes that is,
-    /// which may be none. Its one error is want of memory.
-    pub fn pass(&mut self, alloc: Global, bytes: &[u8]) -> Result<usize, AllocError>
-        ensures within { IfOk result (λ n. n ≤ length bytes.now) }
-        ensures fed { let old = self.old in IfOk result
-            (λ n. feeds M.next old.lex old.machine (take n bytes.now) ≡ Some self.new) }
-        ensures waits { let old = self.old in IfOk result
-            (λ n. Waits M.next old.lex old.machine (take n bytes.now)) }
-        ensures machine { IfOk result (λ n. self.new.machine ≡ self.old.machine) }
+    /// How many bytes at the front of these can be passed over, since what has begun stays as it is: a
+    /// run of blanks, or the rest of a comment.
+    fn count_waiting(&self, bytes: &[u8]) -> usize
+        ensures within { result ≤ length bytes.now }
+        ensures fed { feeds M.next self.now.lex self.now.machine (take result bytes.now) ≡ Some self.now }
+        ensures waits { Waits M.next self.now.lex self.now.machine (take result bytes.now) }
     {
         match self.lex {
-            Lex::Gap => {
-                let blanks = count_blanks(bytes);
-                if blanks > 0 {
-                    return Ok(blanks);
-                }
-                match word_before(alloc, &self.machine, bytes)? {
-                    None => Ok(0),
-                    Some((letters, length)) => {
-                        self.lex = Lex::InWord(letters);
-                        Ok(length)
-                    }
-                }
-            }
-            Lex::Comment => Ok(count_comment(bytes)),
-            _ => Ok(0),
+            Lex::Gap => count_blanks(bytes),
+            Lex::Comment => count_comment(bytes),
+            _ => 0,
         }
+    }
+
+    /// The word at the front of the bytes, where nothing has begun, and such a word can stand next.
+    fn next_word<'a>(&self, bytes: &'a [u8]) -> Option<&'a str>
+        ensures gap { IfSome result (λ _. self.now.lex ≡ Gap) }
+        ensures word { IfSome result (λ w. IsNextWord M.next self.now.machine bytes.now w.now) }
+    {
+        match self.lex {
+            Lex::Gap => next_word(&self.machine, bytes),
+            _ => None,
+        }
+    }
+
+    /// Takes the word, which is whole, and the byte behind it.
+    #[tactic(auto, unfolding(crate::specs::Scanner::feed, crate::specs::Scanner::finish))]
+    fn feed_word(&mut self, alloc: Global, word: &str, byte: u8) -> Result<(), Fault>
+        requires { is_name_byte byte ≡ false }
+        ensures { Moves (feed M.next (InWord word.now) self.old.machine byte) self.new result }
+    {
+        take_word(alloc, word, &mut self.machine)?;
+        self.feed_gap(alloc, byte)
+    }
+
+    /// Goes on over the bytes, at least by one. After a failure the place is of no use.
+    pub fn advance(&mut self, alloc: Global, bytes: &[u8]) -> Advance
+        requires { 1 ≤ length bytes.now }
+        ensures { Advances M.next self.old bytes.now self.new result }
+    {
+        if let Some(word) = self.next_word(bytes) {
+            let count = word.len();
+            let step = self.feed_word(alloc, word, bytes[count]);
+            return advanced(count, step);
+        }
+        let count = self.count_waiting(bytes);
+        if count > 0 {
+            return Advance::Passed(count);
+        }
+        let step = self.feed(alloc, bytes[0]);
+        advanced(0, step)
     }
 
     /// Takes the byte, in place. `Refused` comes exactly where the byte cannot stand here. After an
     /// `Err` the place is of no use.
     #[tactic(auto, unfolding(crate::specs::Scanner::feed))]
-    pub fn feed(&mut self, alloc: Global, byte: u8) -> Result<(), Fault>
+    fn feed(&mut self, alloc: Global, byte: u8) -> Result<(), Fault>
         ensures { Moves (feed M.next self.old.lex self.old.machine byte) self.new result }
     {
         match mem::replace(&mut self.lex, Lex::Gap) {

@@ -4,7 +4,7 @@ ghost use Rattle.std.specs.List.{list_all, list_any, prefix_len};
 ghost use Rattle.hpr_terms.specs.declared.token.Token.TheVariants as tokens;
 ghost use Rattle.hpr_terms.specs.Keywords.{keywords};
 ghost use Rattle.hpr_terms.specs.Names.{begins_with_digit, is_name_byte, is_name_like};
-ghost use Rattle.hpr_scan.specs.Words.{is_digit, is_numeral, value_after, number_token, other_token, word_token, IsNoToken, ReadsWord, begins_name, begins_number, begins_keyword, begins, IsFirstWord};
+ghost use Rattle.hpr_scan.specs.Words.{is_digit, is_numeral, value_after, number_token, other_token, word_token, IsNoToken, ReadsWord, begins_name, begins_number, begins_keyword, begins, IsNextWord};
 
 use crate::machine::{Fault, TokenMachine};
 use hpr_terms::{KEYWORDS, Keyword, Name, NameError, Token, is_name_byte, is_name_like};
@@ -33,19 +33,6 @@ impl Letters {
     {
         Letters {
             text: String::new(alloc),
-        }
-    }
-
-    /// These bytes as letters, where they are UTF-8: bytes of words alone always are. Its one error
-    /// is want of memory.
-    pub(crate) fn of(alloc: Global, word: &[u8]) -> Result<Option<Letters>, AllocError>
-        ensures { IfOk result (λ o. IfSome o (λ letters. letters ≡ word.now)) }
-    {
-        match str::from_utf8(word) {
-            Ok(text) => Ok(Some(Letters {
-                text: String::from_str(alloc, text)?,
-            })),
-            Err(_) => Ok(None),
         }
     }
 
@@ -150,10 +137,9 @@ fn other_token(alloc: Global, word: &str) -> Result<Token, Fault>
 ///
 /// `Refused` comes where there is none, or a number from 2 ^ 64 on.
 #[tactic(auto, unfolding(crate::specs::Words::word_token), using(crate::proofs::Words::digit_word))]
-pub(crate) fn word_token(alloc: Global, letters: &Letters) -> Result<Token, Fault>
-    ensures { ReadsWord (word_token letters.now) result }
+pub(crate) fn word_token(alloc: Global, word: &str) -> Result<Token, Fault>
+    ensures { ReadsWord (word_token word.now) result }
 {
-    let word = letters.text();
     if begins_with_digit(word.as_bytes()) {
         return numeral(word.as_bytes());
     }
@@ -201,12 +187,11 @@ fn begins_number<M: TokenMachine>(machine: &M, word: &[u8]) -> bool
     is_numeral(word) && takes_value(machine, word)
 }
 
-/// Whether the letters are the front of a word that can stand next.
+/// Whether the word is the front of one that can stand next.
 #[tactic(auto, unfolding(crate::specs::Words::begins))]
-pub(crate) fn begins<M: TokenMachine>(machine: &M, letters: &Letters) -> bool
-    ensures { result ≡ begins M.next machine.now letters.now }
+pub(crate) fn begins<M: TokenMachine>(machine: &M, word: &[u8]) -> bool
+    ensures { result ≡ begins M.next machine.now word.now }
 {
-    let word = letters.text().as_bytes();
     begins_name(machine, word)
         || begins_number(machine, word)
         || begins_keyword_of(machine, word, &KEYWORDS)
@@ -223,27 +208,23 @@ fn count_letters(bytes: &[u8]) -> usize
     bytes.len()
 }
 
-/// The word at the front of the bytes, and its length, where one begins there and can stand next.
-/// Its one error is want of memory.
-pub(crate) fn word_before<M: TokenMachine>(
-    alloc: Global,
-    machine: &M,
-    bytes: &[u8],
-) -> Result<Option<(Letters, usize)>, AllocError>
-    ensures { IfOk result (λ o. IfSome o (λ (w, n). IsFirstWord M.next machine.now bytes.now w n)) }
+/// The word at the front of the bytes, where one begins there that can stand next, and another byte
+/// stands behind it.
+pub(crate) fn next_word<'a, M: TokenMachine>(machine: &M, bytes: &'a [u8]) -> Option<&'a str>
+    ensures { IfSome result (λ w. IsNextWord M.next machine.now bytes.now w.now) }
 {
     let length = count_letters(bytes);
-    if length == 0 {
-        return Ok(None);
+    if length == 0 || length == bytes.len() {
+        return None;
     }
-    match Letters::of(alloc, &bytes[..length])? {
-        None => Ok(None),
-        Some(letters) => {
-            if begins(machine, &letters) {
-                Ok(Some((letters, length)))
+    match str::from_utf8(&bytes[..length]) {
+        Ok(word) => {
+            if begins(machine, word.as_bytes()) {
+                Some(word)
             } else {
-                Ok(None)
+                None
             }
         }
+        Err(_) => None,
     }
 }
