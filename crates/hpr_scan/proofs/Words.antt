@@ -17,14 +17,14 @@ use Rattle.hpr_terms.specs.declared.keyword.Keyword.TheVariants.{Program, Issued
 use Rattle.hpr_terms.specs.declared.token.Token.{Token}
 use Rattle.hpr_terms.specs.declared.token.Token.TheVariants.{Word, Name, Number, Mark}
 use Rattle.hpr_terms.specs.Keywords.{keyword_text, keywords, keyword_of}
-use Rattle.hpr_terms.specs.Names.{is_name_like, is_name_byte, begins_with_digit, is_name}
+use Rattle.hpr_terms.specs.Names.{is_name_like, is_name_byte, begins_with_digit, is_name, IsName}
 use Rattle.hpr_terms.specs.Tokens.{IsToken, is_word}
 use Rattle.hpr_terms.proofs.Facts.{or_right, or_left, some_inj}
 use Rattle.hpr_scan.specs.declared.machine.Fault.{Fault}
 use Rattle.hpr_scan.specs.declared.machine.Fault.TheVariants.{Refused, Memory}
 use Rattle.hpr_scan.specs.Machine.{IsTokenMachine}
 use Rattle.hpr_scan.specs.Steps.{and_then, Steps}
-use Rattle.hpr_scan.specs.Words.{is_digit, value_after, is_numeral, number_token, other_token, keyword_or, word_token, IsNoToken, ReadsWord, begins_keyword, begins}
+use Rattle.hpr_scan.specs.Words.{is_digit, value_after, is_numeral, number_token, other_token, keyword_or, keyword_or_number, word_token, IsNoToken, ReadsWord, begins_keyword, begins}
 
 -- ---- what a machine takes
 
@@ -266,6 +266,25 @@ digit_no_name w d = at_test (is_name w) refl
     at_test : (v : Bool) → is_name w ≡ v → v ≡ false
     at_test true h = absurd (true_false d (not-true (begins_with_digit w) (name_parts w (name_like w h).0).first))
     at_test false h = refl
+
+-- a name is no other token, and another word is no name
+pub named_word : (w : List ℕ) → IsName w → word_token w ≡ Some (Name w)
+unfolding word_token
+named_word w n =
+    let e : is_name w ≡ true = n in
+    rw ((name_like w e).1, e) refl
+
+pub unnamed_word : (w : List ℕ) → (¬ IsName w) → word_token w ≡ keyword_or_number (keyword_of w) w
+unfolding word_token
+unnamed_word w n = at_keyword (keyword_of w)
+  where
+    no : (v : Bool) → is_name w ≡ v → v ≡ false
+    no true e = absurd (n e)
+    no false e = refl
+
+    at_keyword : (o : Option Keyword) → keyword_or o w ≡ keyword_or_number o w
+    at_keyword (Some k) = refl
+    at_keyword None = rw (no (is_name w) refl) refl
 
 pub digit_word : (w : List ℕ) → begins_with_digit w ≡ true → word_token w ≡ number_token w
 unfolding word_token

@@ -8,6 +8,7 @@
 -- keyword_or k w            == the keyword k, or else the name or the number whose text w is
 -- word_token w              == the token whose text the word w is, if there is one
 -- IsNoToken o               == o is no token, or a number that no machine takes
+-- keyword_or_number k w     == the keyword k, or else the number whose text w is
 -- ReadsWord o r             == r is the token o, or a refusal where there is none that a machine takes; memory may run out
 -- begins_name next s w      == s takes a name, and w is the front of one
 -- begins_number next s w    == w is a number that s takes
@@ -50,6 +51,10 @@ keyword_or None w = other_token w
 
 unfoldable pub word_token : List ℕ → Option Token
 word_token w = keyword_or (keyword_of w) w
+
+abbrev pub keyword_or_number : Option Keyword → List ℕ → Option Token
+keyword_or_number (Some k) w = Some (Word k)
+keyword_or_number None w = number_token w
 
 abbrev pub IsNoToken : Option Token → Type 0
 IsNoToken None = Unit {0}

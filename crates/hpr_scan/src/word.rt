@@ -2,9 +2,9 @@
 ghost use Rattle.std.specs.Prelude.{◌≡◌, ◌^◌, ◌+◌, ◌*◌, ◌-◌, ◌<◌, ◌≤◌, ◌++◌, ◌∷◌, [], IfOk, IfSome, OnErr, IsTrue, MatchOption, Some, is_some};
 ghost use Rattle.std.specs.List.{list_all, list_any, prefix_len};
 ghost use Rattle.hpr_terms.specs.declared.token.Token.TheVariants as tokens;
-ghost use Rattle.hpr_terms.specs.Keywords.{keywords};
+ghost use Rattle.hpr_terms.specs.Keywords.{keywords, keyword_of};
 ghost use Rattle.hpr_terms.specs.Names.{begins_with_digit, is_name_byte, is_name_like};
-ghost use Rattle.hpr_scan.specs.Words.{is_digit, is_numeral, value_after, number_token, other_token, word_token, IsNoToken, ReadsWord, begins_name, begins_number, begins_keyword, begins, IsNextWord};
+ghost use Rattle.hpr_scan.specs.Words.{is_digit, is_numeral, value_after, number_token, keyword_or_number, word_token, IsNoToken, ReadsWord, begins_name, begins_number, begins_keyword, begins, IsNextWord};
 
 use crate::machine::{Fault, TokenMachine};
 use hpr_terms::{KEYWORDS, Keyword, Name, NameError, Token, is_name_byte, is_name_like};
@@ -123,29 +123,30 @@ fn begins_with_digit(word: &[u8]) -> bool
     }
 }
 
-fn other_token(alloc: Global, word: &str) -> Result<Token, Fault>
-    ensures { ReadsWord (other_token word.now) result }
+// The keyword or the number whose text the word is.
+fn keyword_or_number(word: &[u8]) -> Result<Token, Fault>
+    ensures { ReadsWord (keyword_or_number (keyword_of word.now) word.now) result }
 {
-    match Name::new(alloc, word) {
-        Ok(name) => Ok(Token::Name(name)),
-        Err(NameError::NotAName) => numeral(word.as_bytes()),
-        Err(NameError::Memory) => Err(Fault::Memory),
+    match Keyword::of(word) {
+        Some(keyword) => Ok(Token::Word(keyword)),
+        None => numeral(word),
     }
 }
 
 /// The token whose text the word is.
 ///
 /// `Refused` comes where there is none, or a number from 2 ^ 64 on.
-#[tactic(auto, unfolding(crate::specs::Words::word_token), using(crate::proofs::Words::digit_word))]
+#[tactic(auto, using(crate::proofs::Words::digit_word, crate::proofs::Words::named_word))]
 pub(crate) fn word_token(alloc: Global, word: &str) -> Result<Token, Fault>
     ensures { ReadsWord (word_token word.now) result }
 {
     if begins_with_digit(word.as_bytes()) {
         return numeral(word.as_bytes());
     }
-    match Keyword::of(word.as_bytes()) {
-        Some(keyword) => Ok(Token::Word(keyword)),
-        None => other_token(alloc, word),
+    match Name::new(alloc, word) {
+        Ok(name) => Ok(Token::Name(name)),
+        Err(NameError::NotAName) => keyword_or_number(word.as_bytes()),
+        Err(NameError::Memory) => Err(Fault::Memory),
     }
 }
 
