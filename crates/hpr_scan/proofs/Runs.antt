@@ -16,8 +16,9 @@ use Rattle.hpr_scan.specs.declared.scanner.Lex.TheVariants.{Gap, Comment, InWord
 use Rattle.hpr_scan.specs.declared.scanner.Scanner.{Scanner}
 use Rattle.hpr_scan.specs.Machine.{IsTokenMachine}
 use Rattle.hpr_scan.specs.Steps.{Moves}
-use Rattle.hpr_scan.specs.Words.{begins, IsFirstWord, IsNextWord}
-use Rattle.hpr_scan.specs.Scanner.{at, feed_gap, feed, feeds, goes_on_comment, Waits, Takes, advanced, Advances}
+use Rattle.hpr_scan.specs.Words.{begins, IsFirstWord}
+use Rattle.hpr_scan.specs.Scanner.{at, feed_gap, feed, feeds, goes_on_comment, Waits}
+use Rattle.hpr_scan.specs.Private.Advance.{IsNextWord, Takes, advanced, Advances}
 use Rattle.hpr_scan.proofs.Words.{fronts_begin}
 use Rattle.hpr_scan.proofs.WholeText.{word_no_blank, word_no_comment}
 use Rattle.hpr_scan.proofs.Live.{completes}

@@ -24,7 +24,8 @@ use Rattle.hpr_scan.specs.declared.machine.Fault.{Fault}
 use Rattle.hpr_scan.specs.declared.machine.Fault.TheVariants.{Refused, Memory}
 use Rattle.hpr_scan.specs.Machine.{IsTokenMachine}
 use Rattle.hpr_scan.specs.Steps.{and_then, Steps}
-use Rattle.hpr_scan.specs.Words.{is_digit, value_after, is_numeral, number_token, other_token, keyword_or, keyword_or_number, word_token, IsNoToken, ReadsWord, begins_keyword, begins}
+use Rattle.hpr_scan.specs.Private.Advance.{keyword_or_number}
+use Rattle.hpr_scan.specs.Words.{is_digit, value_after, is_numeral, number_token, other_token, keyword_or, word_token, IsNoToken, ReadsWord, begins_keyword, begins}
 
 -- ---- what a machine takes
 

@@ -19,15 +19,11 @@
 -- feeds next lex s bytes  == the place after the bytes, if they can stand here
 -- goes_on_comment b       == a comment that goes on with the byte b has not ended: b is no newline
 -- Waits next l s bytes    == each front of the bytes leads from l to a place at which the machine is still s
--- Passes next a bytes n b  == the first n bytes lead from a to b, and the machine waits; n is at least 1
--- Takes next a bytes n P   == the first n bytes lead from a to a place at which its machine still waits, and P of where the next byte leads
--- advanced n result       == how a scanner went on that passed over n bytes, and has this answer of the next one
--- Advances next a bytes b r == r says how a scanner went on from a to b over bytes: it passed over some, or took the byte behind them, or failed at it
 -- refusal_at n f          == what the fault f behind the first n bytes means: that they are all that can stand, or that memory ran out
 -- FeedsAt o n result      == the answer is o's place, or that n bytes is all that can stand, where o is none; memory may run out
 -- IsStuck next s bytes n  == the first n bytes lead from s to a place at which the next byte cannot stand
 -- Scans next s bytes r    == r is the place after the bytes, or the number of bytes before the first that cannot stand; memory may run out
-use Rattle.std.specs.Prelude.{◌≡◌, ℕ, ◌<◌, ◌≤◌, Bool, not, ◌||◌, nat_eq, List, [], ◌∷◌, ◌++◌, length, take, slice_index, Option, Some, None, is_some, Result, Ok, Err, if◌then◌else◌}
+use Rattle.std.specs.Prelude.{◌≡◌, ℕ, ◌<◌, Bool, not, ◌||◌, nat_eq, List, [], ◌∷◌, ◌++◌, length, take, slice_index, Option, Some, None, is_some, Result, Ok, Err, if◌then◌else◌}
 use Rattle.hpr_terms.specs.declared.token.Sign.{Sign}
 use Rattle.hpr_terms.specs.declared.token.Sign.TheVariants.{Colon, Becomes, Dot, Comma, Semicolon, Open, Close, Plus, Minus, Star, Slash, Percent, Equal, Differ, Less, LessEqual, Greater, GreaterEqual}
 use Rattle.hpr_terms.specs.declared.token.Token.{Token}
@@ -36,14 +32,12 @@ use Rattle.hpr_terms.specs.Names.{is_name_byte}
 use Rattle.hpr_terms.specs.Tokens.{is_blank}
 use Rattle.hpr_scan.specs.declared.machine.Fault.{Fault}
 use Rattle.hpr_scan.specs.declared.machine.Fault.TheVariants as fault
-use Rattle.hpr_scan.specs.declared.scanner.Advance.{Advance}
-use Rattle.hpr_scan.specs.declared.scanner.Advance.TheVariants.{Passed, Took, Failed}
 use Rattle.hpr_scan.specs.declared.scanner.Lex.{Lex}
 use Rattle.hpr_scan.specs.declared.scanner.Lex.TheVariants.{Gap, Comment, InWord, Half}
 use Rattle.hpr_scan.specs.declared.scanner.Scanner.{Scanner}
 use Rattle.hpr_scan.specs.declared.reader.Refusal.{Refusal}
 use Rattle.hpr_scan.specs.declared.reader.Refusal.TheVariants.{Stuck, Memory}
-use Rattle.hpr_scan.specs.Steps.{and_then, Steps}
+use Rattle.hpr_scan.specs.Steps.{and_then}
 use Rattle.hpr_scan.specs.Words.{word_token, begins}
 
 abbrev pub at : {S : Type 0} → Lex → S → Scanner S
@@ -112,29 +106,6 @@ goes_on_comment b = not (nat_eq b 10)
 
 abbrev pub Waits : {S : Type 0} → (S → Token → Option S) → Lex → S → List ℕ → Type 0
 Waits next l s bytes = (m : ℕ) → (k : Lex) × (feeds next l s (take m bytes) ≡ Some (at k s))
-
-pub record Passes {S : Type 0} (next : S → Token → Option S) (a : Scanner S) (bytes : List ℕ) (n : ℕ) (b : Scanner S) : Type 0 where
-  pub long : 1 ≤ n
-  pub within : n ≤ length bytes
-  pub fed : feeds next a.lex a.machine (take n bytes) ≡ Some b
-  pub waits : Waits next a.lex a.machine (take n bytes)
-  pub machine : b.machine ≡ a.machine
-
-pub record Takes {S : Type 0} (next : S → Token → Option S) (a : Scanner S) (bytes : List ℕ) (n : ℕ) (P : Option (Scanner S) → Type 0) : Type 0 where
-  pub begun : Lex
-  pub within : n < length bytes
-  pub fed : feeds next a.lex a.machine (take n bytes) ≡ Some (at begun a.machine)
-  pub waits : Waits next a.lex a.machine (take n bytes)
-  pub taken : P (feed next begun a.machine (slice_index bytes n))
-
-abbrev pub advanced : {A : Type 0} → ℕ → Result A Fault → Advance
-advanced n (Ok x) = Took n
-advanced n (Err f) = Failed n f
-
-abbrev pub Advances : {S : Type 0} → (S → Token → Option S) → Scanner S → List ℕ → Scanner S → Advance → Type 0
-Advances next a bytes b (Passed n) = Passes next a bytes n b
-Advances next a bytes b (Took n) = Takes next a bytes n (λ o. o ≡ Some b)
-Advances {S} next a bytes b (Failed n f) = Takes next a bytes n (λ o. Steps {S = Scanner S} o (Err f))
 
 abbrev pub refusal_at : ℕ → Fault → Refusal
 refusal_at n fault.Refused = Stuck n

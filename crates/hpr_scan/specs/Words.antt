@@ -8,15 +8,13 @@
 -- keyword_or k w            == the keyword k, or else the name or the number whose text w is
 -- word_token w              == the token whose text the word w is, if there is one
 -- IsNoToken o               == o is no token, or a number that no machine takes
--- keyword_or_number k w     == the keyword k, or else the number whose text w is
 -- ReadsWord o r             == r is the token o, or a refusal where there is none that a machine takes; memory may run out
 -- begins_name next s w      == s takes a name, and w is the front of one
 -- begins_number next s w    == w is a number that s takes
 -- begins_keyword next s w k == s takes the keyword k, and w is a front of its text
 -- begins next s w           == w is the front of a word that s takes
 -- IsFirstWord next s bytes w n == w is the first n bytes, all bytes of words, and the front of a word that s takes
--- IsNextWord next s bytes w    == w is all bytes of words at the front of these, and the front of a word that s takes; another byte stands behind it
-use Rattle.std.specs.Prelude.{◌≡◌, ℕ, ◌+◌, ◌*◌, ◌-◌, ◌^◌, ◌≤◌, ◌<◌, slice_index, Bool, false, ◌||◌, ◌&&◌, nat_eq, nat_lt, true, List, [], ◌∷◌, length, take, Option, Some, None, is_some, Result, Ok, Err, if◌then◌else◌}
+use Rattle.std.specs.Prelude.{◌≡◌, ℕ, ◌+◌, ◌*◌, ◌-◌, ◌^◌, ◌≤◌, Bool, false, ◌||◌, ◌&&◌, nat_eq, nat_lt, true, List, [], ◌∷◌, length, take, Option, Some, None, is_some, Result, Ok, Err, if◌then◌else◌}
 use Rattle.std.specs.Char.{is_ascii_digit}
 use Rattle.std.specs.List.{list_all, list_any, starts_with}
 use Rattle.hpr_terms.specs.declared.keyword.Keyword.{Keyword}
@@ -52,10 +50,6 @@ keyword_or None w = other_token w
 unfoldable pub word_token : List ℕ → Option Token
 word_token w = keyword_or (keyword_of w) w
 
-abbrev pub keyword_or_number : Option Keyword → List ℕ → Option Token
-keyword_or_number (Some k) w = Some (Word k)
-keyword_or_number None w = number_token w
-
 abbrev pub IsNoToken : Option Token → Type 0
 IsNoToken None = Unit {0}
 IsNoToken (Some (Number n)) = 2 ^ 64 ≤ n
@@ -84,8 +78,3 @@ pub record IsFirstWord {S : Type 0} (next : S → Token → Option S) (s : S) (b
   pub front : w ≡ take n bytes
   pub letters : list_all is_name_byte w ≡ true
   pub begun : begins next s w ≡ true
-
-pub record IsNextWord {S : Type 0} (next : S → Token → Option S) (s : S) (bytes w : List ℕ) : Type 0 where
-  pub first : IsFirstWord next s bytes w (length w)
-  pub more : length w < length bytes
-  pub outside : is_name_byte (slice_index bytes (length w)) ≡ false

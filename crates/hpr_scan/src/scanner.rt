@@ -6,9 +6,10 @@ ghost use Rattle.hpr_terms.specs.declared.token.Sign.TheVariants as signs;
 ghost use Rattle.hpr_terms.specs.Names.{is_name_byte};
 ghost use Rattle.hpr_terms.specs.Tokens.{is_blank};
 ghost use Rattle.hpr_scan.specs.Steps.{and_then, Moves, Steps};
-ghost use Rattle.hpr_scan.specs.Words.{word_token, IsNextWord};
+ghost use Rattle.hpr_scan.specs.Words.{word_token};
 ghost use Rattle.hpr_scan.specs.declared.scanner.Lex.TheVariants.{Gap, Comment, InWord};
-ghost use Rattle.hpr_scan.specs.Scanner.{at, sign_of, longer, after_sign, waiting, feed_sign, grown, feed_gap, finish, feed_half, feed, feeds, goes_on_comment, Waits, advanced, Advances};
+ghost use Rattle.hpr_scan.specs.Scanner.{at, sign_of, longer, after_sign, waiting, feed_sign, grown, feed_gap, finish, feed_half, feed, feeds, goes_on_comment, Waits};
+ghost use Rattle.hpr_scan.specs.Private.Advance.{IsNextWord, advanced, Advances};
 
 use crate::machine::{Fault, TokenMachine};
 use crate::word::{Letters, begins, next_word, word_token};

@@ -4,7 +4,8 @@ ghost use Rattle.std.specs.List.{list_all, list_any, prefix_len};
 ghost use Rattle.hpr_terms.specs.declared.token.Token.TheVariants as tokens;
 ghost use Rattle.hpr_terms.specs.Keywords.{keywords, keyword_of};
 ghost use Rattle.hpr_terms.specs.Names.{begins_with_digit, is_name_byte, is_name_like};
-ghost use Rattle.hpr_scan.specs.Words.{is_digit, is_numeral, value_after, number_token, keyword_or_number, word_token, IsNoToken, ReadsWord, begins_name, begins_number, begins_keyword, begins, IsNextWord};
+ghost use Rattle.hpr_scan.specs.Words.{is_digit, is_numeral, value_after, number_token, word_token, IsNoToken, ReadsWord, begins_name, begins_number, begins_keyword, begins};
+ghost use Rattle.hpr_scan.specs.Private.Advance.{keyword_or_number, IsNextWord};
 
 use crate::machine::{Fault, TokenMachine};
 use hpr_terms::{KEYWORDS, Keyword, Name, NameError, Token, is_name_byte, is_name_like};

@@ -1,7 +1,8 @@
 use Rattle.std.proofs.Common.{List, ℕ, refl, subst}
 use Rattle.hpr_terms.specs.Names.{IsName}
 use Rattle.hpr_terms.specs.Keywords.{keyword_of}
-use Rattle.hpr_scan.specs.Words.{keyword_or_number, ReadsWord}
+use Rattle.hpr_scan.specs.Words.{ReadsWord}
+use Rattle.hpr_scan.specs.Private.Advance.{keyword_or_number}
 use Rattle.hpr_scan.proofs.Words.{unnamed_word}
 use Rattle.hpr_scan.proofs.word.word_token.Goals as goal
 
