@@ -14,7 +14,8 @@ mod Twinned
 mod Linked
 mod Ascending
 pub mod VertexOrder
-mod Indexed
+pub mod Indexed
+mod Blank
 pub mod EdgeOrder
 pub mod InOrder
 mod Reordered

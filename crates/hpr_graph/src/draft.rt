@@ -1,5 +1,5 @@
 //! Graphs while they are filled, with dense numbers.
-ghost use Rattle.std.specs.Prelude.{◌≡◌, ◌↔◌, ◌⊎◌, ℕ, ◌+◌, ◌<◌, [], ◌∷◌, ◌++◌, length, Contains, slice_get, Some, IsNone, IsSome, IsTrue, OnOk, OnErr, IfOk, IfSome};
+ghost use Rattle.std.specs.Prelude.{◌≡◌, ◌↔◌, ◌⊎◌, ℕ, ◌+◌, ◌<◌, [], ◌∷◌, ◌++◌, length, replicate, Contains, slice_get, Some, IsNone, IsSome, IsTrue, OnOk, OnErr, IfOk, IfSome};
 ghost use Rattle.hpr_graph.specs.declared.vertex.Vertex.{Vertex};
 ghost use Rattle.hpr_graph.specs.declared.edge.Kind.{Kind};
 ghost use Rattle.hpr_graph.specs.declared.edge.Edge.{Edge};
@@ -10,6 +10,7 @@ ghost use Rattle.hpr_graph.specs.Moves.{with_link, with_row};
 ghost use Rattle.hpr_graph.specs.InOrder.{RowsAscend};
 ghost use Rattle.std.specs.List.Sorted.{IsSorted, IsPermutation};
 
+use crate::vertex::copies;
 use crate::{Graph, Link, LinkKind, Vertex};
 use hpr_syntax::NoMemory;
 use indexmap::IndexSet;
@@ -77,11 +78,24 @@ impl Draft {
         ensures vertices { IfOk result (λ d. d.vertices ≡ vertices.now) }
         ensures none { IfOk result (λ d. (to : ℕ) (l : Link) → ¬ HasLink d to l) }
     {
-        let mut draft = Draft::empty(alloc);
-        for vertex in vertices {
-            draft.push_new_vertex(vertex.copy(alloc)?)?;
-        }
-        Ok(draft)
+        let copies = copies(alloc, vertices)?;
+        Draft::from_vertices(alloc, copies)
+    }
+
+    /// The draft of these vertices, as `of_vertices` makes it, with no copy of them.
+    pub fn from_vertices(alloc: Global, vertices: Vec<Vertex>) -> Result<Draft, NoMemory>
+        requires { IsOnce vertices.items }
+        ensures vertices { IfOk result (λ d. d.vertices ≡ vertices.items) }
+        ensures none { IfOk result (λ d. (to : ℕ) (l : Link) → ¬ HasLink d to l) }
+    {
+        let links = blank_rows(alloc, vertices.len())?;
+        let vertices = indexed(alloc, vertices)?;
+        Ok(Draft {
+            vertices,
+            links,
+            edges: 0,
+            alloc,
+        })
     }
 
     /// How many vertices there are.
@@ -338,11 +352,28 @@ fn copy_set(alloc: Global, vertices: &[Vertex]) -> Result<IndexSet<Vertex>, NoMe
     requires { IsOnce vertices.now }
     ensures { IfOk result (λ s. s.keys ≡ vertices.now) }
 {
-    let mut copies = IndexSet::new(alloc);
-    for vertex in vertices {
-        insert_new(&mut copies, vertex.copy(alloc)?)?;
+    let copies = copies(alloc, vertices)?;
+    indexed(alloc, copies)
+}
+
+/// The vertices, each of which stands once, found by hash.
+fn indexed(alloc: Global, vertices: Vec<Vertex>) -> Result<IndexSet<Vertex>, NoMemory>
+    requires { IsOnce vertices.items }
+    ensures { IfOk result (λ s. s.keys ≡ vertices.items) }
+{
+    let set = IndexSet::from_iter(alloc, vertices)?;
+    Ok(set)
+}
+
+/// So many rows with no link.
+fn blank_rows(alloc: Global, count: usize) -> Result<Vec<Vec<Link>>, NoMemory>
+    ensures { IfOk result (λ rows. rows_of rows.items ≡ replicate count []) }
+{
+    let mut rows = Vec::new(alloc);
+    for _ in 0..count {
+        rows.push(Vec::new(alloc))?;
     }
-    Ok(copies)
+    Ok(rows)
 }
 
 /// Puts each row in ascending order.

@@ -10,6 +10,7 @@ ghost use Rattle.hpr_graph.specs.Order.{vertex_cmp};
 ghost use Rattle.hpr_graph.specs.InOrder.{Ascends, AreVerticesOf, RowsAscend};
 
 use crate::sets::add_edges;
+use crate::vertex::copies;
 use crate::{Draft, Edge, Graph, Kind, Link, LinkKind, Vertex};
 use hpr_syntax::{Name, NoMemory};
 use std::alloc::Global;
@@ -22,8 +23,8 @@ pub(crate) fn ordered(alloc: Global, graph: &Graph) -> Result<Graph, NoMemory>
     ensures rows { IfOk result (λ g. RowsAscend ⟦<Link as Ord>⟧.cmp g) }
 {
     let vertices = sorted_vertices(alloc, graph.vertices())?;
-    let mut draft = Draft::of_vertices(alloc, &vertices)?;
     let numbers = numbers_among(alloc, graph.vertices(), &vertices)?;
+    let mut draft = Draft::from_vertices(alloc, vertices)?;
     add_edges(&mut draft, &Graph::empty(alloc), graph, &numbers)?;
     Ok(draft.finish())
 }
@@ -34,18 +35,8 @@ fn sorted_vertices(alloc: Global, vertices: &[Vertex]) -> Result<Vec<Vertex>, No
     ensures ascend { IfOk result (λ v. Ascends vertex_cmp v.items) }
     ensures same { IfOk result (λ v. (x : Vertex) → Contains v.items x ↔ Contains vertices.now x) }
 {
-    let mut copies = copy_vertices(alloc, vertices)?;
+    let mut copies = copies(alloc, vertices)?;
     copies.sort_unstable();
-    Ok(copies)
-}
-
-fn copy_vertices(alloc: Global, vertices: &[Vertex]) -> Result<Vec<Vertex>, NoMemory>
-    ensures { IfOk result (λ v. v.items ≡ vertices.now) }
-{
-    let mut copies = Vec::new(alloc);
-    for vertex in vertices {
-        copies.push(vertex.copy(alloc)?)?;
-    }
     Ok(copies)
 }
 

@@ -81,6 +81,17 @@ impl Hash for Vertex {
     }
 }
 
+/// Copies of the vertices.
+pub(crate) fn copies(alloc: Global, vertices: &[Vertex]) -> Result<Vec<Vertex>, NoMemory>
+    ensures { IfOk result (λ v. v.items ≡ vertices.now) }
+{
+    let mut copies = Vec::new(alloc);
+    for vertex in vertices {
+        copies.push(vertex.copy(alloc)?)?;
+    }
+    Ok(copies)
+}
+
 /// Whether two vertices are the same.
 #[tactic(auto, using(crate::proofs::VertexOrder::vertex_equal))]
 pub fn same_vertex(a: &Vertex, b: &Vertex) -> bool

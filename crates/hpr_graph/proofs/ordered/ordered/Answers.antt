@@ -15,24 +15,24 @@ read vs us ws e all = subst (λ (ys : List Vertex). (v : Vertex) → Contains ws
 
 pub numbers_among-requires-clause-all : goal.numbers_among-requires-clause-all
 numbers_among-requires-clause-all c =
-    members c.args.graph.now.vertices c.vertices-2.result.now c.in_ok-vertices.vertices.items c.deref-2.result.now c.vertices-2.ensures.vertices c.deref-2.ensures.value
+    members c.args.graph.now.vertices c.vertices-2.result.now c.in_ok-vertices.vertices.items c.deref.result.now c.vertices-2.ensures.vertices c.deref.ensures.value
     (read _ _ _ c.vertices.ensures.vertices c.in_ok-vertices.ensures.same)
 
 pub returns-clause-vertices : goal.returns-clause-vertices
 returns-clause-vertices c =
     reordered_vertices c.args.graph.now c.in_ok-draft.draft c.add_edges.new.target c.finish.result c.in_ok-vertices.vertices.items c.in_ok-numbers.numbers.items
-    (c.in_ok-draft.ensures.vertices ∙ c.deref.ensures.value) c.in_ok-add_edges.ensures.vertices c.finish.ensures.vertices
+    c.in_ok-draft.ensures.vertices c.in_ok-add_edges.ensures.vertices c.finish.ensures.vertices
     c.in_ok-vertices.ensures.ascend (read _ _ _ c.vertices.ensures.vertices c.in_ok-vertices.ensures.same)
 
 pub returns-clause-same : goal.returns-clause-same
 returns-clause-same c =
     reordered_same c.args.graph.now c.in_ok-draft.draft c.add_edges.new.target c.finish.result c.in_ok-vertices.vertices.items c.in_ok-numbers.numbers.items
-    (c.in_ok-draft.ensures.vertices ∙ c.deref.ensures.value) (λ e (to, l, has, is). c.in_ok-draft.ensures.none to l has) c.in_ok-add_edges.ensures.vertices
-    (λ e. subst (λ (ns : List (Option ℕ)). HasEdge c.add_edges.new.target e ↔ (HasEdge c.in_ok-draft.draft e ⊎ MovesEdge c.args.graph.now ns e)) c.deref-3.ensures.value (c.in_ok-add_edges.ensures.edges e))
+    c.in_ok-draft.ensures.vertices (λ e (to, l, has, is). c.in_ok-draft.ensures.none to l has) c.in_ok-add_edges.ensures.vertices
+    (λ e. subst (λ (ns : List (Option ℕ)). HasEdge c.add_edges.new.target e ↔ (HasEdge c.in_ok-draft.draft e ⊎ MovesEdge c.args.graph.now ns e)) c.deref-2.ensures.value (c.in_ok-add_edges.ensures.edges e))
     c.finish.ensures.vertices c.finish.ensures.links
     (read _ _ _ c.vertices.ensures.vertices c.in_ok-vertices.ensures.same)
-    (subst (λ (us : List Vertex). ArePlaced c.args.graph.now.vertices c.in_ok-numbers.numbers.items us) c.deref-2.ensures.value
-    (subst (λ (vs : List Vertex). ArePlaced vs c.in_ok-numbers.numbers.items c.deref-2.result.now) c.vertices-2.ensures.vertices c.in_ok-numbers.ensures.placed))
+    (subst (λ (us : List Vertex). ArePlaced c.args.graph.now.vertices c.in_ok-numbers.numbers.items us) c.deref.ensures.value
+    (subst (λ (vs : List Vertex). ArePlaced vs c.in_ok-numbers.numbers.items c.deref.result.now) c.vertices-2.ensures.vertices c.in_ok-numbers.ensures.placed))
     (subst (λ (vs : List Vertex). (i : ℕ) → i < length vs → HasNumber c.in_ok-numbers.numbers.items i) c.vertices-2.ensures.vertices c.in_ok-numbers.ensures.all)
 
 pub add_edges-requires-clause-known : goal.add_edges-requires-clause-known
@@ -41,5 +41,5 @@ add_edges-requires-clause-known c = λ at l. (
   λ h. absurd (c.in_ok-draft.ensures.none at l h),
 )
 
-pub of_vertices-requires : goal.of_vertices-requires
-of_vertices-requires c = subst (λ (vs : List Vertex). IsOnce vs) (sym c.deref.ensures.value) (ascending_vertices_once c.in_ok-vertices.vertices.items c.in_ok-vertices.ensures.ascend)
+pub from_vertices-requires : goal.from_vertices-requires
+from_vertices-requires c = ascending_vertices_once c.in_ok-vertices.vertices.items c.in_ok-vertices.ensures.ascend

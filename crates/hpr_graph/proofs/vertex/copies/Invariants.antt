@@ -1,5 +1,5 @@
 use Rattle.std.proofs.Common.{◌≡◌, take}
-use Rattle.hpr_graph.proofs.ordered.copy_vertices.Given as goal
+use Rattle.hpr_graph.proofs.vertex.copies.Given as goal
 
 abbrev pub invariant-loop-vertex : goal.invariant-loop-vertex
 invariant-loop-vertex l = l.copies.items ≡ take l.vertex-index l.vertices
