@@ -1,4 +1,5 @@
 mod Lists
+mod ByHash
 pub mod Ranks
 pub mod ListFacts
 pub mod BlockOf

@@ -223,15 +223,14 @@ pub part_more : (rows : List Row) (i : ℕ) (row : Row) → i < length rows → 
 part_more rows i row lt is =
     ap (map part) (take_more rows i row lt ∙ ap (λ (z : Row). take i rows ++ z ∷ []) (sym is)) ∙ map-append part (take i rows) (row ∷ [])
 
-none_is : (o : Option ℕ) (b : Bool) → b ≡ is_some o → b ≡ false → IsNone o
+pub none_is : (o : Option ℕ) (b : Bool) → b ≡ is_some o → b ≡ false → IsNone o
 none_is None b e f = refl
 none_is (Some n) b e f = let both : true ≡ false = sym e ∙ f in absurd cc
 
 -- a vertex that is listed stays where it is
-pub put_listed : (v : Vertex) (next : Option Vertex) (xs ys : List Vertex) (o : Option ℕ) (b : Bool) → IfSome o (λ n. slice_get ys n ≡ Some v) → ys ≡ xs → b ≡ is_some o → b ≡ true → IsPutIn v next xs xs
-put_listed v next xs ys None b found same is listed = let both : false ≡ true = sym is ∙ listed in absurd cc
-put_listed v next xs ys (Some n) b found same is listed =
-    inl ((n, slice_get_within xs n v (ap (λ (l : List Vertex). slice_get l n) (sym same) ∙ found), get_or_from_slice_get xs n v v (ap (λ (l : List Vertex). slice_get l n) (sym same) ∙ found)), refl)
+pub put_listed : (v : Vertex) (next : Option Vertex) (xs : List Vertex) (o : Option ℕ) (b : Bool) → IfSome o (λ n. slice_get xs n ≡ Some v) → b ≡ is_some o → b ≡ true → IsPutIn v next xs xs
+put_listed v next xs None b found is listed = let both : false ≡ true = sym is ∙ listed in absurd cc
+put_listed v next xs (Some n) b found is listed = inl ((n, slice_get_within xs n v found, get_or_from_slice_get xs n v v found), refl)
 
 -- a copy of a vertex that isn't listed, put in
 pub put_copy : (v copy : Vertex) (next : Option Vertex) (xs ys : List Vertex) (at : ℕ) (o : Option ℕ) (b : Bool) → IsNone o ↔ (¬ Contains xs v) → b ≡ is_some o → b ≡ false

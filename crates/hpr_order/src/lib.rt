@@ -10,6 +10,7 @@ mod control;
 mod item;
 mod levels;
 mod lift;
+mod listed;
 mod numbers;
 mod ordered;
 mod ranking;

@@ -1,12 +1,14 @@
 //! The rank of the parts of three programs.
-ghost use Rattle.std.specs.Prelude.{◌≡◌, ◌↔◌, ◌≤◌, ◌∷◌, ◌++◌, [], Some, IfSome, IfOk, OnOk, IsNone, IsTrue, Contains, length, map, slice_get};
+ghost use Rattle.std.specs.Prelude.{◌≡◌, ◌≤◌, ◌∷◌, ◌++◌, [], IfSome, IfOk, OnOk, Contains, length, map};
 ghost use Rattle.std.specs.List.{insert};
 ghost use Rattle.std.specs.Option.{option_copied};
 ghost use Rattle.hpr_graph.specs.declared.vertex.Vertex.{Vertex};
 ghost use Rattle.hpr_graph.specs.Rank.{parts_of, IsAddedAt, IsPutIn, IsJoined, AreJoined, IsRank};
 
-use hpr_graph::{NoMemory, Vertex, place_of};
+use crate::listed::{insert_at, listed, place_in};
+use hpr_graph::{NoMemory, Vertex};
 use hpr_syntax::{Program, Row};
+use indexmap::IndexSet;
 use std::alloc::Global;
 
 /// The parts of three programs in the order of their rank: A's parts in preorder, then those of B that
@@ -14,7 +16,8 @@ use std::alloc::Global;
 /// end; then so those of the base. Where A is the base, A and B change places. Each part comes once: a
 /// part whose content changed under a kept tag is another one.
 ///
-/// Looks at each listed part once for each part of B and the base. Horwitz, Prins and Reps 1989 have no rank.
+/// Looks each part up by hash, and moves the listed parts behind each one that is put in. Horwitz, Prins
+/// and Reps 1989 have no rank.
 pub fn rank(
     alloc: Global,
     a: &Program,
@@ -39,15 +42,29 @@ fn rank_of(
 ) -> Result<Vec<Vertex>, NoMemory>
     ensures { IfOk result (λ v. AreJoined (parts_of second.now ∷ parts_of base.now ∷ []) (parts_of first.now) v.items) }
 {
-    let mut list = parts(alloc, first)?;
+    let mut list = listed_parts(alloc, first)?;
     join_program(alloc, &mut list, second)?;
     join_program(alloc, &mut list, base)?;
-    Ok(list)
+    let vertices = list.into_iter().collect(alloc)?;
+    Ok(vertices)
+}
+
+/// The parts of a program in preorder, each of which is found by hash.
+fn listed_parts(alloc: Global, program: &Program) -> Result<IndexSet<Vertex>, NoMemory>
+    ensures { IfOk result (λ list. list.keys ≡ parts_of program.now) }
+{
+    let _body = program.body();
+    let parts = parts(alloc, program)?;
+    listed(alloc, parts)
 }
 
 /// Puts in what the list lacks of the parts of a program.
-fn join_program(alloc: Global, list: &mut Vec<Vertex>, program: &Program) -> Result<(), NoMemory>
-    ensures { OnOk result (IsJoined (parts_of program.now) list.old.items list.new.items) }
+fn join_program(
+    alloc: Global,
+    list: &mut IndexSet<Vertex>,
+    program: &Program,
+) -> Result<(), NoMemory>
+    ensures { OnOk result (IsJoined (parts_of program.now) list.old.keys list.new.keys) }
 {
     let parts = parts(alloc, program)?;
     join(alloc, list, &parts)
@@ -82,8 +99,8 @@ fn push_part(alloc: Global, row: &Row, into: &mut Vec<Vertex>) -> Result<(), NoM
 }
 
 /// Puts in what the list lacks of these parts, from their end on.
-fn join(alloc: Global, list: &mut Vec<Vertex>, parts: &[Vertex]) -> Result<(), NoMemory>
-    ensures { OnOk result (IsJoined parts.now list.old.items list.new.items) }
+fn join(alloc: Global, list: &mut IndexSet<Vertex>, parts: &[Vertex]) -> Result<(), NoMemory>
+    ensures { OnOk result (IsJoined parts.now list.old.keys list.new.keys) }
 {
     let mut at = parts.len();
     while at > 0 {
@@ -97,31 +114,32 @@ fn join(alloc: Global, list: &mut Vec<Vertex>, parts: &[Vertex]) -> Result<(), N
 /// stays where it is.
 fn put_in(
     alloc: Global,
-    list: &mut Vec<Vertex>,
+    list: &mut IndexSet<Vertex>,
     vertex: &Vertex,
     next: Option<&Vertex>,
 ) -> Result<(), NoMemory>
-    requires { IfSome next (λ n. Contains list.old.items n.now) }
-    ensures { OnOk result (IsPutIn vertex.now (option_copied next.entry) list.old.items list.new.items) }
+    requires { IfSome next (λ n. Contains list.old.keys n.now) }
+    ensures { OnOk result (IsPutIn vertex.now (option_copied next.entry) list.old.keys list.new.keys) }
 {
-    if place_of(list, vertex).is_some() {
+    if place_in(list, vertex).is_some() {
         return Ok(());
     }
     let at = place_before(list, next);
-    list.insert(at, vertex.copy(alloc)?)?;
+    let copy = vertex.copy(alloc)?;
+    insert_at(list, at, copy)?;
     Ok(())
 }
 
 /// The place right before the next one, which is listed; the end where there is none.
-fn place_before(list: &[Vertex], next: Option<&Vertex>) -> usize
-    requires { IfSome next (λ n. Contains list.now n.now) }
-    ensures within { result ≤ length list.now }
-    ensures added { (v : Vertex) → IsAddedAt v (option_copied next.entry) list.now (insert list.now result v) }
+fn place_before(list: &IndexSet<Vertex>, next: Option<&Vertex>) -> usize
+    requires { IfSome next (λ n. Contains list.now.keys n.now) }
+    ensures within { result ≤ length list.now.keys }
+    ensures added { (v : Vertex) → IsAddedAt v (option_copied next.entry) list.now.keys (insert list.now.keys result v) }
 {
     let Some(next) = next else {
         return list.len();
     };
-    match place_of(list, next) {
+    match place_in(list, next) {
         Some(at) => at,
         None => unreachable!(),
     }

@@ -5,7 +5,7 @@ use Rattle.hpr_order.proofs.ranking.join.Given as goal
 abbrev pub invariant-loop-at : goal.invariant-loop-at
 invariant-loop-at l = record {
   within : l.at ≤ length l.parts;
-  joined : IsJoined (drop l.at l.parts) l.initial.list.items l.list.items;
+  joined : IsJoined (drop l.at l.parts) l.initial.list.keys l.list.keys;
 }
 
 abbrev pub decreases-loop-at : goal.decreases-loop-at

@@ -8,5 +8,5 @@ use Rattle.hpr_order.proofs.ranking.place_before.Goals as goal
 
 pub returns-clause-added : goal.returns-clause-added
 returns-clause-added c = λ v.
-    subst (λ (o : Option (Bor Vertex)). IsAddedAt v (option_copied o) c.args.list.now (insert c.args.list.now c.in-Some-place_of.at v)) (sym c.in-Some.is)
-    (put_new c.args.list.now c.in-Some-place_of.at v c.in-Some.next.now c.in-Some-place_of.ensures.found)
+    subst (λ (o : Option (Bor Vertex)). IsAddedAt v (option_copied o) c.args.list.now.keys (insert c.args.list.now.keys c.in-Some-place_in.at v)) (sym c.in-Some.is)
+    (put_new c.args.list.now.keys c.in-Some-place_in.at v c.in-Some.next.now c.in-Some-place_in.ensures.found)
