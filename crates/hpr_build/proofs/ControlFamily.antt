@@ -126,3 +126,9 @@ flow_no_order t inits to l (y, d, w, source, reads, flow) (x, u, v, kind, target
 -- the vertices that are made of these lists
 pub same_vertices : (t : Tree) (inits firsts finals : List (List ℕ)) (parts : List Place) → parts ≡ places t → finals ≡ t.finals → firsts ≡ inits → Entry ∷ (map part_vertex parts ++ (map Final finals ++ map Init firsts)) ≡ vertices_of t inits
 same_vertices t inits firsts finals parts a b d = λ i. Entry ∷ (map part_vertex (a i) ++ (map Final (b i) ++ map Init (d i)))
+
+-- the same behind an empty list
+pub put_vertices : (t : Tree) (inits firsts finals : List (List ℕ)) (parts : List Place) (old new : List Vertex)
+    → new ≡ old ++ Entry ∷ (map part_vertex parts ++ (map Final finals ++ map Init firsts)) → old ≡ [] → parts ≡ places t → finals ≡ t.finals → firsts ≡ inits → new ≡ vertices_of t inits
+put_vertices t inits firsts finals parts old new is none a b d =
+    is ∙ ap (λ (l : List Vertex). l ++ Entry ∷ (map part_vertex parts ++ (map Final finals ++ map Init firsts))) none ∙ same_vertices t inits firsts finals parts a b d

@@ -3,7 +3,7 @@
 -- AreTables t          == the tables are those of the program
 -- IsVariable tree v    == the points are those that define the name and that use it, and the number of its use at Exit is that of its vertex
 -- IsBegun tree inits most g == the graph has the vertices of the program, some of its links, and not more links than this
-use Rattle.std.specs.Prelude.{◌≡◌, ◌+◌, ◌≤◌, ◌↔◌, ℕ, Some, List, Contains, vec_len, slice_get}
+use Rattle.std.specs.Prelude.{◌≡◌, ◌+◌, ◌≤◌, ◌↔◌, ℕ, Some, List, Contains, length, vec_len, slice_get}
 use Rattle.std.specs.List.Sorted.{IsStrictlySortedBy}
 use Rattle.std.specs.Cmp.Lexicographic.{slice_cmp}
 use Rattle.std.specs.Ordering.{nat_cmp}
@@ -28,7 +28,7 @@ pub record AreTables (t : Tables) : Type 0 where
   pub inits_ascending : IsStrictlySortedBy (slice_cmp nat_cmp) t.inits.items
   pub inits : (x : List ℕ) → Contains t.inits.items x ↔ IsInitial t.program.now x
   pub exit : t.exit ≡ exit_of t.program.now
-  pub vertices : t.vertices.items ≡ vertices_of t.program.now t.inits.items
+  pub count : t.vertex_count ≡ length (vertices_of t.program.now t.inits.items)
   pub names_ascending : IsStrictlySortedBy (slice_cmp nat_cmp) t.variables.names.items
   pub names : (x : List ℕ) → Contains t.variables.names.items x ↔ ((p : ℕ) × UsesAt (spots t.program.now) p x)
   pub definition_rows : vec_len t.variables.definitions ≡ vec_len t.variables.names

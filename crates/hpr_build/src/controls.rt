@@ -77,6 +77,6 @@ pub(crate) fn push_controls(
     ensures too_many { IsErrOf result BuildError.TooManyEdges
         → HasMoreLinks tables.now.program.now tables.now.inits.items tables.now.most }
 {
-    let links = control_links(alloc, &tables.places, tables.vertices.len())?;
+    let links = control_links(alloc, &tables.places, tables.vertex_count)?;
     push_links(tables, &links, graph)
 }

@@ -57,7 +57,7 @@ fn push_initial(
     match place_of(&tables.inits, variable.name) {
         Some(place) => {
             into.push(Source {
-                number: tables.vertices.len() - tables.inits.len() + place,
+                number: tables.vertex_count - tables.inits.len() + place,
                 point: 0,
             })?;
             Ok(())

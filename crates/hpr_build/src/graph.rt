@@ -48,8 +48,9 @@ pub fn graph_of(alloc: Global, program: &Program, most_edges: usize) -> Result<G
     ensures within { IfOk result (λ g. ¬ HasMoreEdges (graph_of program.now) most_edges) }
     ensures too_many { IsErrOf result BuildError.TooManyEdges → HasMoreEdges (graph_of program.now) most_edges }
 {
-    let tables = tables_of(alloc, program, most_edges)?;
-    let mut draft = Draft::of_vertices(alloc, &tables.vertices)?;
+    let mut vertices = Vec::new(alloc);
+    let tables = tables_of(alloc, program, most_edges, &mut vertices)?;
+    let mut draft = Draft::from_vertices(alloc, vertices)?;
     push_edges(alloc, &tables, &mut draft)?;
     let _vertices = draft.vertices();
     Ok(draft.finish())

@@ -1,8 +1,8 @@
 //! The tables of a program that its graph is made from.
-ghost use Rattle.std.specs.Prelude.{◌≡◌, ◌↔◌, ◌+◌, ◌<◌, ◌≤◌, ◌∷◌, ◌++◌, ℕ, List, Some, IfOk, OnOk, Contains, length, map, vec_len};
+ghost use Rattle.std.specs.Prelude.{◌≡◌, ◌↔◌, ◌+◌, ◌<◌, ◌≤◌, [], ◌∷◌, ◌++◌, ℕ, List, Some, IfOk, OnOk, Contains, length, map, vec_len};
 ghost use Rattle.std.specs.List.{slice_get};
 ghost use Rattle.hpr_graph.specs.declared.vertex.Vertex.TheVariants.{Entry, Init, Final};
-ghost use Rattle.hpr_build.specs.Links.{part_vertex, name_vertex, exit_of};
+ghost use Rattle.hpr_build.specs.Links.{part_vertex, name_vertex, vertices_of, exit_of};
 ghost use Rattle.hpr_build.specs.Stages.{AreTables, IsVariable};
 ghost use Rattle.hpr_build.specs.Variables.{points_at};
 
@@ -15,15 +15,15 @@ use hpr_syntax::Program;
 use std::alloc::Global;
 
 /// What is known of a program: its points, its parts, the names that it takes from before it, the
-/// names that it uses, the vertices of its graph, and the number of Exit's point, which is that of
-/// the vertex of the first name of `end`; and how many edges its graph may have.
+/// names that it uses, how many vertices its graph has, and the number of Exit's point, which is that
+/// of the vertex of the first name of `end`; and how many edges its graph may have.
 pub(crate) struct Tables<'a> {
     pub(crate) program: &'a Program,
     pub(crate) succ: Succ,
     pub(crate) places: Vec<Place>,
     pub(crate) inits: Vec<Name>,
     pub(crate) variables: Variables,
-    pub(crate) vertices: Vec<Vertex>,
+    pub(crate) vertex_count: usize,
     pub(crate) exit: usize,
     pub(crate) most: usize,
 }
@@ -37,7 +37,7 @@ impl Drop for Tables<'_> {
             places: _,
             inits: _,
             variables: _,
-            vertices: _,
+            vertex_count: _,
             exit: _,
             most: _,
         } = self;
@@ -80,46 +80,49 @@ fn push_names(
     Ok(())
 }
 
-/// The vertices of a program in the order of their numbers.
-fn vertices(
+/// Puts the vertices of a program in the order of their numbers behind the others.
+fn push_vertices(
     alloc: Global,
     places: &[Place],
     finals: &[Name],
     inits: &[Name],
-) -> Result<Vec<Vertex>, NoMemory>
-    ensures { IfOk result (λ v. v.items ≡ Entry ∷ (map part_vertex places.now
+    into: &mut Vec<Vertex>,
+) -> Result<(), NoMemory>
+    ensures { OnOk result (into.new.items ≡ into.old.items ++ Entry ∷ (map part_vertex places.now
         ++ (map Final finals.now ++ map Init inits.now))) }
 {
-    let mut vertices = Vec::new(alloc);
-    vertices.push(Vertex::Entry)?;
-    push_parts(alloc, places, &mut vertices)?;
-    push_names(alloc, finals, true, &mut vertices)?;
-    push_names(alloc, inits, false, &mut vertices)?;
-    Ok(vertices)
+    into.push(Vertex::Entry)?;
+    push_parts(alloc, places, into)?;
+    push_names(alloc, finals, true, into)?;
+    push_names(alloc, inits, false, into)
 }
 
-/// The tables of the program, whose graph may have `most` edges.
-pub(crate) fn tables_of(
+/// The tables of the program, whose graph may have `most` edges. The vertices of the graph go into the
+/// empty list.
+pub(crate) fn tables_of<'a>(
     alloc: Global,
-    program: &Program,
+    program: &'a Program,
     most: usize,
-) -> Result<Tables<'_>, NoMemory>
+    vertices: &mut Vec<Vertex>,
+) -> Result<Tables<'a>, NoMemory>
+    requires { vertices.old.items ≡ [] }
     ensures tables { IfOk result AreTables }
     ensures program { IfOk result (λ t. t.program.now ≡ program.now) }
     ensures most { IfOk result (λ t. t.most ≡ most) }
+    ensures vertices { IfOk result (λ t. vertices.new.items ≡ vertices_of t.program.now t.inits.items) }
 {
     let succ = successors(alloc, program)?;
     let places = places(alloc, program)?;
     let inits = live_at_entry(alloc, &succ)?;
     let variables = variables_of(alloc, &succ)?;
-    let vertices = vertices(alloc, &places, program.finals(), &inits)?;
+    push_vertices(alloc, &places, program.finals(), &inits, vertices)?;
     Ok(Tables {
         program,
         succ,
         places,
         inits,
         variables,
-        vertices,
+        vertex_count: vertices.len(),
         exit: program.part_count() + 1,
         most,
     })
@@ -142,6 +145,7 @@ fn final_number(tables: &Tables, name: &Name) -> usize
     ensures exact { (k : ℕ) → slice_get tables.now.program.now.finals k ≡ Some name.now
         → result ≡ exit_of tables.now.program.now + k }
 {
+    let _count = tables.vertex_count;
     for (at, one) in tables.program.finals().iter().enumerate() {
         if one.is_same(name) {
             return tables.exit + at;

@@ -12,14 +12,14 @@ returns-in_ok-push-in-Some-clause-exact c =
     let inits = t.inits.items in
     let x = c.args.variable.now.name.now in
     let k = c.in-Some.place in
-    let n : ℕ = c.len.result - c.len-in-Some.result + k in
+    let n : ℕ = t.vertex_count - c.len.result + k in
     let at : slice_get inits k ≡ Some x = subst (λ (xs : List (List ℕ)). slice_get xs k ≡ Some x) c.deref.ensures.value c.in-Some.ensures.some in
     let is : n ≡ first_init t.program.now + k
-    = omega (arith, c.len.ensures, c.len-in-Some.ensures, t.vertices.ok.0, t.inits.ok.0, count_vertices t.program.now inits, ap (λ (vs : List Vertex). length vs) c.requires.vertices) in
+    = omega (arith, c.len.ensures, t.inits.ok.0, count_vertices t.program.now inits, c.requires.count) in
     initial_more t.program.now inits x k n (names_once inits c.requires.inits_ascending) at is c.args.into.now.items c.push.new.self.items c.in_ok-push-in-Some.ensures.items
 
 pub returns-in_ok-push-in-Some-clause-once : goal.returns-in_ok-push-in-Some-clause-once
-returns-in_ok-push-in-Some-clause-once c = initial_once (c.len.result - c.len-in-Some.result + c.in-Some.place) c.args.into.now.items c.push.new.self.items c.in_ok-push-in-Some.ensures.items
+returns-in_ok-push-in-Some-clause-once c = initial_once (c.args.tables.now.vertex_count - c.len.result + c.in-Some.place) c.args.into.now.items c.push.new.self.items c.in_ok-push-in-Some.ensures.items
 
 pub returns-in-None-clause-exact : goal.returns-in-None-clause-exact
 returns-in-None-clause-exact c =

@@ -13,15 +13,15 @@ use Rattle.hpr_graph.proofs.NamesOnce.{names_once}
 use Rattle.hpr_build.proofs.LinkTurns.{no_count, same_error}
 use Rattle.hpr_build.proofs.graph.graph_of.Goals as goal
 
-pub of_vertices-requires : goal.of_vertices-requires
-of_vertices-requires c =
+pub from_vertices-requires : goal.from_vertices-requires
+from_vertices-requires c =
     let t = c.in_ok-tables.tables in
     let are = c.in_ok-tables.ensures.tables in
-    subst (λ (vs : List Vertex). IsOnce vs) (sym (c.deref.ensures.value ∙ are.vertices)) (once_vertices t.program.now t.inits.items are.program are.inits (names_once t.inits.items are.inits_ascending))
+    subst (λ (vs : List Vertex). IsOnce vs) (sym c.in_ok-tables.ensures.vertices) (once_vertices t.program.now t.inits.items are.program are.inits (names_once t.inits.items are.inits_ascending))
 
 pub push_edges-requires-clause-begun : goal.push_edges-requires-clause-begun
 push_edges-requires-clause-begun c = record {
-  vertices = c.in_ok-draft.ensures.vertices ∙ c.deref.ensures.value ∙ c.in_ok-tables.ensures.tables.vertices;
+  vertices = c.in_ok-draft.ensures.vertices ∙ c.in_ok-tables.ensures.vertices;
   links = λ to l h. absurd (c.in_ok-draft.ensures.none to l h);
   room = omega (arith, no_count c.in_ok-draft.draft c.in_ok-draft.ensures.none);
 }

@@ -8,9 +8,8 @@ use Rattle.hpr_build.proofs.tables.final_number.Goals as goal
 pub overflow_add-result : goal.overflow_add-result
 overflow_add-result c =
     let t = c.args.tables.now in
-    let size = ap (λ (vs : List Vertex). length vs) c.requires.vertices in
     let finals = ap (λ (xs : List (List ℕ)). length xs) c.finals-one-items.ensures.finals in
-    omega (arith, size, finals, count_vertices t.program.now t.inits.items, c.requires.exit, c.loop-at-test.true, t.vertices.ok.0, t.vertices.small)
+    omega (arith, c.requires.count, finals, count_vertices t.program.now t.inits.items, c.requires.exit, c.loop-at-test.true)
 
 pub returns-then-is_same-clause-exact : goal.returns-then-is_same-clause-exact
 returns-then-is_same-clause-exact c = λ k get.

@@ -1,14 +1,19 @@
-use Rattle.std.proofs.Common.{◌↔◌, ◌+◌, ◌∙◌, ℕ, List, Contains, sym, ap, subst}
+use Rattle.std.proofs.Common.{◌≡◌, length, ◌↔◌, ◌+◌, ◌∙◌, ℕ, List, Contains, sym, ap, subst}
 use Rattle.hpr_paths.specs.Spots.{Spot, UsesAt}
 use Rattle.hpr_reach.specs.Live.{IsLive}
 use Rattle.hpr_reach.proofs.ByTags.{live_tags}
 use Rattle.hpr_build.specs.Variables.{AreUsers, AreDefinitions}
-use Rattle.hpr_build.proofs.ControlFamily.{same_vertices}
+use Rattle.hpr_graph.specs.declared.vertex.Vertex.{Vertex}
+use Rattle.hpr_build.specs.Links.{vertices_of}
+use Rattle.hpr_build.proofs.ControlFamily.{put_vertices}
 use Rattle.hpr_build.proofs.tables.tables_of.Goals as goal
 
 pub returns-clause-tables : goal.returns-clause-tables
 returns-clause-tables c =
     let t = c.args.program.now in
+    let made : c.push_vertices.new.into.items ≡ vertices_of t c.in_ok-inits.inits.items =
+    put_vertices c.args.program.now c.in_ok-inits.inits.items c.deref-2.result.now c.finals.result.now c.deref.result.now c.args.vertices.now.items c.push_vertices.new.into.items
+    c.in_ok-push_vertices.ensures c.requires (c.deref.ensures.value ∙ c.in_ok-places.ensures) c.finals.ensures.finals c.deref-2.ensures.value in
     let succ = c.in_ok-succ.ensures in
     let names = c.in_ok-variables.variables.names.items in
     record {
@@ -21,7 +26,7 @@ returns-clause-tables c =
         (λ h. c.in_ok-inits.ensures.complete x (subst (λ (s : List Spot). IsLive s x) (sym succ) ((live_tags t c.finals.ensures.program x).1 h))),
       );
       exit = ap (λ (n : ℕ). n + 1) c.part_count.ensures.count;
-      vertices = c.in_ok-vertices.ensures ∙ same_vertices t c.in_ok-inits.inits.items c.deref-2.result.now c.finals.result.now c.deref.result.now (c.deref.ensures.value ∙ c.in_ok-places.ensures) c.finals.ensures.finals c.deref-2.ensures.value;
+      count = c.len.ensures ∙ c.push_vertices.new.into.ok.0 ∙ ap (λ (vs : List Vertex). length vs) made;
       names_ascending = c.in_ok-variables.ensures.ascending;
       names = λ x. subst (λ (s : List Spot). Contains names x ↔ ((p : ℕ) × UsesAt s p x)) succ (c.in_ok-variables.ensures.names x);
       definition_rows = c.in_ok-variables.ensures.definition_rows;
@@ -29,3 +34,8 @@ returns-clause-tables c =
       user_rows = c.in_ok-variables.ensures.user_rows;
       users = subst (λ (s : List Spot). AreUsers s names c.in_ok-variables.variables.users.items) succ c.in_ok-variables.ensures.users;
     }
+
+pub returns-clause-vertices : goal.returns-clause-vertices
+returns-clause-vertices c =
+    put_vertices c.args.program.now c.in_ok-inits.inits.items c.deref-2.result.now c.finals.result.now c.deref.result.now c.args.vertices.now.items c.push_vertices.new.into.items
+    c.in_ok-push_vertices.ensures c.requires (c.deref.ensures.value ∙ c.in_ok-places.ensures) c.finals.ensures.finals c.deref-2.ensures.value
