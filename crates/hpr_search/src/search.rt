@@ -6,6 +6,9 @@ ghost use Rattle.hpr_search.specs.Marks.{IsMarked, IsRowOf, Visited};
 use crate::Digraph;
 use std::alloc::{AllocError, Global};
 
+/// So many steps lead from most points, so that the list of them seldom grows.
+const FEW_STEPS: usize = 8;
+
 /// The points that a search came to: a mark for each, and the list of them, each once.
 pub struct Found {
     pub marks: Vec<bool>,
@@ -67,10 +70,11 @@ pub fn reached<G: Digraph>(alloc: Global, graph: &G, starts: &[usize]) -> Result
     ensures complete { IfOk result (λ found. (p : ℕ) → IsReached (G.steps graph.now) starts.now p
         → IsMarked found.marks.items p) }
 {
-    let mut marks = blank_row(alloc, graph.point_count())?;
-    let mut order = Vec::new(alloc);
+    let points = graph.point_count();
+    let mut marks = blank_row(alloc, points)?;
+    let mut order = Vec::with_capacity(alloc, points)?;
     visit(&mut marks, &mut order, starts)?;
-    let mut steps = Vec::new(alloc);
+    let mut steps = Vec::with_capacity(alloc, FEW_STEPS)?;
     let mut at = 0;
     while at < order.len() {
         steps.clear();

@@ -6,14 +6,14 @@ use Rattle.hpr_search.proofs.Turns.{search_start, search_step, search_complete, 
 use Rattle.hpr_search.proofs.search.reached.Goals as goal
 
 pub visit-requires-clause-row : goal.visit-requires-clause-row
-visit-requires-clause-row g c = rw (c.in_ok-marks.ensures, c.new-order.ensures.items) (empty_row c.point_count.result)
+visit-requires-clause-row g c = rw (c.in_ok-marks.ensures, c.in_ok-order.ensures.items) (empty_row c.point_count-points.result)
 
 pub loop-at-init : goal.loop-at-init
 loop-at-init g c =
     let size : length c.in_ok-marks.marks.items ≡ g.G.Digraph.points c.args.graph.now =
-    ap length c.in_ok-marks.ensures ∙ length-replicate c.point_count.result false ∙ c.point_count.ensures in
+    ap length c.in_ok-marks.ensures ∙ length-replicate c.point_count-points.result false ∙ c.point_count-points.ensures in
     let v : Visited [] c.args.starts.now (length c.in_ok-marks.marks.items) c.visit.new.marks.items c.visit.new.order.items =
-    subst (λ o. Visited o c.args.starts.now (length c.in_ok-marks.marks.items) c.visit.new.marks.items c.visit.new.order.items) c.new-order.ensures.items c.in_ok-visit.ensures in
+    subst (λ o. Visited o c.args.starts.now (length c.in_ok-marks.marks.items) c.visit.new.marks.items c.visit.new.order.items) c.in_ok-order.ensures.items c.in_ok-visit.ensures in
     search_start _ _ _ _ _ (subst (λ n. Visited [] c.args.starts.now n c.visit.new.marks.items c.visit.new.order.items) size v)
 
 pub push_steps-requires : goal.push_steps-requires
