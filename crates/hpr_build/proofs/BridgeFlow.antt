@@ -43,7 +43,7 @@ use Rattle.hpr_build.proofs.BridgeVertices.{vertex_at_role}
 use Rattle.hpr_build.proofs.BridgePoints.{defines_once, reads_once, flows_from_init, source_defines, defines_source, target_reads, reads_target}
 
 -- whether a list has an element
-in_or_not : {X : Type 0} → ((a b : X) → (a ≡ b) ⊎ (a ≢ b)) → (xs : List X) (x : X) → Contains xs x ⊎ ¬ Contains xs x
+pub in_or_not : {X : Type 0} → ((a b : X) → (a ≡ b) ⊎ (a ≢ b)) → (xs : List X) (x : X) → Contains xs x ⊎ ¬ Contains xs x
 in_or_not same [] x = inr (λ h. in_none x h)
 in_or_not same (y ∷ xs) x = elim (same y x) [
   | inl e ↦ inl (subst (Contains (y ∷ xs)) e (in_here y xs))

@@ -26,11 +26,11 @@ use Rattle.hpr_build.proofs.LinkTurns.{into}
 use Rattle.hpr_build.proofs.Once.{once_map, once_after}
 use Rattle.hpr_build.proofs.TargetNumbers.{target_uses, number_of_target, target_of_number}
 
-flow_of_kind : (s : List Spot) (x : List ℕ) (d u : ℕ) (k : FlowKind) → IsFlowAt s x d u k → IsFlowOf s x d u (link_kind k)
+pub flow_of_kind : (s : List Spot) (x : List ℕ) (d u : ℕ) (k : FlowKind) → IsFlowAt s x d u k → IsFlowOf s x d u (link_kind k)
 flow_of_kind s x d u flow.Independent h = h
 flow_of_kind s x d u (flow.Carried w) h = h
 
-kind_of_flow : (s : List Spot) (x : List ℕ) (d u : ℕ) (k : LinkKind) → IsFlowOf s x d u k → (j : FlowKind) × (link_kind j ≡ k) × IsFlowAt s x d u j
+pub kind_of_flow : (s : List Spot) (x : List ℕ) (d u : ℕ) (k : LinkKind) → IsFlowOf s x d u k → (j : FlowKind) × (link_kind j ≡ k) × IsFlowAt s x d u j
 kind_of_flow s x d u (link.Control b) h = absurd h
 kind_of_flow s x d u link.Independent h = (flow.Independent, refl, h)
 kind_of_flow s x d u (link.Carried w) h = (flow.Carried w, refl, h)

@@ -26,3 +26,4 @@ pub mod StageTurns
 pub mod BridgeAhead
 pub mod BridgeLeft
 pub mod ReachingRows
+mod Sources

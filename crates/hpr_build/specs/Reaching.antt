@@ -1,17 +1,41 @@
 -- The definitions that reach the uses of a name.
 --
--- ArePlaced users places    == each of the users has its place, and no other point has one
+-- IsFlowKind kind           == the kind of a flow edge
+-- HasFlowFrom links p       == one of the links is a flow edge from p
+-- HasFlows tree inits g     == the flow edges in the graph are exactly those of the program
+-- Takes left sources l left' sources' == the source of a flow edge l that is left goes from what is left to the sources; else nothing changes
 -- AreReaching spots x definitions users rows == for each of the users there is a row with the definitions from which an undisturbed path for x goes there, each once
-use Rattle.std.specs.Prelude.{◌≡◌, ℕ, ◌↔◌, Option, Some, None, List, [], Vec, Contains, slice_index_or}
+use Rattle.std.specs.Prelude.{◌≡◌, ℕ, ◌↔◌, ◌⊎◌, Bool, false, Some, List, [], ◌∷◌, ◌++◌, Vec, Contains, slice_set}
 use Rattle.std.specs.Global.{Global}
 use Rattle.std.specs.List.{slice_get}
+use Rattle.hpr_syntax.specs.Tree.{Tree}
+use Rattle.hpr_search.specs.Marks.{IsMarked}
 use Rattle.hpr_paths.specs.Spots.{Spot}
 use Rattle.hpr_reach.specs.Reaches.{Reaches}
+use Rattle.hpr_graph.specs.declared.link.LinkKind.{LinkKind}
+use Rattle.hpr_graph.specs.declared.link.LinkKind.TheVariants.{Control, Independent, Carried, Order}
+use Rattle.hpr_graph.specs.declared.link.Link.{Link}
 use Rattle.hpr_graph.specs.Graphs.{IsOnce}
+use Rattle.hpr_graph.specs.Numbered.{Numbered, HasLink}
+use Rattle.hpr_build.specs.Links.{IsFlowLink}
 use Rattle.hpr_build.specs.Variables.{points_at}
 
-abbrev pub ArePlaced : List ℕ → List (Option ℕ) → Type 0
-ArePlaced users places = (p k : ℕ) → (slice_index_or places p None ≡ Some k) ↔ (slice_get users k ≡ Some p)
+abbrev pub IsFlowKind : LinkKind → Type 0
+IsFlowKind (Control label) = ⊥
+IsFlowKind Independent = Unit {0}
+IsFlowKind (Carried w) = Unit {0}
+IsFlowKind (Order u) = ⊥
+
+abbrev pub HasFlowFrom : List Link → ℕ → Type 0
+HasFlowFrom links p = (l : Link) × Contains links l × IsFlowKind l.kind × (l.from ≡ p)
+
+abbrev pub HasFlows : Tree → List (List ℕ) → Numbered → Type 0
+HasFlows tree inits g = (to : ℕ) (l : Link) → IsFlowKind l.kind → HasLink g to l ↔ IsFlowLink tree inits to l
+
+abbrev pub Takes : List Bool → List ℕ → Link → List Bool → List ℕ → Type 0
+Takes left sources l left' sources' =
+    ((IsFlowKind l.kind × IsMarked left l.from) × (left' ≡ slice_set left l.from false) × (sources' ≡ sources ++ l.from ∷ []))
+    ⊎ ((¬ (IsFlowKind l.kind × IsMarked left l.from)) × (left' ≡ left) × (sources' ≡ sources))
 
 abbrev pub AreReaching : List Spot → List ℕ → List ℕ → List ℕ → List (Vec ℕ Global) → Type 0
 AreReaching spots x definitions users rows =

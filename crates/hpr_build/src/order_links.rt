@@ -8,7 +8,7 @@ ghost use Rattle.hpr_graph.specs.Numbered.{HasLink};
 ghost use Rattle.hpr_build.specs.declared.pushes.NewLink.{NewLink};
 ghost use Rattle.hpr_build.specs.Links.{IsOrderLink, HasMoreLinks};
 ghost use Rattle.hpr_build.specs.NewLinks.{order_link, OrdersAt, OrdersOf};
-ghost use Rattle.hpr_build.specs.Reaching.{AreReaching};
+ghost use Rattle.hpr_build.specs.Reaching.{HasFlows};
 ghost use Rattle.hpr_graph.specs.Graphs.{IsOnce};
 ghost use Rattle.hpr_build.specs.Stages.{AreTables, IsVariable, IsBegun};
 
@@ -91,23 +91,6 @@ fn push_orders_at(
     push_links(tables, &links, graph)
 }
 
-/// For each of the uses of the name the definitions that reach it.
-fn rows_of(alloc: Global, tables: &Tables, variable: &Variable) -> Result<Vec<Vec<usize>>, NoMemory>
-    requires tables { AreTables tables.now }
-    requires variable { IsVariable tables.now.program.now variable.now }
-    ensures len { IfOk result (λ rows. vec_len rows ≡ length variable.now.users.now) }
-    ensures exact { IfOk result (λ rows. AreReaching (spots tables.now.program.now) variable.now.name.now
-        variable.now.definitions.now variable.now.users.now rows.items) }
-{
-    reaching_rows(
-        alloc,
-        &tables.succ,
-        variable.name,
-        variable.definitions,
-        variable.users,
-    )
-}
-
 /// Puts the order edges for the uses of one name into the graph.
 fn push_orders_of(
     alloc: Global,
@@ -120,13 +103,14 @@ fn push_orders_of(
     requires begun { IsBegun tables.now.program.now tables.now.inits.items tables.now.most graph.old }
     requires fresh { (to : ℕ) (l : Link) → HasLink graph.old to l
         → ¬ OrdersOf tables.now.program.now variable.now.name.now to l }
+    requires flows { HasFlows tables.now.program.now tables.now.inits.items graph.old }
     ensures begun { OnOk result (IsBegun tables.now.program.now tables.now.inits.items tables.now.most graph.new) }
     ensures added { OnOk result ((to : ℕ) (l : Link) → HasLink graph.new to l
         ↔ (HasLink graph.old to l ⊎ OrdersOf tables.now.program.now variable.now.name.now to l)) }
     ensures too_many { IsErrOf result BuildError.TooManyEdges
         → HasMoreLinks tables.now.program.now tables.now.inits.items tables.now.most }
 {
-    let rows = rows_of(alloc, tables, variable)?;
+    let rows = reaching_rows(alloc, tables, variable, graph)?;
     for (at, user) in variable.users.iter().enumerate() {
         push_orders_at(alloc, tables, variable, row_at(&rows, at), *user, graph)?;
     }
@@ -142,6 +126,7 @@ pub(crate) fn push_orders(
     requires tables { AreTables tables.now }
     requires begun { IsBegun tables.now.program.now tables.now.inits.items tables.now.most graph.old }
     requires fresh { (to : ℕ) (l : Link) → HasLink graph.old to l → ¬ IsOrderLink tables.now.program.now to l }
+    requires flows { HasFlows tables.now.program.now tables.now.inits.items graph.old }
     ensures begun { OnOk result (IsBegun tables.now.program.now tables.now.inits.items tables.now.most graph.new) }
     ensures added { OnOk result ((to : ℕ) (l : Link) → HasLink graph.new to l
         ↔ (HasLink graph.old to l ⊎ IsOrderLink tables.now.program.now to l)) }

@@ -1,134 +1,113 @@
 //! For each use of a name the definitions that reach it.
-ghost use Rattle.std.specs.Prelude.{◌≡◌, ◌↔◌, ◌⊎◌, ◌<◌, ℕ, [], All, Contains, IfOk, None, OnOk, Some, length, replicate, slice_index_or, vec_len};
-ghost use Rattle.std.specs.List.{slice_get};
+ghost use Rattle.std.specs.Prelude.{◌≡◌, ◌↔◌, ℕ, [], Contains, IfOk, IsTrue, OnOk, length, vec_len};
+ghost use Rattle.hpr_search.specs.Marks.{IsMarked};
+ghost use Rattle.hpr_paths.specs.Spots.{UsesAt};
+ghost use Rattle.hpr_paths.specs.Successors.{spots};
 ghost use Rattle.hpr_reach.specs.Reaches.{Reaches};
 ghost use Rattle.hpr_graph.specs.Graphs.{IsOnce};
-ghost use Rattle.hpr_build.specs.Reaching.{ArePlaced, AreReaching};
-ghost use Rattle.hpr_build.specs.Variables.{points_at};
+ghost use Rattle.hpr_build.specs.Links.{vertices_of};
+ghost use Rattle.hpr_build.specs.Reaching.{AreReaching, HasFlowFrom, HasFlows, IsFlowKind, Takes};
+ghost use Rattle.hpr_build.specs.Stages.{AreTables, IsVariable};
 
-use crate::variables::{no_rows, push_at};
-use hpr_paths::{Name, NoMemory, Succ};
-use hpr_reach::reach;
-use std::alloc::{AllocError, Global};
+use crate::flow_links::target_of;
+use crate::flows::marked;
+use crate::tables::{Tables, Variable};
+use hpr_graph::{Draft, Link, LinkKind};
+use hpr_paths::NoMemory;
+use hpr_search::is_marked;
+use std::alloc::Global;
 
-/// The users of a name, and for each point its place among them.
-#[derive(Drop)]
-struct Users<'a> {
-    points: &'a [usize],
-    places: Vec<Option<usize>>,
-}
-
-fn no_places(alloc: Global, count: usize) -> Result<Vec<Option<usize>>, AllocError>
-    ensures { IfOk result (λ places. places.items ≡ replicate count None) }
+/// Whether an edge of this kind is a flow edge.
+fn is_flow(kind: LinkKind) -> bool
+    ensures { IsTrue result ↔ IsFlowKind kind }
 {
-    vec![in alloc; None; count]
-}
-
-/// For each point its place among these, each of which stands once.
-fn places_of(alloc: Global, count: usize, points: &[usize]) -> Result<Vec<Option<usize>>, NoMemory>
-    requires within { All (λ p. p < count) points.now }
-    requires once { IsOnce points.now }
-    ensures { IfOk result (λ places. ArePlaced points.now places.items) }
-{
-    let mut places = no_places(alloc, count)?;
-    for (at, point) in points.iter().enumerate() {
-        places[*point] = Some(at);
-    }
-    Ok(places)
-}
-
-/// The place of the point, if it has one.
-fn place_at(places: &[Option<usize>], point: usize) -> Option<usize>
-    ensures { result ≡ slice_index_or places.now point None }
-{
-    if point < places.len() {
-        places[point]
-    } else {
-        None
+    match kind {
+        LinkKind::Control(_) => false,
+        LinkKind::Independent => true,
+        LinkKind::Carried(_) => true,
+        LinkKind::Order(_) => false,
     }
 }
 
-/// Puts the definition behind the row of the point, if that is one of the users.
-fn push_for_user(
-    users: &Users,
-    point: usize,
-    definition: usize,
-    rows: &mut Vec<Vec<usize>>,
-) -> Result<(), NoMemory>
-    requires once { IsOnce users.now.points.now }
-    requires places { ArePlaced users.now.points.now users.now.places.items }
-    requires len { vec_len rows.old ≡ length users.now.points.now }
-    ensures len { vec_len rows.new ≡ vec_len rows.old }
-    ensures rows { OnOk result ((k u : ℕ) → slice_get users.now.points.now k ≡ Some u → (p : ℕ)
-        → Contains (points_at rows.new.items k) p ↔ (Contains (points_at rows.old.items k) p
-        ⊎ ((point ≡ u) × (definition ≡ p)))) }
-    ensures once { OnOk result ((k u : ℕ) → slice_get users.now.points.now k ≡ Some u
-        → IsOnce (points_at rows.old.items k) → (point ≡ u → ¬ Contains (points_at rows.old.items k) definition)
-        → IsOnce (points_at rows.new.items k)) }
+/// Whether the link is a flow edge from a definition that is left.
+fn is_left(left: &[bool], link: Link) -> bool
+    ensures { IsTrue result ↔ (IsFlowKind link.kind × IsMarked left.now link.from) }
 {
-    match place_at(&users.places, point) {
-        Some(at) => {
-            push_at(rows, at, definition)?;
-            Ok(())
-        }
-        None => Ok(()),
-    }
+    is_flow(link.kind) && is_marked(left, link.from)
 }
 
-/// Puts the definition behind the rows of the users that it reaches.
-fn push_reached(
-    alloc: Global,
-    succ: &Succ,
-    name: &Name,
-    users: &Users,
-    definition: usize,
-    rows: &mut Vec<Vec<usize>>,
-) -> Result<(), NoMemory>
-    requires definition { definition < length succ.now }
-    requires once { IsOnce users.now.points.now }
-    requires places { ArePlaced users.now.points.now users.now.places.items }
-    requires len { vec_len rows.old ≡ length users.now.points.now }
-    ensures len { OnOk result (vec_len rows.new ≡ vec_len rows.old) }
-    ensures rows { OnOk result ((k u : ℕ) → slice_get users.now.points.now k ≡ Some u → (p : ℕ)
-        → Contains (points_at rows.new.items k) p ↔ (Contains (points_at rows.old.items k) p
-        ⊎ (Reaches succ.now name.now [] definition u × (definition ≡ p)))) }
-    ensures once { OnOk result ((k u : ℕ) → slice_get users.now.points.now k ≡ Some u
-        → IsOnce (points_at rows.old.items k) → ¬ Contains (points_at rows.old.items k) definition
-        → IsOnce (points_at rows.new.items k)) }
+/// Puts the source of the link behind the others, if it is a flow edge from a definition that is left, which
+/// is left no more then.
+fn take_source(left: &mut Vec<bool>, link: Link, sources: &mut Vec<usize>) -> Result<(), NoMemory>
+    ensures { OnOk result (Takes left.old.items sources.old.items link left.new.items sources.new.items) }
 {
-    let row = reach(alloc, succ, definition, name, 0)?;
-    let points = row.points();
-    for point in points {
-        push_for_user(users, *point, definition, rows)?;
+    if is_left(left, link) {
+        left[link.from] = false;
+        sources.push(link.from)?;
     }
     Ok(())
 }
 
-/// For each of the users the definitions that reach it, in their order.
+/// Those of the marked definitions from which one of the links is a flow edge, each once.
+fn sources_among(alloc: Global, definers: &[bool], links: &[Link]) -> Result<Vec<usize>, NoMemory>
+    ensures once { IfOk result (λ sources. IsOnce sources.items) }
+    ensures exact { IfOk result (λ sources. (p : ℕ) → Contains sources.items p
+        ↔ (IsMarked definers.now p × HasFlowFrom links.now p)) }
+{
+    let mut left = Vec::from_slice(alloc, definers)?;
+    let mut sources = Vec::new(alloc);
+    for link in links {
+        take_source(&mut left, *link, &mut sources)?;
+    }
+    Ok(sources)
+}
+
+/// The definitions of the name, which are marked, that reach one use of it: by the flow edges in the graph.
+fn row_for(
+    alloc: Global,
+    tables: &Tables,
+    variable: &Variable,
+    definers: &[bool],
+    user: usize,
+    graph: &Draft,
+) -> Result<Vec<usize>, NoMemory>
+    requires tables { AreTables tables.now }
+    requires variable { IsVariable tables.now.program.now variable.now }
+    requires definers { (p : ℕ) → IsMarked definers.now p ↔ Contains variable.now.definitions.now p }
+    requires user { UsesAt (spots tables.now.program.now) user variable.now.name.now }
+    requires vertices { graph.now.vertices ≡ vertices_of tables.now.program.now tables.now.inits.items }
+    requires flows { HasFlows tables.now.program.now tables.now.inits.items graph.now }
+    ensures once { IfOk result (λ row. IsOnce row.items) }
+    ensures exact { IfOk result (λ row. (p : ℕ) → Contains row.items p ↔ (Contains variable.now.definitions.now p
+        × Reaches (spots tables.now.program.now) variable.now.name.now [] p user)) }
+{
+    let to = target_of(tables.exit, variable.final_number, user);
+    sources_among(alloc, definers, graph.edges_into(to))
+}
+
+/// For each of the users of the name the definitions that reach it: the sources of the flow edges into it,
+/// which are in the graph.
 ///
-/// Takes one search for each definition, and looks at the points that it reaches.
+/// Looks at each edge into a user once for each name that it uses.
 pub(crate) fn reaching_rows(
     alloc: Global,
-    succ: &Succ,
-    name: &Name,
-    definitions: &[usize],
-    users: &[usize],
+    tables: &Tables,
+    variable: &Variable,
+    graph: &Draft,
 ) -> Result<Vec<Vec<usize>>, NoMemory>
-    requires definitions { All (λ p. p < length succ.now) definitions.now }
-    requires definitions_once { IsOnce definitions.now }
-    requires users { All (λ p. p < length succ.now) users.now }
-    requires users_once { IsOnce users.now }
-    ensures len { IfOk result (λ rows. vec_len rows ≡ length users.now) }
-    ensures exact { IfOk result (λ rows. AreReaching succ.now name.now definitions.now users.now rows.items) }
+    requires tables { AreTables tables.now }
+    requires variable { IsVariable tables.now.program.now variable.now }
+    requires vertices { graph.now.vertices ≡ vertices_of tables.now.program.now tables.now.inits.items }
+    requires flows { HasFlows tables.now.program.now tables.now.inits.items graph.now }
+    ensures len { IfOk result (λ rows. vec_len rows ≡ length variable.now.users.now) }
+    ensures exact { IfOk result (λ rows. AreReaching (spots tables.now.program.now) variable.now.name.now
+        variable.now.definitions.now variable.now.users.now rows.items) }
 {
-    let places = places_of(alloc, succ.points(), users)?;
-    let mut rows = no_rows(alloc, users.len())?;
-    let users = Users {
-        points: users,
-        places,
-    };
-    for definition in definitions {
-        push_reached(alloc, succ, name, &users, *definition, &mut rows)?;
+    let definers = marked(alloc, tables.succ.points(), variable.definitions)?;
+    let mut rows = Vec::new(alloc);
+    for user in variable.users {
+        let row = row_for(alloc, tables, variable, &definers, *user, graph)?;
+        rows.push(row)?;
     }
     Ok(rows)
 }

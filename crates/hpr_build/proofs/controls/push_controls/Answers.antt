@@ -1,6 +1,5 @@
-use Rattle.std.proofs.Common.{List, length, inl, inr, sym, ap, ◌∙◌, subst, arith}
+use Rattle.std.proofs.Common.{List, inl, inr, sym, ◌∙◌, subst}
 use Rattle.hpr_graph.specs.Graphs.{IsOnce}
-use Rattle.hpr_graph.specs.declared.vertex.Vertex.{Vertex}
 use Rattle.hpr_build.specs.declared.pushes.NewLink.{NewLink}
 use Rattle.hpr_build.specs.Links.{IsControlLink}
 use Rattle.hpr_build.proofs.ControlFamily.{controls_exact}

@@ -1,5 +1,4 @@
-use Rattle.std.proofs.Common.{◌≡◌, ◌+◌, ◌-◌, ℕ, Some, List, Contains, length, slice_get, ap, sym, subst, arith}
-use Rattle.hpr_graph.specs.declared.vertex.Vertex.{Vertex}
+use Rattle.std.proofs.Common.{◌≡◌, ◌+◌, ◌-◌, ℕ, Some, List, Contains, slice_get, sym, subst, arith}
 use Rattle.hpr_build.specs.Links.{first_init}
 use Rattle.hpr_build.proofs.ControlFamily.{count_vertices}
 use Rattle.hpr_build.proofs.FlowFamily.{initial_more, initial_none, initial_once}

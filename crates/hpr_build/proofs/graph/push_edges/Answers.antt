@@ -1,5 +1,6 @@
 use Rattle.std.proofs.Common.{inl, inr}
 use Rattle.hpr_build.proofs.ControlFamily.{control_no_flow, control_no_order, flow_no_order}
+use Rattle.hpr_build.proofs.Sources.{flows_put}
 use Rattle.hpr_build.proofs.StageTurns.{on_ok}
 use Rattle.hpr_build.proofs.graph.push_edges.Goals as goal
 
@@ -27,3 +28,12 @@ returns-clause-exact c =
         | inr r ↦ (elim r [ inl w ↦ orders.1 (inl (flows.1 (inr w))) | inr o ↦ orders.1 (inr o) ])
       ]),
     )) c.push_orders.ensures.added
+
+pub push_orders-requires-clause-flows : goal.push_orders-requires-clause-flows
+push_orders-requires-clause-flows c =
+    let t = c.args.tables.now.program.now in
+    let inits = c.args.tables.now.inits.items in
+    flows_put t inits c.push_flows.new.graph (λ to l. (
+      (λ h. elim ((c.in_ok-push_flows.ensures.added to l).0 h) [ inl k ↦ inl ((c.in_ok-push_controls.ensures.exact to l).0 k) | inr f ↦ inr f ]),
+      (λ h. elim h [ inl k ↦ (c.in_ok-push_flows.ensures.added to l).1 (inl ((c.in_ok-push_controls.ensures.exact to l).1 k)) | inr f ↦ (c.in_ok-push_flows.ensures.added to l).1 (inr f) ]),
+    ))

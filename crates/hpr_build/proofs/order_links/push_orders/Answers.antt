@@ -1,4 +1,4 @@
-use Rattle.std.proofs.Common.{◌≡◌, ◌<◌, List, ℕ, get_or, length, sym, arith}
+use Rattle.std.proofs.Common.{◌≡◌, ◌<◌, List, ℕ, take, get_or, length, sym, arith}
 use Rattle.std.proofs.lemmas.Option.{slice_get_within, get_or_from_slice_get}
 use Rattle.hpr_graph.specs.Numbered.{HasLink}
 use Rattle.hpr_build.specs.Links.{IsOrderLink}
@@ -6,6 +6,7 @@ use Rattle.hpr_build.specs.NewLinks.{OrdersOf}
 use Rattle.hpr_build.proofs.Families.{SomeOf, turn_family, fresh_family, whole_family, other_family}
 use Rattle.hpr_build.proofs.OrderFamily.{order_of_name, name_of_order, some_ordered, ordered_of_some}
 use Rattle.hpr_graph.proofs.NamesOnce.{names_once}
+use Rattle.hpr_build.proofs.Sources.{flows_kept}
 use Rattle.hpr_build.proofs.order_links.push_orders.Goals as goal
 
 pub push_orders_of-requires-clause-fresh : goal.push_orders_of-requires-clause-fresh
@@ -41,3 +42,8 @@ returns-clause-added c = λ to l.
     other_family (HasLink c.loop-at.graph to l) (HasLink c.args.graph.now to l) (SomeOf xs (λ y. OrdersOf t y to l)) (IsOrderLink t to l)
     (some_ordered t to l xs c.requires.tables.names) (ordered_of_some t to l xs c.requires.tables.names)
     (whole_family xs (λ y. OrdersOf t y to l) k (HasLink c.loop-at.graph to l) (HasLink c.args.graph.now to l) (c.loop-at.invariant.added to l) (omega (arith, c.len-at-end.ensures, c.loop-at-test.false, c.args.tables.now.variables.names.ok.0)))
+
+pub push_orders_of-requires-clause-flows : goal.push_orders_of-requires-clause-flows
+push_orders_of-requires-clause-flows c =
+    let t = c.args.tables.now in
+    flows_kept t.program.now t.inits.items (take c.loop-at.at t.variables.names.items) c.args.graph.now c.loop-at.graph c.requires.flows c.loop-at.invariant.added

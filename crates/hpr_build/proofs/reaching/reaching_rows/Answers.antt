@@ -1,31 +1,41 @@
-use Rattle.std.proofs.Common.{ℕ, List, get_or, subst, arith}
+use Rattle.std.proofs.Common.{◌↔◌, ◌<◌, ℕ, Bool, List, All, Contains, get_or, sym, subst, arith}
 use Rattle.std.proofs.lemmas.List.{get_or_default, take_all}
-use Rattle.hpr_graph.proofs.Lists.{not_before}
+use Rattle.hpr_search.specs.Marks.{IsMarked}
+use Rattle.hpr_paths.specs.Successors.{spots}
 use Rattle.hpr_build.specs.Reaching.{AreReaching}
-use Rattle.hpr_build.proofs.ReachingRows.{reaching_none, reaching_more}
+use Rattle.hpr_build.proofs.OrderFamily.{points_within}
+use Rattle.hpr_build.proofs.ReachingRows.{one_use_more}
 use Rattle.hpr_build.proofs.reaching.reaching_rows.Goals as goal
 
-pub loop-definition-init : goal.loop-definition-init
-loop-definition-init c = record {
-  len = c.in_ok-rows.ensures.len;
-  exact = reaching_none c.args.succ.now c.args.name.now c.args.definitions.now c.args.users.now c.in_ok-rows.rows.items c.in_ok-rows.ensures.none;
-}
+pub marked-requires : goal.marked-requires
+marked-requires c =
+    let t = c.args.tables.now in
+    subst (λ (n : ℕ). All (λ d. d < n) c.args.variable.now.definitions.now) (sym c.points.ensures.points) (points_within t.program.now c.args.variable.now c.requires.variable t.succ c.requires.tables.succ)
 
-pub loop-definition-preserved : goal.loop-definition-preserved
-loop-definition-preserved c =
-    let ds = c.args.definitions.now in
-    let i = c.loop-definition.definition-index in
-    let d : ℕ = get_or ds i 0 in
-    let is = get_or_default ds i 0 d c.loop-definition-test.true in
+pub row_for-requires-clause-definers : goal.row_for-requires-clause-definers
+row_for-requires-clause-definers c =
+    subst (λ (ms : List Bool). (p : ℕ) → IsMarked ms p ↔ Contains c.args.variable.now.definitions.now p) (sym c.deref.ensures.value) c.in_ok-definers.ensures
+
+pub row_for-requires-clause-user : goal.row_for-requires-clause-user
+row_for-requires-clause-user c =
+    let xs = c.args.variable.now.users.now in
+    let k = c.loop-user.user-index in
+    let u : ℕ = get_or xs k 0 in
+    (c.requires.variable.users u).0 (k, c.loop-user-test.true, sym (get_or_default xs k 0 u c.loop-user-test.true))
+
+pub loop-user-preserved : goal.loop-user-preserved
+loop-user-preserved c =
+    let v = c.args.variable.now in
+    let xs = v.users.now in
+    let k = c.loop-user.user-index in
+    let u : ℕ = get_or xs k 0 in
     record {
-      len = omega (arith, c.in_ok-push_reached.ensures.len, c.loop-definition.invariant.len);
-      exact = λ k u at.
-          let (once, are) = c.loop-definition.invariant.exact k u at in (
-            c.in_ok-push_reached.ensures.once k u at once (λ h. not_before ds i d c.requires.definitions_once c.loop-definition-test.true is ((are d).0 h).0),
-            λ p. reaching_more c.args.succ.now c.args.name.now ds c.args.users.now i d u p _ _ c.loop-definition-test.true is (c.in_ok-push_reached.ensures.rows k u at p) (are p),
-          );
+      len = omega (arith, c.in_ok-push.ensures.len, c.loop-user.invariant.len);
+      exact = one_use_more (spots c.args.tables.now.program.now) v.name.now v.definitions.now xs k u c.loop-user.rows.items c.push.new.self.items c.in_ok-row.row c.loop-user-test.true
+          (get_or_default xs k 0 u c.loop-user-test.true) (omega (arith, c.loop-user.invariant.len, c.loop-user.rows.ok.0)) c.in_ok-push.ensures.items c.loop-user.invariant.exact (c.in_ok-row.ensures.once, c.in_ok-row.ensures.exact);
     }
 
 pub returns-clause-exact : goal.returns-clause-exact
 returns-clause-exact c =
-    subst (λ (xs : List ℕ). AreReaching c.args.succ.now c.args.name.now xs c.args.users.now c.loop-definition.rows.items) (take_all c.loop-definition.definition-index c.args.definitions.now (omega (arith, c.loop-definition-test.false))) c.loop-definition.invariant.exact
+    let v = c.args.variable.now in
+    subst (λ (us : List ℕ). AreReaching (spots c.args.tables.now.program.now) v.name.now v.definitions.now us c.loop-user.rows.items) (take_all c.loop-user.user-index v.users.now (omega (arith, c.loop-user-test.false))) c.loop-user.invariant.exact

@@ -1,6 +1,5 @@
 use Rattle.std.proofs.Common.{◌≡◌, ℕ, List, length, ap, arith}
 use Rattle.std.proofs.lemmas.Bool.{false≢true}
-use Rattle.hpr_graph.specs.declared.vertex.Vertex.{Vertex}
 use Rattle.hpr_build.proofs.ControlFamily.{count_vertices}
 use Rattle.hpr_build.proofs.TargetNumbers.{final_found, final_more, final_past}
 use Rattle.hpr_build.proofs.tables.final_number.Goals as goal
