@@ -1,10 +1,10 @@
 -- What the rows say of the flow edges to a point is what the paths say.
-use Rattle.std.proofs.Common.{◌≡◌, ℕ, ◌+◌, ◌<◌, Bool, Option, None, Some, List, [], length, get_or, take, Contains, IsTrue, ◌⊎◌, ◌↔◌, inl, inr, refl, sym, ap, ◌∙◌, subst, arith, length-take}
+use Rattle.std.proofs.Common.{◌≡◌, ℕ, ◌+◌, ◌<◌, Bool, Option, None, Some, List, [], map, length, get_or, take, Contains, IsTrue, ◌⊎◌, ◌↔◌, inl, inr, refl, sym, ap, ◌∙◌, subst, arith, length-take}
 use Rattle.std.proofs.lemmas.Bool.{cases_eq}
 use Rattle.std.proofs.lemmas.List.{get_or-take, get_or_default}
 use Rattle.std.proofs.lemmas.List.Elements.{All-contains}
 use Rattle.std.proofs.lemmas.Option.{slice_get-get_or}
-use Rattle.hpr_terms.proofs.Facts.{in_none, taken_item}
+use Rattle.hpr_terms.proofs.Facts.{in_none, in_map, map_in, taken_item}
 use Rattle.hpr_search.specs.Marks.{IsMarked}
 use Rattle.hpr_paths.specs.Spots.{Spot, nest_at, IsLoopAt}
 use Rattle.hpr_paths.specs.Successors.{AreSpots}
@@ -17,6 +17,7 @@ use Rattle.hpr_build.specs.declared.flows.FlowKind.{FlowKind}
 use Rattle.hpr_build.specs.declared.flows.FlowKind.TheVariants.{Independent, Carried}
 use Rattle.hpr_build.specs.Flows.{IsFlowAt, CutsTo, AreCarries, IsCarriedBy, IsKindBelow, IsFlowBelow}
 use Rattle.hpr_graph.specs.Graphs.{IsOnce}
+use Rattle.hpr_build.proofs.Once.{once_map}
 
 module _ (spots : List Spot) (x : List ℕ) (d u c : ℕ) (are : AreSpots spots) (parts : PartsAt (nest_at spots d) (nest_at spots u) c) where
   abbrev Nest : List ℕ
@@ -160,3 +161,32 @@ flows_by_list spots x d users row flows marks exact f = (
   (λ h. let (m, at) = (exact f).0 h in ((marks f.to).0 m, at)),
   (λ (u, at). (exact f).1 ((marks f.to).1 u, at)),
 )
+
+-- the flow edges from a point that no loop encloses
+abbrev pub plain : ℕ → Flow
+plain u = record { to = u; kind = Independent }
+
+module _ (spots : List Spot) (x : List ℕ) (d : ℕ) (top : nest_at spots d ≡ []) where
+  no_loop : (w : ℕ) → ¬ Contains (nest_at spots d) w
+  no_loop w h = in_none w (subst (λ (ws : List ℕ). Contains ws w) top h)
+
+  plain_kind : (u : ℕ) (k : FlowKind) → IsFlowAt spots x d u k → k ≡ Independent
+  plain_kind u Independent at = refl
+  plain_kind u (Carried w) at = absurd (no_loop w at.0)
+
+  plain_flow : (u : ℕ) → Reaches spots x [] d u → IsFlowAt spots x d u Independent
+  plain_flow u (steps, path, avoids) = (steps, path, λ w here there. absurd (no_loop w here))
+
+  pub plain_exact : (row users : List Bool) (reached : List ℕ) → CutsTo spots x d 0 row → ((p : ℕ) → Contains reached p ↔ (IsMarked row p × IsMarked users p))
+      → (f : Flow) → Contains (map plain reached) f ↔ (IsMarked users f.to × IsFlowAt spots x d f.to f.kind)
+  plain_exact row users reached cuts both f = (
+    (λ h. (let (u, has, is) = map_in plain reached f h in
+        let (r, m) = (both u).0 has in
+        subst (λ (g : Flow). IsMarked users g.to × IsFlowAt spots x d g.to g.kind) is (m, plain_flow u ((cuts u).0 r)))),
+    (λ (m, at). (let kind : f.kind ≡ Independent = plain_kind f.to f.kind at in
+        let is : plain f.to ≡ f = λ i. record { to = f.to; kind = sym kind i } in
+        subst (λ (g : Flow). Contains (map plain reached) g) is (in_map plain reached f.to ((both f.to).1 ((cuts f.to).1 (reached_of_flow spots x d f.to f.kind at), m))))),
+  )
+
+pub plain_once : (reached : List ℕ) → IsOnce reached → IsOnce (map plain reached)
+plain_once reached once = once_map plain reached once (λ u v hu hv e. ap (λ (f : Flow). f.to) e)

@@ -1,5 +1,5 @@
 //! The flow edges from one definition, by points.
-ghost use Rattle.std.specs.Prelude.{◌≡◌, ℕ, ◌+◌, ◌-◌, ◌<◌, ◌≤◌, ◌⊎◌, ◌↔◌, [], None, false, vec_len, length, All, Contains, OnOk, IfOk, IsTrue, replicate, slice_index_or};
+ghost use Rattle.std.specs.Prelude.{◌≡◌, ℕ, ◌+◌, ◌-◌, ◌<◌, ◌≤◌, ◌⊎◌, ◌↔◌, [], None, false, vec_len, length, All, Contains, OnOk, IfOk, IsTrue, map, replicate, slice_index_or};
 ghost use Rattle.hpr_search.specs.Marks.{IsMarked};
 ghost use Rattle.hpr_paths.specs.Spots.{nest_at, defined_at};
 ghost use Rattle.hpr_reach.specs.Reaches.{back_to, Reaches};
@@ -326,12 +326,27 @@ fn flows_to(
     Ok(flows)
 }
 
+/// The flow edges from a point that no loop encloses to the points that it reaches: none is carried.
+fn plain_flows(alloc: Global, reached: &[usize]) -> Result<Vec<Flow>, NoMemory>
+    ensures { IfOk result (λ flows. flows.items
+        ≡ map (λ u. record { to = u; kind = FlowKind.Independent }) reached.now) }
+{
+    let mut flows = Vec::new(alloc);
+    for point in reached {
+        flows.push(Flow {
+            to: *point,
+            kind: FlowKind::Independent,
+        })?;
+    }
+    Ok(flows)
+}
+
 /// The flow edges for the name from the point to those of the marked points that it flows to, as if it
 /// defined the name (Horwitz, Prins and Reps 1989).
 ///
 /// Takes one search for each loop around the point that the value comes round to, one more with
-/// that loop's back edges cut, and one with none cut. Each search looks at the points that it reaches,
-/// and at no others.
+/// that loop's back edges cut, and one with none cut; where no loop is around the point, this one alone. Each
+/// search looks at the points that it reaches, and at no others.
 pub(crate) fn flows_from(
     alloc: Global,
     succ: &Succ,
@@ -346,5 +361,8 @@ pub(crate) fn flows_from(
 {
     let all = reach(alloc, succ, from, name, 0)?;
     let reached = reached_users(alloc, &all, users)?;
+    if succ.nest(from).is_empty() {
+        return plain_flows(alloc, &reached);
+    }
     flows_to(alloc, succ, from, name, all, &reached)
 }
