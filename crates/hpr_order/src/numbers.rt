@@ -16,7 +16,7 @@ ghost use Rattle.hpr_order.specs.Numbers.{ArePartsOf, AreRanked, AreFinals, AreI
 use crate::RegionTree;
 use crate::item::{Item, item_of};
 use hpr_graph::links::number_at;
-use hpr_graph::{Graph, Link, LinkKind, Name, NoMemory, Vertex, place_of};
+use hpr_graph::{Graph, Link, LinkKind, Name, NoMemory, Vertex};
 use hpr_syntax::proper::read_names;
 use hpr_terms::names::in_order;
 use std::alloc::{AllocError, Global};
@@ -31,10 +31,10 @@ pub(crate) fn ranked_parts(
     ensures parts { IfOk result (λ ns. ArePartsOf graph.now ns.items) }
     ensures ranked { IfOk result (λ ns. AreRanked graph.now rank.now ns.items) }
 {
-    let vertices = graph.vertices();
+    let _vertices = graph.vertices();
     let mut numbers = Vec::new(alloc);
     for vertex in rank {
-        let Some(number) = part_number(vertices, vertex) else {
+        let Some(number) = part_number(graph, vertex) else {
             continue;
         };
         numbers.push(number)?;
@@ -42,14 +42,14 @@ pub(crate) fn ranked_parts(
     Ok(numbers)
 }
 
-/// The number of a part among the vertices; none of another vertex.
-fn part_number(vertices: &[Vertex], vertex: &Vertex) -> Option<usize>
-    ensures found { IfSome result (λ n. slice_get vertices.now n ≡ Some vertex.now) }
+/// The number of a part in the graph; none of another vertex. Takes one look-up by hash.
+fn part_number(graph: &Graph, vertex: &Vertex) -> Option<usize>
+    ensures found { IfSome result (λ n. slice_get graph.now.vertices n ≡ Some vertex.now) }
     ensures part { IfSome result (λ n. IsPart vertex.now) }
-    ensures none { IfNone result (IsPart vertex.now → ¬ Contains vertices.now vertex.now) }
+    ensures none { IfNone result (IsPart vertex.now → ¬ Contains graph.now.vertices vertex.now) }
 {
     if is_part(vertex) {
-        place_of(vertices, vertex)
+        graph.number_of(vertex)
     } else {
         None
     }

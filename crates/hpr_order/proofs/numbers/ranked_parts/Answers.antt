@@ -11,12 +11,12 @@ pub loop-vertex-preserved-in_default : goal.loop-vertex-preserved-in_default
 loop-vertex-preserved-in_default c =
     ranked_skip c.args.graph.now c.args.rank.now c.loop-vertex.vertex-index c.loop-vertex.numbers.items c.vertex-item.result c.loop-vertex.invariant
     (read_of c.args.rank.now c.loop-vertex.vertex-index c.vertex-item.result c.loop-vertex-test.true c.vertex-item.is)
-    (λ part there. c.in_default.ensures.none part (subst (λ (vs : List Vertex). Contains vs c.vertex-item.result) (sym c.vertices-vertices.ensures.vertices) there))
+    (λ part there. c.in_default.ensures.none part there)
 
 pub loop-vertex-preserved : goal.loop-vertex-preserved
 loop-vertex-preserved c =
     ranked_push c.args.graph.now c.args.rank.now c.loop-vertex.vertex-index c.in-Some.number c.loop-vertex.numbers.items c.push.new.self.items c.vertex-item.result c.loop-vertex.invariant
-    (read_of c.args.rank.now c.loop-vertex.vertex-index c.vertex-item.result c.loop-vertex-test.true c.vertex-item.is) (ap (λ (vs : List Vertex). slice_get vs c.in-Some.number) (sym c.vertices-vertices.ensures.vertices) ∙ c.in-Some.ensures.found) c.in-Some.ensures.part
+    (read_of c.args.rank.now c.loop-vertex.vertex-index c.vertex-item.result c.loop-vertex-test.true c.vertex-item.is) c.in-Some.ensures.found c.in-Some.ensures.part
     (λ a b u ea eb. c.vertices-vertices.ensures.numbered.once a b u ea eb) c.in_ok-push.ensures.items
 
 pub returns-clause-parts : goal.returns-clause-parts
