@@ -27,3 +27,4 @@ pub mod BridgeAhead
 pub mod BridgeLeft
 pub mod ReachingRows
 mod Sources
+mod InitialNames

@@ -3,10 +3,14 @@
 -- points_at rows i             == the points in the row i; none where there is no such row
 -- AreUsers spots names rows    == for each name there is a row with the points that use it, each once
 -- AreDefinitions spots names rows == for each name there is a row with the points that define it, each once
-use Rattle.std.specs.Prelude.{◌≡◌, ℕ, ◌↔◌, Option, Some, None, List, [], Vec, Contains}
+-- IsFreeRow spots row          == the row marks what each name that no point defines reaches from Enter
+use Rattle.std.specs.Prelude.{◌≡◌, ℕ, ◌↔◌, Bool, Option, Some, None, List, [], Vec, Contains}
 use Rattle.std.specs.Global.{Global}
 use Rattle.std.specs.List.{slice_get}
+use Rattle.hpr_search.specs.Marks.{IsMarked}
 use Rattle.hpr_paths.specs.Spots.{Spot, defined_at, UsesAt}
+use Rattle.hpr_reach.specs.Live.{IsDefined}
+use Rattle.hpr_reach.specs.Reaches.{Reaches}
 use Rattle.hpr_graph.specs.Graphs.{IsOnce}
 
 abbrev pub points_of : Option (Vec ℕ Global) → List ℕ
@@ -23,3 +27,6 @@ AreUsers spots names rows =
 abbrev pub AreDefinitions : List Spot → List (List ℕ) → List (Vec ℕ Global) → Type 0
 AreDefinitions spots names rows =
     (i : ℕ) (x : List ℕ) → slice_get names i ≡ Some x → IsOnce (points_at rows i) × ((p : ℕ) → Contains (points_at rows i) p ↔ (defined_at spots p ≡ Some x))
+
+abbrev pub IsFreeRow : List Spot → List Bool → Type 0
+IsFreeRow spots row = (y : List ℕ) → ¬ IsDefined spots y → (q : ℕ) → IsMarked row q ↔ Reaches spots y [] 0 q

@@ -6,6 +6,7 @@ mod error;
 mod flow_links;
 mod flows;
 mod graph;
+mod initial;
 pub mod laws;
 mod lists;
 mod order_links;

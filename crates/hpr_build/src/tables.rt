@@ -6,11 +6,11 @@ ghost use Rattle.hpr_build.specs.Links.{part_vertex, name_vertex, vertices_of, e
 ghost use Rattle.hpr_build.specs.Stages.{AreTables, IsVariable};
 ghost use Rattle.hpr_build.specs.Variables.{points_at};
 
+use crate::initial::live_names;
 use crate::places::{Place, places};
 use crate::variables::{Variables, variables_of};
 use hpr_graph::Vertex;
 use hpr_paths::{Name, NoMemory, Succ, successors};
-use hpr_reach::live_at_entry;
 use hpr_syntax::Program;
 use std::alloc::Global;
 
@@ -113,8 +113,8 @@ pub(crate) fn tables_of<'a>(
 {
     let succ = successors(alloc, program)?;
     let places = places(alloc, program)?;
-    let inits = live_at_entry(alloc, &succ)?;
     let variables = variables_of(alloc, &succ)?;
+    let inits = live_names(alloc, &succ, &variables)?;
     push_vertices(alloc, &places, program.finals(), &inits, vertices)?;
     Ok(Tables {
         program,

@@ -22,8 +22,10 @@ returns-clause-tables c =
       parts = c.in_ok-places.ensures;
       inits_ascending = c.in_ok-inits.ensures.ascending;
       inits = λ x. (
-        (λ h. (live_tags t c.finals.ensures.program x).0 (subst (λ (s : List Spot). IsLive s x) succ (c.in_ok-inits.ensures.sound x h))),
-        (λ h. c.in_ok-inits.ensures.complete x (subst (λ (s : List Spot). IsLive s x) (sym succ) ((live_tags t c.finals.ensures.program x).1 h))),
+        (λ h. (live_tags t c.finals.ensures.program x).0 (subst (λ (s : List Spot). IsLive s x) succ ((c.in_ok-inits.ensures.exact x).0 h).1)),
+        (λ h.
+            let live : IsLive c.in_ok-succ.succ x = subst (λ (s : List Spot). IsLive s x) (sym succ) ((live_tags t c.finals.ensures.program x).1 h) in
+            (c.in_ok-inits.ensures.exact x).1 ((c.in_ok-variables.ensures.names x).1 (live.0, live.3), live)),
       );
       exit = ap (λ (n : ℕ). n + 1) c.part_count.ensures.count;
       count = c.len.ensures ∙ c.push_vertices.new.into.ok.0 ∙ ap (λ (vs : List Vertex). length vs) made;
