@@ -30,3 +30,4 @@ pub mod Preorders
 mod OuterControls
 pub mod SomeRank
 pub mod OneBody
+mod PartTurns

@@ -1,7 +1,7 @@
 -- What the rank of a base and its variants has: each of their parts, once.
 use Rattle.std.proofs.Common.{◌≡◌, ℕ, zero, suc, ◌+◌, ◌-◌, ◌<◌, Bool, true, false, ◌↔◌, ◌⊎◌, inl, inr, Option, Some, None, IfSome, IsNone, Bor, List, [], ◌∷◌, ◌++◌, map, length, take, drop, get_or, Contains, slice_get, refl, sym, ap, ap₂, ◌∙◌, subst, append_assoc, arith}
 use Rattle.std.specs.List.{AllByRecursion, insert}
-use Rattle.std.proofs.lemmas.List.{append-nil, map-append, take_more}
+use Rattle.std.proofs.lemmas.List.{append-nil, map-append}
 use Rattle.std.proofs.lemmas.List.Elements.{All-contains, All-from_recursion, Contains-append_left, Contains-append_right, Contains-append_cases}
 use Rattle.std.specs.Option.{is_some, option_copied}
 use Rattle.std.specs.Slice.{IsItemAt}
@@ -215,13 +215,6 @@ pub put_new : (xs : List Vertex) (i : ℕ) (v next : Vertex) → slice_get xs i 
 put_new xs i v next at =
     let (whole, rest) = split_at xs i next at in
     (take i xs, drop (suc i) xs, whole, ap (λ (l : List Vertex). take i xs ++ v ∷ l) rest)
-
-abbrev part : Row → Vertex
-part row = Part row.tag row.content
-
-pub part_more : (rows : List Row) (i : ℕ) (row : Row) → i < length rows → row ≡ get_or rows i row → map part (take (i + 1) rows) ≡ map part (take i rows) ++ Part row.tag row.content ∷ []
-part_more rows i row lt is =
-    ap (map part) (take_more rows i row lt ∙ ap (λ (z : Row). take i rows ++ z ∷ []) (sym is)) ∙ map-append part (take i rows) (row ∷ [])
 
 pub none_is : (o : Option ℕ) (b : Bool) → b ≡ is_some o → b ≡ false → IsNone o
 none_is None b e f = refl

@@ -13,6 +13,7 @@ mod lift;
 mod listed;
 mod numbers;
 mod ordered;
+mod preorder;
 mod ranking;
 mod reached;
 mod tags;

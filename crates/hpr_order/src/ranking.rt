@@ -1,13 +1,14 @@
 //! The rank of the parts of three programs.
-ghost use Rattle.std.specs.Prelude.{◌≡◌, ◌≤◌, ◌∷◌, ◌++◌, [], IfSome, IfOk, OnOk, Contains, length, map};
+ghost use Rattle.std.specs.Prelude.{◌≡◌, ◌≤◌, ◌∷◌, [], IfSome, IfOk, OnOk, Contains, length};
 ghost use Rattle.std.specs.List.{insert};
 ghost use Rattle.std.specs.Option.{option_copied};
 ghost use Rattle.hpr_graph.specs.declared.vertex.Vertex.{Vertex};
 ghost use Rattle.hpr_graph.specs.Rank.{parts_of, IsAddedAt, IsPutIn, IsJoined, AreJoined, IsRank};
 
 use crate::listed::{insert_at, listed, place_in};
+use crate::preorder::parts;
 use hpr_graph::{NoMemory, Vertex};
-use hpr_syntax::{Program, Row};
+use hpr_syntax::Program;
 use indexmap::IndexSet;
 use std::alloc::Global;
 
@@ -68,34 +69,6 @@ fn join_program(
 {
     let parts = parts(alloc, program)?;
     join(alloc, list, &parts)
-}
-
-/// The parts of a program in preorder.
-fn parts(alloc: Global, program: &Program) -> Result<Vec<Vertex>, NoMemory>
-    ensures { IfOk result (λ v. v.items ≡ parts_of program.now) }
-{
-    let rows = program.preorder(alloc)?;
-    parts_in(alloc, &rows)
-}
-
-/// The parts that the rows show.
-fn parts_in(alloc: Global, rows: &[Row]) -> Result<Vec<Vertex>, NoMemory>
-    ensures { IfOk result (λ v. v.items ≡ map (λ (row : Row). Vertex.Part row.tag row.content) rows.now) }
-{
-    let mut parts = Vec::new(alloc);
-    for row in rows {
-        push_part(alloc, row, &mut parts)?;
-    }
-    Ok(parts)
-}
-
-/// Puts the part of the row behind the others.
-fn push_part(alloc: Global, row: &Row, into: &mut Vec<Vertex>) -> Result<(), NoMemory>
-    ensures { OnOk result (into.new.items ≡ into.old.items ++ Vertex.Part row.now.tag row.now.content ∷ []) }
-{
-    let content = row.content.copy(alloc)?;
-    into.push(Vertex::Part(row.tag, content))?;
-    Ok(())
 }
 
 /// Puts in what the list lacks of these parts, from their end on.

@@ -1,5 +1,4 @@
-use Rattle.std.proofs.Common.{List, Contains, slice_get, sym, ap, ◌∙◌, subst}
-use Rattle.hpr_graph.specs.declared.vertex.Vertex.{Vertex}
+use Rattle.std.proofs.Common.{sym, subst}
 use Rattle.hpr_order.proofs.Ranked.{IsRankedTo, ranked_none, ranked_skip, ranked_push, ranked_parts}
 use Rattle.hpr_order.proofs.Steps.{read_of}
 use Rattle.hpr_order.proofs.numbers.ranked_parts.Goals as goal
