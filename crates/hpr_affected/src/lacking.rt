@@ -70,19 +70,24 @@ fn lacking_among(
     ensures { IfOk result (λ lacks. AreWithout (IsKnown numbers.now known.now) links.now lacks.items) }
 {
     let mut lacks = Vec::new(alloc);
+    let mut next = 0;
     for link in links {
-        push_if(!is_known(*link, numbers, known), *link, &mut lacks)?;
+        push_if(
+            !is_known(*link, numbers, known, &mut next),
+            *link,
+            &mut lacks,
+        )?;
     }
     Ok(lacks)
 }
 
 /// Whether the link by its numbers there is among the known ones.
-fn is_known(link: Link, numbers: &[Option<usize>], known: &[Link]) -> bool
+fn is_known(link: Link, numbers: &[Option<usize>], known: &[Link], next: &mut usize) -> bool
     requires { IsSorted ⟦<Link as Ord>⟧.cmp known.now }
     ensures { IsTrue result ↔ IsKnown numbers.now known.now link }
 {
     match moved(link, numbers) {
-        Some(moved) => has_sorted(known, moved),
+        Some(moved) => has_sorted(known, moved, next),
         None => false,
     }
 }

@@ -1,6 +1,6 @@
 //! Links by the numbers that their vertices have in another graph, links whose vertices are marked, and lists
 //! of links that ascend.
-ghost use Rattle.std.specs.Prelude.{◌≡◌, ◌↔◌, Contains, IsTrue};
+ghost use Rattle.std.specs.Prelude.{◌≡◌, ◌↔◌, Some, Contains, IsTrue, slice_get};
 ghost use Rattle.std.specs.List.Sorted.{IsSorted};
 ghost use Rattle.hpr_graph.specs.declared.link.Link.{Link};
 ghost use Rattle.hpr_graph.specs.Inside.{IsInside};
@@ -55,10 +55,31 @@ pub fn is_inside(link: Link, marks: &[bool]) -> bool
     }
 }
 
-/// Whether the link is one of these, which ascend.
-pub fn has_sorted(links: &[Link], link: Link) -> bool
+/// Whether the link is one of these, which ascend. It is looked for first at the place `next`, which then
+/// is the place behind it, wherever `next` was: so links that are asked for in their order take a look each.
+pub fn has_sorted(links: &[Link], link: Link, next: &mut usize) -> bool
     requires { IsSorted ⟦<Link as Ord>⟧.cmp links.now }
     ensures { IsTrue result ↔ Contains links.now link }
 {
-    links.binary_search(&link).is_ok()
+    if is_at(links, *next, link) {
+        *next += 1;
+        return true;
+    }
+    match links.binary_search(&link) {
+        Ok(at) => {
+            *next = at + 1;
+            true
+        }
+        Err(_) => false,
+    }
+}
+
+/// Whether the link stands at this place.
+fn is_at(links: &[Link], at: usize, link: Link) -> bool
+    ensures { IsTrue result ↔ (slice_get links.now at ≡ Some link) }
+{
+    match links.get(at) {
+        Some(there) => *there == link,
+        None => false,
+    }
 }

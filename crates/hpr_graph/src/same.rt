@@ -47,8 +47,9 @@ fn is_row_within(vertices: &[Vertex], row: &[Link], other: &Graph, other_row: &[
     requires sorted { IsSorted ⟦<Link as Ord>⟧.cmp other_row.now }
     ensures { IsTrue result ↔ HasTwins vertices.now row.now other.now.vertices other_row.now }
 {
+    let mut next = 0;
     for link in row {
-        if !has_twin(vertices, *link, other, other_row) {
+        if !has_twin(vertices, *link, other, other_row, &mut next) {
             return false;
         }
     }
@@ -56,14 +57,14 @@ fn is_row_within(vertices: &[Vertex], row: &[Link], other: &Graph, other_row: &[
 }
 
 /// Whether the edge is the same as one of the row, which ascends: looks the link by the numbers there up.
-fn has_twin(vertices: &[Vertex], link: Link, other: &Graph, row: &[Link]) -> bool
+fn has_twin(vertices: &[Vertex], link: Link, other: &Graph, row: &[Link], next: &mut usize) -> bool
     requires link { IsSomeLink vertices.now link }
     requires once { IsOnce other.now.vertices }
     requires sorted { IsSorted ⟦<Link as Ord>⟧.cmp row.now }
     ensures { IsTrue result ↔ HasTwin vertices.now link other.now.vertices row.now }
 {
     match link_there(vertices, link, other) {
-        Some(there) => has_sorted(row, there),
+        Some(there) => has_sorted(row, there, next),
         None => false,
     }
 }

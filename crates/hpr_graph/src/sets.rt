@@ -164,8 +164,9 @@ fn add_row(
     ensures elsewhere { OnOk result (IsKeptElsewhere target.old target.new to) }
 {
     let _vertices = target.vertices();
+    let mut next = 0;
     for link in source.edges_into(at) {
-        add_moved(target, known, source, numbers, at, to, *link)?;
+        add_moved(target, known, source, numbers, at, to, *link, &mut next)?;
     }
     Ok(())
 }
@@ -180,6 +181,7 @@ fn add_moved(
     at: usize,
     to: usize,
     link: Link,
+    next: &mut usize,
 ) -> Result<(), NoMemory>
     requires placed { ArePlaced source.now.vertices numbers.now target.old.vertices }
     requires number { number_at numbers.now at ≡ Some to }
@@ -194,7 +196,7 @@ fn add_moved(
     let Some(moved) = moved(link, numbers) else {
         return Ok(());
     };
-    if has_sorted(known, moved) {
+    if has_sorted(known, moved, next) {
         return Ok(());
     }
     target.push_new_link(to, moved)

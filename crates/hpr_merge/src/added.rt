@@ -10,14 +10,14 @@ use hpr_search::is_marked;
 
 /// Whether the link is inside the marks of the grown slice, but isn't one of the own links, which ascend,
 /// inside its own marks.
-fn is_more(link: Link, own_links: &[Link], grown: &[bool], own: &[bool]) -> bool
+fn is_more(link: Link, own_links: &[Link], grown: &[bool], own: &[bool], next: &mut usize) -> bool
     requires { Ascends ⟦<Link as Ord>⟧.cmp own_links.now }
     ensures { IsTrue result ↔ IsMore grown.now own.now own_links.now link }
 {
     if !is_inside(link, grown) {
         return false;
     }
-    !(is_inside(link, own) && has_sorted(own_links, link))
+    !(is_inside(link, own) && has_sorted(own_links, link, next))
 }
 
 /// The first of the links that is inside the marks of the grown slice, but isn't one of the own links,
@@ -26,8 +26,9 @@ fn first_more(links: &[Link], own_links: &[Link], grown: &[bool], own: &[bool]) 
     requires { Ascends ⟦<Link as Ord>⟧.cmp own_links.now }
     ensures { IsFirst (IsMore grown.now own.now own_links.now) links.now result }
 {
+    let mut next = 0;
     for link in links {
-        if is_more(*link, own_links, grown, own) {
+        if is_more(*link, own_links, grown, own, &mut next) {
             return Some(*link);
         }
     }
