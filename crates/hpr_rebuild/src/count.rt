@@ -16,7 +16,13 @@ fn is_part(vertex: &Vertex) -> bool
 fn parts_among(vertices: &[Vertex]) -> usize
     ensures { result ≡ length (filter is_part vertices.now) }
 {
-    vertices.iter().filter(|vertex| is_part(vertex)).count()
+    let mut parts = 0;
+    for vertex in vertices {
+        if is_part(vertex) {
+            parts += 1;
+        }
+    }
+    parts
 }
 
 /// How many parts the graph has.

@@ -17,6 +17,7 @@ use crate::name::Name;
 use std::alloc::Global;
 use std::cmp::Ordering;
 use std::marker::Model;
+use std::rc::Rc;
 
 /// An operator of one operand.
 #[derive(Clone, Copy, PartialEq, Eq, PartialOrd, Ord)]
@@ -88,7 +89,7 @@ impl Literal {
 #[cycle(expr)]
 #[derive(Drop)]
 pub struct Operand {
-    inner: Box<Expr>,
+    inner: Rc<Expr>,
 }
 
 /// An expression: a literal, a name, or an operator and its operands.
@@ -141,7 +142,7 @@ impl Operand {
         ensures { IfOk result (λ o. o ≡ term_of expr) }
     {
         Ok(Operand {
-            inner: Box::new(alloc, expr)?,
+            inner: Rc::new(alloc, expr)?,
         })
     }
 
@@ -155,25 +156,25 @@ impl Operand {
 
 impl Operand {
     /// A copy.
-    #[cycle(expr_copy)]
-    pub fn copy(&self, alloc: Global) -> Result<Operand, NoMemory>
+    pub fn copy(&self) -> Result<Operand, NoMemory>
         ensures { IfOk result (λ o. o ≡ self.now) }
     {
-        Operand::new(alloc, self.inner.copy(alloc)?)
+        Ok(Operand {
+            inner: self.inner.clone()?,
+        })
     }
 }
 
 impl Expr {
     /// A copy.
-    #[cycle(expr_copy)]
     pub fn copy(&self, alloc: Global) -> Result<Expr, NoMemory>
         ensures { IfOk result (λ e. e ≡ self.now) }
     {
         match self {
             Expr::Num(n) => Ok(Expr::Num(*n)),
             Expr::Var(x) => Ok(Expr::Var(x.copy(alloc)?)),
-            Expr::Prefix(op, a) => Ok(Expr::Prefix(*op, a.copy(alloc)?)),
-            Expr::Infix(op, a, b) => Ok(Expr::Infix(*op, a.copy(alloc)?, b.copy(alloc)?)),
+            Expr::Prefix(op, a) => Ok(Expr::Prefix(*op, a.copy()?)),
+            Expr::Infix(op, a, b) => Ok(Expr::Infix(*op, a.copy()?, b.copy()?)),
         }
     }
 }

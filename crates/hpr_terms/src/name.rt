@@ -11,10 +11,11 @@ ghost use Rattle.hpr_terms.specs.Names.{IsName, is_name, is_name_like, is_name_b
 use crate::keyword::Keyword;
 use crate::limits::MAX_NAME;
 use crate::memory::NoMemory;
-use std::alloc::{AllocError, Global};
+use std::alloc::{AllocError, AllocFailed, Global};
 use std::cmp::Ordering;
 use std::fmt;
 use std::marker::Model;
+use std::rc::Rc;
 
 /// Why a text is no name.
 #[derive(Clone, Copy, Debug, PartialEq, Eq)]
@@ -36,11 +37,22 @@ impl From<AllocError> for NameError {
     }
 }
 
+impl<T: Drop> From<AllocFailed<T>> for NameError {
+    ghost use Rattle.std.specs.Prelude.{◌≡◌};
+    ghost use Rattle.hpr_terms.specs.declared.name.NameError.TheVariants.{Memory};
+
+    ghost from_gives = { λ _ e. e ≡ Memory };
+
+    fn from(_error: AllocFailed<T>) -> NameError {
+        NameError::Memory
+    }
+}
+
 /// A name: 1 to 64 ASCII letters, digits and `_`, not beginning with a digit, and no keyword.
 ///
 /// A contract sees a name as its bytes. Names compare by their bytes.
 pub struct Name {
-    text: String,
+    text: Rc<String>,
 }
 
 // By hand, so that each way out of a function that holds a name is one call, proved here.
@@ -56,9 +68,9 @@ impl Model for Name {
 
     ghost Value = { List ℕ };
 
-    ghost view = { λ n. string_bytes n.text };
+    ghost view = { λ n. string_bytes n.text.value };
 
-    ghost invariant = { λ n. IsName (string_bytes n.text) };
+    ghost invariant = { λ n. IsName (string_bytes n.text.value) };
 }
 
 /// Whether the byte is a letter, a digit or `_`.
@@ -114,8 +126,9 @@ impl Name {
         if !is_name(text.as_bytes()) {
             return Err(NameError::NotAName);
         }
+        let text = String::from_str(alloc, text)?;
         Ok(Name {
-            text: String::from_str(alloc, text)?,
+            text: Rc::new(alloc, text)?,
         })
     }
 
@@ -135,12 +148,13 @@ impl Name {
         self == other
     }
 
-    /// A copy.
-    pub fn copy(&self, alloc: Global) -> Result<Name, NoMemory>
+    /// A copy. It shares the text, which never changes, so no memory is taken from the allocator.
+    pub fn copy(&self, _alloc: Global) -> Result<Name, NoMemory>
         ensures { IfOk result (λ name. name ≡ self.now) }
     {
-        let text = String::from_str(alloc, self.text.as_str())?;
-        Ok(Name { text })
+        Ok(Name {
+            text: self.text.clone()?,
+        })
     }
 }
 
