@@ -1,10 +1,10 @@
 -- Rows with no link.
-use Rattle.std.proofs.Common.{◌≡◌, ℕ, zero, suc, ◌+◌, List, [], ◌∷◌, ◌++◌, Vec, Global, length, map, replicate, Contains, slice_get, sum_by, refl, sym, ap, subst, ◌∙◌, arith}
+use Rattle.std.proofs.Common.{◌≡◌, ℕ, zero, suc, ◌+◌, List, [], ◌∷◌, ◌++◌, Vec, Global, length, replicate, Contains, slice_get, sum_by, refl, sym, ap, subst, ◌∙◌}
 use Rattle.std.proofs.lemmas.List.{length-replicate, map-append, replicate_more}
 use Rattle.hpr_graph.specs.declared.vertex.Vertex.{Vertex}
 use Rattle.hpr_graph.specs.declared.link.Link.{Link}
 use Rattle.hpr_graph.specs.Graphs.{IsOnce}
-use Rattle.hpr_graph.specs.Numbered.{IsNumbered, IsCounted, row_items, rows_of}
+use Rattle.hpr_graph.specs.Numbered.{IsCounted, row_items, rows_of}
 use Rattle.hpr_graph.proofs.Lists.{in_none, once_none}
 
 pub one_more : (rows new_rows : List (Vec Link Global)) (row : Vec Link Global) (n : ℕ) → row.items ≡ [] → new_rows ≡ rows ++ row ∷ [] → rows_of rows ≡ replicate n [] → rows_of new_rows ≡ replicate (n + 1) []

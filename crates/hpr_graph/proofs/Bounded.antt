@@ -1,7 +1,7 @@
 -- What lies within bounds: that a list has exactly these can't be refuted.
 --
 -- Bounded P == it can't be refuted that a list has each x with P
-use Rattle.std.proofs.Common.{◌≡◌, ℕ, ◌↔◌, inl, inr, ◌⊎◌, List, [], ◌∷◌, ◌++◌, Contains, sym, subst}
+use Rattle.std.proofs.Common.{◌≡◌, ◌↔◌, inl, inr, ◌⊎◌, List, [], ◌∷◌, ◌++◌, Contains, sym, subst}
 use Rattle.std.proofs.lemmas.List.Elements.{Contains-append_left, Contains-append_right}
 use Rattle.hpr_terms.proofs.Facts.{by_both, in_none, in_cons, in_here, in_later}
 

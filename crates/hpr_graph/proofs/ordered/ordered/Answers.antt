@@ -1,6 +1,5 @@
-use Rattle.std.proofs.Common.{◌≡◌, ◌<◌, ◌↔◌, ◌⊎◌, ◌∙◌, ℕ, Option, List, Contains, length, sym, subst}
+use Rattle.std.proofs.Common.{◌≡◌, ◌<◌, ◌↔◌, ◌⊎◌, ℕ, Option, List, Contains, length, sym, subst}
 use Rattle.hpr_graph.specs.declared.vertex.Vertex.{Vertex}
-use Rattle.hpr_graph.specs.Graphs.{IsOnce}
 use Rattle.hpr_graph.specs.Numbered.{HasEdge}
 use Rattle.hpr_graph.specs.Moves.{ArePlaced, HasNumber, MovesEdge}
 use Rattle.hpr_graph.proofs.Joined.{no_link}
