@@ -1,3 +1,4 @@
 mod SourceRows
+mod TargetRows
 mod Walks
 mod Marked

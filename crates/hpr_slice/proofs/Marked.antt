@@ -10,44 +10,46 @@ use Rattle.hpr_graph.specs.Numbered.{Numbered, IsNumbered, IsMarkedVertex, graph
 use Rattle.hpr_graph.specs.Slices.{IsReached, ReachesOne}
 use Rattle.hpr_graph.proofs.Laws.{restrict_same_on, closed_by_numbers}
 use Rattle.hpr_slice.specs.Vertices.{IsOneOf, MarksExactly}
-use Rattle.hpr_slice.specs.Neighbours.{AreSources}
+use Rattle.hpr_slice.specs.Neighbours.{AreSources, AreTargets}
 use Rattle.hpr_graph.proofs.Lists.{place_of}
-use Rattle.hpr_search.specs.Rows.{AreTurned, numbers_at}
+use Rattle.hpr_search.specs.Rows.{numbers_at}
 use Rattle.hpr_slice.proofs.Walks.{leads_back, walk_back, leads_ahead, walk_ahead}
 
-module _ (g : Numbered) (k : IsNumbered g) (rows : List (List ℕ)) (sources : AreSources g rows) (numbers : List ℕ) (within : All (λ n. n < length g.vertices) numbers) (marks : List Bool) where
-  pub marks_slice : length marks ≡ length rows → ((p : ℕ) → IsMarked marks p → walks.IsReached (numbers_at rows) numbers p) → ((p : ℕ) → walks.IsReached (numbers_at rows) numbers p → IsMarked marks p)
-      → MarksExactly g (ReachesOne (graph_in g) (IsOneOf g numbers)) marks
-  marks_slice size sound complete = record {
-    count = size ∙ sources.count;
-    exact = λ at v at_v. (
-      λ m.
-          (let (n, via, has, walk) = sound at m in
-          let (s, at_s) = get_below g.vertices n (All-contains (λ x. x < length g.vertices) numbers n within has) in
-          let (es, leads) = leads_back g k rows sources n at via s v walk at_s at_v in
-          (s, es, (n, has, at_s), leads)),
-      λ (s, es, (n, has, at_s), leads).
-          (let (m, via, at_m, walk) = walk_back g k rows sources at es s v leads at_v in
-          complete at (m, via, subst (Contains numbers) (k.once n m s at_s at_m) has, walk)),
-    );
-  }
+module _ (g : Numbered) (k : IsNumbered g) (rows : List (List ℕ)) (numbers : List ℕ) (within : All (λ n. n < length g.vertices) numbers) (marks : List Bool) where
+  module _ (sources : AreSources g rows) where
+    pub marks_slice : length marks ≡ length rows → ((p : ℕ) → IsMarked marks p → walks.IsReached (numbers_at rows) numbers p) → ((p : ℕ) → walks.IsReached (numbers_at rows) numbers p → IsMarked marks p)
+        → MarksExactly g (ReachesOne (graph_in g) (IsOneOf g numbers)) marks
+    marks_slice size sound complete = record {
+      count = size ∙ sources.count;
+      exact = λ at v at_v. (
+        λ m.
+            (let (n, via, has, walk) = sound at m in
+            let (s, at_s) = get_below g.vertices n (All-contains (λ x. x < length g.vertices) numbers n within has) in
+            let (es, leads) = leads_back g k rows sources n at via s v walk at_s at_v in
+            (s, es, (n, has, at_s), leads)),
+        λ (s, es, (n, has, at_s), leads).
+            (let (m, via, at_m, walk) = walk_back g k rows sources at es s v leads at_v in
+            complete at (m, via, subst (Contains numbers) (k.once n m s at_s at_m) has, walk)),
+      );
+    }
 
-  pub marks_reached : (turned : List (List ℕ)) → AreTurned rows turned → length marks ≡ length turned → ((p : ℕ) → IsMarked marks p → walks.IsReached (numbers_at turned) numbers p) → ((p : ℕ) → walks.IsReached (numbers_at turned) numbers p → IsMarked marks p)
-      → MarksExactly g (IsReached (graph_in g) (IsOneOf g numbers)) marks
-  marks_reached turned round size sound complete = record {
-    count = size ∙ round.count ∙ sources.count;
-    exact = λ at v at_v. (
-      λ m.
-          (let (n, via, has, walk) = sound at m in
-          let (s, at_s) = get_below g.vertices n (All-contains (λ x. x < length g.vertices) numbers n within has) in
-          let (es, leads) = leads_ahead g k rows sources turned round n at via s v walk at_s at_v in
-          (s, es, (n, has, at_s), leads)),
-      λ (s, es, (n, has, at_s), leads).
-          (let (p, via, at_p, walk) = walk_ahead g k rows sources turned round n es s v leads at_s in
-          let same : p ≡ at = k.once p at v at_p at_v in
-          complete at (n, via, has, subst (λ (x : ℕ). walks.Walk (numbers_at turned) n via x) same walk)),
-    );
-  }
+  module _ (targets : AreTargets g rows) where
+    pub marks_reached : length marks ≡ length rows → ((p : ℕ) → IsMarked marks p → walks.IsReached (numbers_at rows) numbers p) → ((p : ℕ) → walks.IsReached (numbers_at rows) numbers p → IsMarked marks p)
+        → MarksExactly g (IsReached (graph_in g) (IsOneOf g numbers)) marks
+    marks_reached size sound complete = record {
+      count = size ∙ targets.count;
+      exact = λ at v at_v. (
+        λ m.
+            (let (n, via, has, walk) = sound at m in
+            let (s, at_s) = get_below g.vertices n (All-contains (λ x. x < length g.vertices) numbers n within has) in
+            let (es, leads) = leads_ahead g k rows targets n at via s v walk at_s at_v in
+            (s, es, (n, has, at_s), leads)),
+        λ (s, es, (n, has, at_s), leads).
+            (let (p, via, at_p, walk) = walk_ahead g k rows targets n es s v leads at_s in
+            let same : p ≡ at = k.once p at v at_p at_v in
+            complete at (n, via, has, subst (λ (x : ℕ). walks.Walk (numbers_at rows) n via x) same walk)),
+      );
+    }
 
 -- what is restricted to the marks is restricted to what is marked
 pub marked_only : (g : Numbered) (P : Vertex → Type 0) (marks : List Bool) → MarksExactly g P marks → Same (restrict_to (graph_in g) (IsMarkedVertex g marks)) (restrict_to (graph_in g) P)

@@ -3,7 +3,9 @@
 -- Follows kind          == a slice follows links of this kind: those of control and flow edges
 -- HasSource links from  == one of these links that a slice follows is from the vertex with this number
 -- AreSources g rows     == for each vertex a row of exactly the vertices from which a control or flow edge leads to it
-use Rattle.std.specs.Prelude.{◌≡◌, ℕ, ◌↔◌, List, Contains, length}
+-- AreTargets g rows     == for each vertex a row of exactly the vertices to which a control or flow edge leads from it
+-- IsPushedFrom old links n new == the rows with the number n more in the row of each vertex from which one of these links is that a slice follows
+use Rattle.std.specs.Prelude.{◌≡◌, ℕ, ◌↔◌, ◌⊎◌, List, Contains, length}
 use Rattle.hpr_search.specs.Rows.{numbers_at}
 use Rattle.hpr_graph.specs.declared.link.LinkKind.{LinkKind}
 use Rattle.hpr_graph.specs.declared.link.LinkKind.TheVariants.{Control, Independent, Carried, Order}
@@ -22,3 +24,11 @@ HasSource links from = (l : Link) × Contains links l × Follows l.kind × (l.fr
 pub record AreSources (g : Numbered) (rows : List (List ℕ)) : Type 0 where
   pub count : length rows ≡ length g.vertices
   pub exact : (to from : ℕ) → Contains (numbers_at rows to) from ↔ HasSource (row_of g to) from
+
+pub record AreTargets (g : Numbered) (rows : List (List ℕ)) : Type 0 where
+  pub count : length rows ≡ length g.vertices
+  pub exact : (from to : ℕ) → Contains (numbers_at rows from) to ↔ HasSource (row_of g to) from
+
+abbrev pub IsPushedFrom : List (List ℕ) → List Link → ℕ → List (List ℕ) → Type 0
+IsPushedFrom old links n new =
+    (from to : ℕ) → Contains (numbers_at new from) to ↔ (Contains (numbers_at old from) to ⊎ (HasSource links from × (to ≡ n)))

@@ -5,6 +5,7 @@
 
 mod slices;
 mod sources;
+mod targets;
 
 pub use hpr_graph::{Graph, NoMemory};
 pub use slices::{forward, slice};

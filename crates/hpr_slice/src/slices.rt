@@ -6,7 +6,9 @@ ghost use Rattle.hpr_graph.specs.Slices.{IsReached, slice_of};
 ghost use Rattle.hpr_slice.specs.Vertices.{IsOneOf, MarksExactly};
 
 use crate::sources::Sources;
+use crate::targets::targets_of;
 use hpr_graph::{Graph, NoMemory};
+use hpr_search::reachable;
 use std::alloc::Global;
 
 /// The slice of a graph at some of its vertices, by their numbers: the vertices from which control and
@@ -29,5 +31,6 @@ pub fn forward(alloc: Global, graph: &Graph, points: &[usize]) -> Result<Vec<boo
     ensures { IfOk result (λ marks. MarksExactly graph.now (IsReached (graph_in graph.now)
         (IsOneOf graph.now points.now)) marks.items) }
 {
-    Sources::of(alloc, graph)?.reached_from(points)
+    let targets = targets_of(alloc, graph)?;
+    Ok(reachable(alloc, &targets, points)?)
 }

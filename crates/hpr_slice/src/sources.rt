@@ -1,7 +1,7 @@
 //! Which vertices lead to which.
 ghost use Rattle.std.specs.Prelude.{◌≡◌, ◌↔◌, ◌⊎◌, ◌<◌, ℕ, length, All, Contains, IfOk, OnOk, IsTrue};
 ghost use Rattle.hpr_graph.specs.Numbered.{graph_in};
-ghost use Rattle.hpr_graph.specs.Slices.{IsReached, ReachesOne};
+ghost use Rattle.hpr_graph.specs.Slices.{ReachesOne};
 ghost use Rattle.hpr_slice.specs.Vertices.{IsOneOf, MarksExactly};
 ghost use Rattle.hpr_slice.specs.Neighbours.{Follows, HasSource};
 
@@ -71,21 +71,10 @@ impl Sources<'_> {
     {
         Ok(reachable(self.alloc, &self.rows, numbers)?)
     }
-
-    /// Marks the vertices to which control and flow edges lead from one of these, these included. The
-    /// numbers are those of vertices. Looks at each control or flow edge at most twice.
-    pub(crate) fn reached_from(&self, numbers: &[usize]) -> Result<Vec<bool>, NoMemory>
-        requires { All (λ n. n < length self.now.vertices) numbers.now }
-        ensures { IfOk result (λ marks. MarksExactly self.now
-            (IsReached (graph_in self.now) (IsOneOf self.now numbers.now)) marks.items) }
-    {
-        let targets = self.rows.turned()?;
-        Ok(reachable(self.alloc, &targets, numbers)?)
-    }
 }
 
 /// Whether a slice follows links of this kind.
-fn is_followed(kind: LinkKind) -> bool
+pub(crate) fn is_followed(kind: LinkKind) -> bool
     ensures { IsTrue result ↔ Follows kind }
 {
     match kind {
