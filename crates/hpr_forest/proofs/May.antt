@@ -1,6 +1,6 @@
 -- What the test `can` says.
-use Rattle.std.proofs.Common.{◌≡◌, All, get_or, ℕ, ◌<◌, Bool, true, false, cond, eqb, ltb, Option, Some, None, List, [], ◌∷◌, ◌++◌, Contains, inl, inr, refl, sym, ap, ◌∙◌, subst, append_assoc}
-use Rattle.std.proofs.lemmas.List.Elements.{Contains-append_left, Contains-append_right, Contains-get_or}
+use Rattle.std.proofs.Common.{◌≡◌, ℕ, ◌<◌, Bool, true, false, cond, eqb, ltb, Option, Some, None, List, [], ◌∷◌, ◌++◌, Contains, inl, inr, refl, sym, ap, ◌∙◌, subst, append_assoc}
+use Rattle.std.proofs.lemmas.List.Elements.{Contains-append_left, Contains-append_right}
 use Rattle.std.proofs.lemmas.List.{append-nil}
 use Rattle.std.proofs.lemmas.Bool.{ltb-true, lt-ltb, eqb-true, eq-eqb, ne_eqb}
 use Rattle.hpr_forest.specs.Choices.{Follows}
@@ -36,7 +36,7 @@ module _ (f : Forest) where
         | inr later ↦ full-true q xs b x later y k
       ]
 
-  true_full : (q xs : List ℕ) → IsFull q xs → forest.all_full f q xs ≡ true
+  pub true_full : (q xs : List ℕ) → IsFull q xs → forest.all_full f q xs ≡ true
   true_full q [] full = refl
   true_full q (z ∷ xs) full = rw (in_all_in q (f.children z) (full z (in_first z xs))) (true_full q xs (λ x h. full x (in_later z x xs h)))
 
@@ -101,6 +101,3 @@ module _ (f : Forest) where
       at : (t : Bool) → eqb x p ≡ t → (behind p q ≡ Some xs → (l : List ℕ) × (q ≡ l ++ p ∷ xs)) → cond t (Some q) (behind p q) ≡ Some xs → (l : List ℕ) × (x ∷ q ≡ l ++ p ∷ xs)
       at true is rest e' = let same : q ≡ xs = cc in ([], ap (λ w. w ∷ q) (eqb-true x p is) ∙ ap (λ ws. p ∷ ws) same)
       at false is rest e' = let (l, k) = rest e' in (x ∷ l, ap (λ ws. x ∷ ws) k)
-
-  pub follows_all : (l : List ℕ) → Follows can [] l → All (λ x. x < f.count) l
-  follows_all l f' = λ k d h. follows_within [] l f' (get_or l k d) (Contains-get_or l k d h)

@@ -1,5 +1,5 @@
 -- The test by the open parent is the test by what is behind the parent.
-use Rattle.std.proofs.Common.{◌≡◌, ℕ, zero, suc, ◌+◌, ◌<◌, Bool, true, false, cond, ltb, Option, Some, None, List, [], ◌∷◌, ◌++◌, length, drop, get_or, Contains, inl, inr, refl, sym, ap, ◌∙◌, subst, arith}
+use Rattle.std.proofs.Common.{◌≡◌, ℕ, Bool, true, false, cond, ltb, Option, Some, None, List, [], ◌∷◌, ◌++◌, Contains, inl, inr, refl, sym, ap, ◌∙◌, subst}
 use Rattle.std.proofs.lemmas.List.Elements.{Contains-append_right}
 use Rattle.std.proofs.lemmas.Bool.{cases_Bool, eqb-true, eq-eqb}
 use Rattle.hpr_forest.specs.Choices.{Follows}
@@ -34,14 +34,6 @@ once_out (y ∷ l) r x once h = elim (in_cons y x l h) [
   | inr later ↦ once_out l r x once.1 later
 ]
 
-drop_suc : (x : ℕ) (xs : List ℕ) (k : ℕ) → drop (k + 1) xs ≡ drop (suc k + 1) (x ∷ xs)
-drop_suc x xs k = let e : suc k + 1 ≡ suc (k + 1) = omega arith in ap (λ n. drop n (x ∷ xs)) (sym e)
-
-cut_at : (xs : List ℕ) (k p d : ℕ) → k < length xs → p ≡ get_or xs k d → (l r : List ℕ) × (xs ≡ l ++ p ∷ r) × (r ≡ drop (k + 1) xs)
-cut_at [] k p d h is = absurd (omega arith)
-cut_at (x ∷ xs) zero p d h is = ([], xs, ap (λ w. w ∷ xs) (sym is), refl)
-cut_at (x ∷ xs) (suc k) p d h is = let (l, r, e, d') = cut_at xs k p d (omega arith) is in (x ∷ l, r, ap (λ w. x ∷ w) e, d' ∙ drop_suc x xs k)
-
 module _ (f : Forest) (q : List ℕ) where
   abbrev full : List ℕ → Bool
   full = forest.all_full f q
@@ -56,7 +48,7 @@ module _ (f : Forest) (q : List ℕ) where
       at false is None o e' rest = absurd cc
       at true is None o e' rest = ap (λ b. cond b (full xs) false) is ∙ rest o
 
-  full_none : (xs : List ℕ) → full xs ≡ true → open_in f q xs ≡ None
+  pub full_none : (xs : List ℕ) → full xs ≡ true → open_in f q xs ≡ None
   full_none [] e = refl
   full_none (x ∷ xs) e = at (all_in q (f.children x)) refl e (full_none xs)
     where
@@ -79,7 +71,7 @@ module _ (f : Forest) (q : List ℕ) where
   open_more [] r p e = e
   open_more (x ∷ l) r p e = ap (λ o. or_this (all_in q (f.children x)) x o) (open_more l r p e)
 
-  open_here : (p : ℕ) (r : List ℕ) → full r ≡ true → all_in q (f.children p) ≡ false → open_in f q (p ∷ r) ≡ Some p
+  pub open_here : (p : ℕ) (r : List ℕ) → full r ≡ true → all_in q (f.children p) ≡ false → open_in f q (p ∷ r) ≡ Some p
   open_here p r e no_ = ap (λ o. or_this (all_in q (f.children p)) p o) (full_none r e) ∙ ap (λ b. or_this b p None) no_
 
   under_open : IsForest f → IsDistinct q → (c : ℕ) → (Contains q c → ⊥) → forest.is_under f q (f.parent c) ≡ same_parent (open_in f q q) (f.parent c)
@@ -117,9 +109,3 @@ module _ (f : Forest) (q : List ℕ) where
           ∙ sym (ap (λ b. cond (ltb c f.count) (cond b false (cond (forest.is_under f q (f.parent c)) (all_in q (f.before c)) false)) false) is)
       at false is = ap (λ b. cond (ltb c f.count) (cond (is_in q c) false (cond b (all_in q (f.before c)) false)) false)
           (sym (under_open it (follows_once f [] q fq).1 c (is_in-false q c is)))
-
-  pub open_found : (at at' p d : ℕ) → at' < length q → p ≡ get_or q at' d → at ≡ at' + 1 → all_in q (f.children p) ≡ false → open_in f q (drop at q) ≡ None → open_in f q q ≡ Some p
-  open_found at at' p d0 h is next no_ none =
-      let (l, r, e, d) = cut_at q at' p d0 h is in
-      let back : full r ≡ true = none_full r (ap (open_in f q) (d ∙ ap (λ k. drop k q) (sym next)) ∙ none) in
-      ap (open_in f q) e ∙ open_more l (p ∷ r) p (open_here p r back no_)

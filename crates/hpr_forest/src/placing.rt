@@ -34,19 +34,19 @@ fn is_same(a: Option<usize>, b: Option<usize>) -> bool
 }
 
 impl Blocks {
-    /// The last placed item with something left under it.
+    /// The last placed item with something left under it: the last placed one, or one in which it stands.
     fn open_parent(&self, marks: &[bool], placed: &[usize]) -> Option<usize>
         requires row { length marks.now ≡ vec_len self.now.parents }
-        requires within { All (λ x. x < vec_len self.now.parents) placed.now }
+        requires front { Follows (can_of self.now) [] placed.now }
         requires marks { IsMarksOf marks.now placed.now }
         ensures { result ≡ open_in (forest_of self.now) placed.now placed.now }
     {
-        let mut at = placed.len();
-        while at > 0 {
-            at -= 1;
-            if !all_marked(marks, self.children_of(placed[at]), placed) {
-                return Some(placed[at]);
+        let mut under = placed.last().copied();
+        'climb: while let Some(item) = under {
+            if !all_marked(marks, self.children_of(item), placed) {
+                return Some(item);
             }
+            under = self.parent_of(item);
         }
         None
     }

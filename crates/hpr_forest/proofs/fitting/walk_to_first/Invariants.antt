@@ -1,4 +1,4 @@
-use Rattle.std.proofs.Common.{ℕ, ◌<◌, Bool, List, [], length}
+use Rattle.std.proofs.Common.{◌<◌, [], length}
 use Rattle.hpr_forest.specs.Choices.{Follows}
 use Rattle.hpr_forest.proofs.CutStates.{State, all_steps}
 use Rattle.hpr_forest.proofs.fitting.walk_to_first.Given as goal

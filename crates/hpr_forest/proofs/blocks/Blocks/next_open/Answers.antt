@@ -1,12 +1,8 @@
 use Rattle.std.proofs.Common.{ℕ, sym, ap, ◌∙◌, arith, Option}
 use Rattle.hpr_forest.specs.Open.{can_under}
 use Rattle.hpr_forest.specs.Remaining.{forest_of}
-use Rattle.hpr_forest.proofs.May.{follows_all}
 use Rattle.hpr_forest.proofs.Opened.{can_by_open}
 use Rattle.hpr_forest.proofs.blocks.Blocks.next_open.Goals as goal
-
-pub open_parent-under-requires-clause-within : goal.open_parent-under-requires-clause-within
-open_parent-under-requires-clause-within c = λ k d h. omega (arith, follows_all (forest_of c.args.self.now) c.args.placed.now c.requires.front k d h)
 
 pub returns-then-may_under-clause-can : goal.returns-then-may_under-clause-can
 returns-then-may_under-clause-can c =
