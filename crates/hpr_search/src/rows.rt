@@ -96,7 +96,7 @@ fn blank_rows(alloc: Global, count: usize) -> Result<Vec<Vec<usize>>, AllocError
     ensures count { IfOk result (λ rows. length rows.items ≡ count) }
     ensures blank { IfOk result (λ rows. (at n : ℕ) → ¬ Contains (numbers_at (numbers_of rows.items) at) n) }
 {
-    let mut rows = Vec::new(alloc);
+    let mut rows = Vec::with_capacity(alloc, count)?;
     for _ in 0..count {
         rows.push(Vec::new(alloc))?;
     }

@@ -9,6 +9,9 @@ use std::alloc::{AllocError, Global};
 /// So many steps lead from most points, so that the list of them seldom grows.
 const FEW_STEPS: usize = 8;
 
+/// Most searches come to no more points than these, so that their list seldom grows.
+const FEW_POINTS: usize = 64;
+
 /// The points that a search came to: a mark for each, and the list of them, each once.
 pub struct Found {
     pub marks: Vec<bool>,
@@ -72,7 +75,7 @@ pub fn reached<G: Digraph>(alloc: Global, graph: &G, starts: &[usize]) -> Result
 {
     let points = graph.point_count();
     let mut marks = blank_row(alloc, points)?;
-    let mut order = Vec::with_capacity(alloc, points)?;
+    let mut order = Vec::with_capacity(alloc, FEW_POINTS)?;
     visit(&mut marks, &mut order, starts)?;
     let mut steps = Vec::with_capacity(alloc, FEW_STEPS)?;
     let mut at = 0;
