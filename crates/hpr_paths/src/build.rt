@@ -100,14 +100,9 @@ fn push_spot(
     ensures spot { OnOk result (spots.new.items ≡ spots.old.items ++ spot_of next.now nest.now (role_of role) ∷ []) }
     ensures len { OnOk result (vec_len spots.new ≡ vec_len spots.old + 1) }
 {
-    let mut spot = Spot {
-        next: Vec::new(alloc),
-        nest: Vec::new(alloc),
-        role,
-    };
-    spot.next.extend_from_slice(next)?;
-    spot.nest.extend_from_slice(nest)?;
-    spots.push(spot)?;
+    let next = Vec::from_slice(alloc, next)?;
+    let nest = Vec::from_slice(alloc, nest)?;
+    spots.push(Spot { next, nest, role })?;
     Ok(())
 }
 
