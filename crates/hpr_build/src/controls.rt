@@ -52,7 +52,7 @@ fn control_links(alloc: Global, places: &[Place], count: usize) -> Result<Vec<Ne
         ↔ ((1 ≤ n.to) × (n.to < count) × (n.link ≡ link_under (parent_of (place_at places.now n.to))))) }
     ensures once { IfOk result (λ links. IsOnce links.items) }
 {
-    let mut links = Vec::new(alloc);
+    let mut links = Vec::with_capacity(alloc, count)?;
     for to in 1..count {
         links.push(NewLink {
             to,

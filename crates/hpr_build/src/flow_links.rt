@@ -106,7 +106,7 @@ fn flow_links(
 ) -> Result<Vec<NewLink>, NoMemory>
     ensures { IfOk result (λ links. links.items ≡ map (flow_link exit final_number source) flows.now) }
 {
-    let mut links = Vec::new(alloc);
+    let mut links = Vec::with_capacity(alloc, flows.len())?;
     for flow in flows {
         links.push(NewLink {
             to: target_of(exit, final_number, flow.to),

@@ -14,6 +14,9 @@ use hpr_reach::{BitRow, reach};
 use hpr_search::is_marked;
 use std::alloc::{AllocError, Global};
 
+/// Most definitions reach no more users than these, so that their list seldom grows.
+const FEW_USERS: usize = 8;
+
 /// How a value comes to a use: without the back edge of a loop that encloses both ends, or with
 /// that of the loop at this point, which encloses both.
 #[derive(Clone, Copy)]
@@ -127,7 +130,7 @@ fn reached_users(alloc: Global, row: &BitRow, users: &[bool]) -> Result<Vec<usiz
         ↔ (IsMarked row.now p × IsMarked users.now p)) }
     ensures once { IfOk result (λ points. IsOnce points.items) }
 {
-    let mut reached = Vec::new(alloc);
+    let mut reached = Vec::with_capacity(alloc, FEW_USERS)?;
     let points = row.points();
     for point in points {
         push_if(is_marked(users, *point), *point, &mut reached)?;
@@ -311,7 +314,7 @@ fn flows_to(
     let cuts = cut_rows(alloc, succ, from, name, all, &round)?;
     let carries = carried_rows(alloc, succ, from, name, &round)?;
     let nest = succ.nest(from);
-    let mut flows = Vec::new(alloc);
+    let mut flows = Vec::with_capacity(alloc, users.len())?;
     for user in users {
         let common = common_count(nest, succ.nest(*user));
         push_flows(
@@ -331,7 +334,7 @@ fn plain_flows(alloc: Global, reached: &[usize]) -> Result<Vec<Flow>, NoMemory>
     ensures { IfOk result (λ flows. flows.items
         ≡ map (λ u. record { to = u; kind = FlowKind.Independent }) reached.now) }
 {
-    let mut flows = Vec::new(alloc);
+    let mut flows = Vec::with_capacity(alloc, reached.len())?;
     for point in reached {
         flows.push(Flow {
             to: *point,

@@ -26,7 +26,7 @@ use std::alloc::Global;
 fn order_links(alloc: Global, user: usize, pairs: &[Ordered]) -> Result<Vec<NewLink>, NoMemory>
     ensures { IfOk result (λ links. links.items ≡ map (order_link user) pairs.now) }
 {
-    let mut links = Vec::new(alloc);
+    let mut links = Vec::with_capacity(alloc, pairs.len())?;
     for pair in pairs {
         links.push(NewLink {
             to: pair.right,

@@ -17,6 +17,9 @@ use hpr_paths::NoMemory;
 use hpr_search::is_marked;
 use std::alloc::Global;
 
+/// No more definitions than these reach most uses, so that their list seldom grows.
+const FEW_SOURCES: usize = 8;
+
 /// Whether an edge of this kind is a flow edge.
 fn is_flow(kind: LinkKind) -> bool
     ensures { IsTrue result ↔ IsFlowKind kind }
@@ -55,7 +58,7 @@ fn sources_among(alloc: Global, definers: &[bool], links: &[Link]) -> Result<Vec
         ↔ (IsMarked definers.now p × HasFlowFrom links.now p)) }
 {
     let mut left = Vec::from_slice(alloc, definers)?;
-    let mut sources = Vec::new(alloc);
+    let mut sources = Vec::with_capacity(alloc, FEW_SOURCES)?;
     for link in links {
         take_source(&mut left, *link, &mut sources)?;
     }
@@ -104,7 +107,7 @@ pub(crate) fn reaching_rows(
         variable.now.definitions.now variable.now.users.now rows.items) }
 {
     let definers = marked(alloc, tables.succ.points(), variable.definitions)?;
-    let mut rows = Vec::new(alloc);
+    let mut rows = Vec::with_capacity(alloc, variable.users.len())?;
     for user in variable.users {
         let row = row_for(alloc, tables, variable, &definers, *user, graph)?;
         rows.push(row)?;

@@ -7,7 +7,7 @@ use Rattle.hpr_build.proofs.Sources.{taken_none, taken_at}
 use Rattle.hpr_build.proofs.reaching.sources_among.Goals as goal
 
 pub loop-link-init : goal.loop-link-init
-loop-link-init c = taken_none c.args.definers.now c.in_ok-left.left.items c.new-sources.result.items c.in_ok-left.ensures.items c.new-sources.ensures.items
+loop-link-init c = taken_none c.args.definers.now c.in_ok-left.left.items c.in_ok-sources.sources.items c.in_ok-left.ensures.items c.in_ok-sources.ensures.items
 
 pub loop-link-preserved : goal.loop-link-preserved
 loop-link-preserved c =
