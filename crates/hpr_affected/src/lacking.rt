@@ -17,7 +17,7 @@ pub(crate) fn numbers_in(
 ) -> Result<Vec<Option<usize>>, NoMemory>
     ensures { IfOk result (λ ns. AreNumbersIn graph.now other.now ns.items) }
 {
-    let mut numbers = Vec::new(alloc);
+    let mut numbers = Vec::with_capacity(alloc, graph.vertex_count())?;
     for vertex in graph.vertices() {
         numbers.push(other.number_of(vertex))?;
     }
@@ -34,7 +34,7 @@ pub(crate) fn lacking_rows(
     requires { AreNumbersIn graph.now other.now numbers.now }
     ensures { IfOk result (λ rows. AreLacking graph.now other.now numbers.now (rows_of rows.items)) }
 {
-    let mut rows = Vec::new(alloc);
+    let mut rows = Vec::with_capacity(alloc, graph.vertex_count())?;
     for at in 0..graph.vertex_count() {
         rows.push(lacking_row(alloc, graph, other, numbers, at)?)?;
     }

@@ -4,7 +4,7 @@ use Rattle.hpr_affected.proofs.NumberRows.{numbers_none, numbers_more, numbers_a
 use Rattle.hpr_affected.proofs.lacking.numbers_in.Goals as goal
 
 pub loop-vertex-init : goal.loop-vertex-init
-loop-vertex-init c = numbers_none _ _ _ c.new-numbers.ensures.items
+loop-vertex-init c = numbers_none _ _ _ c.in_ok-numbers.ensures.items
 
 pub loop-vertex-preserved : goal.loop-vertex-preserved
 loop-vertex-preserved c =
