@@ -10,30 +10,29 @@ use Rattle.hpr_graph.specs.Numbered.{Numbered, IsNumbered, IsMarkedVertex, graph
 use Rattle.hpr_graph.specs.Slices.{IsReached, ReachesOne}
 use Rattle.hpr_graph.proofs.Laws.{restrict_same_on, closed_by_numbers}
 use Rattle.hpr_slice.specs.Vertices.{IsOneOf, MarksExactly}
-use Rattle.hpr_slice.specs.Neighbours.{AreSources, AreTargets}
+use Rattle.hpr_slice.specs.Neighbours.{AreTargets, sources_at}
 use Rattle.hpr_graph.proofs.Lists.{place_of}
 use Rattle.hpr_search.specs.Rows.{numbers_at}
 use Rattle.hpr_slice.proofs.Walks.{leads_back, walk_back, leads_ahead, walk_ahead}
 
-module _ (g : Numbered) (k : IsNumbered g) (rows : List (List ℕ)) (numbers : List ℕ) (within : All (λ n. n < length g.vertices) numbers) (marks : List Bool) where
-  module _ (sources : AreSources g rows) where
-    pub marks_slice : length marks ≡ length rows → ((p : ℕ) → IsMarked marks p → walks.IsReached (numbers_at rows) numbers p) → ((p : ℕ) → walks.IsReached (numbers_at rows) numbers p → IsMarked marks p)
-        → MarksExactly g (ReachesOne (graph_in g) (IsOneOf g numbers)) marks
-    marks_slice size sound complete = record {
-      count = size ∙ sources.count;
-      exact = λ at v at_v. (
-        λ m.
-            (let (n, via, has, walk) = sound at m in
-            let (s, at_s) = get_below g.vertices n (All-contains (λ x. x < length g.vertices) numbers n within has) in
-            let (es, leads) = leads_back g k rows sources n at via s v walk at_s at_v in
-            (s, es, (n, has, at_s), leads)),
-        λ (s, es, (n, has, at_s), leads).
-            (let (m, via, at_m, walk) = walk_back g k rows sources at es s v leads at_v in
-            complete at (m, via, subst (Contains numbers) (k.once n m s at_s at_m) has, walk)),
-      );
-    }
+module _ (g : Numbered) (k : IsNumbered g) (numbers : List ℕ) (within : All (λ n. n < length g.vertices) numbers) (marks : List Bool) where
+  pub marks_slice : length marks ≡ length g.vertices → ((p : ℕ) → IsMarked marks p → walks.IsReached (sources_at g) numbers p) → ((p : ℕ) → walks.IsReached (sources_at g) numbers p → IsMarked marks p)
+      → MarksExactly g (ReachesOne (graph_in g) (IsOneOf g numbers)) marks
+  marks_slice size sound complete = record {
+    count = size;
+    exact = λ at v at_v. (
+      λ m.
+          (let (n, via, has, walk) = sound at m in
+          let (s, at_s) = get_below g.vertices n (All-contains (λ x. x < length g.vertices) numbers n within has) in
+          let (es, leads) = leads_back g k n at via s v walk at_s at_v in
+          (s, es, (n, has, at_s), leads)),
+      λ (s, es, (n, has, at_s), leads).
+          (let (m, via, at_m, walk) = walk_back g k at es s v leads at_v in
+          complete at (m, via, subst (Contains numbers) (k.once n m s at_s at_m) has, walk)),
+    );
+  }
 
-  module _ (targets : AreTargets g rows) where
+  module _ (rows : List (List ℕ)) (targets : AreTargets g rows) where
     pub marks_reached : length marks ≡ length rows → ((p : ℕ) → IsMarked marks p → walks.IsReached (numbers_at rows) numbers p) → ((p : ℕ) → walks.IsReached (numbers_at rows) numbers p → IsMarked marks p)
         → MarksExactly g (IsReached (graph_in g) (IsOneOf g numbers)) marks
     marks_reached size sound complete = record {

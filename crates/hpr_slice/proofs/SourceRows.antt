@@ -1,57 +1,46 @@
--- The rows of the sources of edges.
-use Rattle.std.proofs.Common.{◌≡◌, ℕ, ◌+◌, ◌<◌, ◌≤◌, ◌↔◌, ◌⊎◌, inl, inr, List, length, take, get_or, Contains, refl, sym, ap, subst, arith, Vec, Global}
-use Rattle.std.proofs.lemmas.List.{take_all}
+-- The sources of the links of a row.
+use Rattle.std.proofs.Common.{◌≡◌, ℕ, ◌<◌, ◌↔◌, ◌⊎◌, inl, inr, Bool, true, false, if◌then◌else◌, List, [], ◌∷◌, length, All, get_or, Contains, refl, sym, ap, ◌∙◌, subst, arith}
+use Rattle.std.proofs.lemmas.List.Elements.{Contains-get_or}
 use Rattle.std.proofs.lemmas.Option.{slice_get_within}
-use Rattle.hpr_graph.specs.declared.vertex.Vertex.{Vertex}
 use Rattle.hpr_graph.specs.declared.link.Link.{Link}
 use Rattle.hpr_graph.specs.Numbered.{Numbered, IsNumbered, row_of}
-use Rattle.hpr_search.specs.Rows.{AreWithin, numbers_at, numbers_of}
-use Rattle.hpr_slice.specs.Neighbours.{Follows, HasSource, AreSources}
-use Rattle.hpr_graph.proofs.Lists.{in_taken}
-use Rattle.hpr_search.proofs.RowLists.{length_rows, row_within}
+use Rattle.hpr_graph.proofs.Lists.{in_none, in_cons, in_here, in_later}
+use Rattle.hpr_slice.specs.Neighbours.{follows, Follows, HasSource, sources_of, sources_at}
 
--- a number that is put where F holds
-pub put_where : (F : Type 0) (old new : List ℕ) (number : ℕ) → F → ((n : ℕ) → Contains new n ↔ (Contains old n ⊎ (number ≡ n))) → (n : ℕ) → Contains new n ↔ (Contains old n ⊎ (F × (number ≡ n)))
-put_where F old new number holds put n = (
-  λ h. elim ((put n).0 h) [ inl was ↦ inl was | inr is ↦ inr (holds, is) ],
-  λ h. elim h [ inl was ↦ (put n).1 (inl was) | inr one ↦ (put n).1 (inr one.1) ],
+has_later : (l : Link) (links : List Link) (n : ℕ) → HasSource links n → HasSource (l ∷ links) n
+has_later l links n (m, has, kind, from) = (m, in_later l m links has, kind, from)
+
+source_here : (l : Link) (links : List Link) (n : ℕ) (b : Bool) → follows l.kind ≡ b → (Contains (sources_of links) n → HasSource links n)
+    → Contains (if b then l.from ∷ sources_of links else sources_of links) n → HasSource (l ∷ links) n
+source_here l links n true e more there = elim (in_cons l.from n (sources_of links) there) [
+  | inl is ↦ (l, in_here l links, e, is)
+  | inr later ↦ has_later l links n (more later)
+]
+source_here l links n false e more there = has_later l links n (more there)
+
+has_source : (links : List Link) (n : ℕ) → Contains (sources_of links) n → HasSource links n
+has_source [] n h = absurd (in_none n h)
+has_source (l ∷ links) n h = source_here l links n (follows l.kind) refl (has_source links n) h
+
+put_here : (m : Link) (links : List Link) (l : Link) (b : Bool) → follows m.kind ≡ b → Follows l.kind → (m ≡ l) ⊎ Contains links l → (Contains links l → Contains (sources_of links) l.from)
+    → Contains (if b then m.from ∷ sources_of links else sources_of links) l.from
+put_here m links l true e kind (inl is) more = subst (λ (x : Link). Contains (m.from ∷ sources_of links) x.from) is (in_here m.from (sources_of links))
+put_here m links l true e kind (inr later) more = in_later m.from l.from (sources_of links) (more later)
+put_here m links l false e kind (inl is) more = let both : true ≡ false = sym kind ∙ ap (λ (x : Link). follows x.kind) (sym is) ∙ e in absurd cc
+put_here m links l false e kind (inr later) more = more later
+
+put_source : (links : List Link) (l : Link) → Contains links l → Follows l.kind → Contains (sources_of links) l.from
+put_source [] l has kind = absurd (in_none l has)
+put_source (m ∷ links) l has kind = put_here m links l (follows m.kind) refl kind (in_cons m l links has) (λ later. put_source links l later kind)
+
+pub sources_exact : (links : List Link) (n : ℕ) → Contains (sources_of links) n ↔ HasSource links n
+sources_exact links n = (
+  λ h. has_source links n h,
+  λ (l, has, kind, from). subst (Contains (sources_of links)) from (put_source links l has kind),
 )
 
--- one link more
-pub sources_more : (links : List Link) (i : ℕ) (d : Link) (old new : List ℕ) → i < length links → ((n : ℕ) → Contains old n ↔ HasSource (take i links) n)
-    → ((n : ℕ) → Contains new n ↔ (Contains old n ⊎ (Follows (get_or links i d).kind × ((get_or links i d).from ≡ n)))) → (n : ℕ) → Contains new n ↔ HasSource (take (i + 1) links) n
-sources_more links i d old new within before more n = (
-  λ h. elim ((more n).0 h) [
-    | inl was ↦ (let (l, has, follows, from) = (before n).0 was in (l, (in_taken links i d l within).1 (inl has), follows, from))
-    | inr one ↦ (get_or links i d, (in_taken links i d (get_or links i d) within).1 (inr refl), one.0, one.1)
-  ],
-  λ (l, has, follows, from). elim ((in_taken links i d l within).0 has) [
-    | inl was ↦ (more n).1 (inl ((before n).1 (l, was, follows, from)))
-    | inr e ↦ (more n).1 (inr (subst (λ (x : Link). Follows x.kind × (x.from ≡ n)) (sym e) (follows, from)))
-  ],
-)
-
-pub sources_whole : (links : List Link) (i : ℕ) (sources : List ℕ) → length links ≤ i → ((n : ℕ) → Contains sources n ↔ HasSource (take i links) n) → (n : ℕ) → Contains sources n ↔ HasSource links n
-sources_whole links i sources l all = subst (λ (xs : List Link). (n : ℕ) → Contains sources n ↔ HasSource xs n) (take_all i links l) all
-
-pub rows_count : (rows : List (Vec ℕ Global)) (vs us : List Vertex) (n : ℕ) → us ≡ vs → length rows ≡ n → length us ≤ n → n ≤ length us → length (numbers_of rows) ≡ length vs
-rows_count rows vs us n same count all within = omega (arith, length_rows rows, count, all, within, ap length same)
-
-module _ (g : Numbered) (k : IsNumbered g) (rows : List (List ℕ)) (count : length rows ≡ length g.vertices) (exact : (to : ℕ) → to < length g.vertices → (from : ℕ) → Contains (numbers_at rows to) from ↔ HasSource (row_of g to) from) where
-  pub rows_within : AreWithin rows
-  rows_within at n h =
-      let w = row_within rows at n h in
-      let (l, has, follows, from) = (exact at (omega (arith, w, count)) n).0 h in
-      let (e, is) = k.links at l has in
-      omega (arith, slice_get_within g.vertices l.from e.from is.1, from, count)
-
-  pub rows_sources : AreSources g rows
-  rows_sources = record {
-    count = count;
-    exact = λ to from. (
-      λ h. (let w = row_within rows to from h in (exact to (omega (arith, w, count)) from).0 h),
-      λ (l, has, follows, is).
-          (let (e, at) = k.links to l has in
-          (exact to (slice_get_within g.vertices to e.to at.0) from).1 (l, has, follows, is)),
-    );
-  }
+pub sources_within : (g : Numbered) → IsNumbered g → (to : ℕ) → All (λ n. n < length g.vertices) (sources_at g to)
+sources_within g k to i d l =
+    let (m, has, kind, from) = has_source (row_of g to) (get_or (sources_at g to) i d) (Contains-get_or (sources_at g to) i d l) in
+    let (e, is) = k.links to m has in
+    omega (arith, slice_get_within g.vertices m.from e.from is.1, from)

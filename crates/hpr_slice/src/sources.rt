@@ -1,40 +1,28 @@
 //! Which vertices lead to which.
-ghost use Rattle.std.specs.Prelude.{◌≡◌, ◌↔◌, ◌⊎◌, ◌<◌, ℕ, length, All, Contains, IfOk, OnOk, IsTrue};
+ghost use Rattle.std.specs.Prelude.{◌≡◌, ◌<◌, ◌++◌, length, All, IfOk, OnOk};
 ghost use Rattle.hpr_graph.specs.Numbered.{graph_in};
 ghost use Rattle.hpr_graph.specs.Slices.{ReachesOne};
 ghost use Rattle.hpr_slice.specs.Vertices.{IsOneOf, MarksExactly};
-ghost use Rattle.hpr_slice.specs.Neighbours.{Follows, HasSource};
+ghost use Rattle.hpr_slice.specs.Neighbours.{follows, sources_of};
 
 use hpr_graph::{Graph, Link, LinkKind, NoMemory};
-use hpr_search::{Rows, reachable};
-use std::alloc::Global;
+use hpr_search::{Digraph, reachable};
+use std::alloc::{AllocError, Global};
 use std::marker::Model;
 
-/// For each vertex of a graph the vertices from which a control or flow edge leads to it, looked up once
-/// for any number of searches.
+/// A graph whose steps lead from each vertex to those from which a control or flow edge leads to it, for any
+/// number of searches.
 ///
 /// A contract sees the graph.
+#[derive(Drop)]
 pub struct Sources<'a> {
     graph: &'a Graph,
-    rows: Rows,
     alloc: Global,
-}
-
-/// Sources are dropped in one call.
-impl Drop for Sources<'_> {
-    fn drop(self) {
-        let Sources {
-            graph: _,
-            rows: _,
-            alloc: _,
-        } = self;
-    }
 }
 
 impl<'a> Model for Sources<'a> {
     ghost use Rattle.hpr_graph.specs.contracts.graph.Graph as graphs;
     ghost use Rattle.hpr_graph.specs.Numbered.{Numbered, IsNumbered};
-    ghost use Rattle.hpr_slice.specs.Neighbours.{AreSources};
 
     ghost Value = { Numbered };
 
@@ -42,40 +30,50 @@ impl<'a> Model for Sources<'a> {
 
     ghost view = { λ s. s.graph.now };
 
-    ghost invariant = { λ s. IsNumbered s.graph.now × AreSources s.graph.now s.rows };
+    ghost invariant = { λ s. IsNumbered s.graph.now };
+}
+
+impl Digraph for Sources<'_> {
+    ghost use Rattle.std.specs.Prelude.{length};
+    ghost use Rattle.hpr_slice.specs.Neighbours.{sources_at};
+
+    ghost points = { λ g. length g.vertices };
+
+    ghost steps = { λ g. sources_at g };
+
+    fn point_count(&self) -> usize {
+        self.graph.vertex_count()
+    }
+
+    fn push_steps(&self, point: usize, into: &mut Vec<usize>) -> Result<(), AllocError> {
+        push_sources(self.graph.edges_into(point), into)
+    }
 }
 
 impl Sources<'_> {
-    /// Those of a graph. Looks once at each edge.
+    /// Those of a graph. Takes constant time.
     pub fn of(alloc: Global, graph: &Graph) -> Result<Sources<'_>, NoMemory>
         ensures { IfOk result (λ s. s ≡ graph.now) }
     {
-        let mut rows = Vec::new(alloc);
-        for at in 0..graph.vertices().len() {
-            rows.push(sources_in(alloc, graph.edges_into(at))?)?;
-        }
-        Ok(Sources {
-            graph,
-            rows: Rows::new(alloc, rows),
-            alloc,
-        })
+        let _vertices = graph.vertices();
+        Ok(Sources { graph, alloc })
     }
 
     /// Marks the vertices from which control and flow edges lead to one of these, these included: the
-    /// vertices of their slice (Reps and Yang 1988). The numbers are those of vertices. Looks at each
-    /// control or flow edge into a marked vertex at most once.
+    /// vertices of their slice (Reps and Yang 1988). The numbers are those of vertices. Looks once at each
+    /// edge into a marked vertex.
     pub fn reaching(&self, numbers: &[usize]) -> Result<Vec<bool>, NoMemory>
         requires { All (λ n. n < length self.now.vertices) numbers.now }
         ensures { IfOk result (λ marks. MarksExactly self.now
             (ReachesOne (graph_in self.now) (IsOneOf self.now numbers.now)) marks.items) }
     {
-        Ok(reachable(self.alloc, &self.rows, numbers)?)
+        Ok(reachable(self.alloc, self, numbers)?)
     }
 }
 
 /// Whether a slice follows links of this kind.
 pub(crate) fn is_followed(kind: LinkKind) -> bool
-    ensures { IsTrue result ↔ Follows kind }
+    ensures { result ≡ follows kind }
 {
     match kind {
         LinkKind::Order(_) => false,
@@ -83,38 +81,14 @@ pub(crate) fn is_followed(kind: LinkKind) -> bool
     }
 }
 
-/// The sources of the control and flow edges among these.
-fn sources_in(alloc: Global, links: &[Link]) -> Result<Vec<usize>, NoMemory>
-    ensures { IfOk result (λ sources. (n : ℕ) → Contains sources.items n ↔ HasSource links.now n) }
+/// Puts the sources of those of the links that a slice follows behind the others.
+fn push_sources(links: &[Link], into: &mut Vec<usize>) -> Result<(), AllocError>
+    ensures { OnOk result (into.new.items ≡ into.old.items ++ sources_of links.now) }
 {
-    let mut sources = Vec::new(alloc);
     for link in links {
-        push_source(&mut sources, *link)?;
-    }
-    Ok(sources)
-}
-
-/// Puts the source of the link behind the others, if a slice follows it.
-fn push_source(sources: &mut Vec<usize>, link: Link) -> Result<(), NoMemory>
-    ensures { OnOk result ((n : ℕ) → Contains sources.new.items n
-        ↔ (Contains sources.old.items n ⊎ (Follows link.kind × (link.from ≡ n)))) }
-{
-    if !is_followed(link.kind) {
-        return Ok(());
-    }
-    push_unless_last(sources, link.from)?;
-    Ok(())
-}
-
-/// Puts the number behind the others, unless it is the last of them.
-fn push_unless_last(numbers: &mut Vec<usize>, number: usize) -> Result<(), NoMemory>
-    ensures { OnOk result ((n : ℕ) → Contains numbers.new.items n ↔ (Contains numbers.old.items n ⊎ (number ≡ n))) }
-{
-    if let Some(last) = numbers.last() {
-        if *last == number {
-            return Ok(());
+        if is_followed(link.kind) {
+            into.push(link.from)?;
         }
     }
-    numbers.push(number)?;
     Ok(())
 }
