@@ -1,9 +1,11 @@
 -- The marks of a search are those of a slice, or of what is reached.
-use Rattle.std.proofs.Common.{◌≡◌, ℕ, ◌<◌, Bool, List, All, Contains, length, ◌∙◌, subst}
+use Rattle.std.proofs.Common.{◌≡◌, ℕ, ◌<◌, Bool, List, All, Contains, length, ◌∙◌, subst, false, replicate, ap, arith}
 use Rattle.std.proofs.lemmas.List.Elements.{All-contains}
 use Rattle.hpr_terms.proofs.Facts.{get_below}
 use Rattle.hpr_search.specs.Walks as walks
+use Rattle.std.proofs.lemmas.List.{length-replicate}
 use Rattle.hpr_search.specs.Marks.{IsMarked}
+use Rattle.hpr_search.proofs.Marked.{no_marks}
 use Rattle.hpr_graph.specs.declared.vertex.Vertex.{Vertex}
 use Rattle.hpr_graph.specs.Graphs.{Same, restrict_to}
 use Rattle.hpr_graph.specs.Numbered.{Numbered, IsNumbered, IsMarkedVertex, graph_in}
@@ -49,6 +51,16 @@ module _ (g : Numbered) (k : IsNumbered g) (numbers : List ℕ) (within : All (�
             complete at (n, via, has, subst (λ (x : ℕ). walks.Walk (numbers_at rows) n via x) same walk)),
       );
     }
+
+-- nothing is reached from nowhere
+pub marks_none : (g : Numbered) (numbers : List ℕ) (marks : List Bool) → length numbers ≡ 0 → marks ≡ replicate (length g.vertices) false → MarksExactly g (IsReached (graph_in g) (IsOneOf g numbers)) marks
+marks_none g numbers marks none is = record {
+  count = ap length is ∙ length-replicate (length g.vertices) false;
+  exact = λ at v at_v. (
+    λ m. absurd (no_marks (length g.vertices) at (subst (λ (ms : List Bool). IsMarked ms at) is m)),
+    λ (s, es, (n, has, at_s), leads). absurd (let l = has.1 in omega (arith, l, none)),
+  );
+}
 
 -- what is restricted to the marks is restricted to what is marked
 pub marked_only : (g : Numbered) (P : Vertex → Type 0) (marks : List Bool) → MarksExactly g P marks → Same (restrict_to (graph_in g) (IsMarkedVertex g marks)) (restrict_to (graph_in g) P)

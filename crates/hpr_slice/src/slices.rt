@@ -1,5 +1,5 @@
 //! Slices, and what is reached from some vertices.
-ghost use Rattle.std.specs.Prelude.{◌<◌, length, All, IfOk};
+ghost use Rattle.std.specs.Prelude.{◌≡◌, ◌<◌, false, length, replicate, All, IfOk};
 ghost use Rattle.hpr_graph.specs.Graphs.{Same};
 ghost use Rattle.hpr_graph.specs.Numbered.{graph_in};
 ghost use Rattle.hpr_graph.specs.Slices.{IsReached, slice_of};
@@ -31,6 +31,16 @@ pub fn forward(alloc: Global, graph: &Graph, points: &[usize]) -> Result<Vec<boo
     ensures { IfOk result (λ marks. MarksExactly graph.now (IsReached (graph_in graph.now)
         (IsOneOf graph.now points.now)) marks.items) }
 {
+    if points.is_empty() {
+        return unmarked(alloc, graph.vertex_count());
+    }
     let targets = targets_of(alloc, graph)?;
     Ok(reachable(alloc, &targets, points)?)
+}
+
+/// So many vertices, none of which is marked.
+fn unmarked(alloc: Global, count: usize) -> Result<Vec<bool>, NoMemory>
+    ensures { IfOk result (λ marks. marks.items ≡ replicate count false) }
+{
+    Ok(vec![in alloc; false; count]?)
 }

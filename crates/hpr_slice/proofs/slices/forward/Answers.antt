@@ -1,5 +1,14 @@
-use Rattle.hpr_slice.proofs.Marked.{marks_reached}
+use Rattle.std.proofs.Common.{◌≡◌, ◌∙◌, ℕ, false, length, replicate, ap, arith}
+use Rattle.std.proofs.lemmas.Result.{IfOk-weaker}
+use Rattle.hpr_slice.proofs.Marked.{marks_none, marks_reached}
 use Rattle.hpr_slice.proofs.slices.forward.Goals as goal
+
+pub returns-then-is_empty : goal.returns-then-is_empty
+returns-then-is_empty c =
+    let none : length c.args.points.now ≡ 0 = grind (arith, c.is_empty.ensures, c.if-is_empty.true) in
+    IfOk-weaker c.unmarked.result _ _
+    (λ marks is. marks_none c.args.graph.now c.args.points.now marks.items none (is ∙ ap (λ (n : ℕ). replicate n false) c.vertex_count.ensures))
+    c.unmarked.ensures
 
 pub returns : goal.returns
 returns c =
