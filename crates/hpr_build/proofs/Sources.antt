@@ -1,14 +1,13 @@
 -- The sources of the flow edges into a use, each once, and that they are the definitions that reach it.
 --
--- IsTaken definers links left sources == of the marked definitions those from which one of the links is a flow edge are the sources, and the others are left
-use Rattle.std.proofs.Common.{◌≡◌, ◌≢◌, ℕ, ◌+◌, ◌<◌, Bool, true, false, List, [], ◌∷◌, ◌++◌, Some, length, set, take, get_or, Contains, ◌⊎◌, ◌↔◌, inl, inr, sym, ap, ◌∙◌, subst, arith}
+-- IsTaken definers links sources == of the marked definitions those from which one of the links is a flow edge are the sources
+use Rattle.std.proofs.Common.{◌≡◌, ℕ, ◌+◌, ◌<◌, Bool, List, [], ◌∷◌, ◌++◌, Some, length, take, get_or, Contains, ◌⊎◌, ◌↔◌, inl, inr, sym, ap, ◌∙◌, subst, arith}
 use Rattle.std.proofs.lemmas.Bool.{cases_eq}
 use Rattle.std.proofs.lemmas.Option.{slice_get_within}
-use Rattle.std.proofs.lemmas.List.{get_or_default, get_or-set_same, get_or-set_other}
+use Rattle.std.proofs.lemmas.List.{get_or_default}
 use Rattle.hpr_terms.proofs.Facts.{taken_item, in_none}
 use Rattle.hpr_syntax.specs.Tree.{Tree}
 use Rattle.hpr_search.specs.Marks.{IsMarked}
-use Rattle.hpr_search.proofs.Marked.{marked_within}
 use Rattle.hpr_paths.specs.Spots.{UsesAt, defined_at}
 use Rattle.hpr_paths.specs.Successors.{spots}
 use Rattle.hpr_reach.specs.Reaches.{Reaches}
@@ -24,7 +23,7 @@ use Rattle.hpr_build.specs.declared.tables.Variable.{Variable}
 use Rattle.hpr_build.specs.Flows.{IsFlowAt}
 use Rattle.hpr_build.specs.Links.{vertices_of, exit_of, IsTargetAt, IsControlLink, IsFlowLink}
 use Rattle.hpr_build.specs.NewLinks.{link_kind, target_of, OrdersOf}
-use Rattle.hpr_build.specs.Reaching.{IsFlowKind, HasFlowFrom, HasFlows, Takes}
+use Rattle.hpr_build.specs.Reaching.{IsFlowKind, HasFlowFrom, HasFlows, IsLeft, Takes}
 use Rattle.hpr_build.specs.Stages.{IsVariable}
 use Rattle.hpr_build.proofs.BridgeFlow.{some_kind, in_or_not}
 use Rattle.hpr_build.proofs.BridgeNumbers.{source_once, target_once}
@@ -33,17 +32,12 @@ use Rattle.hpr_build.proofs.FlowFamily.{flow_of_kind, kind_of_flow}
 use Rattle.hpr_build.proofs.Families.{SomeOf}
 use Rattle.hpr_build.proofs.TargetNumbers.{target_of_number}
 
-pub record IsTaken (definers : List Bool) (links : List Link) (left : List Bool) (sources : List ℕ) : Type 0 where
-  pub rest : (p : ℕ) → IsMarked left p ↔ (IsMarked definers p × ¬ Contains sources p)
+pub record IsTaken (definers : List Bool) (links : List Link) (sources : List ℕ) : Type 0 where
   pub taken : (p : ℕ) → Contains sources p ↔ (IsMarked definers p × HasFlowFrom links p)
   pub once : IsOnce sources
 
-pub taken_none : (definers left : List Bool) (sources : List ℕ) → left ≡ definers → sources ≡ [] → IsTaken definers [] left sources
-taken_none definers left sources same none = record {
-  rest = λ p. (
-    (λ h. (subst (λ (ms : List Bool). IsMarked ms p) same h, λ there. in_none p (subst (λ (xs : List ℕ). Contains xs p) none there))),
-    (λ (h, out). subst (λ (ms : List Bool). IsMarked ms p) (sym same) h),
-  );
+pub taken_none : (definers : List Bool) (sources : List ℕ) → sources ≡ [] → IsTaken definers [] sources
+taken_none definers sources none = record {
   taken = λ p. (
     (λ h. absurd (in_none p (subst (λ (xs : List ℕ). Contains xs p) none h))),
     (λ (h, (l, has, is, from)). absurd (in_none l has)),
@@ -65,61 +59,39 @@ module _ (definers : List Bool) (links : List Link) (i : ℕ) (l : Link) (here :
     ]),
   )
 
-  module _ (left left' : List Bool) (sources sources' : List ℕ) (before : IsTaken definers (take i links) left sources) where
+  module _ (sources sources' : List ℕ) (before : IsTaken definers (take i links) sources) where
     abbrev q : ℕ
     q = l.from
 
-    module _ (kind : IsFlowKind l.kind) (mark : IsMarked left q) (less : left' ≡ set left q false) (more : sources' ≡ sources ++ q ∷ []) where
+    module _ (left : IsLeft definers sources l) (more : sources' ≡ sources ++ q ∷ []) where
       in_more : (p : ℕ) → Contains sources' p ↔ (Contains sources p ⊎ (q ≡ p))
       in_more p = subst (λ (xs : List ℕ). Contains xs p ↔ (Contains sources p ⊎ (q ≡ p))) (sym more) (pushed sources q p)
 
-      left_here : ¬ IsMarked left' q
-      left_here h =
-          let now : get_or left' q false ≡ false = ap (λ (ms : List Bool). get_or ms q false) less ∙ get_or-set_same left q false false (marked_within left q mark) in
-          let both : false ≡ true = sym now ∙ h in
-          cc
-
-      left_other : (p : ℕ) → p ≢ q → IsMarked left' p ↔ IsMarked left p
-      left_other p ne =
-          let same : get_or left' p false ≡ get_or left p false = ap (λ (ms : List Bool). get_or ms p false) less ∙ get_or-set_other left q p false false ne in
-          ((λ h. sym same ∙ h), (λ h. same ∙ h))
-
-      took : IsTaken definers (take (i + 1) links) left' sources'
+      took : IsTaken definers (take (i + 1) links) sources'
       took = record {
-        rest = λ p. elim (cases_eq p q) [
-          | inl e ↦ (
-            (λ h. absurd (left_here (subst (λ (n : ℕ). IsMarked left' n) e h))),
-            (λ (h, out). absurd (out ((in_more p).1 (inr (sym e))))),
-          )
-          | inr ne ↦ (
-            (λ h. (let (m, out) = (before.rest p).0 ((left_other p ne).0 h) in (m, λ there. elim ((in_more p).0 there) [ inl was ↦ out was | inr e ↦ ne (sym e) ]))),
-            (λ (m, out). (left_other p ne).1 ((before.rest p).1 (m, λ was. out ((in_more p).1 (inl was))))),
-          )
-        ];
         taken = λ p. (
           (λ h. elim ((in_more p).0 h) [
             | inl was ↦ (let (m, f) = (before.taken p).0 was in (m, (flow_more p).1 (inl f)))
-            | inr e ↦ (subst (λ (n : ℕ). IsMarked definers n) e ((before.rest q).0 mark).0, (flow_more p).1 (inr (kind, e)))
+            | inr e ↦ (subst (λ (n : ℕ). IsMarked definers n) e left.1, (flow_more p).1 (inr (left.0, e)))
           ]),
           (λ (m, f). elim ((flow_more p).0 f) [
             | inl was ↦ (in_more p).1 (inl ((before.taken p).1 (m, was)))
             | inr (k, e) ↦ (in_more p).1 (inr e)
           ]),
         );
-        once = subst (λ (xs : List ℕ). IsOnce xs) (sym more) (once_push sources q before.once ((before.rest q).0 mark).1);
+        once = subst (λ (xs : List ℕ). IsOnce xs) (sym more) (once_push sources q before.once left.2);
       }
 
-    module _ (not : ¬ (IsFlowKind l.kind × IsMarked left q)) (same : left' ≡ left) (old : sources' ≡ sources) where
+    module _ (not : ¬ IsLeft definers sources l) (old : sources' ≡ sources) where
       -- a marked source of a flow edge is taken already
       there : (p : ℕ) → IsMarked definers p → IsFlowKind l.kind → q ≡ p → Contains sources p
       there p m kind e = elim (in_or_not cases_eq sources p) [
         | inl has ↦ has
-        | inr out ↦ absurd (not (kind, subst (λ (n : ℕ). IsMarked left n) (sym e) ((before.rest p).1 (m, out))))
+        | inr out ↦ absurd (not (kind, subst (λ (n : ℕ). IsMarked definers n) (sym e) m, subst (λ (n : ℕ). ¬ Contains sources n) (sym e) out))
       ]
 
-      passed : IsTaken definers (take (i + 1) links) left sources
+      passed : IsTaken definers (take (i + 1) links) sources
       passed = record {
-        rest = before.rest;
         taken = λ p. (
           (λ h. (let (m, f) = (before.taken p).0 h in (m, (flow_more p).1 (inl f)))),
           (λ (m, f). elim ((flow_more p).0 f) [ inl was ↦ (before.taken p).1 (m, was) | inr (kind, e) ↦ there p m kind e ]),
@@ -127,20 +99,18 @@ module _ (definers : List Bool) (links : List Link) (i : ℕ) (l : Link) (here :
         once = before.once;
       }
 
-      kept : IsTaken definers (take (i + 1) links) left' sources'
-      kept =
-          subst (λ (ms : List Bool). IsTaken definers (take (i + 1) links) ms sources') (sym same)
-          (subst (λ (xs : List ℕ). IsTaken definers (take (i + 1) links) left xs) (sym old) passed)
+      kept : IsTaken definers (take (i + 1) links) sources'
+      kept = subst (λ (xs : List ℕ). IsTaken definers (take (i + 1) links) xs) (sym old) passed
 
-    pub taken_more : Takes left sources l left' sources' → IsTaken definers (take (i + 1) links) left' sources'
-    taken_more (inl ((kind, mark), less, more)) = took kind mark less more
-    taken_more (inr (not, same, old)) = kept not same old
+    pub taken_more : Takes definers sources l sources' → IsTaken definers (take (i + 1) links) sources'
+    taken_more (inl (left, more)) = took left more
+    taken_more (inr (not, old)) = kept not old
 
-pub taken_at : (definers : List Bool) (links : List Link) (i : ℕ) (d : Link) (left left' : List Bool) (sources sources' : List ℕ) → i < length links
-    → IsTaken definers (take i links) left sources → Takes left sources (get_or links i d) left' sources' → IsTaken definers (take (i + 1) links) left' sources'
-taken_at definers links i d left left' sources sources' here before takes =
+pub taken_at : (definers : List Bool) (links : List Link) (i : ℕ) (d : Link) (sources sources' : List ℕ) → i < length links
+    → IsTaken definers (take i links) sources → Takes definers sources (get_or links i d) sources' → IsTaken definers (take (i + 1) links) sources'
+taken_at definers links i d sources sources' here before takes =
     let l : Link = get_or links i d in
-    taken_more definers links i l here (get_or_default links i d l here) left left' sources sources' before takes
+    taken_more definers links i l here (get_or_default links i d l here) sources sources' before takes
 
 kind_flows : (k : FlowKind) → IsFlowKind (link_kind k)
 kind_flows flow.Independent = tt

@@ -3,9 +3,10 @@
 -- IsFlowKind kind           == the kind of a flow edge
 -- HasFlowFrom links p       == one of the links is a flow edge from p
 -- HasFlows tree inits g     == the flow edges in the graph are exactly those of the program
--- Takes left sources l left' sources' == the source of a flow edge l that is left goes from what is left to the sources; else nothing changes
+-- IsLeft definers sources l == l is a flow edge from one of the marked definitions, which isn't among the sources
+-- Takes definers sources l sources' == the source of l comes behind the sources, if it is left; else nothing changes
 -- AreReaching spots x definitions users rows == for each of the users there is a row with the definitions from which an undisturbed path for x goes there, each once
-use Rattle.std.specs.Prelude.{◌≡◌, ℕ, ◌↔◌, ◌⊎◌, Bool, false, Some, List, [], ◌∷◌, ◌++◌, Vec, Contains, slice_set}
+use Rattle.std.specs.Prelude.{◌≡◌, ℕ, ◌↔◌, ◌⊎◌, Bool, Some, List, [], ◌∷◌, ◌++◌, Vec, Contains}
 use Rattle.std.specs.Global.{Global}
 use Rattle.std.specs.List.{slice_get}
 use Rattle.hpr_syntax.specs.Tree.{Tree}
@@ -32,10 +33,11 @@ HasFlowFrom links p = (l : Link) × Contains links l × IsFlowKind l.kind × (l.
 abbrev pub HasFlows : Tree → List (List ℕ) → Numbered → Type 0
 HasFlows tree inits g = (to : ℕ) (l : Link) → IsFlowKind l.kind → HasLink g to l ↔ IsFlowLink tree inits to l
 
-abbrev pub Takes : List Bool → List ℕ → Link → List Bool → List ℕ → Type 0
-Takes left sources l left' sources' =
-    ((IsFlowKind l.kind × IsMarked left l.from) × (left' ≡ slice_set left l.from false) × (sources' ≡ sources ++ l.from ∷ []))
-    ⊎ ((¬ (IsFlowKind l.kind × IsMarked left l.from)) × (left' ≡ left) × (sources' ≡ sources))
+abbrev pub IsLeft : List Bool → List ℕ → Link → Type 0
+IsLeft definers sources l = IsFlowKind l.kind × IsMarked definers l.from × (¬ Contains sources l.from)
+
+abbrev pub Takes : List Bool → List ℕ → Link → List ℕ → Type 0
+Takes definers sources l sources' = (IsLeft definers sources l × (sources' ≡ sources ++ l.from ∷ [])) ⊎ ((¬ IsLeft definers sources l) × (sources' ≡ sources))
 
 abbrev pub AreReaching : List Spot → List ℕ → List ℕ → List ℕ → List (Vec ℕ Global) → Type 0
 AreReaching spots x definitions users rows =

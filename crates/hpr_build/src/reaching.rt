@@ -6,7 +6,7 @@ ghost use Rattle.hpr_paths.specs.Successors.{spots};
 ghost use Rattle.hpr_reach.specs.Reaches.{Reaches};
 ghost use Rattle.hpr_graph.specs.Graphs.{IsOnce};
 ghost use Rattle.hpr_build.specs.Links.{vertices_of};
-ghost use Rattle.hpr_build.specs.Reaching.{AreReaching, HasFlowFrom, HasFlows, IsFlowKind, Takes};
+ghost use Rattle.hpr_build.specs.Reaching.{AreReaching, HasFlowFrom, HasFlows, IsFlowKind, IsLeft, Takes};
 ghost use Rattle.hpr_build.specs.Stages.{AreTables, IsVariable};
 
 use crate::flow_links::target_of;
@@ -32,20 +32,19 @@ fn is_flow(kind: LinkKind) -> bool
     }
 }
 
-/// Whether the link is a flow edge from a definition that is left.
-fn is_left(left: &[bool], link: Link) -> bool
-    ensures { IsTrue result ↔ (IsFlowKind link.kind × IsMarked left.now link.from) }
+/// Whether the link is a flow edge from one of the marked definitions, which isn't among the sources.
+fn is_left(definers: &[bool], sources: &[usize], link: Link) -> bool
+    ensures { IsTrue result ↔ IsLeft definers.now sources.now link }
 {
-    is_flow(link.kind) && is_marked(left, link.from)
+    is_flow(link.kind) && is_marked(definers, link.from) && !sources.contains(&link.from)
 }
 
-/// Puts the source of the link behind the others, if it is a flow edge from a definition that is left, which
-/// is left no more then.
-fn take_source(left: &mut Vec<bool>, link: Link, sources: &mut Vec<usize>) -> Result<(), NoMemory>
-    ensures { OnOk result (Takes left.old.items sources.old.items link left.new.items sources.new.items) }
+/// Puts the source of the link behind the others, if it is a flow edge from one of the marked definitions
+/// that isn't among them.
+fn take_source(definers: &[bool], link: Link, sources: &mut Vec<usize>) -> Result<(), NoMemory>
+    ensures { OnOk result (Takes definers.now sources.old.items link sources.new.items) }
 {
-    if is_left(left, link) {
-        left[link.from] = false;
+    if is_left(definers, sources, link) {
         sources.push(link.from)?;
     }
     Ok(())
@@ -57,10 +56,9 @@ fn sources_among(alloc: Global, definers: &[bool], links: &[Link]) -> Result<Vec
     ensures exact { IfOk result (λ sources. (p : ℕ) → Contains sources.items p
         ↔ (IsMarked definers.now p × HasFlowFrom links.now p)) }
 {
-    let mut left = Vec::from_slice(alloc, definers)?;
     let mut sources = Vec::with_capacity(alloc, FEW_SOURCES)?;
     for link in links {
-        take_source(&mut left, *link, &mut sources)?;
+        take_source(definers, *link, &mut sources)?;
     }
     Ok(sources)
 }

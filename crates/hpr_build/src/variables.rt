@@ -93,6 +93,17 @@ fn push_all(
     Ok(())
 }
 
+/// The names in order, each once. One name alone is so already.
+fn each_once(names: Vec<Name>) -> Result<Vec<Name>, NoMemory>
+    ensures ascending { IfOk result (λ v. IsStrictlySortedBy (slice_cmp nat_cmp) v.items) }
+    ensures same { IfOk result (λ v. (x : List ℕ) → Contains v.items x ↔ Contains names.items x) }
+{
+    if names.len() < 2 {
+        return Ok(names);
+    }
+    in_order(names)
+}
+
 /// Puts the point behind the rows of the names that it uses.
 fn push_used(
     alloc: Global,
@@ -112,7 +123,7 @@ fn push_used(
         → IsOnce (points_at rows.old.items i) → ¬ Contains (points_at rows.old.items i) point
         → IsOnce (points_at rows.new.items i)) }
 {
-    let used = in_order(succ.used_names(point)?)?;
+    let used = each_once(succ.used_names(point)?)?;
     push_all(names, &used, point, rows)?;
     Ok(())
 }

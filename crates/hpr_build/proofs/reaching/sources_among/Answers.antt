@@ -7,11 +7,11 @@ use Rattle.hpr_build.proofs.Sources.{taken_none, taken_at}
 use Rattle.hpr_build.proofs.reaching.sources_among.Goals as goal
 
 pub loop-link-init : goal.loop-link-init
-loop-link-init c = taken_none c.args.definers.now c.in_ok-left.left.items c.in_ok-sources.sources.items c.in_ok-left.ensures.items c.in_ok-sources.ensures.items
+loop-link-init c = taken_none c.args.definers.now c.in_ok-sources.sources.items c.in_ok-sources.ensures.items
 
 pub loop-link-preserved : goal.loop-link-preserved
 loop-link-preserved c =
-    taken_at c.args.definers.now c.args.links.now c.loop-link.link-index _ c.loop-link.left.items c.take_source.new.left.items c.loop-link.sources.items c.take_source.new.sources.items c.loop-link-test.true
+    taken_at c.args.definers.now c.args.links.now c.loop-link.link-index _ c.loop-link.sources.items c.take_source.new.sources.items c.loop-link-test.true
     c.loop-link.invariant c.in_ok-take_source.ensures
 
 pub returns-clause-exact : goal.returns-clause-exact
