@@ -16,7 +16,7 @@ pub mod Ranked
 pub mod Climbs
 pub mod Built
 pub mod Marked
-pub mod Marking
+pub mod ItemRows
 mod Rows
 mod Downs
 mod Leasts

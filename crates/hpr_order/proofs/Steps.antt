@@ -82,31 +82,6 @@ pub not_shallow : (items : List Item) (index : ℕ) (i : Item) → slice_get ite
 not_shallow items index i e none within =
     no_some (level_in (slot_at items) (MAX_LEVELS - 1) (slot_at items index)) (ap (level_in (slot_at items) (MAX_LEVELS - 1)) (ap slot_in e) ∙ none) (within.levels index (slice_get_within items index i e))
 
--- a row of the numbers below one that have a property, and one number more
-pub row_kept : (P : ℕ → Type 0) (index : ℕ) (row : List ℕ) → ((x : ℕ) → Contains row x ↔ ((x < index) × P x)) → (P index → ⊥) → (x : ℕ) → Contains row x ↔ ((x < index + 1) × P x)
-row_kept P index row all out x = (
-  (λ h. let (lt, p) = (all x).0 h in (omega (arith, lt), p)),
-  (λ (lt, p). elim (cases_eq x index) [ inl same ↦ absurd (out (subst P same p)) | inr other ↦ (all x).1 (omega (arith, lt), p) ]),
-)
-
-pub row_pushed : (P : ℕ → Type 0) (index : ℕ) (row more : List ℕ) → ((x : ℕ) → Contains row x ↔ ((x < index) × P x)) → P index → more ≡ row ++ index ∷ [] → (x : ℕ) → Contains more x ↔ ((x < index + 1) × P x)
-row_pushed P index row more all here is x = (
-  (λ h. elim (Contains-append_cases row (index ∷ []) x (subst (λ z. Contains z x) is h)) [
-    | inl old ↦ (let (lt, p) = (all x).0 old in (omega (arith, lt), p))
-    | inr new ↦ elim (in_cons index x [] new) [
-      | inl same ↦ (omega (arith, same), subst P same here)
-      | inr none ↦ absurd (in_none x none)
-    ]
-  ]),
-  (λ (lt, p). subst (λ z. Contains z x) (sym is) (elim (cases_eq x index) [
-    | inl same ↦ Contains-append_right row (index ∷ []) x (subst (λ z. Contains (index ∷ []) z) (sym same) (in_first index []))
-    | inr other ↦ Contains-append_left row (index ∷ []) x ((all x).1 (omega (arith, lt), p))
-  ])),
-)
-
-pub row_whole : (P : ℕ → Type 0) (index n : ℕ) (row : List ℕ) → ((x : ℕ) → Contains row x ↔ ((x < index) × P x)) → index ≡ n → (x : ℕ) → Contains row x ↔ ((x < n) × P x)
-row_whole P index n row all e = subst (λ z. (x : ℕ) → Contains row x ↔ ((x < z) × P x)) e all
-
 -- numbers in line
 pub line_pushed : (index : ℕ) (ns more : List ℕ) → length ns ≡ index → ((k : ℕ) → k < index → slice_get ns k ≡ Some k) → more ≡ ns ++ index ∷ [] → (k : ℕ) → k < index + 1 → slice_get more k ≡ Some k
 line_pushed index ns more len all is k lt = subst (λ z. slice_get z k ≡ Some k) (sym is) (elim (cases_eq k index) [

@@ -1,6 +1,5 @@
 -- From the tables of the items to the orders of the allowed trees.
-use Rattle.std.proofs.Common.{◌≡◌, ℕ, ◌<◌, ◌⊎◌, inl, inr, Bool, true, false, Some, None, List, [], ◌∷◌, ◌++◌, length, vec_len, Contains, Vec, refl, sym, ap, ◌∙◌, subst, arith, rules}
-use Rattle.std.specs.Global.{Global}
+use Rattle.std.proofs.Common.{◌≡◌, ℕ, ◌<◌, ◌⊎◌, inl, inr, Bool, true, false, Some, None, List, [], ◌∷◌, ◌++◌, length, vec_len, Contains, refl, sym, ap, ◌∙◌, subst, arith, rules}
 use Rattle.std.proofs.lemmas.Bool.{cases_lt}
 use Rattle.std.proofs.lemmas.List.Elements.{Contains-append_left, Contains-append_right}
 use Rattle.std.proofs.lemmas.Option.{slice_get_past}
@@ -97,7 +96,7 @@ none_lifted g items pairs are never = none_allowed g items (λ f a.
       | inr left ↦ left_once (preorder f) t s a.arranged.once back (is_left (preorder f) s t left)
     ])
 
-module _ (g : Graph) (items : List Item) (pairs : List (ℕ × ℕ)) (asked : List (Vec Bool Global)) (b : Blocks)
+module _ (g : Graph) (items : List Item) (pairs : List (ℕ × ℕ)) (asked : List (List ℕ)) (b : Blocks)
     (tables : AreTablesOf items asked b) (lifted : AreLifted items pairs asked) (are : AreAsked g items pairs) where
   has_slots : HasSlots (forest_of b) (slot_at items)
   has_slots = record {

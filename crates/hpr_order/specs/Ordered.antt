@@ -3,10 +3,9 @@
 -- AreChoices g items choices == the whole lists by these tables are the preorders of arrangements; where there are no tables, there is no arrangement
 -- AreRankedParts g rank o == o has all parts in the order of the rank, by their numbers and as items, and such tables
 -- IsOrdered g numbers o == o has the parts with these numbers as items, and as orders those that are preorders of arrangements
--- AreAskedSiblings g items asked == the marks are at what the edges of g that direct say of siblings
+-- AreAskedSiblings g items asked == the rows have what the edges of g that direct say of siblings
 -- IsListedProgram g items issued p == p is the program of the items as they are listed, with the names of the Final vertices of g
-use Rattle.std.specs.Prelude.{◌≡◌, ℕ, Bool, Option, Some, None, List, [], Vec, length, vec_len}
-use Rattle.std.specs.Global.{Global}
+use Rattle.std.specs.Prelude.{◌≡◌, ℕ, Option, Some, None, List, [], length, vec_len}
 use Rattle.hpr_syntax.specs.Issued.{Issued}
 use Rattle.hpr_syntax.specs.Tree.{Tree}
 use Rattle.hpr_graph.specs.declared.vertex.Vertex.{Vertex}
@@ -41,7 +40,7 @@ pub record IsOrdered (g : Numbered) (numbers : List ℕ) (o : OrderedItems) : Ty
   pub items : AreItemsOf g numbers o.items.items
   pub orders : AreOrdersOf (graph_in g) o.items.items (orders_in o.orders)
 
-abbrev pub AreAskedSiblings : Graph → List Item → List (Vec Bool Global) → Type 0
+abbrev pub AreAskedSiblings : Graph → List Item → List (List ℕ) → Type 0
 AreAskedSiblings g items asked = (pairs : List (ℕ × ℕ)) × AreAsked g items pairs × AreLifted items pairs asked
 
 abbrev pub IsListedProgram : Graph → List Item → Issued → Tree → Type 0

@@ -79,7 +79,8 @@ pub fn places_of(
     Ok(places)
 }
 
-fn no_places(alloc: Global, count: usize) -> Result<Vec<Option<usize>>, AllocError>
+/// So many times none.
+pub(crate) fn no_places(alloc: Global, count: usize) -> Result<Vec<Option<usize>>, AllocError>
     ensures { IfOk result (λ ps. ps.items ≡ replicate count None) }
 {
     vec![in alloc; None; count]

@@ -1,6 +1,5 @@
-use Rattle.std.proofs.Common.{Bool, Vec, sym, subst}
+use Rattle.std.proofs.Common.{ℕ, List, sym, subst}
 use Rattle.std.proofs.lemmas.Result.{IfOk-weaker}
-use Rattle.std.specs.Global.{Global}
 use Rattle.hpr_graph.specs.Numbered.{graph_in}
 use Rattle.hpr_order.specs.Numbers.{AreAsked}
 use Rattle.hpr_order.specs.Ordered.{AreAskedSiblings}
@@ -22,8 +21,8 @@ returns-clause-asked c =
     let are : AreAsked (graph_in c.args.graph.now) c.args.items.now c.deref.result.now =
     subst (AreAsked (graph_in c.args.graph.now) c.args.items.now) (sym c.deref.ensures.value) (c.in_ok-pairs.ensures c.args.items.now c.requires.items.at) in
     IfOk-weaker c.siblings_by.result _ _
-    (λ o. more_some (λ (asked : Vec (Vec Bool Global) Global). AreLifted c.args.items.now c.deref.result.now asked.items)
-    (λ (asked : Vec (Vec Bool Global) Global). AreAskedSiblings (graph_in c.args.graph.now) c.args.items.now asked.items) o (λ asked lifted. (c.deref.result.now, are, lifted))) c.siblings_by.ensures.lifted
+    (λ o. more_some (λ (asked : List (List ℕ)). AreLifted c.args.items.now c.deref.result.now asked)
+    (λ (asked : List (List ℕ)). AreAskedSiblings (graph_in c.args.graph.now) c.args.items.now asked) o (λ asked lifted. (c.deref.result.now, are, lifted))) c.siblings_by.ensures.lifted
 
 pub returns-clause-never : goal.returns-clause-never
 returns-clause-never c =

@@ -1,20 +1,23 @@
-use Rattle.std.proofs.Common.{◌≡◌, length, Some, sym, ◌∙◌, arith}
-use Rattle.hpr_order.specs.Lifting.{parent_in}
-use Rattle.hpr_order.proofs.Linking.{differ_true, differ_false}
-use Rattle.hpr_order.proofs.Steps.{row_kept, row_pushed, row_whole}
+use Rattle.std.proofs.Common.{◌≡◌, ℕ, length, sym, subst, ◌∙◌, arith}
+use Rattle.hpr_order.proofs.ItemRows.{AreUnderTo, none_under, under_more, under_top}
 use Rattle.hpr_order.proofs.blocks.children_of.Goals as goal
 
-pub loop-child-preserved-then-ne : goal.loop-child-preserved-then-ne
-loop-child-preserved-then-ne c =
-    row_kept (λ x. parent_in c.args.items.now x ≡ Some c.args.parent) c.loop-child.child c.loop-child.row.items c.loop-child.invariant
-    (λ e. differ_true c.ne.result c.parent_of.result (Some c.args.parent) c.ne.ensures c.if-ne.true (c.parent_of.ensures ∙ e))
+pub loop-child-init : goal.loop-child-init
+loop-child-init c = record { count = c.in_ok-rows.ensures.count; under = none_under c.args.items.now c.in_ok-rows.rows c.in_ok-rows.ensures.blank }
+
+pub loop-child-preserved-in_default : goal.loop-child-preserved-in_default
+loop-child-preserved-in_default c = record {
+  count = c.loop-child.invariant.count;
+  under = under_top c.args.items.now c.loop-child.child c.loop-child.rows (sym c.parent_of.ensures ∙ c.in_default.is) c.loop-child.invariant.under;
+}
 
 pub loop-child-preserved : goal.loop-child-preserved
-loop-child-preserved c =
-    row_pushed (λ x. parent_in c.args.items.now x ≡ Some c.args.parent) c.loop-child.child c.loop-child.row.items c.push.new.self.items c.loop-child.invariant
-    (sym c.parent_of.ensures ∙ differ_false c.ne.result c.parent_of.result (Some c.args.parent) c.ne.ensures c.if-ne.false) c.in_ok-push.ensures.items
+loop-child-preserved c = record {
+  count = c.in_ok-push.ensures.count ∙ c.loop-child.invariant.count;
+  under = under_more c.args.items.now c.loop-child.child c.in-Some.parent c.loop-child.rows c.push.new.self (sym c.parent_of.ensures ∙ c.in-Some.is) c.in_ok-push.ensures.pushed c.loop-child.invariant.under;
+}
 
-pub returns : goal.returns
-returns c =
+pub returns-clause-children : goal.returns-clause-children
+returns-clause-children c =
     let all : c.loop-child.child ≡ length c.args.items.now = omega (arith, c.loop-child-test.false, c.loop-child.auto.child-end) in
-    row_whole (λ x. parent_in c.args.items.now x ≡ Some c.args.parent) c.loop-child.child (length c.args.items.now) c.loop-child.row.items c.loop-child.invariant all
+    subst (λ (n : ℕ). AreUnderTo c.args.items.now n c.loop-child.rows) all c.loop-child.invariant.under
