@@ -1,5 +1,5 @@
 -- Rows one by one: with each number of loops cut, and through the back edge of each loop.
-use Rattle.std.proofs.Common.{◌≡◌, ◌↔◌, ℕ, ◌+◌, ◌<◌, Bool, IsTrue, Option, None, List, [], ◌∷◌, ◌++◌, length, get_or, inl, inr, sym, ap, ◌∙◌, subst, arith, below_more}
+use Rattle.std.proofs.Common.{◌≡◌, ◌↔◌, ℕ, ◌+◌, ◌<◌, Bool, IsTrue, Option, None, List, [], ◌∷◌, ◌++◌, length, get_or, inl, inr, sym, ap, ◌∙◌, subst, arith, below_more, length-append}
 use Rattle.std.proofs.Math.Seq.{get_or-append_seam}
 use Rattle.std.proofs.lemmas.List.{get_or_append_left, get_or_default}
 use Rattle.hpr_terms.proofs.Facts.{taken_item}
@@ -59,3 +59,10 @@ module _ (spots : List Spot) (x : List ℕ) (d : ℕ) where
         λ h. (let (t, on) = (exact u).0 h in ((rounds (get_or ws n 0)).0 (marked.0 t), on)),
         λ (comes_round, on). (exact u).1 (marked.1 ((rounds (get_or ws n 0)).1 comes_round), on),
       ))
+
+-- what stood in a list stands there once one more is put behind it
+pub kept_before : {X : Type 0} (xs xs' : List X) (x d : X) → xs' ≡ xs ++ x ∷ [] → (i : ℕ) → i < length xs → (i < length xs') × (get_or xs' i d ≡ get_or xs i d)
+kept_before {X} xs xs' x d is i l = (
+  omega (arith, l, ap length is ∙ length-append xs (x ∷ [])),
+  ap (λ (ys : List X). get_or ys i d) is ∙ get_or_append_left xs (x ∷ []) d i l,
+)

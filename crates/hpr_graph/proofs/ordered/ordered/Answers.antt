@@ -1,7 +1,10 @@
-use Rattle.std.proofs.Common.{◌≡◌, ◌<◌, ◌↔◌, ◌⊎◌, ℕ, Option, List, Contains, length, sym, subst}
+use Rattle.std.proofs.Common.{◌≡◌, ◌<◌, ◌↔◌, ◌⊎◌, ℕ, Option, List, Contains, length, sym, ◌∙◌, subst}
 use Rattle.hpr_graph.specs.declared.vertex.Vertex.{Vertex}
+use Rattle.hpr_graph.specs.Graphs.{IsOnce}
+use Rattle.hpr_graph.specs.InOrder.{Ascends}
 use Rattle.hpr_graph.specs.Numbered.{HasEdge}
 use Rattle.hpr_graph.specs.Moves.{ArePlaced, HasNumber, MovesEdge}
+use Rattle.hpr_graph.specs.Order.{vertex_cmp}
 use Rattle.hpr_graph.proofs.Joined.{no_link}
 use Rattle.hpr_graph.proofs.Reordered.{reordered_vertices, reordered_same, ascending_vertices_once}
 use Rattle.hpr_graph.proofs.ordered.ordered.Goals as goal
@@ -42,3 +45,18 @@ add_edges-requires-clause-known c = λ at l. (
 
 pub from_vertices-requires : goal.from_vertices-requires
 from_vertices-requires c = ascending_vertices_once c.in_ok-vertices.vertices.items c.in_ok-vertices.ensures.ascend
+
+pub sorted_vertices-requires : goal.sorted_vertices-requires
+sorted_vertices-requires c = subst IsOnce (sym c.vertices.ensures.vertices) c.requires.once
+
+pub numbers_among-requires-clause-ascend : goal.numbers_among-requires-clause-ascend
+numbers_among-requires-clause-ascend c = subst (Ascends vertex_cmp) (sym c.deref.ensures.value) c.in_ok-vertices.ensures.ascend
+
+pub add_edges-requires-clause-placed : goal.add_edges-requires-clause-placed
+add_edges-requires-clause-placed c =
+    subst (λ (ns : List (Option ℕ)). ArePlaced c.args.graph.now.vertices ns c.in_ok-draft.draft.vertices) (sym c.deref-2.ensures.value)
+    (subst (λ (us : List Vertex). ArePlaced c.args.graph.now.vertices c.in_ok-numbers.numbers.items us) (c.deref.ensures.value ∙ sym c.in_ok-draft.ensures.vertices)
+    (subst (λ (vs : List Vertex). ArePlaced vs c.in_ok-numbers.numbers.items c.deref.result.now) c.vertices-2.ensures.vertices c.in_ok-numbers.ensures.placed))
+
+pub returns-clause-rows : goal.returns-clause-rows
+returns-clause-rows c = c.finish.ensures.rows
