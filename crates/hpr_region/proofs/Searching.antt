@@ -1,8 +1,9 @@
 -- Steps of a search: what stays when an item is placed or taken back, and what may be placed next.
-use Rattle.std.proofs.Common.{◌≡◌, ℕ, ◌-◌, ◌<◌, ◌≤◌, inl, inr, Bool, true, false, Option, Some, None, IfSome, List, [], ◌∷◌, ◌++◌, All, Vec, map, length, set, take, vec_len, vec_capacity, max, get_or, slice_get, Contains, refl, sym, ap, ◌∙◌, subst, arith, rules, length-append, get_or-set_same, get_or-set_other}
+use Rattle.std.proofs.Common.{◌≡◌, ℕ, ◌-◌, ◌<◌, ◌≤◌, inl, inr, Bool, true, false, Option, Some, None, IfSome, List, [], ◌∷◌, ◌++◌, All, Vec, map, length, set, take, vec_len, vec_capacity, max, get_or, slice_get, Contains, refl, sym, ap, ◌∙◌, subst, arith, rules, length-append, get_or-set_same, get_or-set_other, replicate}
 use Rattle.std.specs.Global.{Global}
 use Rattle.std.proofs.lemmas.Bool.{cases_eq, cases_lt}
 use Rattle.std.proofs.Math.Seq.{take-append_seam}
+use Rattle.std.proofs.lemmas.List.{get_or-replicate, get_or_past, length-replicate}
 use Rattle.std.proofs.lemmas.List.Elements.{Contains-append_left, Contains-append_right, Contains-get_or}
 use Rattle.std.proofs.lemmas.Option.{slice_get_read, get_or_from_slice_get}
 use Rattle.hpr_forest.specs.declared.blocks.Blocks.{Blocks}
@@ -13,13 +14,14 @@ use Rattle.hpr_forest.proofs.Leaves.{follows_push, follows_front, follows_last}
 use Rattle.hpr_forest.proofs.Marked.{marks_push, marks_pop}
 use Rattle.hpr_forest.proofs.Members.{below, below_has, in_is_in, length-below, no_longer}
 use Rattle.hpr_forest.proofs.Unique.{in_none, in_cons, in_first}
+use Rattle.hpr_order.specs.Numbers.{ArePlaces}
 use Rattle.hpr_order.proofs.ListFacts.{map_append}
 use Rattle.hpr_region.specs.declared.plan.Plan.{Plan}
 use Rattle.hpr_region.specs.declared.rivals.Rivals.{Rivals}
 use Rattle.hpr_region.specs.declared.summary.Summary.{Summary}
 use Rattle.hpr_region.specs.Plans.{State, may_follow, number_at, numbers_at, placed_in, size_of}
 use Rattle.hpr_region.specs.States.{IsState}
-use Rattle.hpr_region.specs.Private.Needs.{AreNeeds}
+use Rattle.hpr_region.specs.Private.Needs.{AreNeeds, AreRivals}
 use Rattle.hpr_region.specs.Private.Summaries.{IsSummary}
 use Rattle.hpr_region.proofs.Judging.{not_true}
 use Rattle.hpr_region.proofs.Planned.{choices_free}
@@ -76,6 +78,22 @@ more_room plan q c f may =
     let l : length plan.numbers.items ≡ vec_len plan.numbers = search rules in
     let e = plan.flow_count in
     omega (arith, lt, l, e)
+
+-- an item that may be placed is one of the tables'
+pub small_item : (plan : Plan) (q : List ℕ) (c : ℕ) → may_follow plan q c ≡ true → c < vec_len plan.flows.slots
+small_item plan q c may =
+    let lt = (plan_free plan).within q c may in
+    let l : length plan.numbers.items ≡ vec_len plan.numbers = search rules in
+    let e = plan.flow_count in
+    omega (arith, lt, l, e)
+
+-- there are as many marks as the tables have items
+pub marks_counted : (plan : Plan) (marks : Vec Bool Global) (row : List Bool) → row ≡ marks.items → vec_len marks ≡ size_of plan → length row ≡ vec_len plan.flows.slots
+marks_counted plan marks row is n =
+    let l : length marks.items ≡ vec_len marks = search rules in
+    let k : length plan.numbers.items ≡ vec_len plan.numbers = search rules in
+    let e = plan.flow_count in
+    ap length is ∙ omega (arith, n, l, k, e)
 
 pub number_is : (xs : List ℕ) (c n : ℕ) → c < length xs → n ≡ get_or xs c n → n ≡ get_or xs c 0
 number_is xs c n lt e = sym (get_or_from_slice_get xs c n 0 (slice_get_read xs (length xs) c n refl lt e))
@@ -204,3 +222,30 @@ placed_less old new item child same split is =
 
 pub number_of : (plan : Plan) (item child : ℕ) → slice_get plan.numbers.items item ≡ Some child → number_at plan item ≡ child
 number_of plan item child e = get_or_from_slice_get plan.numbers.items item child 0 e
+
+-- a blank row reads as blank, within it and behind it
+all_blank : {X : Type 0} (n i : ℕ) (x : X) → get_or (replicate n x) i x ≡ x
+all_blank n i x = elim (cases_lt i n) [
+  | inl l ↦ get_or-replicate n i x x l
+  | inr past ↦ get_or_past (replicate n x) i x (omega (arith, past, length-replicate n x))
+]
+
+-- nothing is placed, and nothing is needed
+pub nothing_placed : (plan : Plan) (places : List (Option ℕ)) (items placed : Vec ℕ Global) (marks : Vec Bool Global) (summary : Summary) (rivals : Rivals) (needs : Vec ℕ Global) (n m : ℕ) → n ≡ size_of plan → items.items ≡ [] → n ≤ vec_capacity items → placed.items ≡ [] → n ≤ vec_capacity placed
+    → marks.items ≡ replicate n false → vec_len marks ≡ n → ArePlaces plan.numbers.items places → IsSummary plan.flows [] summary → AreRivals plan.flows rivals → m ≡ vec_len plan.flows.slots → needs.items ≡ replicate m 0 → vec_len needs ≡ m
+    → IsState plan places items placed marks summary rivals needs 0
+nothing_placed plan places items placed marks summary rivals needs n m size none room none' room' blank row placing summed rivalry slots zeros count = record {
+  front = subst (Follows (may_follow plan) []) (sym none) tt;
+  numbers = none' ∙ sym (ap (numbers_at plan) none);
+  row = row ∙ size;
+  marked = λ x. ap (λ (ms : List Bool). get_or ms x false) blank ∙ all_blank n x false ∙ sym (ap (λ (xs : List ℕ). is_in xs x) none);
+  items_room = omega (arith, size, room);
+  placed_room = omega (arith, size, room');
+  placing = placing;
+  summed = subst (λ (xs : List ℕ). IsSummary plan.flows xs summary) (sym none) summed;
+  rivalry = rivalry;
+  counted = subst (λ (xs : List ℕ). AreNeeds plan.flows rivals xs needs.items) (sym none)
+      (record { count = (let l : length needs.items ≡ vec_len needs = search rules in l ∙ count ∙ slots); each = λ g l. ap (λ (xs : List ℕ). get_or xs g 0) zeros ∙ all_blank m g 0 });
+  low_within = omega arith;
+  low_marked = λ d l. absurd (omega (arith, l));
+}

@@ -1,9 +1,10 @@
 use Rattle.std.proofs.Common.{◌≡◌, ◌<◌, ◌≤◌, ℕ, Bool, List, [], ◌∷◌, ◌++◌, get_or, true, false, length, vec_len, refl, sym, ap, ◌∙◌, subst, arith, rules}
 use Rattle.std.proofs.lemmas.List.{length-map}
 use Rattle.hpr_forest.specs.Forest.{IsDistinct}
+use Rattle.hpr_forest.specs.Marks.{IsMarksOf, is_in}
 use Rattle.hpr_region.specs.Private.Needs.{AreNeeds}
 use Rattle.hpr_region.specs.Plans.{State, may_follow, number_at, size_of}
-use Rattle.hpr_region.proofs.Searching.{more_room, number_is, placed_once, plan_free, pushed, room_for}
+use Rattle.hpr_region.proofs.Searching.{marks_counted, more_room, number_is, placed_once, plan_free, pushed, room_for, small_item}
 use Rattle.hpr_region.proofs.search.Search.push.Goals as goal
 
 pub add_needs-requires-clause-once : goal.add_needs-requires-clause-once
@@ -43,3 +44,64 @@ invariant_of-self c =
     (subst (λ (xs : List ℕ). AreNeeds s.plan.flows s.rivals xs c.add_needs.new.needs.items) (ap (λ (xs : List ℕ). xs ++ c.args.item ∷ []) c.deref-2.ensures.value ∙ sym c.push_reserved.ensures.items) c.add_needs.ensures)
     (subst (λ (ms : List Bool). c.first_open-self-inside.result ≤ length ms) c.deref-3.ensures.value c.first_open-self-inside.ensures.within)
     (λ d le lt. ap (λ (ms : List Bool). get_or ms d false) (sym c.deref-3.ensures.value) ∙ c.first_open-self-inside.ensures.marked d le lt)
+
+pub index-number-requires : goal.index-number-requires
+index-number-requires c =
+    let s = c.self.inside in
+    let may : may_follow s.plan s.items.items c.args.item ≡ true = subst (λ (z : State). may_follow z.plan z.placed c.args.item ≡ true) (sym c.self.view_is) c.requires.ready in
+    let lt = (plan_free s.plan).within s.items.items c.args.item may in
+    let l : length s.plan.numbers.items ≡ vec_len s.plan.numbers = search rules in
+    omega (arith, lt, l)
+
+pub push-requires-clause-sized : goal.push-requires-clause-sized
+push-requires-clause-sized c = c.self.invariant.summed.sized
+
+pub push-requires-clause-item : goal.push-requires-clause-item
+push-requires-clause-item c =
+    let s = c.self.inside in
+    let may : may_follow s.plan s.items.items c.args.item ≡ true = subst (λ (z : State). may_follow z.plan z.placed c.args.item ≡ true) (sym c.self.view_is) c.requires.ready in
+    small_item s.plan s.items.items c.args.item may
+
+pub add_needs-requires-clause-rivals : goal.add_needs-requires-clause-rivals
+add_needs-requires-clause-rivals c = c.self.invariant.rivalry
+
+pub add_needs-requires-clause-row : goal.add_needs-requires-clause-row
+add_needs-requires-clause-row c = marks_counted c.self.inside.plan c.self.inside.marks c.deref.result.now c.deref.ensures.value c.self.invariant.row
+
+pub add_needs-requires-clause-marks : goal.add_needs-requires-clause-marks
+add_needs-requires-clause-marks c =
+    subst (λ (ms : List Bool). IsMarksOf ms c.deref-2.result.now) (sym c.deref.ensures.value)
+    (subst (λ (xs : List ℕ). IsMarksOf c.self.inside.marks.items xs) (sym c.deref-2.ensures.value) c.self.invariant.marked)
+
+pub add_needs-requires-clause-item : goal.add_needs-requires-clause-item
+add_needs-requires-clause-item c =
+    let s = c.self.inside in
+    let may : may_follow s.plan s.items.items c.args.item ≡ true = subst (λ (z : State). may_follow z.plan z.placed c.args.item ≡ true) (sym c.self.view_is) c.requires.ready in
+    small_item s.plan s.items.items c.args.item may
+
+pub add_needs-requires-clause-fresh : goal.add_needs-requires-clause-fresh
+add_needs-requires-clause-fresh c =
+    let s = c.self.inside in
+    let may : may_follow s.plan s.items.items c.args.item ≡ true = subst (λ (z : State). may_follow z.plan z.placed c.args.item ≡ true) (sym c.self.view_is) c.requires.ready in
+    subst (λ (xs : List ℕ). is_in xs c.args.item ≡ false) (sym c.deref-2.ensures.value) ((plan_free s.plan).fresh s.items.items c.args.item may)
+
+pub add_needs-requires-clause-needs : goal.add_needs-requires-clause-needs
+add_needs-requires-clause-needs c =
+    let s = c.self.inside in
+    subst (λ (xs : List ℕ). AreNeeds s.plan.flows s.rivals xs s.needs.items) (sym c.deref-2.ensures.value) c.self.invariant.counted
+
+pub first_open-self-inside-requires : goal.first_open-self-inside-requires
+first_open-self-inside-requires c = omega (arith, c.self.invariant.low_within, c.self.invariant.row, c.deref-3.ensures.len)
+
+pub index_mut-requires : goal.index_mut-requires
+index_mut-requires c =
+    let s = c.self.inside in
+    let may : may_follow s.plan s.items.items c.args.item ≡ true = subst (λ (z : State). may_follow z.plan z.placed c.args.item ≡ true) (sym c.self.view_is) c.requires.ready in
+    let lt = (plan_free s.plan).within s.items.items c.args.item may in
+    omega (arith, lt, c.self.invariant.row)
+
+pub returns-clause-placed : goal.returns-clause-placed
+returns-clause-placed c = c.push_reserved.ensures.items ∙ ap (λ (z : State). z.placed ++ c.args.item ∷ []) c.self.view_is
+
+pub returns-clause-plan : goal.returns-clause-plan
+returns-clause-plan c = ap (λ (z : State). z.plan) c.self.view_is
