@@ -1,15 +1,14 @@
 -- The edges of a graph row by row.
-use Rattle.std.proofs.Common.{◌≡◌, ℕ, suc, ◌+◌, ◌<◌, ◌≤◌, List, [], ◌∷◌, ◌++◌, length, map, get_or, drop, add-one, sym, ap, ap₂, ◌∙◌, arith, append_assoc, drop_of_length-le, codes, decimal}
+use Rattle.std.proofs.Common.{◌≡◌, ℕ, suc, ◌+◌, ◌<◌, ◌≤◌, List, [], ◌∷◌, ◌++◌, length, map, get_or, drop, add-one, sym, ap, ◌∙◌, arith, append_assoc, drop_of_length-le}
 use Rattle.std.proofs.Math.Seq.{drop-cons}
 use Rattle.std.proofs.lemmas.Grind.{flat_map-append}
 use Rattle.std.proofs.lemmas.List.{map-append, append-nil}
 use Rattle.std.proofs.lemmas.Option.{slice_get-get_or}
-use Rattle.hpr_graph.specs.declared.vertex.Vertex.{Vertex}
 use Rattle.hpr_graph.specs.declared.edge.Edge.{Edge}
 use Rattle.hpr_graph.specs.declared.link.Link.{Link}
 use Rattle.hpr_graph.specs.Numbered.{Numbered, IsNumbered, row_items, row_of}
 use Rattle.hpr_graph.specs.InOrder.{edge_of, edges_from, row_edges}
-use Rattle.hpr_report.specs.GraphTexts.{vertex_text, edge_text, on_lines, graph_text}
+use Rattle.hpr_report.specs.GraphTexts.{edge_text, on_lines}
 
 -- the edges into the vertices from this number on
 abbrev pub edges_past : Numbered → ℕ → List Edge
@@ -45,22 +44,8 @@ lines_more g to out new all k below so_far is =
 pub lines_done : (g : Numbered) (to : ℕ) (out all : List ℕ) → IsNumbered g → length g.vertices ≤ to → out ++ lines_past g to ≡ all → out ≡ all
 lines_done g to out all k past so_far = rw (ap (λ es. on_lines (map edge_text es)) (none_past g to k past), append-nil) at so_far
 
-regroup : (a n z l b m e : List ℕ) → ((a ++ n ++ z) ++ l) ++ (b ++ m ++ z) ++ e ≡ a ++ n ++ z ++ l ++ b ++ m ++ z ++ e
-regroup a n z l b m e = simp append_assoc
-
--- the text of a graph, of its four pieces
-pub text_is : (vs : List Vertex) (es : List Edge) (vertex_count edge_count : ℕ) (head lines more all : List ℕ) → vertex_count ≡ length vs → edge_count ≡ length es
-    → head ≡ codes "vertices " ++ decimal vertex_count ++ codes "\n" → lines ≡ head ++ on_lines (map vertex_text vs)
-    → more ≡ lines ++ (codes "edges " ++ decimal edge_count ++ codes "\n") → all ≡ more ++ on_lines (map edge_text es) → all ≡ graph_text vs es
-text_is vs es vertex_count edge_count head lines more all count edges e f g h =
-    let counted : decimal vertex_count ≡ decimal (length vs) = ap decimal count in
-    let counted_too : decimal edge_count ≡ decimal (length es) = ap decimal edges in
-    let grouped =
-    regroup (codes "vertices ") (decimal (length vs)) (codes "\n") (on_lines (map vertex_text vs)) (codes "edges ") (decimal (length es)) (on_lines (map edge_text es)) in
-    h ∙ ap (λ x. x ++ on_lines (map edge_text es))
-    (g ∙ ap₂ (λ x n. x ++ (codes "edges " ++ n ++ codes "\n"))
-    (f ∙ ap (λ x. x ++ on_lines (map vertex_text vs)) (e ∙ ap (λ n. codes "vertices " ++ n ++ codes "\n") counted)) counted_too)
-    ∙ grouped
+pub regroup : (a l b m z e : List ℕ) → ((a ++ l) ++ (b ++ m ++ z)) ++ e ≡ a ++ (l ++ b ++ m ++ z ++ e)
+regroup a l b m z e = simp append_assoc
 
 -- the values of the edges in the same way
 module _ {D : Type 0} (f : Edge → D) where

@@ -3,7 +3,7 @@ ghost use Rattle.std.specs.Prelude.{◌≡◌, ◌++◌, map, IfOk, OnOk, codes,
 ghost use Rattle.hpr_report.specs.GraphTexts.{edge_text, on_lines, vertex_text};
 ghost use Rattle.hpr_report.specs.ConflictsText.{side_word, conflict_text, conflicts_text};
 
-use crate::graphs::{put_behind, put_edge, put_line};
+use crate::graphs::{count_line, put_behind, put_edge, put_line};
 use hpr_graph::{Conflict, NoMemory, Side};
 use std::alloc::Global;
 
@@ -14,8 +14,7 @@ use std::alloc::Global;
 pub fn conflicts_text(alloc: Global, conflicts: &[Conflict]) -> Result<Vec<u8>, NoMemory>
     ensures { IfOk result (λ text. text.items ≡ conflicts_text conflicts.now) }
 {
-    let count = conflicts.len();
-    let mut out = format!(in alloc; "interference {count}\n")?.into_bytes();
+    let mut out = count_line(alloc, "interference ", conflicts.len() as u64)?;
     put_conflicts(alloc, &mut out, conflicts)?;
     Ok(out)
 }
@@ -25,9 +24,17 @@ fn put_conflicts(alloc: Global, out: &mut Vec<u8>, conflicts: &[Conflict]) -> Re
     ensures { OnOk result (out.new.items ≡ out.old.items ++ on_lines (map conflict_text conflicts.now)) }
 {
     for conflict in conflicts {
-        put_line(out, conflict_text(alloc, conflict)?.as_str())?;
+        put_conflict(alloc, out, conflict)?;
     }
     Ok(())
+}
+
+/// Puts the line of a conflict.
+fn put_conflict(alloc: Global, out: &mut Vec<u8>, conflict: &Conflict) -> Result<(), NoMemory>
+    ensures { OnOk result (out.new.items ≡ out.old.items ++ (conflict_text conflict.now ++ codes "\n")) }
+{
+    let text = conflict_text(alloc, conflict)?;
+    put_line(out, text.as_str())
 }
 
 fn conflict_text(alloc: Global, conflict: &Conflict) -> Result<String, NoMemory>

@@ -1,12 +1,15 @@
 //! Vertices, edges and graphs.
-ghost use Rattle.std.specs.Prelude.{◌≡◌, ◌++◌, ◌<◌, map, IfOk, OnOk, codes, string_bytes};
+ghost use Rattle.std.specs.Prelude.{◌≡◌, ◌++◌, ◌<◌, length, map, IfOk, OnOk, codes, string_bytes};
+ghost use Rattle.std.specs.Fmt.{decimal};
 ghost use Rattle.hpr_terms.specs.Texts.{tag_text};
 ghost use Rattle.hpr_syntax.specs.Print.{content_text};
+ghost use Rattle.hpr_graph.specs.InOrder.{edges_of};
 ghost use Rattle.hpr_graph.specs.Numbered.{graph_in};
 ghost use Rattle.hpr_report.specs.EdgeParts.{kind_head, kind_tail};
-ghost use Rattle.hpr_report.specs.GraphTexts.{vertex_words, vertex_text, edge_text, on_lines, IsGraphText};
+ghost use Rattle.hpr_report.specs.GraphTexts.{vertex_words, vertex_text, edge_text, graph_text, on_lines, IsGraphText};
+ghost use Rattle.hpr_report.specs.VertexTexts.{AreTexts};
 
-use crate::edges::{put_edges, put_texts, texts_of};
+use crate::edges::{VertexTexts, put_edges, put_texts, texts_of};
 use hpr_graph::{Content, Edge, Graph, Kind, NoMemory, Tag, Vertex};
 use hpr_print::content_text;
 use std::alloc::{AllocError, Global};
@@ -136,14 +139,38 @@ pub fn graph_text(alloc: Global, graph: &Graph) -> Result<Vec<u8>, NoMemory>
     ensures { IfOk result (λ text. IsGraphText (graph_in graph.now) text.items) }
 {
     let graph = graph.in_order()?;
-    let vertex_count = graph.vertex_count();
-    let edge_count = graph.edge_count();
-    let of = texts_of(alloc, &graph)?;
-    let mut out = format!(in alloc; "vertices {vertex_count}\n")?.into_bytes();
-    put_texts(&mut out, &of)?;
-    out.extend_from_slice(format!(in alloc; "edges {edge_count}\n")?.as_bytes())?;
-    put_edges(&mut out, &of)?;
+    let _vertices = graph.vertices();
+    text_of(alloc, &graph)
+}
+
+/// The same of a graph whose vertices and edges stand as they do in the graph.
+fn text_of(alloc: Global, graph: &Graph) -> Result<Vec<u8>, NoMemory>
+    ensures { IfOk result (λ text. text.items ≡ graph_text graph.now.vertices (edges_of graph.now)) }
+{
+    let of = texts_of(alloc, graph)?;
+    let mut out = count_line(alloc, "vertices ", graph.vertex_count() as u64)?;
+    put_parts(alloc, &mut out, &of)?;
     Ok(out)
+}
+
+/// Puts the vertices, the number of the edges, and the edges.
+fn put_parts(alloc: Global, out: &mut Vec<u8>, of: &VertexTexts) -> Result<(), NoMemory>
+    requires { AreTexts of.now }
+    ensures { OnOk result (out.new.items ≡ out.old.items ++ (on_lines (map vertex_text of.now.graph.now.vertices)
+        ++ codes "edges " ++ decimal (length (edges_of of.now.graph.now)) ++ codes "\n"
+        ++ on_lines (map edge_text (edges_of of.now.graph.now)))) }
+{
+    put_texts(out, of)?;
+    let line = count_line(alloc, "edges ", of.graph.edge_count() as u64)?;
+    out.extend_from_slice(&line)?;
+    put_edges(out, of)
+}
+
+/// The line of a word and a number.
+pub(crate) fn count_line(alloc: Global, word: &str, count: u64) -> Result<Vec<u8>, NoMemory>
+    ensures { IfOk result (λ line. line.items ≡ word.now ++ decimal count ++ codes "\n") }
+{
+    Ok(format!(in alloc; "{word}{count}\n")?.into_bytes())
 }
 
 /// Puts a text and a newline.
@@ -164,7 +191,15 @@ pub(crate) fn put_vertices(
     ensures { OnOk result (out.new.items ≡ out.old.items ++ on_lines (map vertex_text vertices.now)) }
 {
     for vertex in vertices {
-        put_line(out, bracketed(alloc, vertex)?.as_str())?;
+        put_vertex_line(alloc, out, vertex)?;
     }
     Ok(())
+}
+
+/// Puts the line of a vertex.
+fn put_vertex_line(alloc: Global, out: &mut Vec<u8>, vertex: &Vertex) -> Result<(), NoMemory>
+    ensures { OnOk result (out.new.items ≡ out.old.items ++ (vertex_text vertex.now ++ codes "\n")) }
+{
+    let text = bracketed(alloc, vertex)?;
+    put_line(out, text.as_str())
 }

@@ -4,6 +4,7 @@ ghost use Rattle.hpr_syntax.specs.Run.{faults};
 ghost use Rattle.hpr_run.specs.Outcomes.{fault_of, outcome_of};
 ghost use Rattle.hpr_report.specs.Texts.{fault_word, value_line, outcome_line, outcome_text};
 
+use crate::graphs::count_line;
 use hpr_run::{Fault, Outcome, Value};
 use hpr_syntax::{Name, NoMemory, Tag};
 use std::alloc::{AllocError, Global};
@@ -30,13 +31,9 @@ pub fn outcome_line(alloc: Global, outcome: &Outcome) -> Result<Vec<u8>, NoMemor
     ensures { IfOk result (λ text. text.items ≡ outcome_line (outcome_of outcome.now)) }
 {
     match outcome {
-        Outcome::Ends { steps, .. } => {
-            Ok(format!(in alloc; "ended, steps {steps}\n")?.into_bytes())
-        }
+        Outcome::Ends { steps, .. } => count_line(alloc, "ended, steps ", *steps),
         Outcome::Faults { tag, fault, steps } => faulted_line(alloc, tag, *fault, *steps),
-        Outcome::More { steps } => {
-            Ok(format!(in alloc; "not ended, steps {steps}\n")?.into_bytes())
-        }
+        Outcome::More { steps } => count_line(alloc, "not ended, steps ", *steps),
     }
 }
 
@@ -62,9 +59,17 @@ fn put_values(alloc: Global, out: &mut Vec<u8>, values: &[(Name, Value)]) -> Res
     ensures { OnOk result (out.new.items ≡ out.old.items ++ flat_map value_line values.now) }
 {
     for (name, value) in values {
-        let line = value_line(alloc, name, *value)?;
-        out.extend_from_slice(line.as_bytes())?;
+        put_value(alloc, out, name, *value)?;
     }
+    Ok(())
+}
+
+/// Puts the line of a name and its value.
+fn put_value(alloc: Global, out: &mut Vec<u8>, name: &Name, value: Value) -> Result<(), NoMemory>
+    ensures { OnOk result (out.new.items ≡ out.old.items ++ value_line (name.now, value)) }
+{
+    let line = value_line(alloc, name, value)?;
+    out.extend_from_slice(line.as_bytes())?;
     Ok(())
 }
 

@@ -2,10 +2,10 @@
 ghost use Rattle.std.specs.Prelude.{◌≡◌, ◌↔◌, ◌<◌, length, All, IfOk};
 ghost use Rattle.hpr_graph.specs.declared.vertex.Vertex.{Vertex};
 ghost use Rattle.hpr_graph.specs.Numbered.{IsMarkedVertex};
-ghost use Rattle.hpr_report.specs.AffectedText.{IsOneOf, IsAffectedText};
+ghost use Rattle.hpr_report.specs.AffectedText.{ArePoints, IsOneOf, IsAffectedText, affected_text};
 
-use crate::graphs::put_vertices;
-use hpr_graph::{Graph, NoMemory};
+use crate::graphs::{count_line, put_vertices};
+use hpr_graph::{Graph, NoMemory, Vertex};
 use std::alloc::Global;
 
 /// The vertices with these numbers: the line `affected N` and a line for each, in their order. Each line
@@ -15,11 +15,25 @@ pub fn affected_text(alloc: Global, variant: &Graph, points: &[usize]) -> Result
     requires { All (λ p. p < length variant.now.vertices) points.now }
     ensures { IfOk result (λ text. IsAffectedText (IsOneOf variant.now points.now) text.items) }
 {
-    let marks = marks_of(alloc, variant, points)?;
-    let affected = variant.restrict(&marks)?.in_order()?;
-    let count = affected.vertex_count();
-    let mut out = format!(in alloc; "affected {count}\n")?.into_bytes();
-    put_vertices(alloc, &mut out, affected.vertices())?;
+    let affected = graph_at(alloc, variant, points)?;
+    text_of(alloc, affected.vertices())
+}
+
+/// The graph of the vertices with these numbers, in order.
+fn graph_at(alloc: Global, graph: &Graph, points: &[usize]) -> Result<Graph, NoMemory>
+    requires { All (λ p. p < length graph.now.vertices) points.now }
+    ensures { IfOk result (λ g. ArePoints (IsOneOf graph.now points.now) g.vertices) }
+{
+    let marks = marks_of(alloc, graph, points)?;
+    graph.restrict(&marks)?.in_order()
+}
+
+/// The number of vertices and a line for each.
+fn text_of(alloc: Global, vertices: &[Vertex]) -> Result<Vec<u8>, NoMemory>
+    ensures { IfOk result (λ text. text.items ≡ affected_text vertices.now) }
+{
+    let mut out = count_line(alloc, "affected ", vertices.len() as u64)?;
+    put_vertices(alloc, &mut out, vertices)?;
     Ok(out)
 }
 
