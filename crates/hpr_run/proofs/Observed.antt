@@ -1,5 +1,5 @@
 -- Laws of observed runs: an observer changes nothing, and what the code does with a block and a loop, part by part and turn by turn.
-use Rattle.std.proofs.Common.{subst, sym, ◌≡◌, ℕ, zero, suc, ◌+◌, ◌-◌, ◌<◌, ◌∷◌, List, length, get_or, drop, drop-cons, Bool, true, false, refl, ap, ◌∙◌, arith, add-one, if◌then◌else◌, Ok, Err}
+use Rattle.std.proofs.Common.{subst, sym, ◌≡◌, ℕ, zero, suc, ◌+◌, ◌-◌, ◌<◌, ◌∷◌, List, length, get_or, drop, drop-cons, Bool, true, false, refl, ap, ◌∙◌, arith, add-one, if◌then◌else◌, Result, Ok, Err}
 use Rattle.std.specs.FinMap.{insert}
 use Rattle.hpr_terms.specs.declared.tag.Tag.{Tag}
 use Rattle.hpr_terms.specs.declared.expr.Expr.{Expr}
@@ -15,7 +15,7 @@ use Rattle.hpr_syntax.specs.Run.{After, step, then_go, turns, run_body, faults, 
 use Rattle.hpr_run.specs.declared.values.Fault.{Fault}
 use Rattle.hpr_run.specs.declared.interpreter.Stop.{Stop}
 use Rattle.hpr_run.specs.declared.interpreter.Stop.TheVariants.{Faulty, Spent, Memory}
-use Rattle.hpr_run.specs.Outcomes.{fault_of, Did}
+use Rattle.hpr_run.specs.Outcomes.{fault_of, Did, Stepped}
 use Rattle.hpr_run.specs.Observed.{Observing, Way, goes, stops, spent, step_way, then_way, walk_turns, walk, after_in}
 
 -- without its observer, an observed run is the run
@@ -150,3 +150,51 @@ module _ {O A : Type 0} (w : Observing O A) where
       pub turn_done : is_true v ≡ true → (o'' : O) (s'' : Values) (l'' : ℕ) → walk w b inside o' s l' ≡ goes o'' s'' l''
           → whole ≡ walk_turns w (k + 1) (most - (k + 1)) t e (walk w b) a o'' s'' l''
       turn_done holds o'' s'' l'' d = turn holds ∙ ap (λ y. then_way y (walk_turns w (k + 1) (most - (k + 1)) t e (walk w b) a)) d
+
+      -- it stops where its block stops
+      pub turn_failed : is_true v ≡ true → (stop : Stop) (o'' : O) (s'' : Values) (l'' : ℕ) → Did (Err stop) (walk w b inside o' s l') o'' s'' l'' → Did (Err stop) whole o'' s'' l''
+      turn_failed holds Memory o'' s'' l'' d = tt
+      turn_failed holds Spent o'' s'' l'' d = turn holds ∙ ap (λ y. then_way y (walk_turns w (k + 1) (most - (k + 1)) t e (walk w b) a)) d
+      turn_failed holds (Faulty u f) o'' s'' l'' d = turn holds ∙ ap (λ y. then_way y (walk_turns w (k + 1) (most - (k + 1)) t e (walk w b) a)) d
+
+      -- the loop ends where its predicate is false
+      pub turn_last : is_true v ≡ false → whole ≡ goes o' s l'
+      turn_last off =
+          let last : walk_turns w k (suc (most - (k + 1))) t e (walk w b) a o s l ≡ goes (w.told (w.in_turn a k) t e v s o) s l' = rw (one, is, off) refl in
+          one_more ∙ last ∙ ap (λ (x : O). goes x s l') (sym seen)
+
+    -- it stops where its predicate has no value
+    pub turn_stopped : (stop : Stop) (told : Value → O) (o' : O) (l' : ℕ) → Stepped (Err stop) t (value e s) told o l o' l' → Did (Err stop) whole o' s l'
+    turn_stopped Memory told o' l' d = tt
+    turn_stopped Spent told o' l' (none, known) = one_more ∙ ap (λ (n : ℕ). walk_turns w k (suc (most - (k + 1))) t e (walk w b) a o s n) none ∙ ap (λ (x : O). spent x) (sym known)
+    turn_stopped (Faulty u f) told o' l' (one, tag, is, known) =
+        let stop : walk_turns w k (suc (most - (k + 1))) t e (walk w b) a o s l ≡ stops t (fault_of f) o l' = rw (one, is) refl in
+        one_more ∙ stop ∙ ap (λ (z : Tag). stops z (fault_of f) o l') tag ∙ ap (λ (x : O). stops u (fault_of f) x l') (sym known)
+
+then_goes : {O : Type 0} (x : Way O) → then_way x goes ≡ x
+then_goes (goes o s l) = refl
+then_goes (stops t f o l) = refl
+then_goes (spent o) = refl
+
+-- a conditional by itself
+module _ {O A : Type 0} (w : Observing O A) (x : Stmt) (t : Tag) (e : Expr) (b c : Body) (shape : x ≡ If t e b c) (a : A) (o : O) (s : Values) (l : ℕ) where
+  pub if_stopped : (stop : Stop) (told : Value → O) (o' : O) (l' : ℕ) → Stepped (Err stop) t (value e s) told o l o' l' → Did (Err stop) (walk w (before x done) a o s l) o' s l'
+  if_stopped Memory told o' l' d = tt
+  if_stopped Spent told o' l' (none, known) =
+      ap (λ (y : Stmt). walk w (before y done) a o s l) shape ∙ ap (λ (n : ℕ). walk w (branch t e b c done) a o s n) none ∙ ap (λ (z : O). spent z) (sym known)
+  if_stopped (Faulty u f) told o' l' (one, tag, is, known) =
+      let stop : walk w (branch t e b c done) a o s l ≡ stops t (fault_of f) o l' = rw (one, is) refl in
+      ap (λ (y : Stmt). walk w (before y done) a o s l) shape ∙ stop ∙ ap (λ (z : Tag). stops z (fault_of f) o l') tag ∙ ap (λ (z : O). stops u (fault_of f) z l') (sym known)
+
+  module _ (v : Value) (o' : O) (l' : ℕ) (one : l ≡ suc l') (is : value e s ≡ Ok v) (new : o' ≡ w.told a t e v s o) (r : Result (Unit {0}) Stop) (o'' : O) (s'' : Values) (l'' : ℕ) where
+    pub if_yes : is_true v ≡ true → Did r (walk w b a o' s l') o'' s'' l'' → Did r (walk w (before x done) a o s l) o'' s'' l''
+    if_yes holds did =
+        let goes_so : walk w (branch t e b c done) a o s l ≡ then_way (walk w b a (w.told a t e v s o) s l') goes = rw (one, is, holds) refl in
+        let same = ap (λ (y : Stmt). walk w (before y done) a o s l) shape ∙ goes_so ∙ then_goes (walk w b a (w.told a t e v s o) s l') ∙ ap (λ (z : O). walk w b a z s l') (sym new) in
+        subst (λ (y : Way O). Did r y o'' s'' l'') (sym same) did
+
+    pub if_no : is_true v ≡ false → Did r (walk w c a o' s l') o'' s'' l'' → Did r (walk w (before x done) a o s l) o'' s'' l''
+    if_no off did =
+        let goes_so : walk w (branch t e b c done) a o s l ≡ then_way (walk w c a (w.told a t e v s o) s l') goes = rw (one, is, off) refl in
+        let same = ap (λ (y : Stmt). walk w (before y done) a o s l) shape ∙ goes_so ∙ then_goes (walk w c a (w.told a t e v s o) s l') ∙ ap (λ (z : O). walk w c a z s l') (sym new) in
+        subst (λ (y : Way O). Did r y o'' s'' l'') (sym same) did
