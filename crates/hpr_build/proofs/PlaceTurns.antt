@@ -9,17 +9,13 @@ use Rattle.hpr_syntax.specs.declared.tree.Stmt.TheVariants.{If, While}
 use Rattle.hpr_syntax.specs.declared.rows.Content.TheVariants as content
 use Rattle.hpr_syntax.specs.Body.{Body, done, part_count}
 use Rattle.hpr_syntax.specs.BodyOf.{before}
-use Rattle.hpr_paths.proofs.Blocks.{count_cons}
+use Rattle.hpr_paths.proofs.Blocks.{IsOther, count_cons}
 use Rattle.hpr_build.specs.declared.places.Parent.{Parent}
 use Rattle.hpr_build.specs.declared.places.Span.{Span}
 use Rattle.hpr_build.specs.Places.{Place, place_of, places_of}
 
 pub turn_parts : (here rest : Body) (s : Stmt) → here ≡ before s rest → part_count here ≡ part_count (before s done) + part_count rest
 turn_parts here rest s is = ap part_count is ∙ count_cons s rest
-
--- neither a conditional nor a loop
-abbrev pub IsOther : Stmt → Type 0
-IsOther s = ((t : Tag) (e : Expr) (a b : Body) → ¬ (s ≡ If t e a b)) × ((t : Tag) (e : Expr) (b : Body) → ¬ (s ≡ While t e b))
 
 module _ (up : Option Parent) (others : List Span) where
   after_one : (xs zs : List Place) → xs ++ zs ≡ (xs ++ []) ++ zs
@@ -99,15 +95,3 @@ module _ (up : Option Parent) (others : List Span) where
       ∙ ap (λ (r : Stmt). old ++ Head r ∷ (left ++ right)) is
       ∙ ap (λ (ps : List Place). old ++ Head (If t e a b) ∷ (left ++ ps)) (sym (append-nil right))
       ∙ sym (ap (λ (r : Stmt). old ++ places_of (before r done) n up others) is)
-
--- how many parts a statement and those in it are
-pub count_while : (s : Stmt) (t : Tag) (e : Expr) (b : Body) → s ≡ While t e b → part_count (before s done) ≡ part_count b + 1
-count_while s t e b is = ap (λ (r : Stmt). part_count (before r done)) is ∙ omega arith
-
-pub count_if : (s : Stmt) (t : Tag) (e : Expr) (a b : Body) → s ≡ If t e a b → part_count (before s done) ≡ part_count a + part_count b + 1
-count_if s t e a b is = ap (λ (r : Stmt). part_count (before r done)) is ∙ omega arith
-
-pub count_simple : (s : Stmt) → IsOther s → part_count (before s done) ≡ 1
-count_simple (If t e a b) other = absurd (other.0 t e a b refl)
-count_simple (While t e b) other = absurd (other.1 t e b refl)
-count_simple s other = omega arith

@@ -1,6 +1,7 @@
 use Rattle.std.proofs.Common.{◌+◌, ◌∙◌, vec_len, arith}
 use Rattle.hpr_syntax.proofs.RowLemmas.{drop_turn}
-use Rattle.hpr_build.proofs.PlaceTurns.{turn_places, turn_parts, stmt_while, stmt_if, count_while, count_if, stmt_simple, count_simple}
+use Rattle.hpr_paths.proofs.Blocks.{count_if, count_simple, count_while}
+use Rattle.hpr_build.proofs.PlaceTurns.{turn_places, turn_parts, stmt_while, stmt_if, stmt_simple}
 use Rattle.hpr_build.proofs.StageTurns.{on_ok}
 use Rattle.hpr_build.proofs.places.+push.Goals as goal
 

@@ -1,9 +1,11 @@
-use Rattle.std.proofs.Common.{◌≡◌, false, cond, ℕ, ◌*◌, ◌≤◌, ◌+◌, ◌<◌, drop, vec_len, ap, ◌∙◌, arith, rules}
+use Rattle.std.proofs.Common.{◌≡◌, false, cond, ℕ, ◌*◌, ◌≤◌, ◌+◌, ◌<◌, ◌++◌, drop, vec_len, ap, ◌∙◌, subst, arith, rules}
+use Rattle.std.proofs.lemmas.Result.{on_ok_weaker}
 use Rattle.hpr_syntax.specs.Body.{done, part_count}
 use Rattle.hpr_syntax.specs.BodyOf.{before, body_of}
 use lib.Dec.{ltb}
 use borrow.Author.Tests.{ltb-true, ltb-false}
-use Rattle.hpr_paths.proofs.Blocks.{count_step, after_is, spots_step, spots_done}
+use Rattle.hpr_paths.specs.Successors.{spots_of}
+use Rattle.hpr_paths.proofs.Blocks.{count_if, count_simple, count_step, count_while, after_is, spots_if, spots_simple, spots_step, spots_while, spots_done}
 use Rattle.hpr_paths.proofs.build.+push.Goals as goal
 
 pub push_block-push_stmt-requires : goal.push_block-push_stmt-requires
@@ -29,3 +31,38 @@ push_block-loop-i-preserved t c =
 
 pub push_block-returns-clause-spots : goal.push_block-returns-clause-spots
 push_block-returns-clause-spots t c = spots_done _ _ c.deref-stmt-items.result.now c.loop-i.i (vec_len c.loop-i.spots) c.args.follow c.args.nest.now c.loop-i-test.false c.loop-i.invariant.spots
+
+pub push_stmt-returns-in_default-clause-spots : goal.push_stmt-returns-in_default-clause-spots
+push_stmt-returns-in_default-clause-spots t c = on_ok_weaker c.push_part-in_default.result
+    (spots_simple c.args.stmt.now (c.in_default.not-If, c.in_default.not-While) c.args.spots.now.items c.push_part-in_default.new.spots.items (vec_len c.args.spots.now) c.args.after c.args.nest.now) c.push_part-in_default.ensures.spot
+
+pub push_stmt-returns-in_default-clause-len : goal.push_stmt-returns-in_default-clause-len
+push_stmt-returns-in_default-clause-len t c = on_ok_weaker c.push_part-in_default.result
+    (λ more. omega (arith, more, count_simple c.args.stmt.now (c.in_default.not-If, c.in_default.not-While))) c.push_part-in_default.ensures.len
+
+pub push_stmt-returns-in_ok-push_part-in-While-clause-spots : goal.push_stmt-returns-in_ok-push_part-in-While-clause-spots
+push_stmt-returns-in_ok-push_part-in-While-clause-spots t c =
+    let one = c.in_ok-push_part-in-While.ensures in
+    on_ok_weaker c.push_block-in-While.result (λ more.
+    subst (λ (n : ℕ). c.push_block-in-While.new.spots.items ≡ c.args.spots.now.items ++ spots_of (before c.args.stmt.now done) n c.args.after c.args.nest.now) c.len-first.ensures
+    (spots_while c.args.stmt.now c.in-While.field-0 c.in-While.field-1 c.in-While.body c.in-While.is c.args.spots.now.items c.push_part-in-While.new.spots.items c.push_block-in-While.new.spots.items
+    c.len-first.result (vec_len c.push_part-in-While.new.spots) c.args.after c.first_step.result c.args.nest.now c.deref.result.now c.deref-in-While.result.now
+    one.spot more c.first_step.ensures (c.deref.ensures.value ∙ c.in_ok-inside-in-While.ensures) (c.deref-in-While.ensures.value ∙ c.in_ok-inside-in-While.ensures) (omega (arith, one.len, c.len-first.ensures)))) c.push_block-in-While.ensures.spots
+
+pub push_stmt-returns-in_ok-push_part-in-While-clause-len : goal.push_stmt-returns-in_ok-push_part-in-While-clause-len
+push_stmt-returns-in_ok-push_part-in-While-clause-len t c = on_ok_weaker c.push_block-in-While.result
+    (λ more. omega (arith, more, c.in_ok-push_part-in-While.ensures.len, count_while c.args.stmt.now c.in-While.field-0 c.in-While.field-1 c.in-While.body c.in-While.is)) c.push_block-in-While.ensures.len
+
+pub push_stmt-returns-in_ok-push_block-in-If-clause-spots : goal.push_stmt-returns-in_ok-push_block-in-If-clause-spots
+push_stmt-returns-in_ok-push_block-in-If-clause-spots t c =
+    let one = c.in_ok-push_part-in-If.ensures in
+    let two = c.in_ok-push_block-in-If.ensures in
+    on_ok_weaker c.push_block-in-If.result (λ more.
+    subst (λ (n : ℕ). c.push_block-in-If.new.spots.items ≡ c.args.spots.now.items ++ spots_of (before c.args.stmt.now done) n c.args.after c.args.nest.now) c.len-first.ensures
+    (spots_if c.args.stmt.now c.in-If.field-0 c.in-If.field-1 c.in-If.yes c.in-If.no c.in-If.is c.args.spots.now.items c.push_part.new.spots.items c.push_block.new.spots.items c.push_block-in-If.new.spots.items
+    c.len-first.result (vec_len c.push_part.new.spots) (vec_len c.push_block.new.spots) (c.len-first.result + 1 + c.part_count.result) c.args.after c.first_step-into_yes.result c.first_step-into_no.result c.args.nest.now
+    one.spot two.spots more c.first_step-into_yes.ensures c.first_step-into_no.ensures (omega (arith, one.len, c.len-first.ensures)) (omega (arith, one.len, two.len, c.len-first.ensures)) (omega (arith, c.part_count.ensures)))) c.push_block-in-If.ensures.spots
+
+pub push_stmt-returns-in_ok-push_block-in-If-clause-len : goal.push_stmt-returns-in_ok-push_block-in-If-clause-len
+push_stmt-returns-in_ok-push_block-in-If-clause-len t c = on_ok_weaker c.push_block-in-If.result
+    (λ more. omega (arith, more, c.in_ok-push_part-in-If.ensures.len, c.in_ok-push_block-in-If.ensures.len, count_if c.args.stmt.now c.in-If.field-0 c.in-If.field-1 c.in-If.yes c.in-If.no c.in-If.is)) c.push_block-in-If.ensures.len
