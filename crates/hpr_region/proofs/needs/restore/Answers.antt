@@ -1,7 +1,7 @@
-use Rattle.std.proofs.Common.{◌≡◌, ◌+◌, Some, get_or, sym, ◌∙◌, arith}
+use Rattle.std.proofs.Common.{◌≡◌, ◌+◌, Some, None, get_or, sym, ◌∙◌, arith}
 use Rattle.std.proofs.lemmas.List.{length-set}
 use Rattle.hpr_region.specs.Private.Needs.{tie}
-use Rattle.hpr_region.proofs.Needed.{read_number, restore_room, restore_step, tie_group}
+use Rattle.hpr_region.proofs.Needed.{read_number, restore_room, restore_step, tie_group, tied_step}
 use Rattle.hpr_region.proofs.needs.restore.Goals as goal
 
 pub overflow_add-index_mut : goal.overflow_add-index_mut
@@ -32,3 +32,12 @@ loop-source-preserved c =
       each = restore_step t r c.requires.rivals c.args.placed.now c.args.child c.args.needs.now.items c.loop-source.needs.items c.args.sources.now i k c.loop-source-test.true is within c.loop-source.invariant.count m read
           c.loop-source.invariant.each;
     }
+
+pub loop-source-preserved-in_default : goal.loop-source-preserved-in_default
+loop-source-preserved-in_default c = record {
+  count = c.loop-source.invariant.count;
+  each = λ g small.
+      let step = tied_step c.args.flows.now c.args.rivals.now c.requires.rivals c.args.placed.now c.args.child g c.loop-source.source-index c.args.sources.now None c.loop-source-test.true (sym c.tie.ensures ∙ c.in_default.is) in
+      let each = c.loop-source.invariant.each g small in
+      omega (arith, each, step);
+}
