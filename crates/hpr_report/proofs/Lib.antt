@@ -1,4 +1,5 @@
 mod Rows
+mod Lines
 mod Places
 mod Whole
 mod Marked
