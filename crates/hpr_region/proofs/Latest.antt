@@ -1,5 +1,5 @@
 -- The last placed definition of each variable, and the one before it: what stays when an item is placed or taken back, and how they tell a wrong reach.
-use Rattle.std.proofs.Common.{◌≡◌, ℕ, zero, suc, ◌<◌, ◌⊎◌, inl, inr, Bool, true, false, cond, Option, Some, None, List, [], ◌∷◌, ◌++◌, Vec, length, set, replicate, vec_len, get_or, Contains, refl, sym, ap, ◌∙◌, subst, arith, rules, append_assoc, get_or-set_same, get_or-set_other}
+use Rattle.std.proofs.Common.{◌≡◌, ℕ, zero, suc, ◌<◌, ◌⊎◌, inl, inr, Bool, true, false, cond, Option, Some, None, List, [], ◌∷◌, ◌++◌, Vec, length, set, replicate, vec_len, get_or, Contains, refl, sym, ap, ◌∙◌, subst, arith, rules, append_assoc, get_or-set_same, get_or-set_other, ◌+◌, drop, drop-cons, add-one}
 use Rattle.std.specs.Global.{Global}
 use Rattle.std.proofs.lemmas.Bool.{cases_eq, cases_lt, ne_eqb}
 use Rattle.std.proofs.lemmas.List.{get_or-replicate, get_or_past, length-replicate}
@@ -209,6 +209,20 @@ module _ (t : Flows) where
     }
 
   -- ---- wrong reach
+  -- one variable more of a list
+  some_turn : (last : List (Option ℕ)) (c : ℕ) (vs : List ℕ) (i : ℕ) → i < length vs
+      → some_reach t last c (drop i vs) ≡ cond (is_reached_by t (get_or last (get_or vs i 0) None) c) true (some_reach t last c (drop (i + 1) vs))
+  some_turn last c vs i lt =
+      ap (some_reach t last c) (drop-cons vs i 0 lt)
+      ∙ ap (λ (k : ℕ). cond (is_reached_by t (get_or last (get_or vs i 0) None) c) true (some_reach t last c (drop k vs))) (sym (add-one i))
+
+  pub reach_here : (last : List (Option ℕ)) (c : ℕ) (vs : List ℕ) (i : ℕ) → i < length vs → is_reached_by t (get_or last (get_or vs i 0) None) c ≡ true → some_reach t last c (drop i vs) ≡ true
+  reach_here last c vs i lt e = some_turn last c vs i lt ∙ ap (λ (b : Bool). cond b true (some_reach t last c (drop (i + 1) vs))) e
+
+  pub reach_later : (last : List (Option ℕ)) (c : ℕ) (vs : List ℕ) (i : ℕ) → i < length vs → is_reached_by t (get_or last (get_or vs i 0) None) c ≡ false
+      → some_reach t last c (drop i vs) ≡ some_reach t last c (drop (i + 1) vs)
+  reach_later last c vs i lt e = some_turn last c vs i lt ∙ ap (λ (b : Bool). cond b true (some_reach t last c (drop (i + 1) vs))) e
+
   some_found : (last : List (Option ℕ)) (c : ℕ) (vs : List ℕ) → some_reach t last c vs ≡ true → (v : ℕ) × Contains vs v × (is_reached_by t (get_or last v None) c ≡ true)
   some_found last c [] e = absurd cc
   some_found last c (v ∷ vs) e = elim (either (is_reached_by t (get_or last v None) c) (some_reach t last c vs) e) [
