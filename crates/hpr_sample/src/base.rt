@@ -55,7 +55,7 @@ fn body(alloc: Global, words: &mut SplitMix64, parts: usize) -> Result<Block, No
 }
 
 /// Draws and pushes the next group, where so many parts are left, and tells how many parts it has.
-#[tactic(auto, using(crate::proofs::Pushed::pushed_assignment, crate::proofs::Pushed::pushed_conditional, crate::proofs::Pushed::pushed_repetition))]
+#[tactic(auto, using(crate::proofs::Pushed::pushed_repetition))]
 fn push_group(
     alloc: Global,
     words: &mut SplitMix64,

@@ -38,7 +38,6 @@ impl Drop for SampleSet {
 /// # Errors
 ///
 /// `NoMemory` alone.
-#[tactic(auto, using(crate::proofs::SamplePrograms::a_can, crate::proofs::SamplePrograms::b_can), unfolding(crate::specs::Sample::sample))]
 pub fn sample(alloc: Global, seed: u64, parts: usize) -> Result<SampleSet, NoMemory>
     requires { IsSampleSize parts }
     ensures base { IfOk result (λ s. s.base ≡ (spec.sample seed parts).base) }

@@ -75,7 +75,6 @@ fn places(base: &Program) -> u64
 }
 
 /// A copy of the block with a part more at this place.
-#[tactic(auto, using(hpr_edit::proofs::Lists::inserted, hpr_edit::proofs::Lists::width_body))]
 fn with_inserted(alloc: Global, block: &Block, place: usize, part: Stmt) -> Result<Block, NoMemory>
     requires { place ≤ width block.now }
     ensures { IfOk result (λ b. b ≡ from place (before part) block.now) }
