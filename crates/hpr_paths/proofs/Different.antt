@@ -6,7 +6,7 @@ use Rattle.hpr_syntax.specs.Parts.{same_tag, tags_of}
 use Rattle.std.specs.List.{list_any}
 use Rattle.hpr_terms.proofs.Facts.{or_right, or_left, or_false, if_none}
 use Rattle.hpr_syntax.specs.Tree.{Tree}
-use Rattle.hpr_syntax.specs.Shape.{IsProgram, shape, first_repeated}
+use Rattle.hpr_syntax.specs.Shape.{IsProgram, first_repeated}
 use Rattle.hpr_syntax.specs.Skeleton.{Skeleton, nil, act, fork, round, Point, at, StandsIn, Apart, Distinct, skeleton}
 use Rattle.hpr_syntax.proofs.NoRefusal.{no_refusal}
 use Rattle.hpr_syntax.proofs.TagLemmas.{same_tag_itself}

@@ -1,5 +1,5 @@
-use Rattle.std.proofs.Common.{◌≡◌, ◌+◌, Some, drop, sym, ap, ◌∙◌, arith}
-use Rattle.hpr_region.specs.Private.Needs.{one_if, tied}
+use Rattle.std.proofs.Common.{sym, ap, ◌∙◌, arith}
+use Rattle.hpr_region.specs.Private.Needs.{one_if}
 use Rattle.hpr_region.proofs.Needed.{tied_step}
 use Rattle.hpr_region.proofs.rivals.Rivals.tied.Goals as goal
 use Rattle.hpr_region.proofs.rivals.Rivals.tied.Goals.{then-is_same_variable, else-is_same_variable}
