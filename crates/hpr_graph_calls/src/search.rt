@@ -29,7 +29,7 @@ impl Digraph for Halves {
 /// Answers the call.
 pub(crate) fn call(row: Row<'_>, out: &mut Out) -> Option<()> {
     match row.word(1)? {
-        "turned" => turned(row, out),
+        "rows" => rows(row, out),
         "listed" => listed(row, out),
         _ => reached(row, out),
     }
@@ -74,17 +74,10 @@ fn edges(alloc: Global) -> Result<Rows, AllocError>
     Ok(rows)
 }
 
-// The same rows turned round.
-fn turned_edges(alloc: Global) -> Result<Rows, AllocError>
-    ensures { IfOk result (λ rows. length rows ≡ 4) }
-{
-    edges(alloc)?.turned()
-}
-
-// `turned POINT`: the points from which these edges lead to the point, and whether 3 and 4 are marked.
-fn turned(row: Row<'_>, out: &mut Out) -> Option<()> {
+// `rows POINT`: the points to which these edges lead from the point, and whether 3 and 4 are marked.
+fn rows(row: Row<'_>, out: &mut Out) -> Option<()> {
     let point = row.number(2)?.min(3);
-    let rows = turned_edges(row.alloc).ok()?;
+    let rows = edges(row.alloc).ok()?;
     let marks = reachable(row.alloc, &rows, &[point]).ok()?;
     put_marked(out, "reached", &marks);
     let three = truth(is_marked(&marks, 3));

@@ -3,10 +3,8 @@
 -- numbers_at rows at     == the row with this number, empty past the last
 -- numbers_of rows        == the rows as lists
 -- AreWithin rows         == each number is that of a row
--- AreTurned rows turned  == the rows turned round: n stands in the row of m exactly where m stands in that of n
 -- with_number rows at n  == the rows with the number n at the end of the row `at`
 -- IsPushed old at n new  == the rows have the number n more in the row `at`
--- ArePushed old each n new == the rows have the number n more in each of these rows
 use Rattle.std.specs.Prelude.{◌≡◌, ℕ, ◌<◌, ◌↔◌, ◌⊎◌, List, [], ◌∷◌, ◌++◌, Contains, Vec, slice_index_or, slice_set, length, map}
 use Rattle.std.specs.Global.{Global}
 
@@ -19,15 +17,8 @@ numbers_of rows = map (λ row. row.items) rows
 abbrev pub AreWithin : List (List ℕ) → Type 0
 AreWithin rows = (at n : ℕ) → Contains (numbers_at rows at) n → n < length rows
 
-pub record AreTurned (rows turned : List (List ℕ)) : Type 0 where
-  pub count : length turned ≡ length rows
-  pub exact : (m n : ℕ) → Contains (numbers_at turned m) n ↔ Contains (numbers_at rows n) m
-
 abbrev pub with_number : List (List ℕ) → ℕ → ℕ → List (List ℕ)
 with_number rows at n = slice_set rows at (numbers_at rows at ++ n ∷ [])
 
 abbrev pub IsPushed : List (List ℕ) → ℕ → ℕ → List (List ℕ) → Type 0
 IsPushed old at n new = (from to : ℕ) → Contains (numbers_at new from) to ↔ (Contains (numbers_at old from) to ⊎ ((from ≡ at) × (to ≡ n)))
-
-abbrev pub ArePushed : List (List ℕ) → List ℕ → ℕ → List (List ℕ) → Type 0
-ArePushed old each n new = (from to : ℕ) → Contains (numbers_at new from) to ↔ (Contains (numbers_at old from) to ⊎ (Contains each from × (to ≡ n)))

@@ -1,6 +1,6 @@
 //! Rows of numbers as a directed graph.
 ghost use Rattle.std.specs.Prelude.{◌≡◌, ◌<◌, ℕ, length, Contains, IfOk, OnOk, OnErr};
-ghost use Rattle.hpr_search.specs.Rows.{numbers_at, numbers_of, with_number, AreTurned, AreWithin, IsPushed, ArePushed};
+ghost use Rattle.hpr_search.specs.Rows.{numbers_at, numbers_of, with_number, AreWithin, IsPushed};
 
 use crate::Digraph;
 use std::alloc::{AllocError, Global};
@@ -11,13 +11,12 @@ use std::marker::Model;
 /// A contract sees the rows as lists.
 pub struct Rows {
     rows: Vec<Vec<usize>>,
-    alloc: Global,
 }
 
 /// Rows are dropped in one call.
 impl Drop for Rows {
     fn drop(self) {
-        let Rows { rows: _, alloc: _ } = self;
+        let Rows { rows: _ } = self;
     }
 }
 
@@ -50,21 +49,13 @@ impl Digraph for Rows {
 }
 
 impl Rows {
-    /// These rows, whose numbers are those of rows.
-    pub fn new(alloc: Global, rows: Vec<Vec<usize>>) -> Rows
-        requires { AreWithin (numbers_of rows.items) }
-        ensures { result ≡ numbers_of rows.items }
-    {
-        Rows { rows, alloc }
-    }
-
     /// So many empty rows.
     pub fn blank(alloc: Global, count: usize) -> Result<Rows, AllocError>
         ensures count { IfOk result (λ rows. length rows ≡ count) }
         ensures blank { IfOk result (λ rows. (at n : ℕ) → ¬ Contains (numbers_at rows at) n) }
     {
         let rows = blank_rows(alloc, count)?;
-        Ok(Rows { rows, alloc })
+        Ok(Rows { rows })
     }
 
     /// Puts the number of a row at the end of a row. After want of memory the rows are as they were.
@@ -78,17 +69,6 @@ impl Rows {
         push_at(&mut self.rows, at, number)?;
         Ok(())
     }
-
-    /// The rows turned round.
-    pub fn turned(&self) -> Result<Rows, AllocError>
-        ensures { IfOk result (λ turned. AreTurned self.now turned) }
-    {
-        let mut turned = Rows::blank(self.alloc, self.rows.len())?;
-        for (at, row) in self.rows.iter().enumerate() {
-            push_to_each(&mut turned, row, at)?;
-        }
-        Ok(turned)
-    }
 }
 
 /// So many empty rows.
@@ -101,19 +81,6 @@ fn blank_rows(alloc: Global, count: usize) -> Result<Vec<Vec<usize>>, AllocError
         rows.push(Vec::new(alloc))?;
     }
     Ok(rows)
-}
-
-/// Puts the number at the end of each of these rows.
-fn push_to_each(rows: &mut Rows, each: &[usize], number: usize) -> Result<(), AllocError>
-    requires each { (n : ℕ) → Contains each.now n → n < length rows.old }
-    requires number { number < length rows.old }
-    ensures count { length rows.new ≡ length rows.old }
-    ensures rows { OnOk result (ArePushed rows.old each.now number rows.new) }
-{
-    for at in each {
-        rows.push(*at, number)?;
-    }
-    Ok(())
 }
 
 /// Puts the number at the end of a row.
