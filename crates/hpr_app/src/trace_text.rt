@@ -7,7 +7,6 @@ ghost use Rattle.hpr_decisions.specs.TraceText.{comma_turn, turns_text};
 ghost use Rattle.hpr_app.specs.Private.ItemLine.{item_line};
 
 use hpr_meaning::Instance;
-use hpr_run::Value;
 use hpr_syntax::{NoMemory, Tag};
 use std::alloc::{AllocError, Global};
 
@@ -37,7 +36,7 @@ fn item_line(alloc: Global, item: &Instance) -> Result<String, AllocError>
     step_line(alloc, item.tag, turns.as_str(), item.value)
 }
 
-fn step_line(alloc: Global, tag: Tag, turns: &str, value: Value) -> Result<String, AllocError>
+fn step_line(alloc: Global, tag: Tag, turns: &str, value: i64) -> Result<String, AllocError>
     ensures { IfOk result (λ line. string_bytes line ≡ tag_text tag ++ codes " [" ++ turns.now ++ codes "] "
         ++ signed_decimal value ++ codes "\n") }
 {

@@ -29,7 +29,7 @@ assigned_by t d x (Some enter) is h = absurd cc
 assigned_by t d x (Some (part v c)) is h = let k = part_of_role t d v c is in (k.0, k.1, ap assigned k.3 ∙ h)
 assigned_by t d x (Some (exit finals)) is h = absurd cc
 
--- what defines a name is a part that assigns it
+-- what defines a name is a part that says so
 pub part_of_defined : (t : Tree) (d : ℕ) (x : List ℕ) → defined_at (spots t) d ≡ Some x → (p : Place) × PartAt t d p × (assigned p.content ≡ Some x)
 part_of_defined t d x h = assigned_by t d x (role_at (spots t) d) refl h
 

@@ -1,4 +1,4 @@
--- The names of a program with the points that assign and use them.
+-- The names of a program with the points that define and use them.
 --
 -- points_at rows i             == the points in the row i; none where there is no such row
 -- AreUsers spots names rows    == for each name there is a row with the points that use it, each once

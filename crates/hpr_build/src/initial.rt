@@ -117,7 +117,7 @@ fn push_live(
 /// The used names that are live at Enter, ascending: those that the program uses with the value from before it
 /// (the initial definitions of Horwitz, Prins and Reps 1989).
 ///
-/// Takes one search for all names that no part assigns, and one for each that some part assigns.
+/// Takes one search for all names that no part defines, and one for each that some part defines.
 pub(crate) fn live_names(
     alloc: Global,
     succ: &Succ,

@@ -128,7 +128,7 @@ pub(crate) fn tables_of<'a>(
     })
 }
 
-/// A name with the points that assign it and those that use it, and the number of its vertex of
+/// A name with the points that define it and those that use it, and the number of its vertex of
 /// `end`, which is that of Exit's point where it has none.
 #[derive(Clone, Copy)]
 pub(crate) struct Variable<'a> {

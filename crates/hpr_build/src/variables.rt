@@ -1,4 +1,4 @@
-//! The names of a program with the points that assign and use them.
+//! The names of a program with the points that define and use them.
 ghost use Rattle.std.specs.Prelude.{◌≡◌, ◌↔◌, ◌⊎◌, ◌+◌, ◌<◌, ◌++◌, ◌∷◌, [], ℕ, List, Contains, Some, length, vec_len, IfOk, OnOk};
 ghost use Rattle.std.specs.List.{slice_get};
 ghost use Rattle.std.specs.List.Sorted.{IsStrictlySortedBy};
@@ -12,7 +12,7 @@ use hpr_paths::{Name, NoMemory, Succ};
 use hpr_terms::names::{in_order, place_of};
 use std::alloc::Global;
 
-/// The names that points use, in order, each with the points that assign it and those that use it,
+/// The names that points use, in order, each with the points that define it and those that use it,
 /// ascending.
 pub(crate) struct Variables {
     pub(crate) names: Vec<Name>,
@@ -206,7 +206,7 @@ fn used_names(alloc: Global, succ: &Succ) -> Result<Vec<Name>, NoMemory>
     in_order(names)
 }
 
-/// The names that points use, with the points that assign and use them.
+/// The names that points use, with the points that define and use them.
 ///
 /// Takes time for each name that stands somewhere, and not for each name and point.
 pub(crate) fn variables_of(alloc: Global, succ: &Succ) -> Result<Variables, NoMemory>

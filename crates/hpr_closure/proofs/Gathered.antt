@@ -1,10 +1,8 @@
 -- Lists that have whatever has some property.
 --
 -- IsGathered P == a list that has each x with P
-use Rattle.std.proofs.Common.{◌≡◌, ℕ, ◌⊎◌, inl, inr, List, [], ◌∷◌, ◌++◌, Contains, sym, subst}
+use Rattle.std.proofs.Common.{◌≡◌, ◌⊎◌, inl, inr, List, [], ◌∷◌, ◌++◌, Contains, sym, subst}
 use Rattle.std.proofs.lemmas.List.Elements.{Contains-append_left, Contains-append_right}
-use Rattle.hpr_terms.specs.Term.{Term, num, var, prefix, infix'}
-use Rattle.hpr_terms.specs.Uses.{TermUses}
 use Rattle.hpr_terms.proofs.Facts.{in_none, in_cons, in_here}
 
 abbrev pub IsGathered : {X : Type 0} → (X → Type 0) → Type 0
@@ -41,9 +39,3 @@ module _ {X Y : Type 0} where
 
   pub of_each : (A : Y → Type 0) (B : Y → X → Type 0) → IsGathered A → ((y : Y) → IsGathered (B y)) → IsGathered (λ (x : X). (y : Y) × A y × B y x)
   of_each A B (ys, listed) b = let (zs, all) = gathered ys B b in (zs, λ x (y, there, at). all y (listed y there) x at)
-
-pub of_term : (t : Term) → IsGathered (λ (x : List ℕ). TermUses t x)
-of_term (num n) = of_none
-of_term (var y) = of_one y
-of_term (prefix op a) = of_term a
-of_term (infix' op a b) = of_either (λ x. TermUses a x) (λ x. TermUses b x) (of_term a) (of_term b)

@@ -1,14 +1,11 @@
 -- The graph of a program is finite.
 use Rattle.std.proofs.Common.{◌≡◌, ℕ, Bool, true, false, inl, inr, ◌⊎◌, None, List, [], ◌∷◌, Contains, refl, sym, subst}
-use Rattle.hpr_terms.specs.TermOf.{term_of}
 use Rattle.hpr_terms.specs.declared.tag.Tag.{Tag}
-use Rattle.hpr_terms.specs.Uses.{Uses}
-use Rattle.hpr_syntax.specs.Contents.{UsesIn}
+use Rattle.hpr_syntax.specs.Contents.{UsesIn, used_names}
 use Rattle.hpr_syntax.proofs.ActByUses.{uses_in}
 use Rattle.hpr_syntax.specs.declared.rows.Content.{Content}
 use Rattle.hpr_syntax.specs.Initial.{UsedBy}
 use Rattle.hpr_syntax.specs.Nests.{Says}
-use Rattle.hpr_syntax.specs.Rows.{expr_in}
 use Rattle.hpr_syntax.specs.Skeleton.{Point, enter, at, exit}
 use Rattle.hpr_syntax.specs.Tree.{Tree}
 use Rattle.hpr_graph.specs.declared.vertex.Vertex.{Vertex}
@@ -24,12 +21,12 @@ use Rattle.hpr_graph.specs.Whole.{AreAll, IsFinite}
 use Rattle.hpr_graph.proofs.Laws.{used_by_reads}
 use Rattle.hpr_closure.proofs.Decisions.{listed_by}
 use Rattle.hpr_closure.proofs.EdgesDecided.{vertex_of_decided, edge_of_decided}
-use Rattle.hpr_closure.proofs.Gathered.{IsGathered, of_one, of_within, of_either, of_list, of_each, of_term}
+use Rattle.hpr_closure.proofs.Gathered.{IsGathered, of_one, of_within, of_either, of_list, of_each}
 use Rattle.hpr_closure.proofs.ProgramWhole.{program_ends}
 use Rattle.hpr_closure.proofs.TreeDecided.{Stood, standings, stands_listed}
 
 of_content : (c : Content) → IsGathered (UsesIn c)
-of_content c = of_within (UsesIn c) (Uses (expr_in c)) (λ x h. (uses_in c x).1 h) (of_term (term_of (expr_in c)))
+of_content c = (used_names c, λ x h. (uses_in c x).1 h)
 
 module _ (t : Tree) where
   abbrev V : Vertex → Type 0

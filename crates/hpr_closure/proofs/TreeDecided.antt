@@ -2,19 +2,16 @@
 use Rattle.std.proofs.Common.{◌≡◌, ◌↔◌, ◌⊎◌, inl, inr, ℕ, Bool, true, false, Option, Some, None, List, [], ◌∷◌, ◌++◌, Contains, refl, sym, ap, subst}
 use Rattle.std.proofs.lemmas.List.Elements.{Contains-append_left, Contains-append_right, Contains-append_cases}
 use Rattle.hpr_terms.specs.declared.tag.Tag.{Tag}
-use Rattle.hpr_terms.specs.Term.{Term, num, var, prefix, infix'}
-use Rattle.hpr_terms.specs.TermOf.{term_of}
-use Rattle.hpr_terms.specs.Uses.{Uses, TermUses}
 use Rattle.hpr_syntax.specs.declared.rows.Content.{Content}
 use Rattle.hpr_syntax.specs.declared.rows.Content.TheVariants.{If, While}
 use Rattle.hpr_syntax.specs.Body.{Body, done, action, branch, loop}
-use Rattle.hpr_syntax.specs.Contents.{UsesIn}
+use Rattle.hpr_syntax.specs.Contents.{UsesIn, used_names}
 use Rattle.hpr_syntax.specs.Initial.{UsedBy}
 use Rattle.hpr_syntax.specs.Nests.{Standing, StandsAs, StandsAsIn, Says}
 use Rattle.hpr_syntax.specs.Pairs.{Next, first_of, FollowsIn, IsPair}
 use Rattle.hpr_syntax.specs.Paths.{DefinesAt}
 use Rattle.hpr_syntax.specs.Places.{StandsLeft, Parted, EnclosesBoth}
-use Rattle.hpr_syntax.specs.Rows.{Parent, content_by, assigned, expr_in}
+use Rattle.hpr_syntax.specs.Rows.{Parent, content_by, assigned}
 use Rattle.hpr_syntax.specs.Skeleton.{Skeleton, nil, act, fork, round, Point, enter, at, exit, StandsIn, skeleton}
 use Rattle.hpr_syntax.specs.Tree.{Tree}
 use Rattle.hpr_graph.specs.declared.vertex.Vertex.TheVariants.{Init, Part}
@@ -111,15 +108,8 @@ names_decided xs x = elim (some_decided (λ (y : List ℕ). y ≡ x) (λ y. name
   | inr none ↦ inr (λ h. none x h refl)
 ]
 
--- what a term uses
-term_uses : (t : Term) (x : List ℕ) → Decided (TermUses t x)
-term_uses (num n) x = inr (λ h. h)
-term_uses (var y) x = name_decided x y
-term_uses (prefix op a) x = term_uses a x
-term_uses (infix' op a b) x = either (TermUses a x) (TermUses b x) (term_uses a x) (term_uses b x)
-
 pub uses_decided : (c : Content) (x : List ℕ) → Decided (UsesIn c x)
-uses_decided c x = turned (Uses (expr_in c) x) (UsesIn c x) (uses_in c x).0 (uses_in c x).1 (term_uses (term_of (expr_in c)) x)
+uses_decided c x = turned (Contains (used_names c) x) (UsesIn c x) (uses_in c x).0 (uses_in c x).1 (names_decided (used_names c) x)
 
 -- where parts stand
 pub stands_decided : (sk : Skeleton) (p : Point) → Decided (StandsIn sk p)

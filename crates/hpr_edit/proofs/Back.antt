@@ -4,7 +4,7 @@ use Rattle.std.specs.List.{AllByRecursion}
 use Rattle.std.specs.Str.{bytes_eq}
 use Rattle.hpr_terms.specs.declared.limits.TheConstants.{MAX_LEVELS}
 use Rattle.hpr_terms.specs.declared.tag.Tag.{Tag}
-use Rattle.hpr_terms.specs.Names.{IsName}
+use Rattle.hpr_terms.specs.Names.{IsVariable}
 use Rattle.hpr_terms.proofs.Facts.{not_is}
 use Rattle.hpr_syntax.specs.declared.tree.Stmt.{Stmt}
 use Rattle.hpr_syntax.specs.declared.tree.Stmt.TheVariants.{If, While}
@@ -17,7 +17,7 @@ use Rattle.hpr_syntax.specs.Rows.{content_of, made}
 use Rattle.hpr_syntax.specs.Issued.{issued_to}
 use Rattle.hpr_syntax.specs.Tree.{Tree}
 use Rattle.hpr_syntax.specs.Proper.{IsProperBody}
-use Rattle.hpr_syntax.specs.Shape.{IsProgram, is_unissued, first_unissued, first_repeated_tag, first_deep, first_large, too_many, first_repeated}
+use Rattle.hpr_syntax.specs.Shape.{IsProgram, is_unissued, first_unissued, first_repeated_tag, first_deep, says_large, is_wrong, first_where, too_many, first_repeated}
 use Rattle.hpr_syntax.proofs.NoRefusal.{HasNoRefusal, no_refusal, shaped}
 use Rattle.hpr_syntax.proofs.TagLemmas.{same_tag_itself, same_tag_is}
 use Rattle.hpr_syntax.proofs.IssuedLemmas.{bounds_issued}
@@ -28,7 +28,7 @@ use Rattle.hpr_edit.specs.declared.command.EditError.TheVariants.{SerialsSpent}
 use Rattle.hpr_edit.specs.InPlace.{one_if, times}
 use Rattle.hpr_edit.specs.Places.{joined, is_place, place_of}
 use Rattle.hpr_edit.specs.Changes.{at_part, gone, saying, wrapped, unwrapped}
-use Rattle.hpr_edit.specs.Edited.{becomes, edited, settled, next_tag, is_spent, same_kind, is_assignment, stands_in}
+use Rattle.hpr_edit.specs.Edited.{becomes, edited, settled, next_tag, is_spent, same_kind, is_action, stands_in}
 use Rattle.hpr_edit.specs.Reverted.{reverted, body_back, finals_back, put_back, Undoes, IsPutBackIssued}
 use Rattle.hpr_edit.proofs.Around.{plug, times_plug, times_before}
 use Rattle.hpr_edit.proofs.Placed.{PlacedIn, placed_in}
@@ -46,7 +46,7 @@ stay_end p t q inv i h s =
     let e = settled_is t q inv i h in
     subst (λ y. Stay p y i) e.0 (subst (λ y. Stay p t y) e.1 s)
 
-times_made : (u t : Tag) (c : Content) (s : Stmt) → is_assignment c ≡ false → times u (before s done) ≤ times u (before (made t c (before s done) done) done)
+times_made : (u t : Tag) (c : Content) (s : Stmt) → is_action c ≡ false → times u (before s done) ≤ times u (before (made t c (before s done) done) done)
 times_made u t (content.If e) s h = omega arith
 times_made u t (content.While e) s h = omega arith
 times_made u t c s h = absurd cc
@@ -102,7 +102,7 @@ stay p is (Set t c) author q i h =
 stay p is (Wrap t c) author q i h =
     let f : FoundIs (find_stmt t p.body) (place_of t p.body) _ q i = found_is t _ _ _ q i h in
     let k : Known t p.body f.part f.place = known t p.body f.part f.place (once p is) f.part_is f.place_is in
-    let a : (is_assignment c ≡ false) × _ = refuse_is _ (is_assignment c) _ q i f.then in
+    let a : (is_action c ≡ false) × _ = refuse_is _ (is_action c) _ q i f.then in
     let b = refuse_is SerialsSpent (is_spent author p.issued) _ q i a.1 in
     let t' = next_tag author p.issued in
     let new = made t' c (before f.part done) done in
@@ -113,7 +113,7 @@ stay p is (Wrap t c) author q i h =
 stay p is (Unwrap t) author q i h =
     let f : FoundIs (find_stmt t p.body) (place_of t p.body) _ q i = found_is t _ _ _ q i h in
     let k : Known t p.body f.part f.place = known t p.body f.part f.place (once p is) f.part_is f.place_is in
-    let a : (is_assignment (content_of f.part) ≡ false) × _ = refuse_is _ (is_assignment (content_of f.part)) _ q i f.then in
+    let a : (is_action (content_of f.part) ≡ false) × _ = refuse_is _ (is_action (content_of f.part)) _ q i f.then in
     let e : tag_of f.part ≡ t = same_tag_is (tag_of f.part) t k.tag in
     stay_end p _ q _ i a.1 (record {
       stays = λ u. omega (arith, ap (times u) k.is, ap (times u) (known_at t p.body f.part f.place k unwrapped), times_plug u k.around (unwrapped f.part k.rest), times_plug u k.around (before f.part k.rest), times_left u f.part k.rest, ap (λ y. one_if (same_tag y u)) e);
@@ -169,14 +169,15 @@ back_program i q is old u issued =
         ascending = is.proper.ascending;
         numbers = is.proper.numbers;
         body = subst (λ y. IsProperBody y) (sym b) u.is.proper.body;
-        finals = subst (λ y. All IsName y) (sym f) u.is.proper.finals;
+        finals = subst (λ y. All IsVariable y) (sym f) u.is.proper.finals;
       };
       shape = shaped (reverted i q) (record {
         tags = ap first_repeated_tag b ∙ h.tags;
         issued = ap (λ y. first_unissued q.issued (tags_of y [])) b
             ∙ all_issued q.issued (tags_of old.body []) (λ t k. old_issued i q is old u issued t (omega (arith, k, counted t old.body [])));
         levels = ap (first_deep MAX_LEVELS) b ∙ h.levels;
-        expressions = ap first_large b ∙ h.expressions;
+        expressions = ap (first_where says_large) b ∙ h.expressions;
+        variables = ap (first_where is_wrong) b ∙ h.variables;
         parts = ap (λ y. too_many (part_count y)) b ∙ h.parts;
         names = ap (first_repeated bytes_eq []) f ∙ h.names;
       });

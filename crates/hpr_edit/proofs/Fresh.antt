@@ -15,7 +15,7 @@ use Rattle.hpr_edit.specs.declared.command.Inverse.{Inverse}
 use Rattle.hpr_edit.specs.declared.command.EditError.TheVariants.{SerialsSpent}
 use Rattle.hpr_edit.specs.Places.{is_place, place_of}
 use Rattle.hpr_edit.specs.Changes.{at_part, gone}
-use Rattle.hpr_edit.specs.Edited.{becomes, edited, settled, next_tag, is_spent, is_assignment, same_kind, stands_in}
+use Rattle.hpr_edit.specs.Edited.{becomes, edited, settled, next_tag, is_spent, is_action, same_kind, stands_in}
 use Rattle.hpr_edit.specs.Steps.{new_tags, Steps, none, command, revert, Apart, Fresh}
 use Rattle.hpr_edit.proofs.Around.{absent_found}
 use Rattle.hpr_edit.proofs.Undone.{refuse_is, found_is, FoundIs, settled_is}
@@ -78,12 +78,12 @@ after_command p q (Set t c) author i h =
     same_after author p q (Set t c) (issued_at _ q _ i a.1) (λ ts. refl)
 after_command p q (Wrap t c) author i h =
     let f : FoundIs (find_stmt t p.body) (place_of t p.body) _ q i = found_is t _ _ _ q i h in
-    let a = refuse_is _ (is_assignment c) _ q i f.then in
+    let a = refuse_is _ (is_action c) _ q i f.then in
     let b = refuse_is SerialsSpent (is_spent author p.issued) _ q i a.1 in
     raised_after author p q (Wrap t c) (issued_at _ q _ i b.1) (λ ts. refl)
 after_command p q (Unwrap t) author i h =
     let f : FoundIs (find_stmt t p.body) (place_of t p.body) _ q i = found_is t _ _ _ q i h in
-    let a = refuse_is _ (is_assignment (content_of f.part)) _ q i f.then in
+    let a = refuse_is _ (is_action (content_of f.part)) _ q i f.then in
     same_after author p q (Unwrap t) (issued_at _ q _ i a.1) (λ ts. refl)
 after_command p q (Finals names) author i h =
     same_after author p q (Finals names) (issued_at _ q _ i h) (λ ts. refl)

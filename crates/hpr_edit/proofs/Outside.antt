@@ -9,7 +9,7 @@ use Rattle.hpr_syntax.specs.declared.tree.Stmt.{Stmt}
 use Rattle.hpr_syntax.specs.declared.tree.Stmt.TheVariants as stmt
 use Rattle.hpr_syntax.specs.declared.rows.Row.{Row}
 use Rattle.hpr_syntax.specs.declared.rows.Content.{Content}
-use Rattle.hpr_syntax.specs.declared.rows.Content.TheVariants.{If, While}
+use Rattle.hpr_syntax.specs.declared.rows.Content.TheVariants.{Assign, If, While, Write}
 use Rattle.hpr_syntax.specs.Rows.{content_by, Parent, rows_of, content_of, made}
 use Rattle.hpr_syntax.specs.Body.{Body, done, action, branch, loop}
 use Rattle.hpr_syntax.specs.BodyOf.{before}
@@ -24,7 +24,7 @@ use Rattle.hpr_edit.specs.declared.command.EditError.TheVariants.{SerialsSpent}
 use Rattle.hpr_edit.specs.InPlace.{one_if, times}
 use Rattle.hpr_edit.specs.Places.{joined, is_place, place_of}
 use Rattle.hpr_edit.specs.Changes.{at_part, at_place, gone, saying, wrapped, unwrapped}
-use Rattle.hpr_edit.specs.Edited.{becomes, edited, settled, next_tag, is_spent, same_kind, is_assignment, stands_in}
+use Rattle.hpr_edit.specs.Edited.{becomes, edited, settled, next_tag, is_spent, same_kind, is_action, stands_in}
 use Rattle.hpr_edit.specs.Rows.{told, is_other, others, tags_in, touched}
 use Rattle.hpr_edit.proofs.Around.{Around, here, past, first, second, inside, plug, times_plug, times_before}
 use Rattle.hpr_edit.proofs.Placed.{PlacedIn, placed_in}
@@ -170,13 +170,11 @@ same_new t c rest after = alone t c (listed rest after)
 same_said : (c : Content) (s : Stmt) (rest : Body) → same_kind c (content_of s) ≡ true → Same (tag_of s ∷ []) (saying c s rest) (before s rest)
 same_said (If e) (stmt.If t f a b) rest h after = alone t (If e) (listed a (listed b (listed rest after))) ∙ sym (alone t (If f) (listed a (listed b (listed rest after))))
 same_said (While e) (stmt.While t f b) rest h after = alone t (While e) (listed b (listed rest after)) ∙ sym (alone t (While f) (listed b (listed rest after)))
-same_said (If e) s rest h after = absurd cc
-same_said (While e) s rest h after = absurd cc
-same_said c (stmt.If t f a b) rest h after = absurd cc
-same_said c (stmt.While t f b) rest h after = absurd cc
-same_said c s rest h after = alone (tag_of s) c (listed rest after) ∙ sym (alone (tag_of s) (content_of s) (listed rest after))
+same_said (Assign x e) (stmt.Assign t y f) rest h after = alone t (Assign x e) (listed rest after) ∙ sym (alone t (Assign y f) (listed rest after))
+same_said (Write x e) (stmt.Write t y f) rest h after = alone t (Write x e) (listed rest after) ∙ sym (alone t (Write y f) (listed rest after))
+same_said c s rest h after = absurd cc
 
-same_wrapped : (t : Tag) (c : Content) (s : Stmt) (rest : Body) → is_assignment c ≡ false → Same (t ∷ []) (wrapped t c s rest) (before s rest)
+same_wrapped : (t : Tag) (c : Content) (s : Stmt) (rest : Body) → is_action c ≡ false → Same (t ∷ []) (wrapped t c s rest) (before s rest)
 same_wrapped t (If e) s rest h after =
     alone t (If e) (listed (before s done) (listed rest after)) ∙ ap (filter (is_other (t ∷ []))) (sym (listed_rest s rest after))
 same_wrapped t (While e) s rest h after =
@@ -189,7 +187,7 @@ listed_joined (action t d rest) x after = ap (λ r. (t, content_by d) ∷ r) (li
 listed_joined (branch t e a b rest) x after = ap (λ r. (t, If e) ∷ listed a (listed b r)) (listed_joined rest x after)
 listed_joined (loop t e b rest) x after = ap (λ r. (t, While e) ∷ listed b r) (listed_joined rest x after)
 
-same_unwrapped : (s : Stmt) (rest : Body) → is_assignment (content_of s) ≡ false → Same (tag_of s ∷ []) (unwrapped s rest) (before s rest)
+same_unwrapped : (s : Stmt) (rest : Body) → is_action (content_of s) ≡ false → Same (tag_of s ∷ []) (unwrapped s rest) (before s rest)
 same_unwrapped (stmt.If t e a b) rest h after =
     ap (filter (is_other (t ∷ []))) (listed_joined a (joined b rest) after ∙ ap (listed a) (listed_joined b rest after))
     ∙ sym (alone t (If e) (listed a (listed b (listed rest after))))
@@ -250,7 +248,7 @@ others_stay p is (Set t c) author q i h =
 others_stay p is (Wrap t c) author q i h =
     let f : FoundIs (find_stmt t p.body) (place_of t p.body) _ q i = found_is t _ _ _ q i h in
     let k : Known t p.body f.part f.place = known t p.body f.part f.place (once p is) f.part_is f.place_is in
-    let a : (is_assignment c ≡ false) × _ = refuse_is _ (is_assignment c) _ q i f.then in
+    let a : (is_action c ≡ false) × _ = refuse_is _ (is_action c) _ q i f.then in
     let b = refuse_is SerialsSpent (is_spent author p.issued) _ q i a.1 in
     let new = next_tag author p.issued in
     end_others (new ∷ []) _ q _ i p.body b.1
@@ -258,7 +256,7 @@ others_stay p is (Wrap t c) author q i h =
 others_stay p is (Unwrap t) author q i h =
     let f : FoundIs (find_stmt t p.body) (place_of t p.body) _ q i = found_is t _ _ _ q i h in
     let k : Known t p.body f.part f.place = known t p.body f.part f.place (once p is) f.part_is f.place_is in
-    let a : (is_assignment (content_of f.part) ≡ false) × _ = refuse_is _ (is_assignment (content_of f.part)) _ q i f.then in
+    let a : (is_action (content_of f.part) ≡ false) × _ = refuse_is _ (is_action (content_of f.part)) _ q i f.then in
     let e : tag_of f.part ≡ t = same_tag_is (tag_of f.part) t k.tag in
     end_others (t ∷ []) _ q _ i p.body a.1
     (at_others (t ∷ []) t p.body f.part f.place unwrapped k

@@ -3,7 +3,7 @@ use Rattle.std.proofs.Common.{◌≡◌, ℕ, ◌+◌, ◌≤◌, Bool, true, fa
 use Rattle.hpr_terms.specs.declared.tag.Tag.{Tag}
 use Rattle.hpr_terms.proofs.Facts.{not_is}
 use Rattle.hpr_syntax.specs.declared.tree.Stmt.{Stmt}
-use Rattle.hpr_syntax.specs.declared.tree.Stmt.TheVariants.{If, While}
+use Rattle.hpr_syntax.specs.declared.tree.Stmt.TheVariants.{Assign, If, While, Write}
 use Rattle.hpr_syntax.specs.declared.rows.Content.{Content}
 use Rattle.hpr_syntax.specs.declared.rows.Content.TheVariants as content
 use Rattle.hpr_syntax.specs.Body.{Body, done, action, branch, loop}
@@ -23,7 +23,7 @@ use Rattle.hpr_edit.specs.declared.command.EditError.TheVariants.{SerialsSpent}
 use Rattle.hpr_edit.specs.Places.{width, joined, is_place, place_of}
 use Rattle.hpr_edit.specs.InPlace.{times}
 use Rattle.hpr_edit.specs.Changes.{at_part, at_place, gone, first_block, second_block, saying, wrapped, unwrapped, firsts, later, rewrapped}
-use Rattle.hpr_edit.specs.Edited.{Edited, becomes, refuse, found, settled, unless, edited, next_tag, is_spent, same_kind, is_assignment}
+use Rattle.hpr_edit.specs.Edited.{Edited, becomes, refuse, found, settled, unless, edited, next_tag, is_spent, same_kind, is_action}
 use Rattle.hpr_edit.specs.Reverted.{moved, Restores}
 use Rattle.hpr_edit.proofs.Around.{Around, plug, place_in, times_before, times_plug, times_head, at_plug, find_plug, place_plug, FoundIn, found_in}
 use Rattle.hpr_edit.proofs.Placed.{change_at, PlacedIn, placed_in}
@@ -150,11 +150,9 @@ pub record Said (c : Content) (s : Stmt) : Type 0 where
 pub said : (c : Content) (s : Stmt) → same_kind c (content_of s) ≡ true → Said c s
 said (content.If e) (If t f a b) h = record { stmt = If t e a b; is = λ r. refl; tag = refl; same = λ u r. refl; back = λ r. refl }
 said (content.While e) (While t f b) h = record { stmt = While t e b; is = λ r. refl; tag = refl; same = λ u r. refl; back = λ r. refl }
-said (content.If e) s h = absurd cc
-said (content.While e) s h = absurd cc
-said c (If t f a b) h = absurd cc
-said c (While t f b) h = absurd cc
-said c s h = record { stmt = made (tag_of s) c done done; is = λ r. refl; tag = refl; same = λ u r. refl; back = λ r. refl }
+said (content.Assign x e) (Assign t y f) h = record { stmt = Assign t x e; is = λ r. refl; tag = refl; same = λ u r. refl; back = λ r. refl }
+said (content.Write x e) (Write t y f) h = record { stmt = Write t x e; is = λ r. refl; tag = refl; same = λ u r. refl; back = λ r. refl }
+said c s h = absurd cc
 
 set_back : (t : Tag) (body : Body) (s : Stmt) (old : Place) (c : Content) → Known t body s old → same_kind c (content_of s) ≡ true → at_part t (saying (content_of s)) (at_part t (saying c) body) ≡ body
 set_back t body s old c k h =
@@ -169,12 +167,12 @@ joined_before : (s : Stmt) (b rest : Body) → joined (before s b) rest ≡ befo
 joined_before (If t e x y) b rest = refl
 joined_before s b rest = refl
 
-unwrapped_made : (t : Tag) (c : Content) (s : Stmt) (rest : Body) → is_assignment c ≡ false → unwrapped (made t c (before s done) done) rest ≡ before s rest
+unwrapped_made : (t : Tag) (c : Content) (s : Stmt) (rest : Body) → is_action c ≡ false → unwrapped (made t c (before s done) done) rest ≡ before s rest
 unwrapped_made t (content.If e) s rest h = joined_before s done rest
 unwrapped_made t (content.While e) s rest h = joined_before s done rest
 unwrapped_made t c s rest h = absurd cc
 
-wrap_back : (t new : Tag) (body : Body) (s : Stmt) (old : Place) (c : Content) → Known t body s old → times new body ≡ 0 → is_assignment c ≡ false → at_part new unwrapped (at_part t (wrapped new c) body) ≡ body
+wrap_back : (t new : Tag) (body : Body) (s : Stmt) (old : Place) (c : Content) → Known t body s old → times new body ≡ 0 → is_action c ≡ false → at_part new unwrapped (at_part t (wrapped new c) body) ≡ body
 wrap_back t new body s old c k z h =
     ap (at_part new unwrapped) (known_at t body s old k (wrapped new c))
     ∙ at_plug new unwrapped k.around (made new c (before s done) done) k.rest (omega (arith, z, ap (times new) k.is, times_plug new k.around (before s k.rest))) (same_made new c (before s done) done)
@@ -205,16 +203,16 @@ times_unwrapped u (If t e a b) rest = omega (arith, times_joined u a (joined b r
 times_unwrapped u (While t e b) rest = omega (arith, times_joined u b rest)
 times_unwrapped u s rest = omega arith
 
-remade : (s : Stmt) (rest : Body) → is_assignment (content_of s) ≡ false → before (made (tag_of s) (content_of s) (first_block s) (second_block s)) rest ≡ before s rest
+remade : (s : Stmt) (rest : Body) → is_action (content_of s) ≡ false → before (made (tag_of s) (content_of s) (first_block s) (second_block s)) rest ≡ before s rest
 remade (If t e a b) rest h = refl
 remade (While t e b) rest h = refl
 remade s rest h = absurd cc
 
-rewrapped_unwrapped : (s : Stmt) (rest : Body) → is_assignment (content_of s) ≡ false → rewrapped (tag_of s) (content_of s) (width (first_block s)) (width (second_block s)) (unwrapped s rest) ≡ before s rest
+rewrapped_unwrapped : (s : Stmt) (rest : Body) → is_action (content_of s) ≡ false → rewrapped (tag_of s) (content_of s) (width (first_block s)) (width (second_block s)) (unwrapped s rest) ≡ before s rest
 rewrapped_unwrapped s rest h =
     rw (firsts_joined (first_block s) (joined (second_block s) rest), later_joined (first_block s) (joined (second_block s) rest), firsts_joined (second_block s) rest, later_joined (second_block s) rest) (remade s rest h)
 
-unwrap_back : (t : Tag) (body : Body) (s : Stmt) (old : Place) → Known t body s old → is_assignment (content_of s) ≡ false →
+unwrap_back : (t : Tag) (body : Body) (s : Stmt) (old : Place) → Known t body s old → is_action (content_of s) ≡ false →
     at_place old (rewrapped t (content_of s) (width (first_block s)) (width (second_block s))) (at_part t unwrapped body) ≡ body
 unwrap_back t body s old k h =
     let e : tag_of s ≡ t = same_tag_is (tag_of s) t k.tag in
@@ -246,13 +244,13 @@ undone p is (Set t c) author q i h =
 undone p is (Wrap t c) author q i h =
     let f : FoundIs (find_stmt t p.body) (place_of t p.body) _ q i = found_is t _ _ _ q i h in
     let k : Known t p.body f.part f.place = known t p.body f.part f.place (once p is) f.part_is f.place_is in
-    let a : (is_assignment c ≡ false) × _ = refuse_is _ (is_assignment c) _ q i f.then in
+    let a : (is_action c ≡ false) × _ = refuse_is _ (is_action c) _ q i f.then in
     let b : (is_spent author p.issued ≡ false) × _ = refuse_is SerialsSpent (is_spent author p.issued) _ q i a.1 in
     settled_end p _ q _ i b.1 (record { body = wrap_back t (next_tag author p.issued) p.body f.part f.place c k (next_is_new p is author) a.0; finals = refl; issued = refl })
 undone p is (Unwrap t) author q i h =
     let f : FoundIs (find_stmt t p.body) (place_of t p.body) _ q i = found_is t _ _ _ q i h in
     let k : Known t p.body f.part f.place = known t p.body f.part f.place (once p is) f.part_is f.place_is in
-    let a : (is_assignment (content_of f.part) ≡ false) × _ = refuse_is _ (is_assignment (content_of f.part)) _ q i f.then in
+    let a : (is_action (content_of f.part) ≡ false) × _ = refuse_is _ (is_action (content_of f.part)) _ q i f.then in
     settled_end p _ q _ i a.1 (record { body = unwrap_back t p.body f.part f.place k a.0; finals = refl; issued = refl })
 undone p is (Finals names) author q i h =
     settled_end p _ q _ i h (record { body = refl; finals = refl; issued = refl })

@@ -5,8 +5,8 @@
 -- named t body next       == what is next of the part with this tag and of its place; refused where no part has the tag
 -- settled tree inverse    == this tree and inverse; refused where the tree is no program
 -- stands_in parent part   == a place with this parent is in the part
--- is_assignment c         == the content is one of a part without blocks
--- same_kind c d           == both contents are of parts without blocks, or of conditionals, or of loops
+-- is_action c             == the content is neither a conditional's nor a loop's
+-- same_kind c d           == both contents are assignments, or writes, or conditionals', or loops'
 -- next_tag author issued  == the tag of the author's next part
 -- is_spent author issued  == the author has no next serial
 -- new_tag author issued   == the tag of the author's next part, if it has a next serial
@@ -15,11 +15,12 @@ use Rattle.std.specs.Prelude.{ℕ, ◌+◌, Bool, true, false, not, nat_le, Opti
 use Rattle.hpr_terms.specs.declared.tag.Tag.{Tag}
 use Rattle.hpr_syntax.specs.declared.tree.Stmt.{Stmt}
 use Rattle.hpr_syntax.specs.declared.rows.Content.{Content}
+use Rattle.hpr_syntax.specs.declared.rows.Content.TheVariants.{Assign, If, While, Write}
 use Rattle.hpr_syntax.specs.declared.shape.ShapeError.{ShapeError}
 use Rattle.hpr_syntax.specs.Body.{Body, done}
 use Rattle.hpr_syntax.specs.BodyOf.{before}
 use Rattle.hpr_syntax.specs.Parts.{find_stmt}
-use Rattle.hpr_syntax.specs.Rows.{Parent, content_of, made, structure_of, is_simple, same_structure}
+use Rattle.hpr_syntax.specs.Rows.{Parent, content_of, made, structure_of, is_simple}
 use Rattle.hpr_syntax.specs.Issued.{Issued, issued_to, raised}
 use Rattle.hpr_syntax.specs.Tree.{Tree}
 use Rattle.hpr_syntax.specs.Shape.{shape}
@@ -61,11 +62,15 @@ abbrev pub stands_in : Parent → Stmt → Bool
 stands_in None part = false
 stands_in (Some p) part = is_some (find_stmt p.0 (before part done))
 
-abbrev pub is_assignment : Content → Bool
-is_assignment c = is_simple (structure_of c)
+abbrev pub is_action : Content → Bool
+is_action c = is_simple (structure_of c)
 
 abbrev pub same_kind : Content → Content → Bool
-same_kind c d = same_structure (structure_of c) (structure_of d)
+same_kind (Assign x e) (Assign y f) = true
+same_kind (If e) (If f) = true
+same_kind (While e) (While f) = true
+same_kind (Write x e) (Write y f) = true
+same_kind _ _ = false
 
 abbrev pub max_serial : ℕ
 max_serial = 4294967295
@@ -97,10 +102,10 @@ edited p (Set t c) author = named t p.body (λ part old.
     refuse (KindDiffers t) (not (same_kind c (content_of part)))
     (settled (record p { body = at_part t (saying c) p.body }) (SetBack t (content_of part))))
 edited p (Wrap t c) author = named t p.body (λ part old.
-    refuse (KindDiffers t) (is_assignment c)
+    refuse (KindDiffers t) (is_action c)
     (refuse SerialsSpent (is_spent author p.issued)
     (settled (with_new author (at_part t (wrapped (next_tag author p.issued) c) p.body) p) (Lift (next_tag author p.issued)))))
 edited p (Unwrap t) author = named t p.body (λ part old.
-    refuse (KindDiffers t) (is_assignment (content_of part))
+    refuse (KindDiffers t) (is_action (content_of part))
     (settled (record p { body = at_part t unwrapped p.body }) (Rewrap old t (content_of part) (width (first_block part)) (width (second_block part)))))
 edited p (Finals names) author = settled (record p { finals = names }) (FinalsBack p.finals)

@@ -10,7 +10,7 @@ ghost use Rattle.hpr_edit.specs.declared.command.Command.TheVariants.{Insert, De
 ghost use Rattle.hpr_edit.specs.declared.command.Inverse.TheVariants.{Rewrap};
 ghost use Rattle.hpr_edit.specs.Places.{width};
 ghost use Rattle.hpr_edit.specs.Changes.{at_part, at_place, first_block, second_block};
-ghost use Rattle.hpr_edit.specs.Edited.{edited, settled, new_tag, is_assignment, same_kind};
+ghost use Rattle.hpr_edit.specs.Edited.{edited, settled, new_tag, is_action, same_kind};
 ghost use Rattle.hpr_edit.specs.InPlace.{done_by, times, Located, Settles, Answers};
 
 use crate::change::{Change, Put, change_body, put_at_place};
@@ -153,7 +153,7 @@ fn wrap(
     let Some((_, _)) = located(program, tag) else {
         return Err(EditError::NoTag(tag));
     };
-    if is_assignment(content) {
+    if is_action(content) {
         return Err(EditError::KindDiffers(tag));
     }
     let Some(new) = new else {
@@ -170,7 +170,7 @@ fn unwrap(alloc: Global, program: &Program, tag: Tag) -> Result<(Program, Invers
     let Some((part, place)) = located(program, tag) else {
         return Err(EditError::NoTag(tag));
     };
-    if says_assignment(part) {
+    if says_action(part) {
         return Err(EditError::KindDiffers(tag));
     }
     let old = rewrapping(alloc, part, tag, place)?;
@@ -264,19 +264,25 @@ pub(crate) fn next_tag(issued: &Issued, author: u32) -> Option<Tag>
 fn same_kind(content: &Content, part: &Stmt) -> bool
     ensures { result ≡ same_kind content.now (content_of part.now) }
 {
-    content.structure().is_same(structure_of(part))
+    match (content, part) {
+        (Content::Assign(_, _), Stmt::Assign(_, _, _)) => true,
+        (Content::If(_), Stmt::If(_, _, _, _)) => true,
+        (Content::While(_), Stmt::While(_, _, _)) => true,
+        (Content::Write(_, _), Stmt::Write(_, _, _)) => true,
+        _ => false,
+    }
 }
 
-/// Whether a part has no blocks.
-fn says_assignment(part: &Stmt) -> bool
-    ensures { result ≡ is_assignment (content_of part.now) }
+/// Whether a part is neither a conditional nor a loop.
+fn says_action(part: &Stmt) -> bool
+    ensures { result ≡ is_action (content_of part.now) }
 {
     structure_of(part).is_simple()
 }
 
-/// Whether a content is one of a part without blocks.
-fn is_assignment(content: &Content) -> bool
-    ensures { result ≡ is_assignment content.now }
+/// Whether a content is neither a conditional's nor a loop's.
+fn is_action(content: &Content) -> bool
+    ensures { result ≡ is_action content.now }
 {
     content.structure().is_simple()
 }

@@ -166,8 +166,8 @@ pub enum EditError {
     IntoItself(Tag),
     /// There is no such block, or it is too short for the place.
     NoPlace,
-    /// The content is of another kind than the part; or what would be wrapped round it is an
-    /// assignment; or the part to be unwrapped is one.
+    /// The content is of another kind than the part; or what would be wrapped round it is neither a
+    /// conditional nor a loop; or the part to be unwrapped is neither.
     KindDiffers(Tag),
     /// The author's issued number is the greatest that there is.
     SerialsSpent,

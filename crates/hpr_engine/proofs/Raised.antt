@@ -5,10 +5,11 @@ use Rattle.std.proofs.lemmas.Bool.Decides.{nat_tests}
 use Rattle.std.proofs.lemmas.List.{append-nil}
 use Rattle.std.proofs.lemmas.List.Elements.{All-nil, Contains-push_cases}
 use Rattle.std.proofs.lemmas.List.Sorted.{IsPermutation-refl}
+use Rattle.hpr_terms.specs.Names.{IsVariable}
 use Rattle.hpr_terms.proofs.Facts.{in_none, in_cons, in_here, in_later}
 use Rattle.hpr_syntax.specs.Body.{done}
 use Rattle.hpr_syntax.specs.Issued.{Issued, AscendsFrom, raised, raised_by}
-use Rattle.hpr_syntax.specs.Proper.{IsPlainName, IsProperPair}
+use Rattle.hpr_syntax.specs.Proper.{IsProperPair}
 use Rattle.hpr_syntax.specs.Shape.{IsProgram, shape}
 use Rattle.hpr_syntax.specs.Tree.{Tree}
 use Rattle.hpr_syntax.proofs.Raises.{one_side_spelled}
@@ -53,7 +54,7 @@ empty = record { issued = []; body = done; finals = [] }
 
 empty_is : IsProgram empty
 unfolding shape
-empty_is = record { proper = record { ascending = tt; numbers = All-nil IsProperPair; body = tt; finals = All-nil IsPlainName }; shape = refl }
+empty_is = record { proper = record { ascending = tt; numbers = All-nil IsProperPair; body = tt; finals = All-nil IsVariable }; shape = refl }
 
 -- of two programs, the one whose numbers the other's raise, and the other
 raised_own : (p q : Tree) → IsProgram p → IsProgram q → IsProgram (with_issued (raised_by q.issued p.issued) p)

@@ -12,7 +12,7 @@ use Rattle.hpr_terms.specs.TermOrder.{code_of}
 use Rattle.hpr_terms.specs.TermOf.{term_of}
 use Rattle.hpr_terms.specs.Private.ExprCode.{expr_inj}
 use Rattle.hpr_syntax.specs.declared.rows.Content.{Content}
-use Rattle.hpr_syntax.specs.declared.rows.Content.TheVariants.{Assign, If, While}
+use Rattle.hpr_syntax.specs.declared.rows.Content.TheVariants.{Assign, If, While, Write}
 use Rattle.hpr_graph.specs.declared.vertex.Vertex.{Vertex}
 use Rattle.hpr_graph.specs.declared.vertex.Vertex.TheVariants.{Entry, Init, Part, Final}
 use Rattle.hpr_graph.specs.declared.edge.Kind.{Kind}
@@ -101,6 +101,9 @@ content_tied (Assign x e) (Assign y f) h =
     ap₂ (λ (z : List ℕ) (g : Expr). Assign z g) (name_tied x y name) (expr_tied e f expr)
 content_tied (If e) (If f) h = ap (λ (g : Expr). If g) (expr_tied e f h)
 content_tied (While e) (While f) h = ap (λ (g : Expr). While g) (expr_tied e f h)
+content_tied (Write x e) (Write y f) h =
+    let (name, expr) = then_equal (name_cmp x y) (expr_cmp e f) h in
+    ap₂ (λ (z : List ℕ) (g : Expr). Write z g) (name_tied x y name) (expr_tied e f expr)
 content_tied _ _ h = absurd cc
 
 pub vertex_tied : (v w : Vertex) → vertex_cmp v w ≡ Equal → v ≡ w

@@ -13,7 +13,7 @@ pub enum Kind {
     /// A value of the name may flow from the source to the target by a back edge to this loop, which
     /// encloses both.
     Carried(Name, Vertex),
-    /// Source and target assign one name, both flow to this vertex, their shared use, and the source
+    /// Source and target define one name, both flow to this vertex, their shared use, and the source
     /// stands to the left.
     Order(Vertex),
 }

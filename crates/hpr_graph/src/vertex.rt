@@ -17,7 +17,7 @@ pub enum Vertex {
     Entry,
     /// The value that a name has before the program.
     Init(Name),
-    /// An assignment, or the predicate of a conditional or a loop.
+    /// An assignment, a write, or the predicate of a conditional or a loop.
     Part(Tag, Content),
     /// The value of a name after the program.
     Final(Name),
@@ -36,7 +36,7 @@ impl Drop for Vertex {
 }
 
 impl Vertex {
-    /// The name that the vertex defines: that of an Init vertex, or the one that is assigned.
+    /// The name that the vertex defines: that of an Init vertex, or the one that the part defines.
     pub fn defines(&self) -> Option<&Name>
         ensures { option_copied result ≡ name_of self.now }
     {

@@ -1,15 +1,16 @@
 -- Words that tell a state, one after another.
-use Rattle.std.proofs.Common.{◌≡◌, ℕ, ◌+◌, ◌<◌, Bool, false, cond, List, [], ◌∷◌, ◌++◌, length, take, drop, get_or, map, is_some, Bor, Option, Some, None, Ok, refl, sym, ap, subst, ◌∙◌}
+use Rattle.std.proofs.Common.{◌≡◌, ℕ, ℤ, ◌+◌, ◌<◌, Bool, false, cond, List, [], ◌∷◌, ◌++◌, length, take, drop, get_or, map, is_some, Bor, Option, Some, None, option_map, Ok, refl, sym, ap, subst, ◌∙◌}
 use Rattle.std.proofs.lemmas.List.{take_more, drop_more, get_or-map, length-map}
 use Rattle.std.proofs.lemmas.List.Elements.{filter_map-append}
 use Rattle.std.specs.Cmp.Lexicographic.{slice_cmp, nat_list_cmp_total}
 use Rattle.std.specs.FinMap.{contains_key, find, from_entries, from_entries_push, get-from_entries, insert, nat_cmp-IsAntisymmetric, slice_cmp-IsAntisymmetric}
 use Rattle.std.specs.List.{cons_option, filter_map}
 use Rattle.std.specs.Ordering.{nat_cmp}
-use Rattle.hpr_syntax.specs.Values.{Value, Values}
+use Rattle.hpr_syntax.specs.declared.value.Value.TheVariants.{Number}
+use Rattle.hpr_syntax.specs.Values.{Values}
 use Rattle.hpr_words.specs.Request.{Text}
 use Rattle.hpr_inputs.specs.ReadsState.{RefusesState, RefusesWord, TakesWord}
-use Rattle.hpr_inputs.specs.States.{assignment, first_refused, refusal, refusal_of, refused_or, state_unless, told}
+use Rattle.hpr_inputs.specs.States.{assignment, entry, first_refused, refusal, refusal_of, refused_or, state_unless, told}
 use Rattle.hpr_inputs.specs.declared.answer.Stop.{Stop}
 use Rattle.hpr_inputs.specs.declared.answer.Stop.TheVariants as stop
 use Rattle.hpr_inputs.specs.declared.states.WordRefusal.{WordRefusal}
@@ -20,17 +21,18 @@ none_of None e = refl
 none_of (Some x) e = absurd cc
 
 -- a word behind others whose variable is new
-told_more : (before : List Text) (word : Text) (given : Text × Value) → assignment word ≡ Some given → contains_key (told before) given.0 ≡ false
-    → told (before ++ word ∷ []) ≡ insert (told before) given.0 given.1
+told_more : (before : List Text) (word : Text) (given : Text × ℤ) → assignment word ≡ Some given → contains_key (told before) given.0 ≡ false
+    → told (before ++ word ∷ []) ≡ insert (told before) given.0 (Number given.1)
 told_more before word given gives fresh =
-    let es = filter_map assignment before in
-    let all : filter_map assignment (before ++ word ∷ []) ≡ es ++ given ∷ [] =
-    filter_map-append assignment before (word ∷ []) ∙ ap (λ o. es ++ cons_option o []) gives in
+    let es = filter_map entry before in
+    let last : entry word ≡ Some (given.0, Number given.1) = ap (option_map (λ g. (g.0, Number g.1))) gives in
+    let all : filter_map entry (before ++ word ∷ []) ≡ es ++ (given.0, Number given.1) ∷ [] =
+    filter_map-append entry before (word ∷ []) ∙ ap (λ o. es ++ cons_option o []) last in
     let absent : find (slice_cmp nat_cmp) given.0 es ≡ None = sym (get-from_entries nat_list_cmp_total es given.0) ∙ none_of _ fresh in
     ap (from_entries {R = slice_cmp nat_cmp}) all
-    ∙ from_entries_push nat_list_cmp_total (slice_cmp-IsAntisymmetric nat_cmp-IsAntisymmetric) es given.0 given.1 absent
+    ∙ from_entries_push nat_list_cmp_total (slice_cmp-IsAntisymmetric nat_cmp-IsAntisymmetric) es given.0 (Number given.1) absent
 
-passes : (state : Values) (word : Text) (given : Text × Value) → assignment word ≡ Some given → contains_key state given.0 ≡ false → refusal state word ≡ None
+passes : (state : Values) (word : Text) (given : Text × ℤ) → assignment word ≡ Some given → contains_key state given.0 ≡ false → refusal state word ≡ None
 passes state word given gives fresh = ap (refusal_of state) gives ∙ ap (λ (b : Bool). cond b (Some GivenTwice) None) fresh
 
 module _ (words : List Text) where
@@ -57,8 +59,8 @@ module _ (words : List Text) where
     pub one_more : (old new : Values) → Taken i old → TakesWord old word new (Ok tt) → Taken (i + 1) new
     one_more old new (is, rest) (given, gives, fresh, now_is) =
         let fresh_told : contains_key (told (take i words)) given.0 ≡ false = subst (λ s. contains_key s given.0 ≡ false) is fresh in
-        let more : told (take i words ++ word ∷ []) ≡ insert (told (take i words)) given.0 given.1 = told_more (take i words) word given gives fresh_told in (
-          now_is ∙ ap (λ s. insert s given.0 given.1) is ∙ sym more ∙ ap told (sym takes),
+        let more : told (take i words ++ word ∷ []) ≡ insert (told (take i words)) given.0 (Number given.1) = told_more (take i words) word given gives fresh_told in (
+          now_is ∙ ap (λ s. insert s given.0 (Number given.1)) is ∙ sym more ∙ ap told (sym takes),
           ap (λ b. first_refused b later) takes ∙ at_word old None (is, rest) (passes old word given gives fresh),
         )
 

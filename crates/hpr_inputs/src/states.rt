@@ -5,7 +5,7 @@ ghost use Rattle.hpr_inputs.specs.ReadsState.{ReadsState, TakesWord};
 
 use crate::answer::Stop;
 use hpr_refusals::about;
-use hpr_run::{State, Value};
+use hpr_run::State;
 use hpr_syntax::{Name, NameError, NoMemory};
 use std::alloc::{AllocError, Global};
 
@@ -70,7 +70,7 @@ fn take_word(alloc: Global, state: &mut State, word: &str) -> Result<(), Stop>
 }
 
 /// The name and the number of a word `name=value`.
-fn read_assignment(alloc: Global, word: &str) -> Result<Option<(Name, Value)>, NoMemory>
+fn read_assignment(alloc: Global, word: &str) -> Result<Option<(Name, i64)>, NoMemory>
     ensures { IfOk result (λ given. given ≡ spec.assignment word.now) }
 {
     match word.split_once('=') {
@@ -87,11 +87,11 @@ fn read_assignment(alloc: Global, word: &str) -> Result<Option<(Name, Value)>, N
 }
 
 /// The number that an optional `-` and decimal digits spell.
-fn read_value(text: &str) -> Option<Value>
+fn read_value(text: &str) -> Option<i64>
     ensures { result ≡ spec.value_of text.now }
 {
     if text.starts_with('+') {
         return None;
     }
-    text.parse::<Value>().ok()
+    text.parse::<i64>().ok()
 }

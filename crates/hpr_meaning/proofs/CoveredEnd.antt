@@ -1,15 +1,17 @@
 -- A program that is covered by others ends where they do: each of its steps is a step of one of them, so it faults nowhere, and it has no
 -- more steps than they have together.
 use Rattle.std.proofs.Common.{◌≡◌, ℕ, zero, suc, ◌<◌, ◌≤◌, ◌+◌, pos, Bool, true, false, List, [], ◌∷◌, ◌++◌, ◌⊎◌, Contains, Some, None, length, refl, ap, sym, subst, ◌∙◌, inl, inr, arith, Ok, Err}
-use Rattle.hpr_syntax.specs.Contents.{answer_of}
+use Rattle.hpr_syntax.specs.Contents.{Given, answer_of}
 use native.Mathlib.Decide.{ℕ_discrete, dec_lt}
 use Rattle.hpr_terms.specs.declared.tag.Tag.{Tag}
 use Rattle.hpr_syntax.specs.declared.rows.Content.TheVariants.{If}
 use Rattle.hpr_terms.specs.declared.expr.Expr.TheVariants.{Num}
 use Rattle.hpr_syntax.specs.Tree.{Tree}
-use Rattle.hpr_syntax.specs.Value.{Fault, Answer}
+use Rattle.hpr_syntax.specs.Value.{Fault}
 use Rattle.hpr_syntax.specs.Run.{Outcome, ends, faults, more, run, outcome, FinalValues}
-use Rattle.hpr_syntax.specs.Values.{Value, Values}
+use Rattle.hpr_syntax.specs.declared.value.Value.{Value}
+use Rattle.hpr_syntax.specs.declared.value.Value.TheVariants.{Number}
+use Rattle.hpr_syntax.specs.Values.{Values}
 use Rattle.hpr_syntax.specs.Skeleton.{Distinct, skeleton}
 use Rattle.hpr_syntax.specs.Nests.{Says}
 use Rattle.hpr_paths.specs.Times.{Place, IsBefore}
@@ -164,7 +166,7 @@ module _ (m : Tree) (s : Values) (versions : List Version) (im : IsProgram m) (a
   all = items_in s versions all_end
 
   none : Instance
-  none = ((record { author = 0; serial = 0 }, []), record { content = If (Num 0); reads = []; gave = pos 0 })
+  none = ((record { author = 0; serial = 0 }, []), record { content = If (Num 0); reads = []; gave = Number (pos 0) })
 
   IsDone : ℕ → Type 0
   IsDone k = (y : ℕ) × (y < length all) × (spot_of (item_at all none y) ≡ spot_of (nth_step m s N dm k))
@@ -196,7 +198,7 @@ module _ (m : Tree) (s : Values) (versions : List Version) (im : IsProgram m) (a
       let er = subst (λ z. answer_of z (state_after s (log_before (known m s N dm).is [] k)) ≡ Err x) (says_one m.body dm t b'.2.0 (nth_step m s N dm k).1.content b'.2.1 sy) b'.2.2 in
       ok_or_err _ h.3 x h.4 er
     where
-      ok_or_err : (a : Answer) (v : Value) (x : Fault) → a ≡ Ok v → a ≡ Err x → ⊥
+      ok_or_err : (a : Given) (v : Value) (x : Fault) → a ≡ Ok v → a ≡ Err x → ⊥
       ok_or_err a v x o e = absurd cc
 
   -- it doesn't want steps: N + 1 different steps would be among N items

@@ -5,22 +5,23 @@ use Rattle.hpr_terms.specs.declared.tag.Tag.{Tag}
 use Rattle.hpr_terms.specs.declared.expr.Expr.{Expr}
 use Rattle.hpr_syntax.specs.declared.rows.Content.{Content}
 use Rattle.hpr_syntax.specs.declared.rows.Content.TheVariants.{If, While}
-use Rattle.hpr_syntax.specs.Contents.{answer_of}
+use Rattle.hpr_syntax.specs.Contents.{Given, answer_of, holds}
 use Rattle.hpr_syntax.specs.Body.{Body, done, action, branch, loop}
-use Rattle.hpr_syntax.specs.Value.{Fault, Answer, value, is_true}
-use Rattle.hpr_syntax.specs.Values.{Value, Values}
+use Rattle.hpr_syntax.specs.Value.{Fault}
+use Rattle.hpr_syntax.specs.declared.value.Value.{Value}
+use Rattle.hpr_syntax.specs.Values.{Values}
 use Rattle.hpr_syntax.specs.Skeleton.{Skeleton, act, fork, round, skeleton}
 use Rattle.hpr_syntax.specs.Nests.{Says}
 use Rattle.hpr_paths.specs.Times.{Place}
 use Rattle.hpr_meaning.specs.Instances.{Did, Instance, truth, reads_of, state_after, logged, Course, goes, stops, step_at, then_go, turns_from, trace}
-use Rattle.hpr_syntax.specs.Rows.{content_by, expr_in}
+use Rattle.hpr_syntax.specs.Rows.{content_by}
 use Rattle.hpr_paths.specs.Runs.{Execution}
 use Rattle.hpr_paths.proofs.Listed.{where_stopped}
 
 module _ (p : Body) (s : Values) where
   -- what a part does after a log
   abbrev pub Does : Tag → List Instance → Did → Type 0
-  Does t g d = Says p t d.content × (d.reads ≡ reads_of (expr_in d.content) s g) × (answer_of d.content (state_after s g) ≡ Ok d.gave)
+  Does t g d = Says p t d.content × (d.reads ≡ reads_of d.content s g) × (answer_of d.content (state_after s g) ≡ Ok d.gave)
 
   abbrev pub Runs : Skeleton → ℕ → List ℕ → List Instance → List Place → Bool → List Instance → Type 0
   Runs B j T g ss e h = Execution Did truth Does B j T g ss e h
@@ -112,11 +113,11 @@ module _ (p : Body) (s : Values) where
 
   -- what a step did
   given : (t : Tag) (c : Content) (g : List Instance) (v : Value) → Says p t c → answer_of c (state_after s g) ≡ Ok v
-      → Does t g (record { content = c; reads = reads_of (expr_in c) s g; gave = v })
+      → Does t g (record { content = c; reads = reads_of c s g; gave = v })
   given t c g v h e = (h, refl, e)
 
-  assign_step : (t : Tag) (c : Content) (k : Skeleton) (T : List ℕ) (g : List Instance) (a : Answer) (left : ℕ) → Says p t c → answer_of c (state_after s g) ≡ a
-      → (go : Value → ℕ → Course) → ((v : Value) (l : ℕ) → HasRun k 0 T (logged (t, T) c (expr_in c) v s g) l (go v l)) → HasRun (act t k) 0 T g left (step_at (t, T) a g left go)
+  assign_step : (t : Tag) (c : Content) (k : Skeleton) (T : List ℕ) (g : List Instance) (a : Given) (left : ℕ) → Says p t c → answer_of c (state_after s g) ≡ a
+      → (go : Value → ℕ → Course) → ((v : Value) (l : ℕ) → HasRun k 0 T (logged (t, T) c v s g) l (go v l)) → HasRun (act t k) 0 T g left (step_at (t, T) a g left go)
   unfolding where_stopped
   assign_step t c k T g a zero h e go f = ((t, T) ∷ [], runs.act_stops, refl, refl, omega arith)
   assign_step t c k T g (Ok v) (suc l) h e go f = act_has_run t k 0 T g _ l (suc l) (given t c g v h e) refl (go v l) (f v l)
@@ -129,14 +130,14 @@ module _ (p : Body) (s : Values) where
   branch_if t b c k T g d l left w e true y tr tr' r r' go f = yes_has_run t b c k 0 T g d l left w e y tr r go f
   branch_if t b c k T g d l left w e false y tr tr' r r' go f = no_has_run t b c k 0 T g d l left w e y tr' r' go f
 
-  branch_step : (t : Tag) (e : Expr) (b c k : Skeleton) (T : List ℕ) (g : List Instance) (a : Answer) (left : ℕ) → Says p t (If e) → value e (state_after s g) ≡ a
+  branch_step : (t : Tag) (e : Expr) (b c k : Skeleton) (T : List ℕ) (g : List Instance) (a : Given) (left : ℕ) → Says p t (If e) → answer_of (If e) (state_after s g) ≡ a
       → (yes' no' : List Instance → ℕ → Course) → ((h : List Instance) (m : ℕ) → HasRun b 0 T h m (yes' h m)) → ((h : List Instance) (m : ℕ) → HasRun c 0 T h m (no' h m))
       → (go : List Instance → ℕ → Course) → ((h : List Instance) (m : ℕ) → HasRun k 0 T h m (go h m))
-      → HasRun (fork t b c k) 0 T g left (step_at (t, T) a g left (λ v l. then_go (if is_true v then yes' (logged (t, T) (If e) e v s g) l else no' (logged (t, T) (If e) e v s g) l) go))
+      → HasRun (fork t b c k) 0 T g left (step_at (t, T) a g left (λ v l. then_go (if holds v then yes' (logged (t, T) (If e) v s g) l else no' (logged (t, T) (If e) v s g) l) go))
   unfolding where_stopped
   branch_step t e b c k T g a zero h q y n fy fn go f = ((t, T) ∷ [], runs.fork_stops, refl, refl, omega arith)
   branch_step t e b c k T g (Ok v) (suc l) h q y n fy fn go f =
-      branch_if t b c k T g (record { content = If e; reads = reads_of e s g; gave = v }) l (suc l) (given t (If e) g v h q) refl (is_true v) refl _ _ (fy _ l) (fn _ l) go f
+      branch_if t b c k T g (record { content = If e; reads = reads_of (If e) s g; gave = v }) l (suc l) (given t (If e) g v h q) refl (holds v) refl _ _ (fy _ l) (fn _ l) go f
   branch_step t e b c k T g (Err x) (suc l) h q y n fy fn go f = ((t, T) ∷ [], runs.fork_stops, refl, (If e, h, q), omega arith)
 
   loop_if : (t : Tag) (b k : Skeleton) (j : ℕ) (T : List ℕ) (g : List Instance) (d : Did) (l left n : ℕ) → Does t g d → suc l ≡ left → l < n
@@ -148,17 +149,17 @@ module _ (p : Body) (s : Values) where
   loop_if t b k j T g d l left n w e lt true y tr r go go' f f' = turn_has_run t b k j T g d l left n w e y lt tr r go go' f
   loop_if t b k j T g d l left n w e lt false y tr r go go' f f' = leaving_has_run t b k j T g d l left w e y (go' (((t, T ++ (j ∷ [])), d) ∷ g) l) (f' (((t, T ++ (j ∷ [])), d) ∷ g) l)
 
-  loop_step : (t : Tag) (e : Expr) (b k : Skeleton) (j : ℕ) (T : List ℕ) (g : List Instance) (a : Answer) (left n : ℕ) → Says p t (While e) → value e (state_after s g) ≡ a → left < suc n
+  loop_step : (t : Tag) (e : Expr) (b k : Skeleton) (j : ℕ) (T : List ℕ) (g : List Instance) (a : Given) (left n : ℕ) → Says p t (While e) → answer_of (While e) (state_after s g) ≡ a → left < suc n
       → (body : List Instance → ℕ → Course) → ((h : List Instance) (m : ℕ) → HasRun b 0 (T ++ (j ∷ [])) h m (body h m))
       → (go go' : List Instance → ℕ → Course)
       → ((h : List Instance) (m : ℕ) → m < n → HasRun (round t b k) (suc j) T h m (then_go (go h m) go'))
       → ((h : List Instance) (m : ℕ) → HasRun k 0 T h m (go' h m))
       → HasRun (round t b k) j T g left (then_go (step_at (t, T ++ (j ∷ [])) a g left (λ v l.
-      if is_true v then then_go (body (logged (t, T ++ (j ∷ [])) (While e) e v s g) l) go else goes (logged (t, T ++ (j ∷ [])) (While e) e v s g) l)) go')
+      if holds v then then_go (body (logged (t, T ++ (j ∷ [])) (While e) v s g) l) go else goes (logged (t, T ++ (j ∷ [])) (While e) v s g) l)) go')
   unfolding where_stopped
   loop_step t e b k j T g a zero n h q lt body r go go' f f' = ((t, T ++ (j ∷ [])) ∷ [], runs.round_stops, refl, refl, omega arith)
   loop_step t e b k j T g (Ok v) (suc l) n h q lt body r go go' f f' =
-      loop_if t b k j T g (record { content = While e; reads = reads_of e s g; gave = v }) l (suc l) n (given t (While e) g v h q) refl (omega (arith, lt)) (is_true v) refl _ (r _ l) go go' f f'
+      loop_if t b k j T g (record { content = While e; reads = reads_of (While e) s g; gave = v }) l (suc l) n (given t (While e) g v h q) refl (omega (arith, lt)) (holds v) refl _ (r _ l) go go' f f'
   loop_step t e b k j T g (Err x) (suc l) n h q lt body r go go' f f' = ((t, T ++ (j ∷ [])) ∷ [], runs.round_stops, refl, (While e, h, q), omega arith)
 
   loop_has_run : (t : Tag) (e : Expr) (b : Body) (rest : Body) → Says p t (While e)
@@ -178,7 +179,7 @@ module _ (p : Body) (s : Values) where
   course_has_run (action t d rest) inc T g left =
       let a = content_by d in
       assign_step t a (skeleton rest) T g (answer_of a (state_after s g)) left (inc t a (inl (refl, refl))) refl _
-      (λ v l. course_has_run rest (λ u c h. inc u c (inr h)) T (logged (t, T) a (expr_in a) v s g) l)
+      (λ v l. course_has_run rest (λ u c h. inc u c (inr h)) T (logged (t, T) a v s g) l)
   course_has_run (branch t e a b rest) inc T g left =
       branch_step t e (skeleton a) (skeleton b) (skeleton rest) T g (answer_of (If e) (state_after s g)) left (inc t (If e) (inl (refl, refl))) refl (trace s a T) (trace s b T)
       (λ h m. course_has_run a (λ u c q. inc u c (inr (inl q))) T h m) (λ h m. course_has_run b (λ u c q. inc u c (inr (inr (inl q)))) T h m) (trace s rest T)

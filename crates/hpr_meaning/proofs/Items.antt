@@ -43,17 +43,20 @@ log_before is g k = reverse_aux (first_items k is) g
 abbrev pub Assigns : Content → List ℕ → Type 0
 Assigns c x = assigned c ≡ Some x
 
--- names are the same or not
-pub names_discrete : (x y : List ℕ) → Dec (x ≡ y)
-names_discrete [] [] = yes refl
-names_discrete [] (b ∷ y) = no (λ e. absurd cc)
-names_discrete (a ∷ x) [] = no (λ e. absurd cc)
-names_discrete (a ∷ x) (b ∷ y) = go (ℕ_discrete a b) (names_discrete x y)
+-- lists are the same or not, where their elements are
+pub lists_discrete : {A : Type 0} → ((a b : A) → Dec (a ≡ b)) → (x y : List A) → Dec (x ≡ y)
+lists_discrete each [] [] = yes refl
+lists_discrete each [] (b ∷ y) = no (λ e. absurd cc)
+lists_discrete each (a ∷ x) [] = no (λ e. absurd cc)
+lists_discrete each (a ∷ x) (b ∷ y) = go (each a b) (lists_discrete each x y)
   where
     go : Dec (a ≡ b) → Dec (x ≡ y) → Dec (a ∷ x ≡ b ∷ y)
     go (yes p) (yes q) = yes (λ i. p i ∷ q i)
     go (no n) d = no (λ e. let f : a ≡ b = cc in n f)
     go (yes p) (no n) = no (λ e. let f : x ≡ y = cc in n f)
+
+pub names_discrete : (x y : List ℕ) → Dec (x ≡ y)
+names_discrete x y = lists_discrete ℕ_discrete x y
 
 pub assigns? : (c : Content) (x : List ℕ) → Dec (Assigns c x)
 assigns? c x = go (assigned c)

@@ -1,5 +1,5 @@
 -- Kept meaning: a program with the merged graph ends with what each variant changed, and with what base and all variants agree on.
-use Rattle.std.proofs.Common.{◌≡◌, ℕ, zero, suc, ◌+◌, Bool, true, false, List, [], ◌∷◌, ◌⊎◌, Contains, refl, ap, sym, subst, ◌∙◌, inl, inr, arith}
+use Rattle.std.proofs.Common.{◌≡◌, ℕ, ℤ, zero, suc, ◌+◌, Bool, true, false, List, [], ◌∷◌, ◌⊎◌, Contains, refl, ap, sym, subst, ◌∙◌, inl, inr, arith}
 use Rattle.std.specs.List.{AllByRecursion}
 use Rattle.std.specs.Ordering.{int_eq}
 use Rattle.std.specs.Cmp.{signed_Decides}
@@ -7,7 +7,9 @@ use Rattle.hpr_syntax.specs.Meaning.{Ends, Keeps}
 use Rattle.hpr_syntax.specs.Run.{FinalValues}
 use Rattle.hpr_syntax.specs.Shape.{IsProgram}
 use Rattle.hpr_syntax.specs.Tree.{Tree}
-use Rattle.hpr_syntax.specs.Values.{Value, Values}
+use Rattle.hpr_syntax.specs.declared.value.Value.{Value}
+use Rattle.hpr_syntax.specs.declared.value.Value.TheVariants as value
+use Rattle.hpr_syntax.specs.Values.{Values}
 use Rattle.hpr_graph.specs.declared.vertex.Vertex.TheVariants.{Init, Final}
 use Rattle.hpr_graph.specs.Answer.{Fits, graphs_of, merged_of_all}
 use Rattle.hpr_graph.specs.Graphs.{Graph, Same}
@@ -19,17 +21,31 @@ use Rattle.hpr_paths.proofs.Among.{Among, here, there, among_cons, among_none, a
 use Rattle.hpr_paths.proofs.Different.{distinct_program}
 use Rattle.hpr_meaning.specs.KeptLaw.{Finished, DoesFinish, HasChanged, HasValue, IsKeptOf, KeepsAll, programs_of, steps_in}
 use Rattle.hpr_meaning.specs.UnionLaw.{KeepsIn, KeepsEach}
-use Rattle.hpr_meaning.proofs.Items.{names_discrete}
+use Rattle.hpr_meaning.proofs.Items.{lists_discrete, names_discrete}
 use Rattle.hpr_meaning.proofs.MergedEnd.{in_program, merged_ends}
 use Rattle.hpr_meaning.proofs.SharedSlices.{same_finals, final_name}
 use Rattle.hpr_meaning.proofs.Unions.{keeps_preserved}
 
-int? : (v w : Value) → Dec (v ≡ w)
+int? : (v w : ℤ) → Dec (v ≡ w)
 int? v w = go (int_eq v w) refl
   where
     go : (b : Bool) → int_eq v w ≡ b → Dec (v ≡ w)
     go true e = yes ((signed_Decides v w).0 e)
     go false e = no (λ q. let t = (signed_Decides v w).1 q in let c : true ≡ false = sym t ∙ e in absurd cc)
+
+value? : (v w : Value) → Dec (v ≡ w)
+value? (value.Number y) (value.Number z) = go (int? y z)
+  where
+    go : Dec (y ≡ z) → Dec (value.Number y ≡ value.Number z)
+    go (yes e) = yes (ap value.Number e)
+    go (no n) = no (λ e. let f : y ≡ z = cc in n f)
+value? (value.List ys) (value.List zs) = go (lists_discrete int? ys zs)
+  where
+    go : Dec (ys ≡ zs) → Dec (value.List ys ≡ value.List zs)
+    go (yes e) = yes (ap value.List e)
+    go (no n) = no (λ e. let f : ys ≡ zs = cc in n f)
+value? (value.Number y) (value.List zs) = no (λ e. absurd cc)
+value? (value.List ys) (value.Number z) = no (λ e. absurd cc)
 
 pair? : (y x : List ℕ) (w v : Value) → Dec (y ≡ x) → Dec (w ≡ v) → Dec (◌≡◌ {A = List ℕ × Value} (y, w) (x, v))
 pair? y x w v (yes p) (yes q) = yes (λ i. (p i, q i))
@@ -38,7 +54,7 @@ pair? y x w v (yes p) (no n) = no (λ e. n (ap (λ (z : List ℕ × Value). z.1)
 
 among? : (f' : FinalValues) (x : List ℕ) (v : Value) → Dec (Among (x, v) f')
 among? [] x v = no (λ h. among_none (x, v) h)
-among? ((y, w) ∷ l) x v = go (pair? y x w v (names_discrete y x) (int? w v)) (among? l x v)
+among? ((y, w) ∷ l) x v = go (pair? y x w v (names_discrete y x) (value? w v)) (among? l x v)
   where
     go : Dec (◌≡◌ {A = List ℕ × Value} (y, w) (x, v)) → Dec (Among (x, v) l) → Dec (Among (x, v) ((y, w) ∷ l))
     go (yes e) d = yes (subst (λ z. Among z ((y, w) ∷ l)) e here)

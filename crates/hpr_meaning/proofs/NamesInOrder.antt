@@ -8,10 +8,9 @@ use Rattle.std.specs.List.Sorted.{IsStrictlySortedBy}
 use Rattle.std.proofs.lemmas.Cmp.{nat_list_cmp_total}
 use Rattle.std.proofs.lemmas.List.Elements.{All-contains, All-from_recursion}
 use Rattle.std.proofs.lemmas.Map.Lookups.{exact_bytes}
-use Rattle.hpr_terms.specs.declared.expr.Expr.{Expr}
-use Rattle.hpr_terms.specs.TermOf.{term_of}
-use Rattle.hpr_terms.specs.Uses.{Uses, names_in}
-use Rattle.hpr_terms.proofs.NamesUsed.{terms_used}
+use Rattle.hpr_syntax.specs.declared.rows.Content.{Content}
+use Rattle.hpr_syntax.specs.Contents.{UsesIn, used_names}
+use Rattle.hpr_syntax.proofs.ActByUses.{uses_in}
 use Rattle.hpr_graph.specs.Order.{name_cmp}
 use Rattle.hpr_graph.proofs.Lists.{in_none, in_cons, in_here, in_later}
 use Rattle.hpr_graph.proofs.NameOrder.{never_both, never_less, turned}
@@ -106,14 +105,14 @@ all_there (x ∷ names) y h = elim (in_cons x y names h) [
   | inr c ↦ put_old x y (put_names names) (all_there names y c)
 ]
 
-pub names_up : (e : Expr) → IsStrictlySortedBy name_cmp (names_of e)
-names_up e = all_up (names_in (term_of e))
+pub names_up : (c : Content) → IsStrictlySortedBy name_cmp (names_of c)
+names_up c = all_up (used_names c)
 
--- the names of an expression are those that it uses
-pub names_used : (e : Expr) (x : List ℕ) → Contains (names_of e) x ↔ Uses e x
-names_used e x = (
-  (λ c. (terms_used (term_of e) x).0 (all_old (names_in (term_of e)) x c)),
-  (λ u. all_there (names_in (term_of e)) x ((terms_used (term_of e) x).1 u)),
+-- the names of a part are those that it uses
+pub names_used : (c : Content) (x : List ℕ) → Contains (names_of c) x ↔ UsesIn c x
+names_used c x = (
+  (λ h. (uses_in c x).0 (all_old (used_names c) x h)),
+  (λ u. all_there (used_names c) x ((uses_in c x).1 u)),
 )
 
 -- lists in order with the same names are the same
@@ -147,16 +146,16 @@ one_order (x ∷ xs) (y ∷ ys) h k f g =
     ap (λ w. w ∷ xs) e ∙ ap (λ l. y ∷ l) rest
 
 -- a list of the names from left to right, put in order
-one_list : (e : Expr) (names : Names) → IsStrictlySortedBy name_cmp names
-    → ((x : List ℕ) → Contains names x ↔ Contains (names_in (term_of e)) x) → names ≡ names_of e
-one_list e names up same =
-    one_order names (names_of e) up (names_up e)
-    (λ x c. all_there (names_in (term_of e)) x ((same x).0 c))
-    (λ x c. (same x).1 (all_old (names_in (term_of e)) x c))
+one_list : (c : Content) (names : Names) → IsStrictlySortedBy name_cmp names
+    → ((x : List ℕ) → Contains names x ↔ Contains (used_names c) x) → names ≡ names_of c
+one_list c names up same =
+    one_order names (names_of c) up (names_up c)
+    (λ x h. all_there (used_names c) x ((same x).0 h))
+    (λ x h. (same x).1 (all_old (used_names c) x h))
 
 -- what the code answers
-pub in_order_of : {V E : Type 0} (items : V → Names) (e : Expr) (from : Names) (r : Result V E) → from ≡ names_in (term_of e)
+pub in_order_of : {V E : Type 0} (items : V → Names) (c : Content) (from : Names) (r : Result V E) → from ≡ used_names c
     → IfOk r (λ v. IsStrictlySortedBy name_cmp (items v)) → IfOk r (λ v. (x : List ℕ) → Contains (items v) x ↔ Contains from x)
-    → IfOk r (λ v. items v ≡ names_of e)
-in_order_of items e from (Ok v) is up same = one_list e (items v) up (subst (λ l. (x : List ℕ) → Contains (items v) x ↔ Contains l x) is same)
-in_order_of items e from (Err f) is up same = tt
+    → IfOk r (λ v. items v ≡ names_of c)
+in_order_of items c from (Ok v) is up same = one_list c (items v) up (subst (λ l. (x : List ℕ) → Contains (items v) x ↔ Contains l x) is same)
+in_order_of items c from (Err f) is up same = tt

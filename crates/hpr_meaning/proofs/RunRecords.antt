@@ -3,11 +3,12 @@ use Rattle.std.proofs.Common.{◌≡◌, ℕ, ◌<◌, pos, Bool, true, false, L
 use Rattle.hpr_terms.specs.declared.expr.Expr.TheVariants.{Num}
 use Rattle.hpr_syntax.specs.declared.rows.Content.{Content}
 use Rattle.hpr_syntax.specs.declared.rows.Content.TheVariants.{If}
-use Rattle.hpr_syntax.specs.Contents.{UsesIn, answer_of}
+use Rattle.hpr_syntax.specs.Contents.{UsesIn, Given, answer_of, holds}
 use Rattle.hpr_syntax.specs.Body.{Body}
 use Rattle.hpr_syntax.specs.Tree.{Tree}
-use Rattle.hpr_syntax.specs.Values.{Value, Values, value_at}
-use Rattle.hpr_syntax.specs.Value.{Answer, is_true}
+use Rattle.hpr_syntax.specs.declared.value.Value.{Value}
+use Rattle.hpr_syntax.specs.Values.{Values, value_at}
+use Rattle.hpr_syntax.specs.declared.value.Value.TheVariants.{Number}
 use Rattle.hpr_terms.proofs.Facts.{compared}
 use Rattle.hpr_syntax.proofs.ActByUses.{act_by_uses}
 use Rattle.hpr_syntax.specs.Skeleton.{at, exit, Distinct, skeleton}
@@ -37,7 +38,7 @@ use Rattle.hpr_meaning.proofs.FlowPaths.{flow_of}
 use Rattle.hpr_meaning.proofs.TwoRuns.{Language, OneRun}
 use Rattle.hpr_graph.specs.declared.vertex.Vertex.TheVariants.{Part}
 
-pub same_ok : (a b : Value) → ◌≡◌ {A = Answer} (Ok a) (Ok b) → a ≡ b
+pub same_ok : (a b : Value) → ◌≡◌ {A = Given} (Ok a) (Ok b) → a ≡ b
 same_ok a b e = cc
 
 abbrev pub language : Values → Language
@@ -46,11 +47,11 @@ language s = record {
   Name = List ℕ;
   Value = Value;
   State = Values;
-  Answer = Answer;
+  Answer = Given;
   get = value_at;
   ok = λ v. Ok v;
   ok_inj = same_ok;
-  truth = is_true;
+  truth = holds;
   Defines = λ x a. Assigns a.1 x;
   Uses = λ x a. UsesIn a.1 x;
   defines? = λ x a. assigns? a.1 x;
@@ -87,7 +88,7 @@ module _ (p : Tree) (s : Values) (n : ℕ) (di : Distinct (skeleton p.body)) whe
   known = facts p.body s n di
 
   abbrev pub nothing_done : Did
-  nothing_done = record { content = If (Num 0); reads = []; gave = pos 0 }
+  nothing_done = record { content = If (Num 0); reads = []; gave = Number (pos 0) }
 
   -- what stands where the run stopped
   pub stop_says : known.over ≡ false → (c : Content) × Says p.body known.stop.0 c
@@ -101,7 +102,7 @@ module _ (p : Tree) (s : Values) (n : ℕ) (di : Distinct (skeleton p.body)) whe
   stop_did false e = let g = stop_says e in (g.0, λ x. g.1)
 
   abbrev pub stop_item : Instance
-  stop_item = (known.stop, record { content = (stop_did known.over refl).0; reads = []; gave = pos 0 })
+  stop_item = (known.stop, record { content = (stop_did known.over refl).0; reads = []; gave = Number (pos 0) })
 
   abbrev pub nth_step : ℕ → Instance
   nth_step k = item_at known.is stop_item k

@@ -1,21 +1,19 @@
 -- The law of shared slices: what one program does in a slice, the other does too.
-use Rattle.hpr_syntax.specs.Contents.{UsesIn, answer_of}
-use Rattle.hpr_syntax.proofs.ActByUses.{uses_in}
+use Rattle.hpr_syntax.specs.Contents.{UsesIn, Given, answer_of}
 use Rattle.std.proofs.Common.{◌≡◌, ◌↔◌, ℕ, ◌<◌, ◌≤◌, true, false, List, [], ◌∷◌, ◌⊎◌, Option, Some, None, length, Contains, refl, ap, sym, subst, ◌∙◌, inl, inr, arith, Ok, Err, map}
 use Rattle.hpr_terms.specs.declared.tag.Tag.{Tag}
 use Rattle.hpr_syntax.specs.declared.rows.Content.{Content}
 use Rattle.hpr_syntax.specs.Tree.{Tree}
 use Rattle.hpr_syntax.specs.Shape.{IsProgram}
-use Rattle.hpr_syntax.specs.Value.{Fault, Answer}
+use Rattle.hpr_syntax.specs.Value.{Fault}
 use Rattle.hpr_syntax.specs.Run.{FinalValues, Outcome, ends, faults, more, run, outcome, final_values}
-use Rattle.hpr_syntax.specs.Values.{Value, Values, value_at}
-use Rattle.hpr_terms.specs.Uses.{Uses}
+use Rattle.hpr_syntax.specs.declared.value.Value.{Value}
+use Rattle.hpr_syntax.specs.Values.{Values, value_at}
 use Rattle.hpr_syntax.specs.Skeleton.{Distinct, skeleton, at, exit}
 use Rattle.hpr_syntax.specs.Pairs.{first_of, FollowsIn}
 use Rattle.hpr_syntax.specs.Nests.{Says}
 use Rattle.hpr_paths.specs.Times.{Place, IsBefore}
 use Rattle.hpr_meaning.specs.Instances.{Instance, reads_of, state_after, definer, stops, trace, log_of, instances, read_of, names_of, after_of}
-use Rattle.hpr_syntax.specs.Rows.{expr_in}
 use Rattle.hpr_graph.specs.declared.vertex.Vertex.{Vertex}
 use Rattle.hpr_graph.specs.declared.vertex.Vertex.TheVariants.{Part, Final}
 use Rattle.hpr_graph.specs.Graphs.{Same}
@@ -39,16 +37,15 @@ use Rattle.hpr_meaning.proofs.RunRecords.{language, vertex_at, stop_item, nth_st
 use Rattle.hpr_meaning.proofs.SameSlices.{InBoth, both_of_first, both_of_second, shares, flow_to, use_before_to}
 use Rattle.hpr_graph.proofs.Laws.{same_turned}
 use Rattle.hpr_meaning.proofs.TwoRuns.{Shares, NoneDefines, SameOrigin, shared, same_final_value}
-use Rattle.hpr_terms.specs.declared.expr.Expr.{Expr}
 
 -- reads by what is used
 reads_by : (s : Values) (g h : List Instance) (names : List (List ℕ)) → ((x : List ℕ) → Among x names → read_of s g x ≡ read_of s h x) → map (read_of s g) names ≡ map (read_of s h) names
 reads_by s g h [] same = refl
 reads_by s g h (x ∷ names) same = let first = same x here in let rest = reads_by s g h names (λ y m. same y (there m)) in (λ i. first i ∷ rest i)
 
-same_reads : (e : Expr) (s : Values) (g h : List Instance) → ((x : List ℕ) → Uses e x → (value_at (state_after s g) x ≡ value_at (state_after s h) x) × (definer x g ≡ definer x h))
-    → reads_of e s g ≡ reads_of e s h
-same_reads e s g h same = reads_by s g h (names_of e) (λ x m. let a = same x ((names_used e x).0 (contains_among x (names_of e) m)) in (λ i. record { name = x; value = a.0 i; origin = a.1 i }))
+same_reads : (c : Content) (s : Values) (g h : List Instance) → ((x : List ℕ) → UsesIn c x → (value_at (state_after s g) x ≡ value_at (state_after s h) x) × (definer x g ≡ definer x h))
+    → reads_of c s g ≡ reads_of c s h
+same_reads c s g h same = reads_by s g h (names_of c) (λ x m. let a = same x ((names_used c x).0 (contains_among x (names_of c) m)) in (λ i. record { name = x; value = a.0 i; origin = a.1 i }))
 
 module _ (p q : Tree) (s : Values) (n m : ℕ) (dp : Distinct (skeleton p.body)) (dq : Distinct (skeleton q.body)) (S : Vertex → Type 0)
     (same : Same (slice_of (graph_of p) S) (slice_of (graph_of q) S)) (is_over : (known p s n dp).over ≡ true) where
@@ -92,10 +89,9 @@ module _ (p q : Tree) (s : Values) (n m : ℕ) (dp : Distinct (skeleton p.body))
       content = ap (λ (z : Spot). z.1) h.2
 
       reads : (nth_step p s n dp h.0).1.reads ≡ (nth_step q s m dq k).1.reads
-      reads = gp.1 ∙ (ap (λ c. reads_of (expr_in c) s (log_before (known p s n dp).is [] h.0)) content
-          ∙ (same_reads (expr_in (nth_step q s m dq k).1.content) s (log_before (known p s n dp).is [] h.0) (log_before (known q s m dq).is [] k)
-          (λ x u. let v = (uses_in (nth_step q s m dq k).1.content x).0 u in
-          (sym (same_value x h.0 k (omega (arith, h.1)) (omega (arith, a)) (h.3 x v)), sym (same_definer x h.0 k (omega (arith, h.1)) (omega (arith, a)) (h.3 x v))))
+      reads = gp.1 ∙ (ap (λ c. reads_of c s (log_before (known p s n dp).is [] h.0)) content
+          ∙ (same_reads (nth_step q s m dq k).1.content s (log_before (known p s n dp).is [] h.0) (log_before (known q s m dq).is [] k)
+          (λ x v. (sym (same_value x h.0 k (omega (arith, h.1)) (omega (arith, a)) (h.3 x v)), sym (same_definer x h.0 k (omega (arith, h.1)) (omega (arith, a)) (h.3 x v))))
           ∙ sym gq.1))
 
       whole : nth_step p s n dp h.0 ≡ nth_step q s m dq k
@@ -118,7 +114,7 @@ module _ (p q : Tree) (s : Values) (n m : ℕ) (dp : Distinct (skeleton p.body))
       let h = shared (run_record p s n dp) (run_record q s m dq) (InBoth p q S) runs_share (length (known q s m dq).is) (inr (refl, e)) b in
       ((nth_step p s n dp h.0).1.gave, h.0, h.1, h.2, h.4)
 
-ok_or_err : (a : Answer) (v : Value) (x : Fault) → a ≡ Ok v → a ≡ Err x → ⊥
+ok_or_err : (a : Given) (v : Value) (x : Fault) → a ≡ Ok v → a ≡ Err x → ⊥
 ok_or_err a v x o e = absurd cc
 
 -- outcomes

@@ -3,17 +3,17 @@ use Rattle.std.proofs.Common.{◌≡◌, ℕ, zero, suc, ◌+◌, Bool, true, fa
 use Rattle.hpr_terms.specs.declared.tag.Tag.{Tag}
 use Rattle.hpr_terms.specs.declared.expr.Expr.{Expr}
 use Rattle.hpr_syntax.specs.declared.rows.Content.TheVariants.{If, While}
-use Rattle.hpr_syntax.specs.Rows.{content_by, expr_in}
-use Rattle.hpr_syntax.specs.Contents.{answer_of}
+use Rattle.hpr_syntax.specs.Rows.{content_by}
+use Rattle.hpr_syntax.specs.Contents.{Given, answer_of, holds}
 use Rattle.hpr_syntax.specs.Body.{Body, done, action, branch, loop}
-use Rattle.hpr_syntax.specs.Values.{Value, Values}
-use Rattle.hpr_syntax.specs.Value.{Answer, is_true}
+use Rattle.hpr_syntax.specs.declared.value.Value.{Value}
+use Rattle.hpr_syntax.specs.Values.{Values}
 use Rattle.hpr_syntax.specs.Run.{After, run_body}
 use Rattle.hpr_syntax.specs.Run as run
 use Rattle.hpr_paths.specs.Times.{Place}
 use Rattle.hpr_meaning.specs.Instances.{Instance, state_after, logged, Course, goes, stops, step_at, then_go, turns_from, trace, after_of}
 
-step_run : (s : Values) (a : Place) (answer : Answer) (log : List Instance) (left : ℕ) (go : Value → ℕ → Course) (go' : Value → ℕ → After)
+step_run : (s : Values) (a : Place) (answer : Given) (log : List Instance) (left : ℕ) (go : Value → ℕ → Course) (go' : Value → ℕ → After)
     → ((v : Value) (l : ℕ) → after_of s (go v l) ≡ go' v l) → after_of s (step_at a answer log left go) ≡ run.step a.0 answer left go'
 step_run s a answer log zero go go' h = refl
 step_run s a (Ok v) log (suc left) go go' h = h v left
@@ -36,8 +36,8 @@ turns_run : (s : Values) (k n : ℕ) (t : Tag) (e : Expr) (body : List ℕ → L
 turns_run s k zero t e body body' h around log left = refl
 turns_run s k (suc n) t e body body' h around log left =
     step_run s (t, around ++ k ∷ []) (answer_of (While e) (state_after s log)) log left _ _ (λ v l.
-    if_run s (is_true v) _ _ _ _
-    (then_run s (body (around ++ k ∷ []) (logged (t, around ++ k ∷ []) (While e) e v s log) l) _ _ _ (h _ _ l)
+    if_run s (holds v) _ _ _ _
+    (then_run s (body (around ++ k ∷ []) (logged (t, around ++ k ∷ []) (While e) v s log) l) _ _ _ (h _ _ l)
     (λ log' l'. turns_run s (suc k) n t e body body' h around log' l'))
     refl)
 
@@ -46,11 +46,11 @@ pub trace_run : (s : Values) (b : Body) (around : List ℕ) (log : List Instance
 trace_run s done around log left = refl
 trace_run s (action t d rest) around log left =
     let a = content_by d in
-    step_run s (t, around) (answer_of a (state_after s log)) log left _ _ (λ v l. trace_run s rest around (logged (t, around) a (expr_in a) v s log) l)
+    step_run s (t, around) (answer_of a (state_after s log)) log left _ _ (λ v l. trace_run s rest around (logged (t, around) a v s log) l)
 trace_run s (branch t e a b rest) around log left =
     step_run s (t, around) (answer_of (If e) (state_after s log)) log left _ _ (λ v l.
-    then_run s (if is_true v then trace s a around (logged (t, around) (If e) e v s log) l else trace s b around (logged (t, around) (If e) e v s log) l) _ _ _
-    (if_run s (is_true v) _ _ _ _ (trace_run s a around (logged (t, around) (If e) e v s log) l) (trace_run s b around (logged (t, around) (If e) e v s log) l))
+    then_run s (if holds v then trace s a around (logged (t, around) (If e) v s log) l else trace s b around (logged (t, around) (If e) v s log) l) _ _ _
+    (if_run s (holds v) _ _ _ _ (trace_run s a around (logged (t, around) (If e) v s log) l) (trace_run s b around (logged (t, around) (If e) v s log) l))
     (λ log' l'. trace_run s rest around log' l'))
 trace_run s (loop t e b rest) around log left =
     then_run s (turns_from 0 (left + 1) t e (trace s b) s around log left) _ _ _

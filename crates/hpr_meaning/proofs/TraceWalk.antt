@@ -4,8 +4,7 @@
 -- notes_of log   == what is kept after the log
 -- way_of s course == the course from the state s with its notes
 use Rattle.std.proofs.Common.{◌≡◌, ℕ, zero, suc, ◌+◌, ◌-◌, Bool, true, false, List, [], ◌∷◌, ◌++◌, map, length, reverse, Option, Some, None, refl, sym, ap, ◌∙◌, arith, if◌then◌else◌, cond, Ok, Err}
-use Rattle.hpr_syntax.specs.Action.{assigns}
-use Rattle.hpr_syntax.specs.Contents.{answer_of}
+use Rattle.hpr_syntax.specs.Contents.{Given, answer_of, next_state, holds, shown_of}
 use mathlib.Core.List.{reverse_aux, reverse-cons}
 use Rattle.std.proofs.lemmas.List.{reverse-reverse, length-reverse, length-append}
 use Rattle.std.specs.FinMap.{empty, get, insert, get-insert, get-empty}
@@ -14,22 +13,22 @@ use Rattle.std.specs.Cmp.Lexicographic.{nat_list_cmp_total}
 use Rattle.hpr_terms.specs.declared.tag.Tag.{Tag}
 use Rattle.hpr_terms.specs.declared.expr.Expr.{Expr}
 use Rattle.hpr_syntax.specs.declared.rows.Content.{Content}
-use Rattle.hpr_syntax.specs.declared.rows.Content.TheVariants.{Assign, If, While}
+use Rattle.hpr_syntax.specs.declared.rows.Content.TheVariants.{If, While}
 use Rattle.hpr_syntax.specs.Body.{Body, done, action, branch, loop}
-use Rattle.hpr_syntax.specs.Rows.{assigned}
+use Rattle.hpr_syntax.specs.Rows.{content_by, assigned}
 use Rattle.hpr_syntax.specs.Tree.{Tree}
-use Rattle.hpr_syntax.specs.Values.{Value, Values, value_at}
-use Rattle.hpr_syntax.specs.Value.{Answer, is_true}
+use Rattle.hpr_syntax.specs.declared.value.Value.{Value}
+use Rattle.hpr_syntax.specs.Values.{Values, value_at}
 use Rattle.hpr_graph.specs.Order.{name_cmp}
-use Rattle.hpr_run.specs.Observed.{Way, step_way, then_way, walk_turns, walk, known_in}
+use Rattle.hpr_run.specs.Observed.{Way, step_way, then_way, walk_turns, after_action, walk, known_in}
 use Rattle.hpr_run.specs.Observed as way
 use Rattle.hpr_paths.specs.Times.{Place}
 use Rattle.hpr_meaning.specs.declared.traced.Origin.{Origin}
 use Rattle.hpr_meaning.specs.declared.traced.Read.{Read}
 use Rattle.hpr_meaning.specs.Instances.{Instance, state_after, names_of, read_of, reads_of, logged, Course, goes, stops, step_at, then_go, turns_from, trace, log_of, course_of, instances}
-use Rattle.hpr_meaning.specs.Items.{Item, with_number, origin_in, read_after, item_after, items_after, items_of}
+use Rattle.hpr_meaning.specs.Items.{Item, reading_of, with_number, origin_in, read_after, item_after, items_after, items_of}
 use Rattle.hpr_meaning.specs.Numbers.{Numbers}
-use Rattle.hpr_meaning.specs.Notes.{Notes, origin_by, origin_at, no_notes, read_at, item_at, noted, defined, tracing}
+use Rattle.hpr_meaning.specs.Notes.{Notes, origin_by, origin_at, no_notes, read_at, item_at, noted, tracing}
 
 abbrev pub with_insert : Option (List ℕ) → ℕ → Numbers → Numbers
 with_insert None n ns = ns
@@ -63,7 +62,7 @@ origins (i ∷ log) x =
 
 -- the reads by the notes and by the log
 one_read : (s : Values) (log : List Instance) (x : List ℕ) → read_at (state_after s log) (notes_of log) x ≡ read_after log (read_of s log x)
-one_read s log x = ap (λ (o : Origin). record { name = x; value = value_at (state_after s log) x; origin = o }) (origins log x)
+one_read s log x = ap (λ (o : Origin). record { name = x; value = reading_of (value_at (state_after s log) x); origin = o }) (origins log x)
 
 all_reads : (s : Values) (log : List Instance) (names : List (List ℕ))
     → map (read_at (state_after s log) (notes_of log)) names ≡ map (read_after log) (map (read_of s log) names)
@@ -72,9 +71,9 @@ all_reads s log (x ∷ names) =
     ap (λ (r : Read). r ∷ map (read_at (state_after s log) (notes_of log)) names) (one_read s log x)
     ∙ ap (λ (l : List Read). read_after log (read_of s log x) ∷ l) (all_reads s log names)
 
-one_item : (s : Values) (a : Place) (c : Content) (e : Expr) (v : Value) (log : List Instance)
-    → item_at a e v (state_after s log) (notes_of log) ≡ item_after log (a, record { content = c; reads = reads_of e s log; gave = v })
-one_item s a c e v log = ap (λ (l : List Read). record { tag = a.0; turns = a.1; reads = l; value = v }) (all_reads s log (names_of e))
+one_item : (s : Values) (a : Place) (c : Content) (v : Value) (log : List Instance)
+    → item_at a c (shown_of v) (state_after s log) (notes_of log) ≡ item_after log (a, record { content = c; reads = reads_of c s log; gave = v })
+one_item s a c v log = ap (λ (l : List Read). record { tag = a.0; turns = a.1; reads = l; value = shown_of v }) (all_reads s log (names_of c))
 
 -- the items, one by one
 items_split : (log xs ys : List Instance) → items_after log (xs ++ ys) ≡ items_after log xs ++ items_after (reverse_aux xs log) ys
@@ -94,32 +93,29 @@ items_length log (x ∷ xs) = ap suc (items_length (x ∷ log) xs)
 items_count : (log : List Instance) → length (items_of (reverse log)) ≡ length log
 items_count log = items_length [] (reverse log) ∙ length-reverse log
 
-logged_items : (s : Values) (a : Place) (c : Content) (e : Expr) (v : Value) (log : List Instance)
-    → items_of (reverse (logged a c e v s log)) ≡ items_of (reverse log) ++ item_at a e v (state_after s log) (notes_of log) ∷ []
-logged_items s a c e v log =
-    items_more log (a, record { content = c; reads = reads_of e s log; gave = v })
-    ∙ ap (λ (i : Item). items_of (reverse log) ++ i ∷ []) (sym (one_item s a c e v log))
+logged_items : (s : Values) (a : Place) (c : Content) (v : Value) (log : List Instance)
+    → items_of (reverse (logged a c v s log)) ≡ items_of (reverse log) ++ item_at a c (shown_of v) (state_after s log) (notes_of log) ∷ []
+logged_items s a c v log =
+    items_more log (a, record { content = c; reads = reads_of c s log; gave = v })
+    ∙ ap (λ (i : Item). items_of (reverse log) ++ i ∷ []) (sym (one_item s a c v log))
 
 -- one step
-if_noted : (s : Values) (t : Tag) (around : List ℕ) (e : Expr) (v : Value) (log : List Instance)
-    → notes_of (logged (t, around) (If e) e v s log) ≡ noted around t e v (state_after s log) (notes_of log)
-if_noted s t around e v log = ap (λ (l : List Item). record { definers = numbers_of log; items = l }) (logged_items s (t, around) (If e) e v log)
+defined_last : (o : Option (List ℕ)) (ns : Numbers) (items : List Item) (n : ℕ) → n ≡ length items - 1
+    → record { definers = with_insert o n ns; items = items } ≡ after_action tracing o (record { definers = ns; items = items })
+defined_last None ns items n e = refl
+defined_last (Some x) ns items n e = ap (λ (k : ℕ). record { definers = insert ns x k; items = items }) e
 
-while_noted : (s : Values) (t : Tag) (around : List ℕ) (e : Expr) (v : Value) (log : List Instance)
-    → notes_of (logged (t, around) (While e) e v s log) ≡ noted around t e v (state_after s log) (notes_of log)
-while_noted s t around e v log = ap (λ (l : List Item). record { definers = numbers_of log; items = l }) (logged_items s (t, around) (While e) e v log)
-
-assign_noted : (s : Values) (t : Tag) (around : List ℕ) (x : List ℕ) (e : Expr) (v : Value) (log : List Instance)
-    → notes_of (logged (t, around) (Assign x e) e v s log) ≡ defined x (noted around t e v (state_after s log) (notes_of log))
-assign_noted s t around x e v log =
+logged_noted : (s : Values) (t : Tag) (around : List ℕ) (c : Content) (v : Value) (log : List Instance)
+    → notes_of (logged (t, around) c v s log) ≡ after_action tracing (assigned c) (noted around t c (shown_of v) (state_after s log) (notes_of log))
+logged_noted s t around c v log =
     let before = items_of (reverse log) in
-    let new = item_at (t, around) e v (state_after s log) (notes_of log) in
+    let new = item_at (t, around) c (shown_of v) (state_after s log) (notes_of log) in
     let count : length log ≡ length (before ++ new ∷ []) - 1 = omega (arith, items_count log, length-append before (new ∷ [])) in
-    ap (λ (l : List Item). record { definers = insert (numbers_of log) x (length log); items = l }) (logged_items s (t, around) (Assign x e) e v log)
-    ∙ ap (λ (n : ℕ). record { definers = insert (numbers_of log) x n; items = before ++ new ∷ [] }) count
+    ap (λ (l : List Item). record { definers = with_insert (assigned c) (length log) (numbers_of log); items = l }) (logged_items s (t, around) c v log)
+    ∙ defined_last (assigned c) (numbers_of log) (before ++ new ∷ []) (length log) count
 
 -- the whole
-step_walk : (s : Values) (a : Place) (answer : Answer) (log : List Instance) (left : ℕ) (go : Value → ℕ → Course) (go' : Value → ℕ → Way Notes)
+step_walk : (s : Values) (a : Place) (answer : Given) (log : List Instance) (left : ℕ) (go : Value → ℕ → Course) (go' : Value → ℕ → Way Notes)
     → ((v : Value) (l : ℕ) → way_of s (go v l) ≡ go' v l) → way_of s (step_at a answer log left go) ≡ step_way a.0 answer (notes_of log) left go'
 step_walk s a answer log zero go go' h = refl
 step_walk s a (Ok v) log (suc left) go go' h = h v left
@@ -143,27 +139,28 @@ turns_walk : (s : Values) (k n : ℕ) (t : Tag) (e : Expr) (body : List ℕ → 
 turns_walk s k zero t e body body' h around log left = refl
 turns_walk s k (suc n) t e body body' h around log left =
     step_walk s (t, around ++ k ∷ []) (answer_of (While e) (state_after s log)) log left _ _ (λ v l.
-    let seen = while_noted s t (around ++ k ∷ []) e v log in
-    if_walk s (is_true v) _ _ _ _
-    (then_walk s (body (around ++ k ∷ []) (logged (t, around ++ k ∷ []) (While e) e v s log) l) _ _ _
-    (h (around ++ k ∷ []) (logged (t, around ++ k ∷ []) (While e) e v s log) l ∙ ap (λ (m : Notes). body' (around ++ k ∷ []) m (state_after s log) l) seen)
+    let seen = logged_noted s t (around ++ k ∷ []) (While e) v log in
+    if_walk s (holds v) _ _ _ _
+    (then_walk s (body (around ++ k ∷ []) (logged (t, around ++ k ∷ []) (While e) v s log) l) _ _ _
+    (h (around ++ k ∷ []) (logged (t, around ++ k ∷ []) (While e) v s log) l ∙ ap (λ (m : Notes). body' (around ++ k ∷ []) m (state_after s log) l) seen)
     (λ log' l'. turns_walk s (suc k) n t e body body' h around log' l'))
     (ap (λ (m : Notes). way.goes m (state_after s log) l) seen))
 
 trace_walk : (s : Values) (b : Body) (around : List ℕ) (log : List Instance) (left : ℕ)
     → way_of s (trace s b around log left) ≡ walk tracing b around (notes_of log) (state_after s log) left
 trace_walk s done around log left = refl
-trace_walk s (action t (assigns x e) rest) around log left =
-    step_walk s (t, around) (answer_of (Assign x e) (state_after s log)) log left _ _ (λ v l.
-    trace_walk s rest around (logged (t, around) (Assign x e) e v s log) l
-    ∙ ap (λ (m : Notes). walk tracing rest around m (insert (state_after s log) x v) l) (assign_noted s t around x e v log))
+trace_walk s (action t d rest) around log left =
+    let c = content_by d in
+    step_walk s (t, around) (answer_of c (state_after s log)) log left _ _ (λ v l.
+    trace_walk s rest around (logged (t, around) c v s log) l
+    ∙ ap (λ (m : Notes). walk tracing rest around m (next_state c v (state_after s log)) l) (logged_noted s t around c v log))
 trace_walk s (branch t e a b rest) around log left =
     step_walk s (t, around) (answer_of (If e) (state_after s log)) log left _ _ (λ v l.
-    let seen = if_noted s t around e v log in
-    then_walk s (if is_true v then trace s a around (logged (t, around) (If e) e v s log) l else trace s b around (logged (t, around) (If e) e v s log) l) _ _ _
-    (if_walk s (is_true v) _ _ _ _
-    (trace_walk s a around (logged (t, around) (If e) e v s log) l ∙ ap (λ (m : Notes). walk tracing a around m (state_after s log) l) seen)
-    (trace_walk s b around (logged (t, around) (If e) e v s log) l ∙ ap (λ (m : Notes). walk tracing b around m (state_after s log) l) seen))
+    let seen = logged_noted s t around (If e) v log in
+    then_walk s (if holds v then trace s a around (logged (t, around) (If e) v s log) l else trace s b around (logged (t, around) (If e) v s log) l) _ _ _
+    (if_walk s (holds v) _ _ _ _
+    (trace_walk s a around (logged (t, around) (If e) v s log) l ∙ ap (λ (m : Notes). walk tracing a around m (state_after s log) l) seen)
+    (trace_walk s b around (logged (t, around) (If e) v s log) l ∙ ap (λ (m : Notes). walk tracing b around m (state_after s log) l) seen))
     (λ log' l'. trace_walk s rest around log' l'))
 trace_walk s (loop t e b rest) around log left =
     then_walk s (turns_from 0 (left + 1) t e (trace s b) s around log left) _ _ _

@@ -3,16 +3,16 @@
 --
 -- Read                  == a name that a step reads, the value, and the step that last defined the name: its place and what it says; none
 --                          where the value is the initial one
--- Did                   == what was done at a place: the content, the reads, and the number that it gave
+-- Did                   == what was done at a place: the content, the reads, and what it gave
 -- Instance              == a place, and what was done there
--- truth d               == whether the number that was given is true
+-- truth d               == whether what was given is true
 -- state_after s log     == the state from s on after the log
 -- definer x log         == the step that last defined the name x
 -- put_name x names      == the name among these, which ascend, each once
 -- put_names names       == these names, ascending, each once
--- names_of e            == the names of an expression, ascending, each once
+-- names_of c            == the names that a part uses that says c, ascending, each once
 -- read_of s log x       == the read of x after the log
--- reads_of e s log      == the reads of an expression, ascending by name
+-- reads_of c s log      == the reads of a part that says c, ascending by name
 -- logged a c v s log    == the log with a step at the place a, where the content c gave v
 -- Course                == where a run is after some statements: it goes on with a log and some steps left, or it stopped at a place, for a
 --                          fault or for want of steps
@@ -30,16 +30,15 @@ use Rattle.std.specs.Prelude.{◌≡◌, ℕ, zero, suc, ◌+◌, Bool, if◌the
 use Rattle.std.specs.Ordering.{is_lt, is_eq}
 use Rattle.hpr_terms.specs.declared.tag.Tag.{Tag}
 use Rattle.hpr_terms.specs.declared.expr.Expr.{Expr}
-use Rattle.hpr_terms.specs.Uses.{names_in}
-use Rattle.hpr_terms.specs.TermOf.{term_of}
 use Rattle.hpr_syntax.specs.declared.rows.Content.{Content}
 use Rattle.hpr_syntax.specs.declared.rows.Content.TheVariants.{If, While}
-use Rattle.hpr_syntax.specs.Contents.{answer_of, next_state}
+use Rattle.hpr_syntax.specs.Contents.{Given, used_names, answer_of, next_state, holds}
 use Rattle.hpr_syntax.specs.Body.{Body, done, action, branch, loop}
 use Rattle.hpr_syntax.specs.Tree.{Tree}
-use Rattle.hpr_syntax.specs.Rows.{content_by, assigned, expr_in}
-use Rattle.hpr_syntax.specs.Values.{Value, Values, value_at}
-use Rattle.hpr_syntax.specs.Value.{Fault, Answer, is_true}
+use Rattle.hpr_syntax.specs.Rows.{content_by, assigned}
+use Rattle.hpr_syntax.specs.declared.value.Value.{Value}
+use Rattle.hpr_syntax.specs.Values.{Values, value_at}
+use Rattle.hpr_syntax.specs.Value.{Fault}
 use Rattle.hpr_syntax.specs.Run.{After}
 use Rattle.hpr_syntax.specs.Run as after
 use Rattle.hpr_graph.specs.Order.{name_cmp}
@@ -59,7 +58,7 @@ abbrev pub Instance : Type 0
 Instance = Place × Did
 
 abbrev pub truth : Did → Bool
-truth d = is_true d.gave
+truth d = holds d.gave
 
 abbrev pub state_after : Values → List Instance → Values
 state_after s [] = s
@@ -83,23 +82,23 @@ abbrev pub put_names : List (List ℕ) → List (List ℕ)
 put_names [] = []
 put_names (x ∷ names) = put_name x (put_names names)
 
-abbrev pub names_of : Expr → List (List ℕ)
-names_of e = put_names (names_in (term_of e))
+abbrev pub names_of : Content → List (List ℕ)
+names_of c = put_names (used_names c)
 
 abbrev pub read_of : Values → List Instance → List ℕ → Read
 read_of s log x = record { name = x; value = value_at (state_after s log) x; origin = definer x log }
 
-abbrev pub reads_of : Expr → Values → List Instance → List Read
-reads_of e s log = map (read_of s log) (names_of e)
+abbrev pub reads_of : Content → Values → List Instance → List Read
+reads_of c s log = map (read_of s log) (names_of c)
 
-abbrev pub logged : Place → Content → Expr → Value → Values → List Instance → List Instance
-logged a c e v s log = (a, record { content = c; reads = reads_of e s log; gave = v }) ∷ log
+abbrev pub logged : Place → Content → Value → Values → List Instance → List Instance
+logged a c v s log = (a, record { content = c; reads = reads_of c s log; gave = v }) ∷ log
 
 pub data Course : Type 0 where
   goes : (log : List Instance) → (left : ℕ) → Course
   stops : (place : Place) → (why : Option Fault) → (log : List Instance) → (left : ℕ) → Course
 
-abbrev pub step_at : Place → Answer → List Instance → ℕ → (Value → ℕ → Course) → Course
+abbrev pub step_at : Place → Given → List Instance → ℕ → (Value → ℕ → Course) → Course
 step_at a answer log zero go = stops a None log zero
 step_at a (Ok v) log (suc left) go = go v left
 step_at a (Err f) log (suc left) go = stops a (Some f) log left
@@ -112,9 +111,9 @@ abbrev pub turns_from : ℕ → ℕ → Tag → Expr → (List ℕ → List Inst
 turns_from k zero t e body s around log left = stops (t, around ++ k ∷ []) None log left
 turns_from k (suc n) t e body s around log left =
     step_at (t, around ++ k ∷ []) (answer_of (While e) (state_after s log)) log left (λ v left'.
-    if is_true v
-    then then_go (body (around ++ k ∷ []) (logged (t, around ++ k ∷ []) (While e) e v s log) left') (turns_from (suc k) n t e body s around)
-    else goes (logged (t, around ++ k ∷ []) (While e) e v s log) left')
+    if holds v
+    then then_go (body (around ++ k ∷ []) (logged (t, around ++ k ∷ []) (While e) v s log) left') (turns_from (suc k) n t e body s around)
+    else goes (logged (t, around ++ k ∷ []) (While e) v s log) left')
 
 -- A loop makes no more turns than it has steps, and one to see that none is left.
 abbrev pub trace : Values → Body → List ℕ → List Instance → ℕ → Course
@@ -122,13 +121,13 @@ trace s done around log left = goes log left
 trace s (action t d rest) around log left =
     let c = content_by d in
     step_at (t, around) (answer_of c (state_after s log)) log left (λ v left'.
-    trace s rest around (logged (t, around) c (expr_in c) v s log) left')
+    trace s rest around (logged (t, around) c v s log) left')
 trace s (branch t e a b rest) around log left =
     step_at (t, around) (answer_of (If e) (state_after s log)) log left (λ v left'.
     then_go
-    (if is_true v
-    then trace s a around (logged (t, around) (If e) e v s log) left'
-    else trace s b around (logged (t, around) (If e) e v s log) left')
+    (if holds v
+    then trace s a around (logged (t, around) (If e) v s log) left'
+    else trace s b around (logged (t, around) (If e) v s log) left')
     (trace s rest around))
 trace s (loop t e b rest) around log left = then_go (turns_from 0 (left + 1) t e (trace s b) s around log left) (trace s rest around)
 

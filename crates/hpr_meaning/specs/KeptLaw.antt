@@ -16,7 +16,8 @@ use Rattle.std.specs.List.{AllByRecursion}
 use Rattle.hpr_syntax.specs.Meaning.{Ends}
 use Rattle.hpr_syntax.specs.Run.{FinalValues}
 use Rattle.hpr_syntax.specs.Tree.{Tree}
-use Rattle.hpr_syntax.specs.Values.{Value, Values}
+use Rattle.hpr_syntax.specs.declared.value.Value.{Value}
+use Rattle.hpr_syntax.specs.Values.{Values}
 
 pub record Finished : Type 0 where
   pub program : Tree

@@ -10,7 +10,8 @@ use Rattle.hpr_terms.specs.declared.tag.Tag.{Tag}
 use Rattle.hpr_syntax.specs.declared.rows.Content.{Content}
 use Rattle.hpr_syntax.specs.Nests.{Says}
 use Rattle.hpr_syntax.specs.Tree.{Tree}
-use Rattle.hpr_syntax.specs.Values.{Value, Values}
+use Rattle.hpr_syntax.specs.declared.value.Value.{Value}
+use Rattle.hpr_syntax.specs.Values.{Values}
 use Rattle.hpr_syntax.specs.Value.{Fault}
 use Rattle.hpr_syntax.specs.Run.{FinalValues, ends, faults, run}
 use Rattle.hpr_graph.specs.declared.vertex.Vertex.{Vertex}

@@ -9,5 +9,5 @@ mod traced;
 mod tracing;
 mod turns;
 
-pub use traced::{Instance, Origin, Read, Traced};
+pub use traced::{Instance, Origin, Read, Reading, Traced};
 pub use tracing::trace;

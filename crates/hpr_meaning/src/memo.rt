@@ -1,15 +1,17 @@
 //! What a traced run keeps.
 ghost use Rattle.std.specs.Prelude.{◌≡◌, [], map, IfOk};
 ghost use Rattle.hpr_meaning.specs.Instances.{names_of};
-ghost use Rattle.hpr_meaning.specs.Items.{item_in};
+ghost use Rattle.hpr_syntax.specs.Rows.{content_of};
+ghost use Rattle.hpr_syntax.specs.Values.{value_at};
+ghost use Rattle.hpr_meaning.specs.Items.{item_in, reading_of};
 ghost use Rattle.hpr_meaning.specs.Notes.{no_notes, read_at};
 
 use crate::definers::Definers;
 use crate::names::names_of;
-use crate::traced::{Instance, Read};
+use crate::traced::{Instance, Read, Reading};
 use crate::turns::Turns;
 use hpr_run::{Observer, State, Value};
-use hpr_syntax::{Expr, Name, NoMemory, Tag};
+use hpr_syntax::{Name, NoMemory, Stmt};
 use std::alloc::Global;
 use std::marker::Model;
 
@@ -54,13 +56,14 @@ impl Memo {
         items
     }
 
-    /// The names that the expression reads in the state.
-    fn reads(&self, alloc: Global, expr: &Expr, state: &State) -> Result<Vec<Read>, NoMemory>
-        ensures { IfOk result (λ reads. reads.items ≡ map (read_at state.now self.now) (names_of expr.now)) }
+    /// What the part reads in the state.
+    fn reads(&self, alloc: Global, stmt: &Stmt, state: &State) -> Result<Vec<Read>, NoMemory>
+        ensures { IfOk result (λ reads. reads.items
+            ≡ map (read_at state.now self.now) (names_of (content_of stmt.now))) }
     {
         let mut reads = Vec::new(alloc);
-        for name in names_of(alloc, expr)? {
-            let value = state.get(&name);
+        for name in names_of(alloc, stmt)? {
+            let value = reading(state, &name);
             let origin = self.definers.origin(&name);
             reads.push(Read {
                 name,
@@ -92,18 +95,17 @@ impl Observer for Memo {
         &mut self,
         alloc: Global,
         around: &Turns,
-        tag: Tag,
-        expr: &Expr,
-        value: Value,
+        stmt: &Stmt,
+        number: i64,
         state: &State,
     ) -> Result<(), NoMemory> {
-        let reads = self.reads(alloc, expr, state)?;
+        let reads = self.reads(alloc, stmt, state)?;
         let turns = around.copied(alloc)?;
         self.items.push(Instance {
-            tag,
+            tag: stmt.tag(),
             turns,
             reads,
-            value,
+            value: number,
         })?;
         Ok(())
     }
@@ -111,5 +113,26 @@ impl Observer for Memo {
     fn assign(&mut self, alloc: Global, name: &Name) -> Result<(), NoMemory> {
         let last = self.items.len().saturating_sub(1);
         self.definers.set(alloc, name, last)
+    }
+}
+
+/// What a read of the name in the state shows.
+fn reading(state: &State, name: &Name) -> Reading
+    ensures { result ≡ reading_of (value_at state.now name.now) }
+{
+    match state.listed(name) {
+        Some(value) => shown(value),
+        None if name.is_stream() => Reading::Size(0),
+        None => Reading::Number(0),
+    }
+}
+
+/// What a read of the value shows.
+fn shown(value: &Value) -> Reading
+    ensures { result ≡ reading_of value.now }
+{
+    match value {
+        Value::Number(number) => Reading::Number(*number),
+        Value::List(written) => Reading::Size(written.len()),
     }
 }

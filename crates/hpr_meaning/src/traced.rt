@@ -1,5 +1,5 @@
 //! Traces: the instances of a run, and how it went.
-use hpr_run::{Outcome, Value};
+use hpr_run::Outcome;
 use hpr_syntax::{Name, Tag};
 
 /// Where the value of a name comes from.
@@ -11,15 +11,24 @@ pub enum Origin {
     Instance(usize),
 }
 
+/// What a read shows of a value.
+#[derive(Clone, Copy)]
+pub enum Reading {
+    /// The number.
+    Number(i64),
+    /// How many numbers were written to the stream.
+    Size(usize),
+}
+
 /// A name that a step reads.
 #[derive(Drop)]
 pub struct Read {
     pub name: Name,
-    pub value: Value,
+    pub value: Reading,
     pub origin: Origin,
 }
 
-/// A finished step of a run: an assignment, or an evaluation of a predicate (Reps and Yang 1988).
+/// A finished step of a run: an assignment, a write, or an evaluation of a predicate (Reps and Yang 1988).
 #[derive(Drop)]
 pub struct Instance {
     /// The part.
@@ -27,10 +36,10 @@ pub struct Instance {
     /// The turn of each loop that encloses the part, from 0, the outermost loop first. A loop
     /// encloses its own predicate, which so counts its own evaluations.
     pub turns: Vec<u64>,
-    /// The names of the part's expression, ascending, each once.
+    /// The names that the part uses, ascending, each once.
     pub reads: Vec<Read>,
-    /// The number that the expression gave.
-    pub value: Value,
+    /// The number that was assigned, written or decided by.
+    pub value: i64,
 }
 
 /// A run, step by step.

@@ -5,7 +5,7 @@ use Rattle.std.specs.Cmp.Lexicographic.{nat_list_cmp_total}
 use Rattle.std.proofs.lemmas.List.{append-nil}
 use Rattle.hpr_terms.specs.declared.limits.TheConstants.{MAX_LEVELS}
 use Rattle.hpr_terms.specs.declared.tag.Tag.{Tag}
-use Rattle.hpr_terms.proofs.Facts.{place_of, in_map}
+use Rattle.hpr_terms.proofs.Facts.{place_of, in_map, neither}
 use Rattle.hpr_syntax.specs.declared.rows.Content.{Content}
 use Rattle.hpr_syntax.specs.declared.rows.Content.TheVariants.{If, While}
 use Rattle.hpr_syntax.specs.Rows.{content_by, Parent}
@@ -13,6 +13,7 @@ use Rattle.hpr_syntax.specs.Body.{Body, done, action, branch, loop}
 use Rattle.hpr_syntax.specs.Issued.{Issued}
 use Rattle.hpr_syntax.specs.Nests.{Says}
 use Rattle.hpr_syntax.specs.Parts.{same_tag, tags_of}
+use Rattle.hpr_syntax.specs.Shape.{says_large, is_wrong}
 use Rattle.hpr_syntax.specs.Tree.{Tree}
 use Rattle.hpr_syntax.proofs.NoRefusal.{no_refusal}
 use Rattle.hpr_syntax.proofs.PartBound.{few_parts}
@@ -38,7 +39,7 @@ use Rattle.hpr_order.specs.Limits.{IsAllowedTree}
 use Rattle.hpr_order.proofs.BlockOf.{IsBlockOf, Places, IsParent, says_in, so_stands, stands_by_place, place_in, in_which}
 use Rattle.hpr_order.proofs.Lefts.{left_is, one_left, left_stands}
 use Rattle.hpr_order.proofs.ReadBack.{read_whole}
-use Rattle.hpr_order.proofs.Shapes.{tag_of, tags_in, count_in, in_small, in_shallow}
+use Rattle.hpr_order.proofs.Shapes.{tag_of, tags_in, count_in, in_none_of, in_shallow}
 use Rattle.hpr_order.proofs.Sound.{IsKnown, source_control, item_at, below_of}
 
 below_less : (n k : ℕ) → Contains (below n) k → k < n
@@ -193,7 +194,10 @@ module _ (g : Graph) (items : List Item) (issued : Issued) (finals : List (List 
       record {
         limits = record {
           parts = omega (arith, few_parts p has.arranged.program, count_in items t p.body has.block, count);
-          operators = λ k u c i. in_small items t p.body k u c shape.expressions has.block (all_there p t has k (below_of items k u c i)) i;
+          contents = λ k u c i.
+              (let there = all_there p t has k (below_of items k u c i) in
+              neither (says_large c) (is_wrong c) (in_none_of items says_large t p.body k u c shape.expressions has.block there i)
+              (in_none_of items is_wrong t p.body k u c shape.variables has.block there i));
           levels = λ k lt. in_shallow (slot_at items) items MAX_LEVELS 0 t p.body None k (omega arith) refl stands has.block shape.levels (all_there p t has k lt);
         };
         arranged = record {

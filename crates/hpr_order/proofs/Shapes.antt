@@ -6,17 +6,17 @@ use Rattle.std.proofs.lemmas.Bool.Decides.{nat_tests}
 use Rattle.std.proofs.lemmas.List.Elements.{All-contains}
 use Rattle.hpr_terms.specs.declared.limits.TheConstants.{MAX_LEVELS}
 use Rattle.hpr_terms.specs.declared.tag.Tag.{Tag}
-use Rattle.hpr_terms.proofs.Facts.{if_none, unless, contains_at}
+use Rattle.hpr_terms.proofs.Facts.{unless, contains_at}
 use Rattle.hpr_syntax.specs.declared.rows.Row.{Row}
 use Rattle.hpr_syntax.specs.declared.rows.Content.{Content}
 use Rattle.hpr_syntax.specs.declared.rows.Content.TheVariants.{If, While}
-use Rattle.hpr_syntax.specs.Rows.{content_by, Parent, rows_of, expr_in}
+use Rattle.hpr_syntax.specs.Rows.{content_by, Parent, rows_of}
 use Rattle.hpr_syntax.specs.Body.{Body, done, action, branch, loop, part_count}
 use Rattle.hpr_syntax.specs.Issued.{Issued, issued_to}
 use Rattle.hpr_syntax.specs.Parts.{tags_of}
 use Rattle.hpr_syntax.specs.Proper.{IsProperBody, IsProperTag, IsProperContent}
-use Rattle.hpr_syntax.specs.Shape.{first_repeated, first_unissued, is_unissued, first_deep, first_large, is_large}
-use Rattle.hpr_syntax.proofs.NoRefusal.{or_none}
+use Rattle.hpr_syntax.specs.Shape.{first_repeated, first_unissued, is_unissued, first_deep, first_where}
+use Rattle.hpr_syntax.proofs.NoRefusal.{or_none, none_in_action, none_in_branch, none_in_loop}
 use Rattle.hpr_syntax.proofs.ProperLemmas.{proper_action}
 use Rattle.hpr_graph.specs.declared.vertex.Vertex.{Vertex}
 use Rattle.hpr_graph.specs.declared.vertex.Vertex.TheVariants.{Entry, Part}
@@ -157,61 +157,58 @@ module _ (items : List Item) where
   proper_in (node c y n r) (loop t e p rest) all h =
       (let i = proper_item c t (While e) all h.0 in (i.0, i.1, proper_in y p all h.1, proper_in r rest all h.3))
 
-  -- no expression is large exactly where none of an item is
   none_or : {X : Type 0} (a b : Option X) → a ≡ None → b ≡ None → option_or a b ≡ None
   none_or None b x y = y
   none_or (Some z) b x y = absurd cc
 
-  pub small_in : (t : Tree) (b : Body) → ((k : ℕ) (u : Tag) (c : Content) → IsItem items k u c → is_large (expr_in c) ≡ false) → IsBlockOf items t b → first_large b ≡ None
-  small_in empty done all h = refl
-  small_in empty (action t d rest) all h = absurd h
-  small_in empty (branch t e p q rest) all h = absurd h
-  small_in empty (loop t e p rest) all h = absurd h
-  small_in (node c y n r) done all h = absurd h
-  small_in (node c y n r) (action t action_ rest) all h = unless (is_large (expr_in (content_by action_))) t (first_large rest) (all c t (content_by action_) h.0) (small_in r rest all h.3)
-  small_in (node c y n r) (branch t e p q rest) all h =
-      unless (is_large e) t _ (all c t (If e) h.0) (none_or _ _ (small_in y p all h.1) (none_or _ _ (small_in n q all h.2) (small_in r rest all h.3)))
-  small_in (node c y n r) (loop t e p rest) all h =
-      unless (is_large e) t _ (all c t (While e) h.0) (none_or _ _ (small_in y p all h.1) (small_in r rest all h.3))
-
-  small_at : (c k : ℕ) (t u : Tag) (d d' : Content) → c ≡ k → IsItem items c t d → IsItem items k u d' → is_large (expr_in d) ≡ false → is_large (expr_in d') ≡ false
-  small_at c k t u d d' is i j small =
-      subst (λ z. is_large (expr_in z) ≡ false) (same_part items k t u d d' (subst (λ z. IsItem items z t d) is i) j).1 small
-
   none_there : (t : Tree) → IsBlockOf items t done → (k : ℕ) → Contains (preorder t) k → ⊥
   none_there t h k a = in_none k (subst (λ z. Contains z k) (none_of items t h) a)
 
-  pub in_small : (t : Tree) (b : Body) (k : ℕ) (u : Tag) (d : Content) → first_large b ≡ None → IsBlockOf items t b → Contains (preorder t) k → IsItem items k u d
-      → is_large (expr_in d) ≡ false
-  in_small empty b k u d small h a i = absurd (in_none k a)
-  in_small (node c y n r) done k u d small h a i = absurd h
-  in_small (node c y n r) (action t action_ rest) k u d small h a i =
-      let (now, later) = if_none (is_large (expr_in (content_by action_))) t (first_large rest) small in
-      elim (in_which c y n r k a) [
-        | inl is ↦ small_at c k t u (content_by action_) d is h.0 i now
-        | inr (inl none) ↦ absurd (none_there y h.1 k none)
-        | inr (inr (inl none)) ↦ absurd (none_there n h.2 k none)
-        | inr (inr (inr three)) ↦ in_small r rest k u d later h.3 three i
-      ]
-  in_small (node c y n r) (branch t e p q rest) k u d small h a i =
-      let (now, later) = if_none (is_large e) t (option_or (first_large p) (option_or (first_large q) (first_large rest))) small in
-      let (p_none, more) = or_none (first_large p) (option_or (first_large q) (first_large rest)) later in
-      let (q_none, rest_none) = or_none (first_large q) (first_large rest) more in
-      elim (in_which c y n r k a) [
-        | inl is ↦ small_at c k t u (If e) d is h.0 i now
-        | inr (inl one) ↦ in_small y p k u d p_none h.1 one i
-        | inr (inr (inl two)) ↦ in_small n q k u d q_none h.2 two i
-        | inr (inr (inr three)) ↦ in_small r rest k u d rest_none h.3 three i
-      ]
-  in_small (node c y n r) (loop t e p rest) k u d small h a i =
-      let (now, later) = if_none (is_large e) t (option_or (first_large p) (first_large rest)) small in
-      let (p_none, rest_none) = or_none (first_large p) (first_large rest) later in
-      elim (in_which c y n r k a) [
-        | inl is ↦ small_at c k t u (While e) d is h.0 i now
-        | inr (inl one) ↦ in_small y p k u d p_none h.1 one i
-        | inr (inr (inl none)) ↦ absurd (none_there n h.2 k none)
-        | inr (inr (inr three)) ↦ in_small r rest k u d rest_none h.3 three i
-      ]
+  -- a test is true of no part exactly where it is true of no item
+  module _ (test : Content → Bool) where
+    pub none_in : (t : Tree) (b : Body) → ((k : ℕ) (u : Tag) (c : Content) → IsItem items k u c → test c ≡ false) → IsBlockOf items t b → first_where test b ≡ None
+    none_in empty done all h = refl
+    none_in empty (action t d rest) all h = absurd h
+    none_in empty (branch t e p q rest) all h = absurd h
+    none_in empty (loop t e p rest) all h = absurd h
+    none_in (node c y n r) done all h = absurd h
+    none_in (node c y n r) (action t d rest) all h = unless (test (content_by d)) t (first_where test rest) (all c t (content_by d) h.0) (none_in r rest all h.3)
+    none_in (node c y n r) (branch t e p q rest) all h =
+        unless (test (If e)) t _ (all c t (If e) h.0) (none_or _ _ (none_in y p all h.1) (none_or _ _ (none_in n q all h.2) (none_in r rest all h.3)))
+    none_in (node c y n r) (loop t e p rest) all h =
+        unless (test (While e)) t _ (all c t (While e) h.0) (none_or _ _ (none_in y p all h.1) (none_in r rest all h.3))
+
+    false_at : (c k : ℕ) (t u : Tag) (d d' : Content) → c ≡ k → IsItem items c t d → IsItem items k u d' → test d ≡ false → test d' ≡ false
+    false_at c k t u d d' is i j fails = subst (λ z. test z ≡ false) (same_part items k t u d d' (subst (λ z. IsItem items z t d) is i) j).1 fails
+
+    pub in_none_of : (t : Tree) (b : Body) (k : ℕ) (u : Tag) (d : Content) → first_where test b ≡ None → IsBlockOf items t b → Contains (preorder t) k → IsItem items k u d
+        → test d ≡ false
+    in_none_of empty b k u d none h a i = absurd (in_none k a)
+    in_none_of (node c y n r) done k u d none h a i = absurd h
+    in_none_of (node c y n r) (action t e rest) k u d none h a i =
+        let (now, later) = none_in_action test t e rest none in
+        elim (in_which c y n r k a) [
+          | inl is ↦ false_at c k t u (content_by e) d is h.0 i now
+          | inr (inl one) ↦ absurd (none_there y h.1 k one)
+          | inr (inr (inl two)) ↦ absurd (none_there n h.2 k two)
+          | inr (inr (inr three)) ↦ in_none_of r rest k u d later h.3 three i
+        ]
+    in_none_of (node c y n r) (branch t e p q rest) k u d none h a i =
+        let (now, p_none, q_none, rest_none) = none_in_branch test t e p q rest none in
+        elim (in_which c y n r k a) [
+          | inl is ↦ false_at c k t u (If e) d is h.0 i now
+          | inr (inl one) ↦ in_none_of y p k u d p_none h.1 one i
+          | inr (inr (inl two)) ↦ in_none_of n q k u d q_none h.2 two i
+          | inr (inr (inr three)) ↦ in_none_of r rest k u d rest_none h.3 three i
+        ]
+    in_none_of (node c y n r) (loop t e p rest) k u d none h a i =
+        let (now, p_none, rest_none) = none_in_loop test t e p rest none in
+        elim (in_which c y n r k a) [
+          | inl is ↦ false_at c k t u (While e) d is h.0 i now
+          | inr (inl one) ↦ in_none_of y p k u d p_none h.1 one i
+          | inr (inr (inl two)) ↦ absurd (none_there n h.2 k two)
+          | inr (inr (inr three)) ↦ in_none_of r rest k u d rest_none h.3 three i
+        ]
 
 -- how deep a slot is
 module _ (slot : ℕ → Slot) where

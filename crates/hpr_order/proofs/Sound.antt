@@ -10,9 +10,9 @@ use Rattle.std.proofs.lemmas.Cmp.{nat_list_eq_equiv}
 use Rattle.std.proofs.lemmas.List.{append-nil}
 use Rattle.std.proofs.lemmas.Option.{slice_get_within}
 use Rattle.hpr_terms.specs.declared.limits.TheConstants.{MAX_LEVELS, MAX_PARTS}
-use Rattle.hpr_terms.specs.Names.{IsName}
+use Rattle.hpr_terms.specs.Names.{IsVariable}
 use Rattle.hpr_terms.specs.declared.tag.Tag.{Tag}
-use Rattle.hpr_terms.proofs.Facts.{place_of, get_below, map_in}
+use Rattle.hpr_terms.proofs.Facts.{place_of, get_below, map_in, or_false}
 use Rattle.hpr_syntax.specs.declared.rows.Content.{Content}
 use Rattle.hpr_syntax.specs.Body.{Body, part_count}
 use Rattle.hpr_syntax.specs.Issued.{Issued, IsIssued}
@@ -21,7 +21,7 @@ use Rattle.hpr_syntax.specs.Rows.{Parent}
 use Rattle.hpr_syntax.specs.Parts.{same_tag, tags_of}
 use Rattle.hpr_syntax.specs.Places.{StandsLeft}
 use Rattle.hpr_syntax.specs.Proper.{IsProperPair}
-use Rattle.hpr_syntax.specs.Shape.{IsProgram, shape, first_repeated, too_many}
+use Rattle.hpr_syntax.specs.Shape.{IsProgram, shape, first_repeated, says_large, is_wrong, too_many}
 use Rattle.hpr_syntax.specs.Skeleton.{skeleton, at}
 use Rattle.hpr_syntax.specs.Tree.{Tree}
 use Rattle.hpr_syntax.proofs.NoRefusal.{shaped}
@@ -45,7 +45,7 @@ use Rattle.hpr_order.specs.Limits.{IsAllowedTree}
 use Rattle.hpr_order.proofs.BlockOf.{IsBlockOf, IsParent, same_part, says_in, in_says, stands_so, so_stands, slot_of_place, in_place}
 use Rattle.hpr_order.proofs.Lefts.{LeftIn, is_left, left_once, stands_left}
 use Rattle.hpr_order.proofs.ReadBack.{read_whole, block_there}
-use Rattle.hpr_order.proofs.Shapes.{no_tag, tag_in, tag_of, tags_in, count_in, proper_in, small_in, shallow_in, IsApart, none_repeated, all_issued}
+use Rattle.hpr_order.proofs.Shapes.{no_tag, tag_in, tag_of, tags_in, count_in, proper_in, none_in, shallow_in, IsApart, none_repeated, all_issued}
 
 few_parts : (n : ℕ) → n ≤ MAX_PARTS → too_many n ≡ None
 few_parts n le = grind (arith, nat_tests)
@@ -80,7 +80,7 @@ pub record IsGiven (g : Graph) (xs : List Item) (ns : Issued) (fs : List (List �
   pub proper : All IsProperItem xs
   pub ascending : IsIssued ns
   pub numbers : All IsProperPair ns
-  pub names : All IsName fs
+  pub names : All IsVariable fs
   pub finals : (x : List ℕ) → Contains fs x ↔ g.vertex (Final x)
   pub order : Ascends name_cmp fs
   pub outer : (v from : Vertex) (label : Bool) → IsOuter v → g.vertex v → g.edge (edge_into from v (Control label)) ↔ ((from ≡ Entry) × (label ≡ true))
@@ -152,7 +152,8 @@ module _ (g : Graph) (items : List Item) (issued : Issued) (finals : List (List 
         let i' : IsItem items k u c = subst (λ z. IsItem items k z c) e i in
         is.issued u c ((is.items.parts u c).1 (k, i')));
     levels = shallow_in (slot_at items) items MAX_LEVELS 0 t b None (omega arith) refl a.arranged.stands h (λ k q. a.limits.levels k (a.arranged.within k q));
-    expressions = small_in items t b a.limits.operators h;
+    expressions = none_in items says_large t b (λ k u c i. (or_false (says_large c) (is_wrong c) (a.limits.contents k u c i)).0) h;
+    variables = none_in items is_wrong t b (λ k u c i. (or_false (says_large c) (is_wrong c) (a.limits.contents k u c i)).1) h;
     parts = few_parts (part_count b) (let le = a.limits.parts in omega (arith, count_in items t b h, a.arranged.len));
     names = none_repeated bytes_eq [] finals (names_apart finals is.order) (λ x y p q. absurd (in_none y q));
   })

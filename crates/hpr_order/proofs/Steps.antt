@@ -8,15 +8,13 @@ use Rattle.std.proofs.lemmas.Option.{slice_get_within, slice_get_read, get_or_fr
 use Rattle.hpr_terms.specs.declared.tag.Tag.{Tag}
 use Rattle.hpr_terms.proofs.Facts.{is_some_at, get_below, at_end}
 use Rattle.hpr_syntax.specs.declared.rows.Content.{Content}
-use Rattle.hpr_syntax.specs.Rows.{expr_in}
-use Rattle.hpr_syntax.specs.Shape.{is_large}
 use Rattle.hpr_forest.proofs.Unique.{in_none, in_cons, in_first}
 use Rattle.hpr_forest.specs.Trees.{Slot}
 use Rattle.hpr_order.specs.declared.item.Item.{Item}
 use Rattle.hpr_order.specs.Building.{IsSlot}
 use Rattle.hpr_order.specs.Items.{AreSlots, IsItem, slot_at, slot_in}
 use Rattle.hpr_order.specs.Lifting.{level_of}
-use Rattle.hpr_order.specs.Limits.{IsWithinLimits, level_in, one_more}
+use Rattle.hpr_order.specs.Limits.{IsWithinLimits, is_unfit, level_in, one_more}
 use Rattle.hpr_order.proofs.ListFacts.{one_get, push_old}
 
 pub read_of : {X : Type 0} (xs : List X) (i : ℕ) (x : X) → i < length xs → x ≡ get_or xs i x → slice_get xs i ≡ Some x
@@ -44,11 +42,11 @@ no_some (Some y) e h = absurd cc
 -- what the loop over the items has found
 pub record IsLevelled (items : List Item) (index : ℕ) (found : List ℕ) : Type 0 where
   pub levels : (k : ℕ) → k < index → level_in (slot_at items) (MAX_LEVELS - 1) (slot_at items k) ≡ Some (level_of found k)
-  pub small : (k : ℕ) (t : Tag) (c : Content) → k < index → IsItem items k t c → is_large (expr_in c) ≡ false
+  pub fit : (k : ℕ) (t : Tag) (c : Content) → k < index → IsItem items k t c → is_unfit c ≡ false
 
 pub level_pushed : (items : List Item) (index : ℕ) (levels more : List ℕ) (i : Item) (level : ℕ) → length levels ≡ index → slice_get items index ≡ Some i
-    → level_in (slot_at items) (MAX_LEVELS - 1) i.slot ≡ Some level → is_large (expr_in i.content) ≡ false → more ≡ levels ++ level ∷ [] → IsLevelled items index levels → IsLevelled items (index + 1) more
-level_pushed items index levels more i level len here found small is r = record {
+    → level_in (slot_at items) (MAX_LEVELS - 1) i.slot ≡ Some level → is_unfit i.content ≡ false → more ≡ levels ++ level ∷ [] → IsLevelled items index levels → IsLevelled items (index + 1) more
+level_pushed items index levels more i level len here found fit is r = record {
   levels = λ k lt. elim (cases_eq k index) [
     | inl same ↦ (
         let at : slice_get more k ≡ Some level = subst (λ z. slice_get z k ≡ Some level) (sym is) (subst (λ z. slice_get (levels ++ level ∷ []) z ≡ Some level) (len ∙ sym same) (at_end levels level)) in
@@ -59,24 +57,24 @@ level_pushed items index levels more i level len here found small is r = record 
         let at : slice_get more k ≡ Some x = subst (λ z. slice_get z k ≡ Some x) (sym is) (push_old levels level k x e) in
         r.levels k less ∙ ap Some (get_or_from_slice_get levels k x 0 e ∙ sym (get_or_from_slice_get more k x 0 at)))
   ];
-  small = λ k t c lt item. elim (cases_eq k index) [
+  fit = λ k t c lt item. elim (cases_eq k index) [
     | inl same ↦ (
         let (j, ej, _, jc) = item in
         let one : i ≡ j = one_get items index i j here (subst (λ z. slice_get items z ≡ Some j) same ej) in
-        subst (λ z. is_large (expr_in z) ≡ false) (ap (λ (z : Item). z.content) one ∙ jc) small)
-    | inr other ↦ r.small k t c (omega (arith, lt)) item
+        subst (λ z. is_unfit z ≡ false) (ap (λ (z : Item). z.content) one ∙ jc) fit)
+    | inr other ↦ r.fit k t c (omega (arith, lt)) item
   ];
 }
 
 pub within_all : (items : List Item) (index : ℕ) (levels : List ℕ) → length items ≤ MAX_PARTS → length items ≤ index → IsLevelled items index levels → IsWithinLimits items
 within_all items index levels few end r = record {
   parts = few;
-  operators = λ k t c i. (let (x, e, _, _) = i in let lt = slice_get_within items k x e in r.small k t c (omega (arith, lt)) i);
+  contents = λ k t c i. (let (x, e, _, _) = i in let lt = slice_get_within items k x e in r.fit k t c (omega (arith, lt)) i);
   levels = λ k lt. is_some_at (level_in (slot_at items) (MAX_LEVELS - 1) (slot_at items k)) (level_of levels k) (r.levels k (omega (arith, lt)));
 }
 
-pub not_small : (items : List Item) (index : ℕ) (i : Item) → slice_get items index ≡ Some i → is_large (expr_in i.content) ≡ true → IsWithinLimits items → ⊥
-not_small items index i e large within = let no_large = within.operators index i.tag i.content (i, e, refl, refl) in let both : true ≡ false = sym large ∙ no_large in absurd cc
+pub not_unfit : (items : List Item) (index : ℕ) (i : Item) → slice_get items index ≡ Some i → is_unfit i.content ≡ true → IsWithinLimits items → ⊥
+not_unfit items index i e unfit within = let fit = within.contents index i.tag i.content (i, e, refl, refl) in let both : true ≡ false = sym unfit ∙ fit in absurd cc
 
 pub not_shallow : (items : List Item) (index : ℕ) (i : Item) → slice_get items index ≡ Some i → level_in (slot_at items) (MAX_LEVELS - 1) i.slot ≡ None → IsWithinLimits items → ⊥
 not_shallow items index i e none within =

@@ -4,7 +4,7 @@
 -- AreIssued g issued     == the serial of each part of g is at least 1 and at most its author's issued number
 -- AreFirstNumbers n ns   == the numbers 0, 1, .. below n
 -- IsPreorderOf g order p == the parts of p in preorder are the vertices of g with these numbers
--- IsProperItem i == numbers are in range and names are names
+-- IsProperItem i == numbers are in range and names are variables
 -- orders_in orders       == the orders that are still to come
 -- coming next orders     == the next order, if there is one, and those behind it
 -- programs_of items issued finals orders == their programs

@@ -9,12 +9,12 @@
 -- IsItemAt g rs places n i == i is the part with the number n, with its slot
 -- AreItemsAt g numbers items == the k-th item is the part with the k-th number
 -- AreItemsOf g numbers list == the same, with their slots; each is an item of the graph with proper names and numbers
--- AreFinals g xs         == the names are those of the Final vertices, in ascending order, and names
+-- AreFinals g xs         == the names are those of the Final vertices, in ascending order, and variables
 -- DirectsBy kind         == a link of this kind is an edge that directs
 -- IsAskedBy places links s == one of these links directs and comes from the item s
 -- AreAsked g items pairs == the pairs are those of items of which an edge that directs goes from the one to the other
 use Rattle.std.specs.Prelude.{◌≡◌, ℕ, ◌<◌, ◌↔◌, Bool, Option, Some, None, List, All, Contains, length, slice_get}
-use Rattle.hpr_terms.specs.Names.{IsName}
+use Rattle.hpr_terms.specs.Names.{IsVariable}
 use Rattle.hpr_terms.specs.declared.tag.Tag.{Tag}
 use Rattle.hpr_syntax.specs.declared.rows.Content.{Content}
 use Rattle.hpr_graph.specs.declared.vertex.Vertex.{Vertex}
@@ -74,7 +74,7 @@ pub record AreItemsOf (g : Numbered) (numbers : List ℕ) (list : List Item) : T
 pub record AreFinals (g : Graph) (xs : List (List ℕ)) : Type 0 where
   pub names : (x : List ℕ) → Contains xs x ↔ g.vertex (Final x)
   pub ascending : Ascends name_cmp xs
-  pub proper : All IsName xs
+  pub proper : All IsVariable xs
 
 abbrev pub DirectsBy : LinkKind → Type 0
 DirectsBy (Control label) = ⊥

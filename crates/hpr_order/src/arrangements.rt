@@ -76,8 +76,8 @@ impl Arrangements {
     /// those of the graph, whose finals are the names of the graph's Final vertices in ascending order, and
     /// in which no independent flow edge and no order edge between two parts goes from right to left. Of two
     /// arrangements the one is first whose part is first in the rank, where their preorders first differ.
-    /// There is none where the parts break a limit of programs, or where what directs goes round in a
-    /// circle. An error is want of memory.
+    /// There is none where the parts break a limit of programs, where one has a wrong name, or where what
+    /// directs goes round in a circle. An error is want of memory.
     pub fn start(
         alloc: Global,
         graph: &Graph,

@@ -1,13 +1,13 @@
 //! The limits of programs, on items.
 ghost use Rattle.std.specs.Prelude.{◌≡◌, ℕ, ◌<◌, ◌≤◌, ◌↔◌, length, slice_get, Some, IfOk, IfSome, IfNone, IsTrue};
 ghost use Rattle.hpr_order.specs.Items.{AreSlots, slot_at};
-ghost use Rattle.hpr_order.specs.Limits.{IsWithinLimits, level_in};
+ghost use Rattle.hpr_order.specs.Limits.{IsWithinLimits, is_unfit, level_in};
 ghost use Rattle.hpr_order.specs.Lifting.{AreLevels};
 ghost use Rattle.hpr_order.specs.Building.{IsSlot};
 
 use crate::item::Item;
 use hpr_graph::NoMemory;
-use hpr_syntax::is_large;
+use hpr_syntax::{Content, has_wrong_name, is_large};
 use hpr_terms::limits::{MAX_LEVELS, MAX_PARTS};
 use std::alloc::Global;
 
@@ -24,7 +24,7 @@ pub(crate) fn levels_of(alloc: Global, items: &[Item]) -> Result<Option<Vec<usiz
     }
     let mut levels = Vec::new(alloc);
     for item in items {
-        if is_large(item.content.expr()) {
+        if is_unfit(&item.content) {
             return Ok(None);
         }
         let Some(level) = level_in(items, MAX_LEVELS - 1, item.slot) else {
@@ -33,6 +33,13 @@ pub(crate) fn levels_of(alloc: Global, items: &[Item]) -> Result<Option<Vec<usiz
         levels.push(level)?;
     }
     Ok(Some(levels))
+}
+
+/// Whether no part of a program says this: its expression is too large, or it has a wrong name.
+fn is_unfit(content: &Content) -> bool
+    ensures { result ≡ is_unfit content.now }
+{
+    is_large(content.expr()) || has_wrong_name(content)
 }
 
 /// How many items stand around the slot, if there are at most so many.

@@ -4,13 +4,10 @@ use Rattle.std.specs.List.{Contains}
 use Rattle.std.specs.Option.{option_map}
 use Rattle.std.proofs.lemmas.Option.{slice_get_read, slice_get_within, same_Some}
 use Rattle.std.proofs.lemmas.List.Elements.{All-weaker}
-use Rattle.hpr_terms.specs.TermOf.{term_of}
 use Rattle.hpr_syntax.proofs.ActByUses.{uses_in}
-use Rattle.hpr_terms.proofs.NamesUsed.{terms_used}
 use Rattle.hpr_terms.proofs.Facts.{in_none}
 use Rattle.hpr_paths.specs.declared.spot.Step.{Step}
 use Rattle.hpr_paths.specs.Spots.{Role, enter, part, exit, Spot, names_of, uses_of, used_at, RoleUses, steps_of, loops_of, nest_at, role_at, UsesAt, IsLoopAt}
-use Rattle.hpr_syntax.specs.Rows.{expr_in}
 use Rattle.hpr_paths.specs.Successors.{AreSpots}
 use Rattle.hpr_syntax.specs.declared.rows.Content.TheVariants.{While}
 use Rattle.hpr_paths.proofs.Names.{get_of_role}
@@ -39,10 +36,7 @@ nest_within xs p s sound l is =
 
 pub role_used : (r : Role) (x : List ℕ) → Contains (names_of r) x ↔ RoleUses r x
 role_used enter x = (in_none x, λ h. absurd h)
-role_used (part t c) x = (
-  (λ h. (uses_in c x).0 ((terms_used (term_of (expr_in c)) x).0 h)),
-  (λ h. (terms_used (term_of (expr_in c)) x).1 ((uses_in c x).1 h)),
-)
+role_used (part t c) x = uses_in c x
 role_used (exit finals) x = (λ h. h, λ h. h)
 
 -- what was read of a point are the names that it uses

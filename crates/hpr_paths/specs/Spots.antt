@@ -4,9 +4,9 @@
 -- Spot              == a point: the steps from it, the loops that enclose it from the outermost on, and its role
 -- point_of role     == the point by its tag
 -- tag_of role       == the part's tag; none at Enter and at Exit
--- names_of role     == the names that the part's expression uses; at Exit the names of `end`
--- defined role      == the name that an assignment defines; none at a predicate, at Enter and at Exit
--- RoleUses role x   == the part's expression uses x; Exit uses the names of `end`
+-- names_of role     == the names that the part uses; at Exit the names of `end`
+-- defined role      == the name that the part defines; none at a predicate, at Enter and at Exit
+-- RoleUses role x   == the part uses x; Exit uses the names of `end`
 -- uses_of role      == the names that the role uses, if there is one
 -- steps_of spot     == the steps from the point, if there is one
 -- loops_of spot     == the loops that enclose the point, if there is one
@@ -16,20 +16,18 @@
 -- tag_at spots p    == the tag of the part p
 -- defined_at spots p == the name that the point p defines
 -- UsesAt spots p x  == the point p uses x
--- used_at spots p   == the names that the point p uses, from left to right, each as often as it stands there
+-- used_at spots p   == the names that the point p uses, from left to right, each as often as it stands there, and behind them a write's stream
 -- IsLoopAt spots p  == the point p is the predicate of a loop
 use Rattle.std.specs.Prelude.{◌≡◌, ℕ, Option, Some, None, List, [], Contains}
 use Rattle.std.specs.List.{slice_get}
 use Rattle.std.specs.Option.{option_map, option_and_then}
 use Rattle.hpr_terms.specs.declared.tag.Tag.{Tag}
 use Rattle.hpr_terms.specs.declared.expr.Expr.{Expr}
-use Rattle.hpr_terms.specs.TermOf.{term_of}
-use Rattle.hpr_terms.specs.Uses.{names_in}
-use Rattle.hpr_syntax.specs.Contents.{UsesIn}
+use Rattle.hpr_syntax.specs.Contents.{UsesIn, used_names}
 use Rattle.hpr_syntax.specs.declared.rows.Content.{Content}
 use Rattle.hpr_syntax.specs.declared.rows.Content.TheVariants.{While}
 use Rattle.hpr_syntax.specs.Skeleton as points
-use Rattle.hpr_syntax.specs.Rows.{assigned, expr_in}
+use Rattle.hpr_syntax.specs.Rows.{assigned}
 use Rattle.hpr_paths.specs.declared.spot.Step.{Step}
 
 pub data Role : Type 0 where
@@ -59,7 +57,7 @@ defined (exit finals) = None
 
 abbrev pub names_of : Role → List (List ℕ)
 names_of enter = []
-names_of (part t c) = names_in (term_of (expr_in c))
+names_of (part t c) = used_names c
 names_of (exit finals) = finals
 
 abbrev pub RoleUses : Role → List ℕ → Type 0

@@ -50,9 +50,9 @@ impl Succ {
         self.spots.len()
     }
 
-    /// The steps from the point, which is below `points`: one from Enter, one from an assignment,
-    /// two from a conditional (into its branches, the first block first) and from a loop (into its
-    /// body, and on), none from Exit. A step into an empty block leads to what follows it.
+    /// The steps from the point, which is below `points`: one from Enter, one from a part without
+    /// blocks, two from a conditional (into its branches, the first block first) and from a loop (into
+    /// its body, and on), none from Exit. A step into an empty block leads to what follows it.
     pub fn next(&self, point: usize) -> &[Step]
         requires { point < length self.now }
         ensures next { result.now ≡ next_at self.now point }
@@ -88,7 +88,7 @@ impl Succ {
         }
     }
 
-    /// The name that the assignment at the point, which is below `points`, defines: none exactly at
+    /// The name that the part at the point, which is below `points`, defines: none exactly at
     /// predicates, at Enter and at Exit.
     pub fn defines(&self, point: usize) -> Option<&Name>
         requires { point < length self.now }
@@ -101,7 +101,7 @@ impl Succ {
         }
     }
 
-    /// Whether the expression of the part at the point, which is below `points`, uses the name.
+    /// Whether the part at the point, which is below `points`, uses the name.
     /// Exit uses the names of `end`, and Enter none.
     pub fn uses(&self, point: usize, name: &Name) -> bool
         requires { point < length self.now }
@@ -110,13 +110,13 @@ impl Succ {
         let spot = &self.spots[point];
         match &spot.role {
             Role::Enter => false,
-            Role::Part(_, content) => content.expr().uses(name),
+            Role::Part(_, content) => content.uses(name),
             Role::Exit(finals) => has_name(finals, name),
         }
     }
 
     /// The names that the point, which is below `points`, uses, from left to right, each as often as
-    /// it stands there. Its one error is want of memory.
+    /// it stands there, and behind them the stream where the point is a write. Its one error is want of memory.
     pub fn used_names(&self, point: usize) -> Result<Vec<Name>, NoMemory>
         requires { point < length self.now }
         ensures names { IfOk result (λ names. names.items ≡ used_at self.now point) }

@@ -87,3 +87,7 @@ if_utf8 text t = IsUtf8-append (codes "if ") text (codes "if ", (refl, refl)) t
 pub while_utf8 : (text : List ℕ) → IsUtf8 text → IsUtf8 (codes "while " ++ text)
 unfolding encode
 while_utf8 text t = IsUtf8-append (codes "while ") text (codes "while ", (refl, refl)) t
+
+pub write_utf8 : (text : List ℕ) → IsUtf8 text → IsUtf8 (codes "write " ++ text)
+unfolding encode
+write_utf8 text t = IsUtf8-append (codes "write ") text (codes "write ", (refl, refl)) t

@@ -39,22 +39,22 @@ fn put_end(alloc: Global, out: &mut Vec<u8>, expr: &Expr, end: &[u8]) -> Result<
     put(out, b"\n")
 }
 
-/// Puts the first line of a conditional or a loop.
-fn put_test(
+/// Puts the line of a write, or the first line of a conditional or a loop.
+fn put_first_line(
     alloc: Global,
     out: &mut Vec<u8>,
     level: usize,
     tag: Tag,
     word: &[u8],
-    test: &Expr,
+    expr: &Expr,
     end: &[u8],
 ) -> Result<(), NoMemory>
     ensures { OnOk result (out.new.items ≡ out.old.items ++ line level
-        (tag_text tag ++ word.now ++ term_text (term_of test.now) ++ end.now)) }
+        (tag_text tag ++ word.now ++ term_text (term_of expr.now) ++ end.now)) }
 {
     put_start(alloc, out, level, tag)?;
     put(out, word)?;
-    put_end(alloc, out, test, end)
+    put_end(alloc, out, expr, end)
 }
 
 /// Puts the name of an assignment.
@@ -117,15 +117,18 @@ fn put_stmt(alloc: Global, out: &mut Vec<u8>, stmt: &Stmt, level: usize) -> Resu
     match stmt {
         Stmt::Assign(tag, name, value) => put_assignment(alloc, out, level, *tag, name, value),
         Stmt::If(tag, test, yes, no) => {
-            put_test(alloc, out, level, *tag, b": if ", test, b" then")?;
+            put_first_line(alloc, out, level, *tag, b": if ", test, b" then")?;
             put_block(alloc, out, yes, level + 1)?;
             put_else(alloc, out, no, level)?;
             put_line(out, level, b"fi")
         }
         Stmt::While(tag, test, body) => {
-            put_test(alloc, out, level, *tag, b": while ", test, b" do")?;
+            put_first_line(alloc, out, level, *tag, b": while ", test, b" do")?;
             put_block(alloc, out, body, level + 1)?;
             put_line(out, level, b"od")
+        }
+        Stmt::Write(tag, _, value) => {
+            put_first_line(alloc, out, level, *tag, b": write ", value, b";")
         }
     }
 }

@@ -18,7 +18,7 @@ pub fn expr_text(alloc: Global, expr: &Expr) -> Result<Vec<u8>, NoMemory>
 }
 
 /// The canonical text of what a part says, without its tag and its blocks: `NAME := EXPR`,
-/// `if EXPR` or `while EXPR`. It is UTF-8. It fails only for want of memory.
+/// `write EXPR`, `if EXPR` or `while EXPR`. It is UTF-8. It fails only for want of memory.
 pub fn content_text(alloc: Global, content: &Content) -> Result<Vec<u8>, NoMemory>
     ensures text { IfOk result (λ v. v.items ≡ print.content_text content.now) }
     ensures utf8 { IfOk result (λ v. IsUtf8 v.items) }
@@ -37,6 +37,10 @@ pub fn content_text(alloc: Global, content: &Content) -> Result<Vec<u8>, NoMemor
         Content::While(test) => {
             put(&mut out, b"while ")?;
             put_expr(alloc, &mut out, test)?;
+        }
+        Content::Write(_, value) => {
+            put(&mut out, b"write ")?;
+            put_expr(alloc, &mut out, value)?;
         }
     }
     Ok(out)

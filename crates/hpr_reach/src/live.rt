@@ -176,7 +176,7 @@ fn push_live(
 /// from before it, since some undisturbed path for the name goes from Enter to a point that uses it
 /// (the initial definitions of Horwitz, Prins and Reps 1989).
 ///
-/// Takes one search for all names that no part assigns, and one for each that some part assigns.
+/// Takes one search for all names that no part defines, and one for each that some part defines.
 pub fn live_at_entry(alloc: Global, succ: &Succ) -> Result<Vec<Name>, NoMemory>
     ensures ascending { IfOk result (λ v. IsStrictlySortedBy (slice_cmp nat_cmp) v.items) }
     ensures sound { IfOk result (λ v. (x : List ℕ) → Contains v.items x → IsLive succ.now x) }

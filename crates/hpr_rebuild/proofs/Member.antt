@@ -3,7 +3,7 @@ use Rattle.std.proofs.Common.{◌≡◌, ◌≤◌, ◌<◌, ◌↔◌, ℕ, Boo
 use Rattle.std.proofs.lemmas.List.Sorted.{All-permutation}
 use Rattle.hpr_terms.specs.declared.limits.TheConstants.{MAX_LEVELS}
 use Rattle.hpr_terms.specs.declared.tag.Tag.{Tag}
-use Rattle.hpr_terms.specs.Names.{IsName}
+use Rattle.hpr_terms.specs.Names.{IsVariable}
 use Rattle.hpr_syntax.specs.declared.rows.Content.{Content}
 use Rattle.hpr_syntax.specs.Body.{Body, part_count}
 use Rattle.hpr_syntax.specs.Issued.{Issued, IsIssued, issued_to}
@@ -11,7 +11,7 @@ use Rattle.hpr_syntax.specs.Nests.{Says}
 use Rattle.hpr_syntax.specs.Parts.{tags_of}
 use Rattle.hpr_syntax.specs.Places.{StandsLeft}
 use Rattle.hpr_syntax.specs.Proper.{IsProperPair, IsProperIssued, IsProperBody}
-use Rattle.hpr_syntax.specs.Shape.{IsProgram, first_repeated_tag, first_unissued, first_deep, first_large, too_many}
+use Rattle.hpr_syntax.specs.Shape.{IsProgram, first_repeated_tag, first_unissued, first_deep, says_large, is_wrong, first_where, too_many}
 use Rattle.hpr_syntax.specs.Skeleton.{skeleton, at}
 use Rattle.hpr_syntax.specs.Tree.{Tree}
 use Rattle.hpr_syntax.proofs.NoRefusal.{no_refusal, shaped}
@@ -54,14 +54,15 @@ settled_program issued p q prog (ascending, ranges) allowed s =
         ascending = subst IsIssued (sym s.numbers) ascending;
         numbers = subst (λ (i : Issued). All IsProperPair i) (sym s.numbers) ranges;
         body = subst IsProperBody s.body prog.proper.body;
-        finals = All-permutation IsName p.finals q.finals s.names prog.proper.finals;
+        finals = All-permutation IsVariable p.finals q.finals s.names prog.proper.finals;
       };
       shape = shaped q (record {
         tags = subst (λ (b : Body). first_repeated_tag b ≡ None) s.body n.tags;
         issued = subst (λ (i : Issued). first_unissued i (tags_of q.body []) ≡ None) (sym s.numbers)
             (subst (λ (b : Body). first_unissued issued (tags_of b []) ≡ None) s.body issued_in);
         levels = subst (λ (b : Body). first_deep MAX_LEVELS b ≡ None) s.body n.levels;
-        expressions = subst (λ (b : Body). first_large b ≡ None) s.body n.expressions;
+        expressions = subst (λ (b : Body). first_where says_large b ≡ None) s.body n.expressions;
+        variables = subst (λ (b : Body). first_where is_wrong b ≡ None) s.body n.variables;
         parts = subst (λ (b : Body). too_many (part_count b) ≡ None) s.body n.parts;
         names = unrepeated q.finals (ascending_once q.finals s.ascending);
       });

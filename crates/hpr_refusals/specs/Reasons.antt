@@ -23,6 +23,7 @@ shape_text (shape.DuplicateTag t) = codes "tag " ++ tag_text t ++ codes " stands
 shape_text (shape.Unissued t) = codes "tag " ++ tag_text t ++ codes " was not issued"
 shape_text (shape.TooDeep t) = codes "part " ++ tag_text t ++ (codes " is nested deeper than " ++ decimal MAX_LEVELS)
 shape_text (shape.ExprTooLarge t) = codes "expression of " ++ tag_text t ++ (codes " has more than " ++ decimal MAX_OPERATORS ++ codes " operators")
+shape_text (shape.WrongName t) = codes "part " ++ tag_text t ++ codes " has a wrong name"
 shape_text (shape.TooManyParts n) = decimal n ++ codes " parts, more than " ++ decimal MAX_PARTS
 shape_text (shape.DuplicateFinal x) = codes "end names " ++ x ++ codes " twice"
 shape_text shape.Memory = []

@@ -63,7 +63,7 @@ no_items : (g : Numbered) (items : List Item) → length items ≡ 0 → IsAllow
 no_items g items none = record {
   limits = record {
     parts = omega (arith, none);
-    operators = λ k t c item. absurd (let (i, e, _, _) = item in let lt = slice_get_within items k i e in omega (arith, lt, none));
+    contents = λ k t c item. absurd (let (i, e, _, _) = item in let lt = slice_get_within items k i e in omega (arith, lt, none));
     levels = λ k lt. absurd (omega (arith, lt, none));
   };
   arranged = record {

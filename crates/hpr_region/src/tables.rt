@@ -19,7 +19,7 @@ use hpr_graph::links::number_at;
 use hpr_graph::{Graph, Link, LinkKind, Name, NoMemory};
 use hpr_order::{Item, places_of};
 use hpr_syntax::Content;
-use hpr_terms::names::{in_order, names_in, place_of};
+use hpr_terms::names::{in_order, place_of};
 use std::alloc::Global;
 
 /// The tables of the parts with these numbers, which are the items.
@@ -127,7 +127,7 @@ fn uses_in(alloc: Global, names: &[Name], content: &Content) -> Result<Vec<usize
     requires names { IsStrictlySortedBy (slice_cmp nat_cmp) names.now }
     ensures { IfOk result (λ row. AreUsed names.now row.items content.now) }
 {
-    let used = names_in(alloc, content.expr())?;
+    let used = content.used_names(alloc)?;
     numbers_among(alloc, names, &used)
 }
 

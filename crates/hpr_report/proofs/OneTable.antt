@@ -1,7 +1,8 @@
 -- Four lists of final values have one table. Where the merged values keep the meaning, the columns of the table show it.
 use Rattle.std.proofs.Common.{◌≡◌, ℕ, suc, inl, inr, Option, Some, None, List, [], ◌∷◌, map, All, Contains, refl, sym, ap, ap₂, ◌∙◌, subst, arith}
 use Rattle.hpr_syntax.specs.Tree.{Tree}
-use Rattle.hpr_syntax.specs.Values.{Value, Values, value_at}
+use Rattle.hpr_syntax.specs.declared.value.Value.{Value}
+use Rattle.hpr_syntax.specs.Values.{Values, value_at}
 use Rattle.hpr_syntax.specs.Run.{FinalValues, After, goes, stops, spent, outcome, final_values, ends, run, run_body}
 use Rattle.hpr_syntax.specs.Meaning.{IsKept}
 use Rattle.hpr_graph.proofs.Lists.{in_none, in_cons}

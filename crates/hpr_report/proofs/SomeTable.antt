@@ -12,7 +12,7 @@ use Rattle.hpr_graph.proofs.PutInOrder.{ascending}
 use Rattle.hpr_graph.proofs.VertexOrder.{name_tied}
 use Rattle.hpr_report.specs.GraphTexts.{on_lines}
 use Rattle.hpr_report.specs.TableText.{names_in, IsSingleValued, Row, IsValueIn, IsRow, names_of, table_line, IsTableText}
-use Rattle.hpr_syntax.specs.Values.{Value}
+use Rattle.hpr_syntax.specs.declared.value.Value.{Value}
 
 -- each name has a cell in a list
 some_cell : (values : FinalValues) (x : List ℕ) → IsSingleValued values → ¬ (¬ ((cell : Option Value) × IsValueIn values x cell))

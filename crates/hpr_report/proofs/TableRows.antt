@@ -9,7 +9,7 @@ use Rattle.hpr_graph.specs.InOrder.{Ascends}
 use Rattle.hpr_graph.proofs.Lists.{some_inj, in_taken}
 use Rattle.hpr_report.specs.GraphTexts.{on_lines}
 use Rattle.hpr_report.specs.TableText.{names_in, IsSingleValued, Row, IsValueIn, IsRow, names_of, table_line, IsTableText}
-use Rattle.hpr_syntax.specs.Values.{Value}
+use Rattle.hpr_syntax.specs.declared.value.Value.{Value}
 
 -- the value of a name, where a look-up finds one and where it doesn't
 pub value_found : (values : FinalValues) (x : List ℕ) (w : Value) → IsSingleValued values → Contains values (x, w) → IsValueIn values x (Some w)

@@ -11,12 +11,12 @@
 -- IsTableText base a b merged text == the text is that of these rows, a line for each
 -- IsKeptIn row                 == the last cell has the value of each variant that changed it, and the one that all three agree on
 use Rattle.std.specs.Prelude.{◌≡◌, ℕ, ◌↔◌, List, ◌++◌, Option, Some, None, All, Contains, map, codes}
-use Rattle.std.specs.Fmt.{signed_decimal}
-use Rattle.hpr_syntax.specs.Values.{Value}
+use Rattle.hpr_syntax.specs.declared.value.Value.{Value}
 use Rattle.hpr_syntax.specs.Run.{FinalValues}
 use Rattle.hpr_graph.specs.Order.{name_cmp}
 use Rattle.hpr_graph.specs.InOrder.{Ascends}
 use Rattle.hpr_report.specs.GraphTexts.{on_lines}
+use Rattle.hpr_report.specs.Texts.{value_text}
 
 abbrev pub names_in : FinalValues → List (List ℕ)
 names_in values = map (λ e. e.0) values
@@ -50,7 +50,7 @@ pub record AreRows (base a b merged : FinalValues) (rows : List Row) : Type 0 wh
 
 abbrev pub cell_text : Option Value → List ℕ
 cell_text None = codes "-"
-cell_text (Some v) = signed_decimal v
+cell_text (Some v) = value_text v
 
 abbrev pub table_line : Row → List ℕ
 table_line row =

@@ -1,22 +1,38 @@
 -- The texts of reports.
 --
 -- fault_word fault  == what a fault is called
+-- comma_number z    == the number behind a comma
+-- numbers_text zs   == the numbers, a comma between each two
+-- value_text v      == a number as it is; a list in brackets, a comma between each two of its numbers
 -- value_line x      == the line of a name and its value
 -- outcome_line o    == how a run went, without its values: a line
 -- outcome_text o    == that line, and where the run ended a line for each name of `end`, in its order
-use Rattle.std.specs.Prelude.{ℕ, List, ◌++◌, flat_map, codes}
+use Rattle.std.specs.Prelude.{ℕ, ℤ, List, [], ◌∷◌, ◌++◌, flat_map, codes}
 use Rattle.std.specs.Fmt.{decimal, signed_decimal}
 use Rattle.hpr_terms.specs.Texts.{tag_text}
-use Rattle.hpr_syntax.specs.Values.{Value}
+use Rattle.hpr_syntax.specs.declared.value.Value.{Value}
 use Rattle.hpr_syntax.specs.Run.{Outcome, ends, faults, more}
-use Rattle.hpr_syntax.specs.Value.{Fault, overflow, zero_divide}
+use Rattle.hpr_syntax.specs.Value.{Fault, overflow, zero_divide, output_full}
+use Rattle.hpr_syntax.specs.declared.value.Value.TheVariants as value
 
 abbrev pub fault_word : Fault → List ℕ
 fault_word overflow = codes "overflow"
 fault_word zero_divide = codes "zero-divide"
+fault_word output_full = codes "output-full"
+
+abbrev pub comma_number : ℤ → List ℕ
+comma_number z = codes "," ++ signed_decimal z
+
+abbrev pub numbers_text : List ℤ → List ℕ
+numbers_text [] = []
+numbers_text (z ∷ zs) = signed_decimal z ++ flat_map comma_number zs
+
+unfoldable pub value_text : Value → List ℕ
+value_text (value.Number z) = signed_decimal z
+value_text (value.List zs) = codes "[" ++ numbers_text zs ++ codes "]"
 
 unfoldable pub value_line : List ℕ × Value → List ℕ
-value_line x = x.0 ++ codes " = " ++ signed_decimal x.1 ++ codes "\n"
+value_line x = x.0 ++ codes " = " ++ value_text x.1 ++ codes "\n"
 
 abbrev pub outcome_line : Outcome → List ℕ
 outcome_line (ends finals steps) = codes "ended, steps " ++ decimal steps ++ codes "\n"

@@ -8,6 +8,7 @@ mod objects;
 mod outcome;
 mod points;
 mod table;
+mod values;
 
 pub use conflicts::conflicts_text;
 pub use graphs::{edge_text, graph_text, vertex_text};

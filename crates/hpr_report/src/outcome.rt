@@ -1,10 +1,12 @@
 //! How a run went.
 ghost use Rattle.std.specs.Prelude.{◌≡◌, ◌++◌, flat_map, IfOk, OnOk, string_bytes};
 ghost use Rattle.hpr_syntax.specs.Run.{faults};
-ghost use Rattle.hpr_run.specs.Outcomes.{fault_of, outcome_of};
+ghost use Rattle.hpr_run.specs.Faults.{fault_of};
+ghost use Rattle.hpr_run.specs.Outcomes.{outcome_of};
 ghost use Rattle.hpr_report.specs.Texts.{fault_word, value_line, outcome_line, outcome_text};
 
 use crate::graphs::count_line;
+use crate::values::put_value_text;
 use hpr_run::{Fault, Outcome, Value};
 use hpr_syntax::{Name, NoMemory, Tag};
 use std::alloc::{AllocError, Global};
@@ -51,6 +53,7 @@ fn fault_word(fault: Fault) -> &'static str
     match fault {
         Fault::Overflow => "overflow",
         Fault::ZeroDivide => "zero-divide",
+        Fault::OutputFull => "output-full",
     }
 }
 
@@ -59,14 +62,14 @@ fn put_values(alloc: Global, out: &mut Vec<u8>, values: &[(Name, Value)]) -> Res
     ensures { OnOk result (out.new.items ≡ out.old.items ++ flat_map value_line values.now) }
 {
     for (name, value) in values {
-        put_value(alloc, out, name, *value)?;
+        put_value(alloc, out, name, value)?;
     }
     Ok(())
 }
 
 /// Puts the line of a name and its value.
-fn put_value(alloc: Global, out: &mut Vec<u8>, name: &Name, value: Value) -> Result<(), NoMemory>
-    ensures { OnOk result (out.new.items ≡ out.old.items ++ value_line (name.now, value)) }
+fn put_value(alloc: Global, out: &mut Vec<u8>, name: &Name, value: &Value) -> Result<(), NoMemory>
+    ensures { OnOk result (out.new.items ≡ out.old.items ++ value_line (name.now, value.now)) }
 {
     let line = value_line(alloc, name, value)?;
     out.extend_from_slice(line.as_bytes())?;
@@ -74,8 +77,11 @@ fn put_value(alloc: Global, out: &mut Vec<u8>, name: &Name, value: Value) -> Res
 }
 
 #[tactic(auto, unfolding(crate::specs::Texts::value_line))]
-fn value_line(alloc: Global, name: &Name, value: Value) -> Result<String, AllocError>
-    ensures { IfOk result (λ text. string_bytes text ≡ value_line (name.now, value)) }
+fn value_line(alloc: Global, name: &Name, value: &Value) -> Result<String, AllocError>
+    ensures { IfOk result (λ text. string_bytes text ≡ value_line (name.now, value.now)) }
 {
-    format!(in alloc; "{name} = {value}\n")
+    let mut line = format!(in alloc; "{name} = ")?;
+    put_value_text(&mut line, value)?;
+    line.push_str("\n")?;
+    Ok(line)
 }

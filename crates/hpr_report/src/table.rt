@@ -1,10 +1,12 @@
 //! The table of final values.
 ghost use Rattle.std.specs.Prelude.{◌≡◌, ◌++◌, ◌↔◌, ℕ, ℤ, List, Contains, IfOk, OnOk, codes, string_bytes};
+ghost use Rattle.std.specs.Option.{option_copied};
 ghost use Rattle.hpr_graph.specs.Order.{name_cmp};
 ghost use Rattle.hpr_graph.specs.InOrder.{Ascends};
 ghost use Rattle.hpr_report.specs.TableText.{names_in, IsSingleValued, IsValueIn, IsRow, Row, cell_text, table_line, IsTableText};
 
 use crate::graphs::put_line;
+use crate::values::put_value_text;
 use hpr_run::Value;
 use hpr_syntax::{Name, NoMemory};
 use hpr_terms::names::in_order;
@@ -117,14 +119,14 @@ fn table_line(
 /// Puts the four cells of a line behind a text.
 fn put_cells(
     line: &mut String,
-    base: Option<Value>,
-    a: Option<Value>,
-    b: Option<Value>,
-    merged: Option<Value>,
+    base: Option<&Value>,
+    a: Option<&Value>,
+    b: Option<&Value>,
+    merged: Option<&Value>,
 ) -> Result<(), AllocError>
     ensures { OnOk result (string_bytes line.new ≡ string_bytes line.old
-        ++ (codes ": " ++ cell_text base ++ codes " " ++ cell_text a ++ codes " " ++ cell_text b ++ codes " "
-        ++ cell_text merged)) }
+        ++ (codes ": " ++ cell_text (option_copied base.entry) ++ codes " " ++ cell_text (option_copied a.entry) ++ codes " "
+        ++ cell_text (option_copied b.entry) ++ codes " " ++ cell_text (option_copied merged.entry))) }
 {
     put_cell(line, ": ", base)?;
     put_cell(line, " ", a)?;
@@ -133,25 +135,25 @@ fn put_cells(
 }
 
 /// The value of a name in a list, if the list has the name.
-fn value_in(values: &[(Name, Value)], name: &Name) -> Option<Value>
+fn value_in<'a>(values: &'a [(Name, Value)], name: &Name) -> Option<&'a Value>
     requires { IsSingleValued values.now }
-    ensures { IsValueIn values.now name.now result }
+    ensures { IsValueIn values.now name.now (option_copied result) }
 {
     for (other, value) in values {
         if other.is_same(name) {
-            return Some(*value);
+            return Some(value);
         }
     }
     None
 }
 
 /// Puts a cell behind a text.
-fn put_cell(line: &mut String, before: &str, cell: Option<Value>) -> Result<(), AllocError>
-    ensures { OnOk result (string_bytes line.new ≡ string_bytes line.old ++ before.now ++ cell_text cell) }
+fn put_cell(line: &mut String, before: &str, cell: Option<&Value>) -> Result<(), AllocError>
+    ensures { OnOk result (string_bytes line.new ≡ string_bytes line.old ++ before.now ++ cell_text (option_copied cell.entry)) }
 {
     line.push_str(before)?;
     match cell {
-        Some(value) => write!(line, "{value}"),
+        Some(value) => put_value_text(line, value),
         None => line.push_str("-"),
     }
 }

@@ -1,22 +1,25 @@
 //! Runs of programs.
 ghost use Rattle.std.specs.Prelude.{◌≡◌, ◌≤◌, ◌+◌, IfOk, OnOk};
-ghost use Rattle.hpr_syntax.specs.Action.{assigns};
-ghost use Rattle.hpr_syntax.specs.Body.{done, action};
+ghost use Rattle.hpr_syntax.specs.Body.{done};
 ghost use Rattle.hpr_syntax.specs.BodyOf.{before};
-ghost use Rattle.hpr_syntax.specs.Value.{value, is_true};
+ghost use Rattle.hpr_syntax.specs.Value.{is_true};
+ghost use Rattle.hpr_syntax.specs.Contents.{answer_of};
+ghost use Rattle.hpr_syntax.specs.Parts.{tag_of, expr_of};
+ghost use Rattle.hpr_syntax.specs.Rows.{content_of};
+ghost use Rattle.hpr_run.specs.Acts.{given, given_of};
 ghost use Rattle.hpr_syntax.specs.Run.{run, final_values};
 ghost use Rattle.hpr_run.specs.Observed.{observing, walk, walk_turns, known_in};
 ghost use Rattle.hpr_run.specs.Outcomes.{outcome_of, Stepped, Did};
 
-use crate::Value;
 use crate::observer::{Nobody, Observer};
 use crate::state::State;
 use crate::values::{Fault, eval};
-use hpr_syntax::{Block, Expr, Name, NoMemory, Program, Stmt, Tag};
+use hpr_syntax::{Block, Name, NoMemory, Program, Stmt, Tag, Value, expr_of};
+use hpr_terms::limits::MAX_WRITTEN;
 use std::alloc::Global;
 use std::marker::Model;
 
-/// Names with their numbers, in an order.
+/// Variables with their values, in an order.
 ///
 /// A contract sees them as the list of the pairs.
 #[derive(Drop)]
@@ -33,7 +36,7 @@ impl Model for FinalValues {
 }
 
 impl FinalValues {
-    /// The names with their numbers, in their order.
+    /// The variables with their values, in their order.
     pub fn list(&self) -> &[(Name, Value)]
         ensures { result.now ≡ self.now }
     {
@@ -41,12 +44,12 @@ impl FinalValues {
     }
 }
 
-/// How a run goes. A step is one assignment or one evaluation of a predicate.
+/// How a run goes. A step is one assignment, one write or one evaluation of a predicate.
 #[derive(Drop)]
 pub enum Outcome {
-    /// The program ended after so many steps, with these numbers of the names of `end`, in its order.
+    /// The program ended after so many steps, with these values of the names of `end`, in its order.
     Ends { finals: FinalValues, steps: u64 },
-    /// The part with this tag has no number. Its step is among the steps.
+    /// The part with this tag gives nothing. Its step is among the steps.
     Faults { tag: Tag, fault: Fault, steps: u64 },
     /// So many steps were done, which is all there were to spend, and there is a further one to do.
     More { steps: u64 },
@@ -74,8 +77,8 @@ impl From<NoMemory> for Stop {
 /// Runs a program from a state with at most this many steps. The state stays as it is.
 ///
 /// The run is the usual one of a while program (Reps and Yang, 1988), bounded by steps and with
-/// faults, which are ours. A step allocates only where it assigns to a name that is new to the state,
-/// and the recursion is as deep as the program's blocks and expressions. It fails only for want of
+/// faults, which are ours; so are writes. A step allocates only where it assigns to a name that is new to
+/// the state, or writes, and the recursion is as deep as the program's blocks and expressions. It fails only for want of
 /// memory.
 pub fn run(alloc: Global, program: &Program, state: &State, most: u64) -> Result<Outcome, NoMemory>
     ensures { IfOk result (λ o. outcome_of o ≡ run program.now state.now most) }
@@ -123,13 +126,13 @@ pub fn run_observed<O: Observer>(
     }
 }
 
-/// The names with their numbers in the state, in their order.
+/// The variables with their values in the state, in their order.
 pub fn final_values(alloc: Global, names: &[Name], state: &State) -> Result<FinalValues, NoMemory>
     ensures { IfOk result (λ finals. finals ≡ final_values names.now state.now) }
 {
     let mut list = Vec::new(alloc);
     for name in names {
-        list.push((name.copy(alloc)?, state.get(name)))?;
+        list.push((name.copy(alloc)?, state.value(alloc, name)?))?;
     }
     Ok(FinalValues { list })
 }
@@ -168,40 +171,60 @@ fn walk_stmt<O: Observer>(
     ensures fewer { left.new ≤ left.old }
 {
     match stmt {
-        Stmt::Assign(tag, name, expr) => {
-            walk_assignment(alloc, *tag, name, expr, around, state, left, observer)
+        Stmt::Assign(_, name, _) => {
+            walk_assignment(alloc, stmt, name, around, state, left, observer)
         }
-        Stmt::If(tag, test, yes, no) => {
-            if is_true(take_step(alloc, *tag, test, around, state, left, observer)?) {
+        Stmt::If(_, _, yes, no) => {
+            if is_true(take_step(alloc, stmt, around, state, left, observer)?) {
                 walk_block(alloc, yes, around, state, left, observer)
             } else {
                 walk_block(alloc, no, around, state, left, observer)
             }
         }
-        Stmt::While(tag, test, body) => {
-            walk_loop(alloc, *tag, body, test, around, state, left, observer)
-        }
+        Stmt::While(_, _, body) => walk_loop(alloc, stmt, body, around, state, left, observer),
+        Stmt::Write(_, name, _) => walk_write(alloc, stmt, name, around, state, left, observer),
     }
 }
 
 fn walk_assignment<O: Observer>(
     alloc: Global,
-    tag: Tag,
+    stmt: &Stmt,
     name: &Name,
-    expr: &Expr,
     around: &O::Turns,
     state: &mut State,
     left: &mut u64,
     observer: &mut O,
 ) -> Result<(), Stop>
+    requires { stmt.now ≡ Stmt.Assign (tag_of stmt.now) name.now (expr_of stmt.now) }
     ensures did { let w = observing O.in_turn O.told O.assigned in
-        Did result (walk w (action tag (assigns name.now expr.now) done) around.now observer.old state.old left.old)
+        Did result (walk w (before stmt.now done) around.now observer.old state.old left.old)
         observer.new state.new left.new }
     ensures fewer { left.new ≤ left.old }
 {
-    let value = take_step(alloc, tag, expr, around, state, left, observer)?;
+    let number = take_step(alloc, stmt, around, state, left, observer)?;
     observer.assign(alloc, name)?;
-    state.assign(alloc, name, value)?;
+    state.assign(alloc, name, number)?;
+    Ok(())
+}
+
+fn walk_write<O: Observer>(
+    alloc: Global,
+    stmt: &Stmt,
+    name: &Name,
+    around: &O::Turns,
+    state: &mut State,
+    left: &mut u64,
+    observer: &mut O,
+) -> Result<(), Stop>
+    requires { stmt.now ≡ Stmt.Write (tag_of stmt.now) name.now (expr_of stmt.now) }
+    ensures did { let w = observing O.in_turn O.told O.assigned in
+        Did result (walk w (before stmt.now done) around.now observer.old state.old left.old)
+        observer.new state.new left.new }
+    ensures fewer { left.new ≤ left.old }
+{
+    let number = take_step(alloc, stmt, around, state, left, observer)?;
+    observer.assign(alloc, name)?;
+    state.write(alloc, name, number)?;
     Ok(())
 }
 
@@ -209,23 +232,23 @@ fn walk_assignment<O: Observer>(
 #[cycle(walk)]
 fn walk_loop<O: Observer>(
     alloc: Global,
-    tag: Tag,
+    stmt: &Stmt,
     body: &Block,
-    test: &Expr,
     around: &O::Turns,
     state: &mut State,
     left: &mut u64,
     observer: &mut O,
 ) -> Result<(), Stop>
+    requires { stmt.now ≡ Stmt.While (tag_of stmt.now) (expr_of stmt.now) body.now }
     ensures did { let w = observing O.in_turn O.told O.assigned in
-        Did result (walk_turns w 0 (left.old + 1) tag test.now (walk w body.now) around.now observer.old
-        state.old left.old)
+        Did result (walk_turns w 0 (left.old + 1) (tag_of stmt.now) (expr_of stmt.now) (walk w body.now) around.now
+        observer.old state.old left.old)
         observer.new state.new left.new }
     ensures fewer { left.new ≤ left.old }
 {
     for turn in 0..=*left {
         let turns = observer.enter(alloc, around, turn)?;
-        if !is_true(take_step(alloc, tag, test, &turns, state, left, observer)?) {
+        if !is_true(take_step(alloc, stmt, &turns, state, left, observer)?) {
             return Ok(());
         }
         walk_block(alloc, body, &turns, state, left, observer)?;
@@ -233,35 +256,46 @@ fn walk_loop<O: Observer>(
     Err(Stop::Spent)
 }
 
-fn is_true(value: Value) -> bool
-    ensures { result ≡ is_true value }
+fn is_true(number: i64) -> bool
+    ensures { result ≡ is_true number }
 {
-    value != 0
+    number != 0
 }
 
-// One step: the number of an expression, if a step is left.
+// What the part does in the state: the number of its expression, where it gives something.
+fn act(stmt: &Stmt, state: &State) -> Result<i64, Fault>
+    ensures { given_of (content_of stmt.now) state.now result ≡ answer_of (content_of stmt.now) state.now }
+{
+    let number = eval(expr_of(stmt), state)?;
+    match stmt {
+        Stmt::Write(_, name, _) if state.count(name) >= MAX_WRITTEN => Err(Fault::OutputFull),
+        _ => Ok(number),
+    }
+}
+
+// One step: the number of the part's expression, if a step is left.
 fn take_step<O: Observer>(
     alloc: Global,
-    tag: Tag,
-    expr: &Expr,
+    stmt: &Stmt,
     around: &O::Turns,
     state: &State,
     left: &mut u64,
     observer: &mut O,
 ) -> Result<i64, Stop>
-    ensures stepped { Stepped result tag (value expr.now state.now)
-        (λ v. O.told around.now tag expr.now v state.now observer.old) observer.old left.old observer.new left.new }
+    ensures stepped { let c = content_of stmt.now in
+        Stepped result (tag_of stmt.now) (answer_of c state.now) (given c state.now)
+        (λ z. O.told around.now (tag_of stmt.now) c z state.now observer.old) observer.old left.old observer.new left.new }
     ensures fewer { left.new ≤ left.old }
 {
     if *left == 0 {
         return Err(Stop::Spent);
     }
     *left -= 1;
-    match eval(expr, state) {
-        Ok(value) => {
-            observer.tell(alloc, around, tag, expr, value, state)?;
-            Ok(value)
+    match act(stmt, state) {
+        Ok(number) => {
+            observer.tell(alloc, around, stmt, number, state)?;
+            Ok(number)
         }
-        Err(fault) => Err(Stop::Faulty(tag, fault)),
+        Err(fault) => Err(Stop::Faulty(stmt.tag(), fault)),
     }
 }

@@ -7,9 +7,7 @@ mod observer;
 mod state;
 mod values;
 
-/// What a variable is worth: a whole number.
-pub type Value = i64;
-
+pub use hpr_syntax::{Value, Written};
 pub use interpreter::{FinalValues, Outcome, final_values, run, run_observed};
 pub use observer::Observer;
 pub use state::State;

@@ -1,12 +1,13 @@
 //! What watches a run.
-ghost use Rattle.std.specs.Prelude.{◌≡◌, ℕ, List, IfOk, OnOk};
+ghost use Rattle.std.specs.Prelude.{◌≡◌, ℕ, ℤ, List, IfOk, OnOk};
 ghost use Rattle.hpr_terms.specs.declared.tag.Tag.{Tag};
-ghost use Rattle.hpr_terms.specs.declared.expr.Expr.{Expr};
-ghost use Rattle.hpr_syntax.specs.Values.{Value, Values};
+ghost use Rattle.hpr_syntax.specs.declared.rows.Content.{Content};
+ghost use Rattle.hpr_syntax.specs.Parts.{tag_of};
+ghost use Rattle.hpr_syntax.specs.Rows.{content_of};
+ghost use Rattle.hpr_syntax.specs.Values.{Values};
 
-use crate::Value;
 use crate::state::State;
-use hpr_syntax::{Expr, Name, NoMemory, Tag};
+use hpr_syntax::{Name, NoMemory, Stmt};
 use std::alloc::Global;
 
 /// Watches a run: it is told each finished step, and knows of it what it likes to keep.
@@ -17,29 +18,29 @@ pub trait Observer {
     // the turns in a turn, which has this number, of a loop under these turns
     ghost in_turn: { Self.Turns → ℕ → Self.Turns };
 
-    // what is known after a step under these turns: the part's expression gave the number in the state
-    ghost told: { Self.Turns → Tag → Expr → Value → Values → Self → Self };
+    // what is known after a step of a part under these turns: its expression gave the number in the state
+    ghost told: { Self.Turns → Tag → Content → ℤ → Values → Self → Self };
 
-    // what is known after the last step gave its number to the name
+    // what is known after the last step defined the name
     ghost assigned: { List ℕ → Self → Self };
 
     /// The turns in the turn with this number, from 0, of a loop under these turns.
     fn enter(&self, alloc: Global, around: &Self::Turns, turn: u64) -> Result<Self::Turns, NoMemory>
         ensures { IfOk result (λ turns. turns ≡ in_turn around.now turn) };
 
-    /// A step of the part with this tag is done: its expression gave the number in the state.
+    /// A step of the part is done: its expression gave the number in the state.
     fn tell(
         &mut self,
         alloc: Global,
         around: &Self::Turns,
-        tag: Tag,
-        expr: &Expr,
-        value: Value,
+        stmt: &Stmt,
+        number: i64,
         state: &State,
     ) -> Result<(), NoMemory>
-        ensures { OnOk result (self.new ≡ told around.now tag expr.now value state.now self.old) };
+        ensures { OnOk result (self.new
+            ≡ told around.now (tag_of stmt.now) (content_of stmt.now) number state.now self.old) };
 
-    /// The number of the last step is now the name's.
+    /// The last step defined the name.
     fn assign(&mut self, alloc: Global, name: &Name) -> Result<(), NoMemory>
         ensures { OnOk result (self.new ≡ assigned name.now self.old) };
 }
@@ -65,9 +66,8 @@ impl Observer for Nobody {
         &mut self,
         _alloc: Global,
         _around: &(),
-        _tag: Tag,
-        _expr: &Expr,
-        _value: Value,
+        _stmt: &Stmt,
+        _number: i64,
         _state: &State,
     ) -> Result<(), NoMemory> {
         Ok(())

@@ -1,15 +1,17 @@
 //! States.
-ghost use Rattle.std.specs.Prelude.{◌≡◌, IfOk, OnOk, OnErr};
+ghost use Rattle.std.specs.Prelude.{◌≡◌, length, [], ◌∷◌, ◌++◌, IfOk, OnOk, OnErr};
 ghost use Rattle.std.specs.FinMap as map;
-ghost use Rattle.hpr_syntax.specs.Values.{value_at, put};
+ghost use Rattle.std.specs.Option.{option_copied};
+ghost use Rattle.hpr_syntax.specs.declared.value.Value.TheVariants.{Number, List};
+ghost use Rattle.hpr_syntax.specs.Values.{blank, number_in, written_in, value_at, put};
 
-use crate::Value;
-use hpr_syntax::{Name, NoMemory};
+use hpr_syntax::{Name, NoMemory, Value, Written};
 use std::alloc::Global;
 use std::collections::BTreeMap;
 use std::marker::Model;
 
-/// A state: names with their values. A name that it doesn't list has the value 0.
+/// A state: variables with their values. A plain name that it doesn't list has the value 0, and the stream the
+/// empty list.
 ///
 /// A contract sees it as a finite map from names to values.
 #[derive(Drop)]
@@ -39,11 +41,43 @@ impl State {
         }
     }
 
-    /// The name's value: 0 where the state doesn't list it.
-    pub fn get(&self, name: &Name) -> Value
-        ensures { result ≡ value_at self.now name.now }
+    /// What the state lists under the name, if it lists it.
+    pub fn listed(&self, name: &Name) -> Option<&Value>
+        ensures { option_copied result ≡ map.get self.now name.now }
     {
-        self.values.get(name).copied().unwrap_or(0)
+        self.values.get(name)
+    }
+
+    /// The name's number: 0 where the state doesn't list it, and of the stream.
+    #[tactic(auto, using(hpr_syntax::proofs::StateLaws::blank_number))]
+    pub fn get(&self, name: &Name) -> i64
+        ensures { result ≡ number_in (value_at self.now name.now) }
+    {
+        match self.listed(name) {
+            Some(value) => value.number(),
+            None => 0,
+        }
+    }
+
+    /// How many numbers were written under the name: none where the state doesn't list it.
+    #[tactic(auto, using(hpr_syntax::proofs::StateLaws::blank_written))]
+    pub(crate) fn count(&self, name: &Name) -> usize
+        ensures { result ≡ length (written_in (value_at self.now name.now)) }
+    {
+        match self.listed(name) {
+            Some(value) => value.count(),
+            None => 0,
+        }
+    }
+
+    /// What the name is worth.
+    pub fn value(&self, alloc: Global, name: &Name) -> Result<Value, NoMemory>
+        ensures { IfOk result (λ v. v ≡ value_at self.now name.now) }
+    {
+        match self.listed(name) {
+            Some(value) => value.copy(alloc),
+            None => Ok(blank(alloc, name)),
+        }
     }
 
     /// Whether the state lists the name.
@@ -53,9 +87,17 @@ impl State {
         self.values.contains_key(name)
     }
 
-    /// Gives the name this value, and leaves the others theirs. Want of memory leaves the state as
+    /// Gives the name this number, and leaves the others theirs. Want of memory leaves the state as
     /// it was.
-    pub fn set(&mut self, name: Name, value: Value) -> Result<(), NoMemory>
+    pub fn set(&mut self, name: Name, number: i64) -> Result<(), NoMemory>
+        ensures ok { OnOk result (self.new ≡ map.insert self.old name (Number number)) }
+        ensures err { OnErr result (self.new ≡ self.old) }
+    {
+        self.put(name, Value::Number(number))
+    }
+
+    /// The same of any value.
+    fn put(&mut self, name: Name, value: Value) -> Result<(), NoMemory>
         ensures ok { OnOk result (self.new ≡ map.insert self.old name value) }
         ensures err { OnErr result (self.new ≡ self.old) }
     {
@@ -65,20 +107,30 @@ impl State {
 
     // The same as `set`. The name is copied only where the state doesn't list it yet; else nothing
     // is allocated.
-    pub(crate) fn assign(
-        &mut self,
-        alloc: Global,
-        name: &Name,
-        value: Value,
-    ) -> Result<(), NoMemory>
-        ensures ok { OnOk result (self.new ≡ put self.old name.now value) }
+    pub(crate) fn assign(&mut self, alloc: Global, name: &Name, number: i64) -> Result<(), NoMemory>
+        ensures ok { OnOk result (self.new ≡ put self.old name.now (Number number)) }
         ensures err { OnErr result (self.new ≡ self.old) }
     {
         if let Some(place) = self.values.get_mut(name) {
-            *place = value;
+            *place = Value::Number(number);
             return Ok(());
         }
-        self.set(name.copy(alloc)?, value)
+        self.set(name.copy(alloc)?, number)
+    }
+
+    // Writes the number behind those that were written under the name. Want of memory leaves the state as it
+    // was.
+    pub(crate) fn write(&mut self, alloc: Global, name: &Name, number: i64) -> Result<(), NoMemory>
+        ensures ok { OnOk result (self.new
+            ≡ put self.old name.now (List (written_in (value_at self.old name.now) ++ number ∷ []))) }
+        ensures err { OnErr result (self.new ≡ self.old) }
+    {
+        if let Some(place) = self.values.get_mut(name) {
+            return place.write(alloc, number);
+        }
+        let mut written = Written::new(alloc);
+        written.push(number)?;
+        self.put(name.copy(alloc)?, Value::List(written))
     }
 
     /// A copy.
@@ -88,8 +140,19 @@ impl State {
     {
         let mut copy = State::new(alloc);
         for (name, value) in self.values.iter().rev() {
-            copy.set(name.copy(alloc)?, *value)?;
+            copy.put(name.copy(alloc)?, value.copy(alloc)?)?;
         }
         Ok(copy)
+    }
+}
+
+/// What the name is worth where nothing was put under it.
+fn blank(alloc: Global, name: &Name) -> Value
+    ensures { result ≡ blank name.now }
+{
+    if name.is_stream() {
+        Value::List(Written::new(alloc))
+    } else {
+        Value::Number(0)
     }
 }

@@ -1,19 +1,20 @@
 //! Values of expressions.
 ghost use Rattle.std.specs.Prelude.{◌≡◌, Ok};
 ghost use Rattle.hpr_syntax.specs.Value.{value, term_value, apply_unary, apply_binary, truth};
-ghost use Rattle.hpr_run.specs.Outcomes.{answer_of};
+ghost use Rattle.hpr_run.specs.Faults.{answer_of};
 
-use crate::Value;
 use crate::state::State;
 use hpr_syntax::{Binary, Expr, Operand, Unary};
 
-/// Why an expression has no number.
+/// Why a part gives nothing.
 #[derive(Clone, Copy, Debug, PartialEq, Eq)]
 pub enum Fault {
     /// A result leaves the range of i64; `/` and `%` of the least i64 by -1 among them.
     Overflow,
     /// The right operand of `/` or `%` is 0.
     ZeroDivide,
+    /// As many numbers were written as may be, [`MAX_WRITTEN`](hpr_terms::limits::MAX_WRITTEN).
+    OutputFull,
 }
 
 /// The number of an expression in a state, or its fault. It takes no memory.
@@ -23,7 +24,7 @@ pub enum Fault {
 /// `%` has the sign of its left operand. A test gives 1 or 0; `and`, `or` and `not` take every
 /// number but 0 as true.
 #[cycle(eval)]
-pub fn eval(expr: &Expr, state: &State) -> Result<Value, Fault>
+pub fn eval(expr: &Expr, state: &State) -> Result<i64, Fault>
     ensures { answer_of result ≡ value expr.now state.now }
 {
     match expr {
@@ -39,7 +40,7 @@ pub fn eval(expr: &Expr, state: &State) -> Result<Value, Fault>
 }
 
 #[cycle(eval)]
-fn eval_operand(operand: &Operand, state: &State) -> Result<Value, Fault>
+fn eval_operand(operand: &Operand, state: &State) -> Result<i64, Fault>
     ensures { answer_of result ≡ term_value operand.now state.now }
 {
     eval(operand.expr(), state)

@@ -1,7 +1,8 @@
 -- What is drawn is small, and the names are names.
 use Rattle.std.proofs.Common.{◌≡◌, ℕ, zero, suc, ◌+◌, ◌<◌, List, [], ◌∷◌, ◌++◌, take, codes, refl, arith, subst, sym}
 use Rattle.hpr_terms.specs.Keywords.{keyword_of}
-use Rattle.hpr_terms.specs.Names.{IsName, is_name, is_name_byte, is_name_like}
+use Rattle.hpr_terms.specs.Names.{IsName, IsVariable, is_name, is_name_byte, is_name_like}
+use Rattle.hpr_terms.proofs.Plain.{name_is_variable}
 use Rattle.hpr_sample.specs.Draws.{draw, variable_name}
 use Rattle.hpr_sample.specs.Sample.{variable_names}
 
@@ -38,6 +39,12 @@ b_is_name = refl
 pub c_is_name : IsName (codes "c")
 unfolding is_name is_name_like is_name_byte keyword_of
 c_is_name = refl
+
+pub drawn_is_variable : (words : ℕ) → IsVariable (variable_name (draw 8 words).made)
+drawn_is_variable words = name_is_variable (variable_name (draw 8 words).made) (drawn_is_name words)
+
+pub c_is_variable : IsVariable (codes "c")
+c_is_variable = name_is_variable (codes "c") c_is_name
 
 -- the variables one by one
 pub names_more : (n : ℕ) → n < 8 → take (n + 1) variable_names ≡ take n variable_names ++ variable_name n ∷ []

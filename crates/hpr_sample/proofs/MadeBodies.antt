@@ -1,14 +1,14 @@
--- What the body of a base is: its tags in preorder, its parts, its levels, its expressions.
+-- What the body of a base is: its tags in preorder, its parts, its levels, what they say.
 use Rattle.std.proofs.Common.{◌≡◌, ℕ, zero, suc, ◌+◌, ◌≤◌, ◌^◌, List, ◌∷◌, None, refl, ap, sym, ◌∙◌, arith}
 use Rattle.hpr_terms.specs.declared.limits.TheConstants.{MAX_LEVELS}
 use Rattle.hpr_terms.specs.declared.tag.Tag.{Tag}
 use Rattle.hpr_syntax.specs.Body.{Body, part_count}
 use Rattle.hpr_syntax.specs.Parts.{tags_of}
 use Rattle.hpr_syntax.specs.Proper.{IsProperBody}
-use Rattle.hpr_syntax.specs.Shape.{first_deep, first_large}
+use Rattle.hpr_syntax.specs.Shape.{first_deep, first_where, is_wrong, says_large}
 use Rattle.hpr_sample.specs.Draws.{Drawn, draw, variable}
 use Rattle.hpr_sample.specs.Sample.{assignment, assignments, by_kind, conditional, followed_by, groups, repetition, tag}
-use Rattle.hpr_sample.proofs.DrawnNames.{c_is_name, draw_below, drawn_is_name}
+use Rattle.hpr_sample.proofs.DrawnNames.{c_is_variable, draw_below, drawn_is_variable}
 
 -- so many tags of author 1 from this serial on, and then these
 abbrev pub tags_from : ℕ → ℕ → List Tag → List Tag
@@ -20,7 +20,8 @@ pub record IsMade (n serial : ℕ) (b : Body) : Type 0 where
   pub tags : (later : List Tag) → tags_of b later ≡ tags_from n serial later
   pub count : part_count b ≡ n
   pub levels : first_deep MAX_LEVELS b ≡ None
-  pub expressions : first_large b ≡ None
+  pub expressions : first_where says_large b ≡ None
+  pub variables : first_where is_wrong b ≡ None
   pub proper : serial + n ≤ 2 ^ 32 → IsProperBody b
 
 made_assignment : (n serial words : ℕ) (rest : ℕ → Drawn Body) → ((w : ℕ) → IsMade n (serial + 1) (rest w).made) → IsMade (suc n) serial (followed_by (assignment serial words) rest).made
@@ -34,7 +35,8 @@ made_assignment n serial words rest made =
       count = omega (arith, r.count);
       levels = r.levels;
       expressions = r.expressions;
-      proper = λ fits. ((omega arith, omega (arith, fits)), drawn_is_name words, (drawn_is_name (variable words).words, omega (arith, small)), r.proper (omega (arith, fits)));
+      variables = r.variables;
+      proper = λ fits. ((omega arith, omega (arith, fits)), drawn_is_variable words, (drawn_is_variable (variable words).words, omega (arith, small)), r.proper (omega (arith, fits)));
     }
 
 made_conditional : (n serial words : ℕ) (rest : ℕ → Drawn Body) → ((w : ℕ) → IsMade n (serial + 3) (rest w).made)
@@ -55,11 +57,12 @@ made_conditional n serial words rest made =
       count = omega (arith, r.count);
       levels = r.levels;
       expressions = r.expressions;
+      variables = r.variables;
       proper = λ fits. (
         (omega arith, omega (arith, fits)),
-        (drawn_is_name words, omega (arith, small)),
-        ((omega arith, omega (arith, fits)), drawn_is_name k.words, (drawn_is_name words, omega arith), tt),
-        ((omega arith, omega (arith, fits)), drawn_is_name k.words, omega (arith, small_too), tt),
+        (drawn_is_variable words, omega (arith, small)),
+        ((omega arith, omega (arith, fits)), drawn_is_variable k.words, (drawn_is_variable words, omega arith), tt),
+        ((omega arith, omega (arith, fits)), drawn_is_variable k.words, omega (arith, small_too), tt),
         r.proper (omega (arith, fits)),
       );
     }
@@ -81,18 +84,19 @@ made_repetition n serial words rest made =
       count = omega (arith, r.count);
       levels = r.levels;
       expressions = r.expressions;
+      variables = r.variables;
       proper = λ fits. (
         (omega arith, omega (arith, fits)),
-        c_is_name,
+        c_is_variable,
         omega arith,
         (
           (omega arith, omega (arith, fits)),
-          (c_is_name, omega (arith, small)),
+          (c_is_variable, omega (arith, small)),
           (
             (omega arith, omega (arith, fits)),
-            drawn_is_name k.words,
-            (drawn_is_name k.words, drawn_is_name target.words),
-            ((omega arith, omega (arith, fits)), c_is_name, (c_is_name, omega arith), tt),
+            drawn_is_variable k.words,
+            (drawn_is_variable k.words, drawn_is_variable target.words),
+            ((omega arith, omega (arith, fits)), c_is_variable, (c_is_variable, omega arith), tt),
           ),
           r.proper (omega (arith, fits)),
         ),
@@ -101,7 +105,7 @@ made_repetition n serial words rest made =
 
 made_assignments : (n serial words : ℕ) → IsMade n serial (assignments n serial words).made
 unfolding assignments
-made_assignments zero serial words = record { tags = λ later. refl; count = refl; levels = refl; expressions = refl; proper = λ fits. tt }
+made_assignments zero serial words = record { tags = λ later. refl; count = refl; levels = refl; expressions = refl; variables = refl; proper = λ fits. tt }
 made_assignments (suc n) serial words = made_assignment n serial words (assignments n (serial + 1)) (λ w. made_assignments n (serial + 1) w)
 
 of_kind : (P : Body → Type 0) (k : ℕ) (x y z : Drawn Body) → P x.made → P y.made → P z.made → P (by_kind k x y z).made

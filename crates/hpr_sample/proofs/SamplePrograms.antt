@@ -8,15 +8,19 @@ use Rattle.hpr_terms.specs.declared.tag.Tag.{Tag}
 use Rattle.hpr_terms.specs.declared.expr.Binary.{Binary}
 use Rattle.hpr_terms.specs.declared.expr.Binary.TheVariants.{Add, Mul}
 use Rattle.hpr_terms.specs.declared.expr.Expr.TheVariants.{Infix}
+use Rattle.hpr_terms.specs.Names.{IsVariable, is_stream}
 use Rattle.hpr_terms.specs.Term.{var}
+use Rattle.hpr_terms.proofs.Facts.{neither}
+use Rattle.hpr_terms.proofs.Plain.{name_is_variable, name_not_stream}
+use Rattle.hpr_syntax.specs.declared.rows.Content.TheVariants as content
 use Rattle.hpr_syntax.specs.declared.shape.ShapeError.TheVariants.{TooManyParts}
 use Rattle.hpr_syntax.specs.declared.tree.Stmt.TheVariants.{Assign}
 use Rattle.hpr_syntax.specs.Body.{Body, part_count}
 use Rattle.hpr_syntax.specs.BodyOf.{before}
 use Rattle.hpr_syntax.specs.Issued.{Issued, issued_to, raised}
 use Rattle.hpr_syntax.specs.Parts.{same_tag, tags_of}
-use Rattle.hpr_syntax.specs.Proper.{IsPlainName, IsProperPair}
-use Rattle.hpr_syntax.specs.Shape.{IsProgram, first_repeated, first_unissued, is_unissued, too_many}
+use Rattle.hpr_syntax.specs.Proper.{IsProperPair}
+use Rattle.hpr_syntax.specs.Shape.{IsProgram, first_repeated, first_unissued, is_unissued, is_wrong, says_large, too_many}
 use Rattle.hpr_syntax.specs.Tree.{Tree}
 use Rattle.hpr_syntax.proofs.IssuedLemmas.{bounds_issued, raised_greater, raised_keeps, raised_others}
 use Rattle.hpr_syntax.proofs.NoRefusal.{no_refusal, shaped}
@@ -28,7 +32,7 @@ use Rattle.hpr_edit.proofs.Tags.{all_issued, count, counted, issued_bounds, issu
 use Rattle.hpr_sample.specs.Draws.{Drawn, draw, variable, variable_name}
 use Rattle.hpr_sample.specs.Private.Making.{CanHave}
 use Rattle.hpr_sample.specs.Sample.{IsSampleSize, assign, base_of, groups, sample, tag, variable_names, with_part}
-use Rattle.hpr_sample.proofs.DrawnNames.{a_is_name, b_is_name, draw_below, drawn_is_name, variable_is_name}
+use Rattle.hpr_sample.proofs.DrawnNames.{a_is_name, b_is_name, draw_below, drawn_is_variable, variable_is_name}
 use Rattle.hpr_sample.proofs.MadeBodies.{IsMade, is_made, tags_from}
 use Rattle.hpr_sample.proofs.OnceEach.{from_counted, none_repeated, once_from}
 use Rattle.hpr_sample.proofs.OneMore.{HasMore, has_more}
@@ -38,10 +42,10 @@ few_enough n h = ap (λ (b : Bool). cond b (Some (TooManyParts n)) None) (le-ltb
 
 -- ---- the base
 
-variables_are_names : All IsPlainName variable_names
-variables_are_names =
-    let is = λ (n : ℕ) (h : n < 8). variable_is_name n h in
-    All-from_recursion IsPlainName variable_names
+finals_are_variables : All IsVariable variable_names
+finals_are_variables =
+    let is = λ (n : ℕ) (h : n < 8). name_is_variable (variable_name n) (variable_is_name n h) in
+    All-from_recursion IsVariable variable_names
     (is 0 (omega arith), (is 1 (omega arith), (is 2 (omega arith), (is 3 (omega arith), (is 4 (omega arith), (is 5 (omega arith), (is 6 (omega arith), (is 7 (omega arith), tt))))))))
 
 one_author : (a n : ℕ) → a ≡ 1 → issued_to a ((1, n) ∷ []) ≡ n
@@ -61,13 +65,14 @@ base_is_program parts words size =
         ascending = (omega arith, size.0, tt);
         numbers = All-from_recursion IsProperPair ((1, parts) ∷ []) ((omega arith, omega (arith, size.1)), tt);
         body = m.proper (omega (arith, size.1));
-        finals = variables_are_names;
+        finals = finals_are_variables;
       };
       shape = shaped (base_of parts (groups parts 1 words)).made (record {
         tags = ap (first_repeated same_tag []) tags ∙ none_repeated [] (tags_from parts 1 []) (λ t h. absurd cc) (λ t. once_from parts 1 t);
         issued = ap (first_unissued ((1, parts) ∷ [])) tags ∙ all_issued ((1, parts) ∷ []) (tags_from parts 1 []) (λ t h. base_issued parts t h);
         levels = m.levels;
         expressions = m.expressions;
+        variables = m.variables;
         parts = few_enough _ (omega (arith, m.count, size.1));
         names = refl;
       });
@@ -142,21 +147,27 @@ module _ (base : Tree) (author : ℕ) (x : List ℕ) (op : Binary) (words : ℕ)
           let bounds = issued_bounds base.issued t (issued_in base can.program t (omega (arith, has.times t, ap one_if same, h))) in
           bounds_issued new.issued t bounds.0 (omega (arith, bounds.1, keeps_numbers t.author))
 
+  -- the new part neither assigns the stream nor names it
+  names_none : is_wrong (content.Assign x (Infix op (var left.made) (var right.made))) ≡ false
+  names_none = neither (is_stream x) false (name_not_stream x can.name) refl
+
   pub variant_is_program : IsProgram new
   variant_is_program =
       let old = no_refusal base can.program.shape in
+      let is_variable : IsVariable x = name_is_variable x can.name in
       record {
         proper = record {
           ascending = raised_keeps author 1 base.issued (omega arith) can.program.proper.ascending;
           numbers = proper_raised author base.issued can.number can.program.proper.numbers;
-          body = has.proper (can.number, omega arith) can.name (drawn_is_name place.words, drawn_is_name left.words) can.program.proper.body;
-          finals = All-from_recursion IsPlainName (x ∷ base.finals) (can.name, recursion_from_All IsPlainName base.finals can.program.proper.finals);
+          body = has.proper (can.number, omega arith) is_variable (drawn_is_variable place.words, drawn_is_variable left.words) can.program.proper.body;
+          finals = All-from_recursion IsVariable (x ∷ base.finals) (is_variable, recursion_from_All IsVariable base.finals can.program.proper.finals);
         };
         shape = shaped new (record {
           tags = none_repeated [] (tags_of new.body []) (λ t h. absurd cc) (λ t. omega (arith, counted t new.body [], once_more t));
           issued = all_issued new.issued (tags_of new.body []) (λ t h. issued_more t (omega (arith, h, counted t new.body [])));
           levels = has.levels 63 ∙ old.levels;
-          expressions = has.expressions refl ∙ old.expressions;
+          expressions = has.says says_large refl ∙ old.expressions;
+          variables = has.says is_wrong names_none ∙ old.variables;
           parts = few_enough _ (omega (arith, has.count, can.room));
           names = can.names;
         });

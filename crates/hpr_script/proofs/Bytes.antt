@@ -1,5 +1,5 @@
 -- The reader of a script's bytes against the machine of bytes: where it goes on, that goes on alike, and where it stops, nothing leads to an end.
-use Rattle.std.proofs.Common.{◌≡◌, ℕ, ◌<◌, ◌^◌, List, [], ◌∷◌, ◌++◌, Bool, true, false, not, cond, eqb, ◌||◌, ◌&&◌, Option, Some, None, is_some, refl, sym, ap, subst, ◌∙◌, append_assoc, arith, inl, inr, ◌⊎◌}
+use Rattle.std.proofs.Common.{◌≡◌, ℕ, ◌<◌, ◌≤◌, ◌^◌, List, [], ◌∷◌, ◌++◌, length, length-append, take, Bool, true, false, not, cond, eqb, ◌||◌, ◌&&◌, Option, Some, None, is_some, refl, sym, ap, subst, ◌∙◌, append_assoc, arith, inl, inr, ◌⊎◌}
 use Rattle.std.specs.List.{list_all, list_any, starts_with}
 use Rattle.std.specs.Str.{bytes_eq}
 use Rattle.std.proofs.lemmas.Bool.{and_parts, and_from, eq-eqb, not-true}
@@ -7,12 +7,13 @@ use Rattle.std.proofs.lemmas.List.Folds.{list_any_at}
 use Rattle.std.proofs.lemmas.Slice.Eq.{bytes_eq-Decides}
 use Rattle.std.proofs.lemmas.Fmt.{digits_decimal}
 use Rattle.hpr_terms.specs.declared.keyword.Keyword.{Keyword}
+use Rattle.hpr_terms.specs.declared.keyword.Keyword.TheVariants.{Out}
 use Rattle.hpr_terms.specs.declared.token.Sign.{Sign}
 use Rattle.hpr_terms.specs.declared.token.Sign.TheVariants.{Colon, Becomes, Dot, Comma, Semicolon, Open, Close, Plus, Minus, Star, Slash, Percent, Equal, Differ, Less, LessEqual, Greater, GreaterEqual}
 use Rattle.hpr_terms.specs.declared.token.Token.{Token}
 use Rattle.hpr_terms.specs.declared.token.Token.TheVariants.{Word, Name, Number, Mark}
-use Rattle.hpr_terms.specs.Keywords.{keywords, keyword_of}
-use Rattle.hpr_terms.specs.Names.{is_name_byte, is_name_like, is_name, begins_with_digit}
+use Rattle.hpr_terms.specs.Keywords.{keyword_text, keywords, keyword_of}
+use Rattle.hpr_terms.specs.Names.{is_name_byte, is_name_like, is_name, begins_with_digit, stream}
 use Rattle.hpr_terms.specs.Tokens.{IsToken, is_word, is_blank}
 use Rattle.hpr_terms.proofs.Facts.{or_right, or_left, some_inj}
 use Rattle.hpr_scan.specs.declared.scanner.Lex.{Lex}
@@ -38,7 +39,7 @@ use Rattle.hpr_script.specs.declared.scanner.Begun.TheVariants.{Gap, Comment, In
 use Rattle.hpr_script.specs.declared.scanner.Reader.{Reader}
 use Rattle.hpr_script.specs.ScriptWords.{script_text, script_words, script_word}
 use Rattle.hpr_script.specs.Stages.{word_stage, wants_word, takes_name, number_turn}
-use Rattle.hpr_script.specs.Machine.{State, head, lost, turned, at_head, at_turn, turns_to, word_turn, any_name_turn, name_turn, number_after, sign_after, with_name, or_lost, name_next, next, is_end}
+use Rattle.hpr_script.specs.Machine.{State, head, lost, turned, at_head, at_turn, turns_to, word_turn, any_name_turn, name_turn, keyword_turn, number_after, sign_after, with_name, or_lost, name_next, next, is_end}
 use Rattle.hpr_script.specs.Reading.{reader, begins_word, begins_number, begins, grown, finished_by, finished, settled, signed, gap_next, inner, IsInner, lex_of, scanner_of, IsSound}
 use Rattle.hpr_script.proofs.MachineLaws.{lost_some, number_some, script_is_token_machine}
 
@@ -190,17 +191,38 @@ begins_alike f s u b e =
       | inr h ↦ let k = some_word (begins_word s w) script_words h in word_part f s u b k.0 k.1
     ]
 
--- what a head takes is no keyword
-begins_parts : (f : Found) (s : Stage) (w : List ℕ) → words.begins next (head f s) w ≡ true → (is_name_like w ≡ true) ⊎ (begins_number s w ≡ true)
-unfolding words.begins next
-begins_parts f s w e =
+-- a front of the stream's word is like a name
+stream_like : (w more : List ℕ) → 1 ≤ length w → keyword_text Out ≡ w ++ more → is_name_like w ≡ true
+unfolding is_name_like is_name_byte
+stream_like [] more long e = absurd (omega (arith, long))
+stream_like (a ∷ []) more long e = subst (λ (x : List ℕ). is_name_like x ≡ true) (ap (take 1) e) refl
+stream_like (a ∷ b ∷ []) more long e = subst (λ (x : List ℕ). is_name_like x ≡ true) (ap (take 2) e) refl
+stream_like (a ∷ b ∷ c ∷ []) more long e = subst (λ (x : List ℕ). is_name_like x ≡ true) (ap (take 3) e) refl
+stream_like (a ∷ b ∷ c ∷ d ∷ w) more long e = absurd (omega (arith, ap length e))
+
+-- a keyword that a head takes is the stream's word
+keyword_like : (f : Found) (s : Stage) (u : List ℕ) (b : ℕ) → begins_keyword next (head f s) (u ++ (b ∷ [])) Out ≡ true → is_name_like (u ++ (b ∷ [])) ≡ true
+keyword_like f s u b e =
+    let w = u ++ (b ∷ []) in
+    let m = front_of (keyword_text Out) w (and_parts (is_some (next (head f s) (Word Out))) (starts_with eqb (keyword_text Out) w) e).1 in
+    stream_like w m.0 (omega (arith, length-append u (b ∷ []))) m.1
+
+-- what a head takes is like a name, or a number
+begins_parts : (f : Found) (s : Stage) (u : List ℕ) (b : ℕ) → words.begins next (head f s) (u ++ (b ∷ [])) ≡ true
+    → (is_name_like (u ++ (b ∷ [])) ≡ true) ⊎ (begins_number s (u ++ (b ∷ [])) ≡ true)
+unfolding words.begins next keyword_turn
+begins_parts f s u b e =
+    let w = u ++ (b ∷ []) in
     elim (or_of (words.begins_name next (head f s) w || words.begins_number next (head f s) w) (list_any (begins_keyword next (head f s) w) keywords) e) [
       | inl h ↦ elim (or_of (words.begins_name next (head f s) w) (words.begins_number next (head f s) w) h) [
         | inl i ↦ inl (and_parts (is_name_like w) (is_some (next (head f s) (Name w))) i).0
         | inr i ↦ let p = and_parts (is_numeral w) (is_some (next (head f s) (Number (value_after 0 w)))) i in
             inr (and_from (is_numeral w) (is_some (number_turn s (value_after 0 w))) p.0 (sym (lenient_number f s (value_after 0 w)) ∙ p.1))
       ]
-      | inr h ↦ absurd cc
+      | inr h ↦ elim (or_of (begins_keyword next (head f s) w Out) false h) [
+        | inl i ↦ inl (keyword_like f s u b i)
+        | inr i ↦ absurd cc
+      ]
     ]
 
 -- ---- signs
@@ -296,9 +318,13 @@ other_some f s w p true numeral e = token_some f s w p e
 other_some f s w p false true e = ap at_turn e
 other_some f s w p false false e = absurd cc
 
+keyword_some : (f : Found) (s : Stage) (k : Keyword) (p : Found × Turn) → keyword_turn f s k ≡ Some p → next (head f s) (Word k) ≡ Some (turned p.0 p.1)
+unfolding next
+keyword_some f s k p e = ap at_turn e
+
 finished_at : (f : Found) (s : Stage) (w : List ℕ) (p : Found × Turn) (o : Option Keyword) → finished_by o f s w ≡ Some p → and_then (keyword_or o w) (next (head f s)) ≡ Some (turned p.0 p.1)
 finished_at f s w p None e = other_some f s w p (is_name w) (is_numeral w) e
-finished_at f s w p (Some k) e = absurd cc
+finished_at f s w p (Some k) e = keyword_some f s k p e
 
 pub finished_some : (f : Found) (s : Stage) (w : List ℕ) (p : Found × Turn) → finished f s w ≡ Some p → finish next (lex.InWord w) (head f s) ≡ Some (turned p.0 p.1)
 unfolding finish finished word_token
@@ -322,7 +348,7 @@ other_none f s w false false e = inl refl
 finished_fails : (f : Found) (s : Stage) (w : List ℕ) (o : Option Keyword) → finished_by o f s w ≡ None → Fails (and_then (keyword_or o w) (next (head f s)))
 unfolding next
 finished_fails f s w None e = other_none f s w (is_name w) (is_numeral w) e
-finished_fails f s w (Some k) e = inl refl
+finished_fails f s w (Some k) e = inl (ap at_turn e)
 
 pub finished_none : (f : Found) (s : Stage) (w : List ℕ) → finished f s w ≡ None → Fails (finish next (lex.InWord w) (head f s))
 unfolding finish finished word_token
@@ -389,6 +415,14 @@ lost_or : (f : Found) (s : Stage) (x : List ℕ) (o : Option Stage) (n : State) 
 lost_or f s x None n others g e r = absurd (lost_runs others g (subst (λ (m : State). runs next m others ≡ Some (head g AtCommand)) (sym (some_inj lost n e)) r))
 lost_or f s x (Some q) n others g e r = (q, refl)
 
+variable_goes : (f : Found) (s : Stage) (u : List ℕ) (b : ℕ) (t : Token) (g : Found) → takes_name s ≡ true → Goes f s u b t g → Stopped s (u ++ (b ∷ [])) → ⊥
+variable_goes f s u b t g e k stop =
+    let w = u ++ (b ∷ []) in
+    elim (begins_parts f s u b (fronts_begin next script_is_token_machine (head f s) k.end t u k.more b (longer u k.more b t k.is) k.word k.step)) [
+      | inl i ↦ by_name s w e i stop
+      | inr i ↦ by_number s w i stop
+    ]
+
 name_goes : (f : Found) (s : Stage) (u : List ℕ) (b : ℕ) (x : List ℕ) (g : Found) (v : Bool) → wants_word s ≡ v → Goes f s u b (Name x) g → Stopped s (u ++ (b ∷ [])) → ⊥
 unfolding next name_turn
 name_goes f s u b x g true h k stop =
@@ -400,12 +434,7 @@ name_goes f s u b x g false h k stop =
     at_test (takes_name s) refl step
   where
     at_test : (c : Bool) → takes_name s ≡ c → at_turn (cond c (Some (with_name x f, turn.Head AfterName)) None) ≡ Some k.end → ⊥
-    at_test true e step =
-        let w = u ++ (b ∷ []) in
-        elim (begins_parts f s w (fronts_begin next script_is_token_machine (head f s) k.end (Name x) u k.more b (longer u k.more b (Name x) k.is) refl k.step)) [
-          | inl i ↦ by_name s w e i stop
-          | inr i ↦ by_number s w i stop
-        ]
+    at_test true e step = variable_goes f s u b (Name x) g e k stop
     at_test false e step = none_some step
 
 number_goes : (f : Found) (s : Stage) (u : List ℕ) (b m : ℕ) (g : Found) → Goes f s u b (Number m) g → Stopped s (u ++ (b ∷ [])) → ⊥
@@ -413,14 +442,23 @@ number_goes f s u b m g k stop =
     let w = u ++ (b ∷ []) in
     let low : m < 2 ^ 64 = small next script_is_token_machine (head f s) k.end (Number m) k.step in
     let digits : list_all is_digit (w ++ k.more) ≡ true = ap (list_all is_digit) k.is ∙ digits_decimal own m low in
-    elim (begins_parts f s w (fronts_begin next script_is_token_machine (head f s) k.end (Number m) u k.more b (longer u k.more b (Number m) k.is) refl k.step)) [
+    elim (begins_parts f s u b (fronts_begin next script_is_token_machine (head f s) k.end (Number m) u k.more b (longer u k.more b (Number m) k.is) refl k.step)) [
       | inl i ↦ true_false (digit_first u b k.more digits) (no_digit w i)
       | inr i ↦ by_number s w i stop
     ]
 
+keyword_takes : (f : Found) (s : Stage) (k : Keyword) (n : State) → at_turn (keyword_turn f s k) ≡ Some n → takes_name s ≡ true
+unfolding keyword_turn
+keyword_takes f s Out n e = at_test (takes_name s) refl e
+  where
+    at_test : (c : Bool) → takes_name s ≡ c → at_turn (cond c (Some (with_name stream f, turn.Head AfterName)) None) ≡ Some n → takes_name s ≡ true
+    at_test true h e = h
+    at_test false h e = absurd (none_some e)
+keyword_takes f s k n e = absurd cc
+
 token_goes : (f : Found) (s : Stage) (u : List ℕ) (b : ℕ) (t : Token) (g : Found) → Goes f s u b t g → Stopped s (u ++ (b ∷ [])) → ⊥
 unfolding next
-token_goes f s u b (Word k) g h stop = none_some h.step
+token_goes f s u b (Word k) g h stop = variable_goes f s u b (Word k) g (keyword_takes f s k h.end h.step) h stop
 token_goes f s u b (Name x) g h stop = name_goes f s u b x g (wants_word s) refl h stop
 token_goes f s u b (Number m) g h stop = number_goes f s u b m g h stop
 token_goes f s u b (Mark sign) g h stop = true_false h.word refl

@@ -11,7 +11,7 @@ use Rattle.hpr_terms.specs.declared.token.Token.{Token}
 use Rattle.hpr_terms.specs.declared.token.Token.TheVariants.{Name, Number, Mark}
 use Rattle.hpr_terms.specs.Keywords.{keyword_text, keyword_of}
 use Rattle.hpr_terms.specs.Names.{is_name_byte, is_name_like}
-use Rattle.hpr_terms.specs.Tokens.{IsToken, is_word, token}
+use Rattle.hpr_terms.specs.Tokens.{IsToken, is_word}
 use Rattle.hpr_scan.specs.declared.scanner.Lex.{Lex}
 use Rattle.hpr_scan.specs.declared.scanner.Lex.TheVariants as lex
 use Rattle.hpr_scan.specs.Machine.{Live, ends, goes}

@@ -2,6 +2,9 @@
 use Rattle.std.proofs.Common.{◌≡◌, ℕ, ◌≤◌, List, [], length, Bool, true, false, cond, Option, Some, None, Result, Ok, Err, IfOk, refl, sym, ap, subst, ◌∙◌, arith}
 use Rattle.std.proofs.lemmas.List.{take_all}
 use Rattle.hpr_terms.specs.declared.tag.Tag.{Tag}
+use Rattle.hpr_terms.specs.declared.keyword.Keyword.{Keyword}
+use Rattle.hpr_terms.specs.declared.keyword.Keyword.TheVariants.{Out}
+use Rattle.hpr_terms.specs.Names.{stream}
 use Rattle.hpr_terms.specs.declared.token.Token.{Token}
 use Rattle.hpr_terms.specs.declared.token.Token.TheVariants.{Word, Name, Number, Mark}
 use Rattle.hpr_terms.specs.Tokens.{is_word}
@@ -35,7 +38,7 @@ use Rattle.hpr_script.specs.declared.word.ScriptWord.TheVariants as words
 use Rattle.hpr_script.specs.ScriptGrammar.{IsScript, HasScript, OneScript}
 use Rattle.hpr_script.specs.ScriptWords.{script_word}
 use Rattle.hpr_script.specs.Stages.{tagged, at_place, command_stage, block_stage, word_stage, wants_word, takes_name, number_turn, is_count, is_serial}
-use Rattle.hpr_script.specs.Machine.{head, lost, turned, at_turn, turns_at, turns_to, with_name, word_turn, any_name_turn, name_turn, number_after, or_lost, name_next, next, start, is_end, ends_script, commands_of}
+use Rattle.hpr_script.specs.Machine.{head, lost, turned, at_turn, turns_at, turns_to, with_name, word_turn, any_name_turn, name_turn, keyword_turn, number_after, or_lost, name_next, next, start, is_end, ends_script, commands_of}
 use Rattle.hpr_script.specs.Reading.{lex_of, scanner_of}
 use Rattle.hpr_script.specs.declared.reader.ScriptError.{ScriptError}
 use Rattle.hpr_script.specs.declared.reader.ScriptError.TheVariants.{Syntax, Memory}
@@ -143,9 +146,14 @@ name_ends : (f g : Found) (s : Stage) (x : List ℕ) (b : Bool) → name_next b 
 name_ends f g s x true e = word_turn_ends f g s (script_word x) (and_then (script_word x) (word_stage s)) refl e
 name_ends f g s x false e = any_name_ends f g x (takes_name s) e
 
+keyword_ends : (f g : Found) (s : Stage) (k : Keyword) → at_turn (keyword_turn f s k) ≡ Some (head g AtCommand) → ⊥
+unfolding keyword_turn
+keyword_ends f g s Out e = any_name_ends f g stream (takes_name s) e
+keyword_ends f g s k e = none_some e
+
 token_ends : (f g : Found) (s : Stage) (t : Token) → is_word t ≡ true → next (head f s) t ≡ Some (head g AtCommand) → ⊥
 unfolding next name_turn number_after
-token_ends f g s (Word k) w e = none_some e
+token_ends f g s (Word k) w e = keyword_ends f g s k e
 token_ends f g s (Name x) w e = name_ends f g s x (wants_word s) e
 token_ends f g s (Number n) w e = number_ends f g s n (number_turn s n) refl e
 token_ends f g s (Mark x) w e = true_false w refl

@@ -3,13 +3,16 @@ use Rattle.std.proofs.Common.{◌≡◌, ℕ, ◌^◌, List, [], ◌∷◌, ◌+
 use Rattle.std.proofs.lemmas.Bool.{ltb-true, leb-true, and_parts}
 use Rattle.std.proofs.lemmas.List.{append-nil}
 use Rattle.hpr_terms.specs.declared.tag.Tag.{Tag}
+use Rattle.hpr_terms.specs.declared.keyword.Keyword.{Keyword}
+use Rattle.hpr_terms.specs.declared.keyword.Keyword.TheVariants.{Out}
+use Rattle.hpr_terms.specs.Names.{stream}
 use Rattle.hpr_terms.specs.declared.token.Sign.{Sign}
 use Rattle.hpr_terms.specs.declared.token.Sign.TheVariants.{Dot, Comma, Semicolon, Open, Close}
 use Rattle.hpr_terms.specs.declared.token.Token.{Token}
 use Rattle.hpr_terms.specs.declared.token.Token.TheVariants.{Word, Name, Number, Mark}
 use Rattle.hpr_terms.proofs.Facts.{some_inj}
 use Rattle.hpr_syntax.specs.declared.rows.Content.{Content}
-use Rattle.hpr_syntax.specs.Grammar.{IsAuthor, IsTag, SpellsNames}
+use Rattle.hpr_syntax.specs.Grammar.{IsAuthor, IsTag, SpellsFinal, SpellsNames}
 use Rattle.hpr_syntax.specs.Grammar as grammar
 use Rattle.hpr_scan.specs.Steps.{and_then, runs}
 use Rattle.hpr_scan.proofs.Words.{none_some}
@@ -40,7 +43,7 @@ use Rattle.hpr_script.specs.ScriptGrammar as script
 use Rattle.hpr_script.specs.ScriptGrammar.{word, tag_then, IsCount, place_at, SpellsPlace, SpellsCommand, SpellsScript}
 use Rattle.hpr_script.specs.ScriptWords.{script_word}
 use Rattle.hpr_script.specs.Stages.{is_count, is_serial, tagged, at_place, command_stage, block_stage, word_stage, wants_word, takes_name, number_turn}
-use Rattle.hpr_script.specs.Machine.{State, head, inside, lost, turned, at_head, at_turn, found_at, turns_at, turns_to, with_command, with_plain, without_names, with_name, filled, word_turn, any_name_turn, name_turn, number_after, dot_stage, comma_stage, close_stage, opened, ended, sign_after, or_lost, name_next, content_goes, next, start}
+use Rattle.hpr_script.specs.Machine.{State, head, inside, lost, turned, at_head, at_turn, found_at, turns_at, turns_to, with_command, with_plain, without_names, with_name, filled, word_turn, any_name_turn, name_turn, keyword_turn, number_after, dot_stage, comma_stage, close_stage, opened, ended, sign_after, or_lost, name_next, content_goes, next, start}
 use Rattle.hpr_script.proofs.Bytes.{word_is}
 
 -- ---- lists of commands and of names, at their end
@@ -51,9 +54,10 @@ script_more _ ts _ c (script.first {c = d} {cs = cs} {ts = us} {more = more} k r
     subst (λ (x : List Token). SpellsScript x (d ∷ (cs ++ (c ∷ [])))) (sym (append_assoc us (Mark Semicolon ∷ more) (ts ++ (Mark Semicolon ∷ []))))
     (script.first k (script_more more ts cs c rest h))
 
-names_more : (ns : List Token) (x : List ℕ) (xs : List (List ℕ)) (y : List ℕ) → SpellsNames ns (x ∷ xs) → SpellsNames (ns ++ (Mark Comma ∷ Name y ∷ [])) (x ∷ (xs ++ (y ∷ [])))
-names_more _ x [] y grammar.one = grammar.more grammar.one
-names_more _ x (z ∷ zs) y (grammar.more {ts = ts} k) = grammar.more (names_more ts z zs y k)
+names_more : (ns : List Token) (x : List ℕ) (xs : List (List ℕ)) (t : Token) (y : List ℕ) → SpellsFinal t y → SpellsNames ns (x ∷ xs)
+    → SpellsNames (ns ++ (Mark Comma ∷ t ∷ [])) (x ∷ (xs ++ (y ∷ [])))
+names_more _ x [] t y is (grammar.one s) = grammar.more s (grammar.one is)
+names_more _ x (z ∷ zs) t y is (grammar.more {ts = ts} s k) = grammar.more s (names_more ts z zs t y is k)
 
 -- ---- the tokens of a head
 
@@ -226,31 +230,31 @@ number_step xs AfterName n q hs h e = absurd cc
 number_step xs AfterComma n q hs h e = absurd cc
 number_step xs (AtEnd p) n q hs h e = absurd cc
 
-name_step : (xs : List (List ℕ)) (s : Stage) (x : List ℕ) (hs : List Token) → HeadIs xs s hs → takes_name s ≡ true → HeadIs (xs ++ (x ∷ [])) AfterName (hs ++ (Name x ∷ []))
+name_step : (xs : List (List ℕ)) (s : Stage) (t : Token) (x : List ℕ) (hs : List Token) → SpellsFinal t x → HeadIs xs s hs → takes_name s ≡ true → HeadIs (xs ++ (x ∷ [])) AfterName (hs ++ (t ∷ []))
 unfolding takes_name
-name_step xs AfterOpen x hs h e =
-    (Name x ∷ [], (x, [], ap (λ (ys : List (List ℕ)). ys ++ (x ∷ [])) h.0, subst (λ (ys : List (List ℕ)). SpellsNames (Name x ∷ []) (ys ++ (x ∷ []))) (sym h.0) grammar.one), behind hs _ _ (Name x) h.1 refl)
-name_step xs AfterComma x hs h e =
+name_step xs AfterOpen t x hs is h e =
+    (t ∷ [], (x, [], ap (λ (ys : List (List ℕ)). ys ++ (x ∷ [])) h.0, subst (λ (ys : List (List ℕ)). SpellsNames (t ∷ []) (ys ++ (x ∷ []))) (sym h.0) (grammar.one is)), behind hs _ _ t h.1 refl)
+name_step xs AfterComma t x hs is h e =
     let k = h.1 in (
-      h.0 ++ (Mark Comma ∷ Name x ∷ []),
+      h.0 ++ (Mark Comma ∷ t ∷ []),
       (k.0, k.1 ++ (x ∷ []), ap (λ (ys : List (List ℕ)). ys ++ (x ∷ [])) k.2, more_names h.0 xs k.0 k.1 k.2 k.3),
-      behind hs _ _ (Name x) h.2 (ap (λ (ts : List Token). word words.Finals ∷ Mark Open ∷ ts) (append_assoc h.0 (Mark Comma ∷ []) (Name x ∷ []))),
+      behind hs _ _ t h.2 (ap (λ (ts : List Token). word words.Finals ∷ Mark Open ∷ ts) (append_assoc h.0 (Mark Comma ∷ []) (t ∷ []))),
     )
   where
-    more_names : (ns : List Token) (xs : List (List ℕ)) (y : List ℕ) (ys : List (List ℕ)) → xs ≡ y ∷ ys → SpellsNames ns xs → SpellsNames (ns ++ (Mark Comma ∷ Name x ∷ [])) (xs ++ (x ∷ []))
+    more_names : (ns : List Token) (xs : List (List ℕ)) (y : List ℕ) (ys : List (List ℕ)) → xs ≡ y ∷ ys → SpellsNames ns xs → SpellsNames (ns ++ (Mark Comma ∷ t ∷ [])) (xs ++ (x ∷ []))
     more_names ns xs y ys e k =
-        subst (λ (zs : List (List ℕ)). SpellsNames (ns ++ (Mark Comma ∷ Name x ∷ [])) (zs ++ (x ∷ []))) (sym e) (names_more ns y ys x (subst (SpellsNames ns) e k))
-name_step xs AtCommand x hs h e = absurd cc
-name_step xs (AtTag a) x hs h e = absurd cc
-name_step xs (AfterAuthor a m) x hs h e = absurd cc
-name_step xs (AfterDot a m) x hs h e = absurd cc
-name_step xs (AtPlace p) x hs h e = absurd cc
-name_step xs (AfterAt p) x hs h e = absurd cc
-name_step xs (AfterParent p t) x hs h e = absurd cc
-name_step xs (AtCount p parent) x hs h e = absurd cc
-name_step xs AtNames x hs h e = absurd cc
-name_step xs AfterName x hs h e = absurd cc
-name_step xs (AtEnd p) x hs h e = absurd cc
+        subst (λ (zs : List (List ℕ)). SpellsNames (ns ++ (Mark Comma ∷ t ∷ [])) (zs ++ (x ∷ []))) (sym e) (names_more ns y ys t x is (subst (SpellsNames ns) e k))
+name_step xs AtCommand t x hs is h e = absurd cc
+name_step xs (AtTag a) t x hs is h e = absurd cc
+name_step xs (AfterAuthor a m) t x hs is h e = absurd cc
+name_step xs (AfterDot a m) t x hs is h e = absurd cc
+name_step xs (AtPlace p) t x hs is h e = absurd cc
+name_step xs (AfterAt p) t x hs is h e = absurd cc
+name_step xs (AfterParent p g) t x hs is h e = absurd cc
+name_step xs (AtCount p parent) t x hs is h e = absurd cc
+name_step xs AtNames t x hs is h e = absurd cc
+name_step xs AfterName t x hs is h e = absurd cc
+name_step xs (AtEnd p) t x hs is h e = absurd cc
 
 -- ---- states
 
@@ -283,14 +287,20 @@ word_next_is f s x (Some k) (Some p) m ts (ds, hs, d, i, w) q r e =
     let made : StateIs (head f p) (ts ++ (word k ∷ [])) = (ds, hs ++ (word k ∷ []), d, word_step f.names s k p hs i r, further ds hs ts (word k) w) in
     to_state (head f p) m (ts ++ (Name x ∷ [])) e (subst (λ (t : Token). StateIs (head f p) (ts ++ (t ∷ []))) (sym same) made)
 
-any_next_is : (f : Found) (s : Stage) (x : List ℕ) (b : Bool) (m : State) (ts : List Token) → StateIs (head f s) ts → takes_name s ≡ b → at_turn (cond b (Some (with_name x f, turn.Head AfterName)) None) ≡ Some m → StateIs m (ts ++ (Name x ∷ []))
-any_next_is f s x false m ts h q e = absurd (none_some e)
-any_next_is f s x true m ts (ds, hs, d, k, w) q e =
-    to_state (head (with_name x f) AfterName) m (ts ++ (Name x ∷ [])) e (ds, hs ++ (Name x ∷ []), d, name_step f.names s x hs k q, further ds hs ts (Name x) w)
+any_next_is : (f : Found) (s : Stage) (t : Token) (x : List ℕ) (b : Bool) (m : State) (ts : List Token) → SpellsFinal t x → StateIs (head f s) ts → takes_name s ≡ b
+    → at_turn (cond b (Some (with_name x f, turn.Head AfterName)) None) ≡ Some m → StateIs m (ts ++ (t ∷ []))
+any_next_is f s t x false m ts is h q e = absurd (none_some e)
+any_next_is f s t x true m ts is (ds, hs, d, k, w) q e =
+    to_state (head (with_name x f) AfterName) m (ts ++ (t ∷ [])) e (ds, hs ++ (t ∷ []), d, name_step f.names s t x hs is k q, further ds hs ts t w)
+
+keyword_is : (f : Found) (s : Stage) (k : Keyword) (m : State) (ts : List Token) → StateIs (head f s) ts → at_turn (keyword_turn f s k) ≡ Some m → StateIs m (ts ++ (Word k ∷ []))
+unfolding keyword_turn
+keyword_is f s Out m ts h e = any_next_is f s (Word Out) stream (takes_name s) m ts grammar.out h refl e
+keyword_is f s k m ts h e = absurd cc
 
 name_is : (f : Found) (s : Stage) (x : List ℕ) (b : Bool) (m : State) (ts : List Token) → StateIs (head f s) ts → wants_word s ≡ b → name_next b (at_turn (cond b (word_turn f s x) (any_name_turn f s x))) ≡ Some m → StateIs m (ts ++ (Name x ∷ []))
 name_is f s x true m ts h q e = word_next_is f s x (script_word x) (and_then (script_word x) (word_stage s)) m ts h refl refl e
-name_is f s x false m ts h q e = any_next_is f s x (takes_name s) m ts h refl e
+name_is f s x false m ts h q e = any_next_is f s (Name x) x (takes_name s) m ts grammar.plain h refl e
 
 dot_is : (f : Found) (s : Stage) (m : State) (ts : List Token) → StateIs (head f s) ts → at_head (found_at f (dot_stage s)) ≡ Some m → StateIs m (ts ++ (Mark Dot ∷ []))
 dot_is f (AfterAuthor a n) m ts (ds, hs, d, k, w) e =
@@ -367,7 +377,7 @@ inside_is f h c t (Some (InExpression aim r)) m ts (ds, hs, cs, d, k, i, w) q e 
 
 step_is : (s : State) (t : Token) (m : State) (ts : List Token) → StateIs s ts → next s t ≡ Some m → StateIs m (ts ++ (t ∷ []))
 unfolding next name_turn number_after
-step_is (head f s) (Word k) m ts h e = absurd (none_some e)
+step_is (head f s) (Word k) m ts h e = keyword_is f s k m ts h e
 step_is (head f s) (Name x) m ts h e = name_is f s x (wants_word s) m ts h refl e
 step_is (head f s) (Number n) m ts h e = number_is f s n (number_turn s n) m ts h refl e
 step_is (head f s) (Mark sign) m ts h e = sign_is f s sign m ts h e

@@ -5,10 +5,10 @@ use Rattle.std.proofs.lemmas.List.{append-nil}
 use Rattle.hpr_terms.specs.declared.tag.Tag.{Tag}
 use Rattle.hpr_terms.specs.declared.token.Sign.TheVariants.{Dot, Comma, Semicolon, Open, Close}
 use Rattle.hpr_terms.specs.declared.token.Token.{Token}
-use Rattle.hpr_terms.specs.declared.token.Token.TheVariants.{Name, Number, Mark}
+use Rattle.hpr_terms.specs.declared.token.Token.TheVariants.{Number, Mark}
 use Rattle.hpr_terms.proofs.Facts.{some_inj}
 use Rattle.hpr_syntax.specs.declared.rows.Content.{Content}
-use Rattle.hpr_syntax.specs.Grammar.{IsTag, SpellsNames}
+use Rattle.hpr_syntax.specs.Grammar.{IsTag, SpellsFinal, SpellsNames}
 use Rattle.hpr_syntax.specs.Grammar as grammar
 use Rattle.hpr_scan.specs.Steps.{and_then, runs}
 use Rattle.hpr_scan.proofs.SoundText.{then_of}
@@ -32,7 +32,7 @@ use Rattle.hpr_script.specs.declared.word.ScriptWord.TheVariants as words
 use Rattle.hpr_script.specs.ScriptGrammar as script
 use Rattle.hpr_script.specs.ScriptGrammar.{word, tag_then, place_at, SpellsPlace, SpellsCommand, SpellsScript}
 use Rattle.hpr_script.specs.Stages.{is_count, is_serial, tagged, at_place, word_stage, wants_word, takes_name, number_turn}
-use Rattle.hpr_script.specs.Machine.{State, head, inside, turned, with_command, with_plain, filled, name_turn, number_after, sign_after, next, start}
+use Rattle.hpr_script.specs.Machine.{State, head, inside, turned, with_command, with_plain, filled, name_turn, keyword_turn, number_after, sign_after, next, start}
 use Rattle.hpr_script.proofs.Bytes.{word_found}
 use Rattle.hpr_script.proofs.Contents.{content_makes}
 
@@ -148,19 +148,21 @@ comma_read : (f : Found) → next (head f AfterName) (Mark Comma) ≡ Some (head
 unfolding next sign_after
 comma_read f = refl
 
-first_read : (cs : List Command) (xs : List (List ℕ)) (x : List ℕ) → next (head (with cs xs) AfterOpen) (Name x) ≡ Some (head (with cs (xs ++ (x ∷ []))) AfterName)
-unfolding next name_turn wants_word takes_name
-first_read cs xs x = refl
+first_read : (cs : List Command) (xs : List (List ℕ)) (t : Token) (x : List ℕ) → SpellsFinal t x → next (head (with cs xs) AfterOpen) t ≡ Some (head (with cs (xs ++ (x ∷ []))) AfterName)
+unfolding next name_turn keyword_turn wants_word takes_name
+first_read cs xs t x grammar.plain = refl
+first_read cs xs t x grammar.out = refl
 
-name_read : (cs : List Command) (xs : List (List ℕ)) (x : List ℕ) → next (head (with cs xs) AfterComma) (Name x) ≡ Some (head (with cs (xs ++ (x ∷ []))) AfterName)
-unfolding next name_turn wants_word takes_name
-name_read cs xs x = refl
+name_read : (cs : List Command) (xs : List (List ℕ)) (t : Token) (x : List ℕ) → SpellsFinal t x → next (head (with cs xs) AfterComma) t ≡ Some (head (with cs (xs ++ (x ∷ []))) AfterName)
+unfolding next name_turn keyword_turn wants_word takes_name
+name_read cs xs t x grammar.plain = refl
+name_read cs xs t x grammar.out = refl
 
 more_read : (cs : List Command) (xs : List (List ℕ)) (ts : List Token) (x : List ℕ) (ys : List (List ℕ)) (rest : List Token) → SpellsNames ts (x ∷ ys)
     → runs next (head (with cs xs) AfterComma) (ts ++ (Mark Close ∷ rest)) ≡ runs next (head (with cs (xs ++ (x ∷ ys))) (AtEnd plain.Finals)) rest
-more_read cs xs _ x [] rest grammar.one = rw (name_read cs xs x, close_read (with cs (xs ++ (x ∷ [])))) refl
-more_read cs xs _ x (y ∷ ys) rest (grammar.more {ts = ts} k) =
-    one (head (with cs xs) AfterComma) (head (with cs (xs ++ (x ∷ []))) AfterName) (Name x) (Mark Comma ∷ (ts ++ (Mark Close ∷ rest))) (name_read cs xs x)
+more_read cs xs _ x [] rest (grammar.one {t = t} is) = rw (name_read cs xs t x is, close_read (with cs (xs ++ (x ∷ [])))) refl
+more_read cs xs _ x (y ∷ ys) rest (grammar.more {t = t} {ts = ts} is k) =
+    one (head (with cs xs) AfterComma) (head (with cs (xs ++ (x ∷ []))) AfterName) t (Mark Comma ∷ (ts ++ (Mark Close ∷ rest))) (name_read cs xs t x is)
     ∙ one (head (with cs (xs ++ (x ∷ []))) AfterName) (head (with cs (xs ++ (x ∷ []))) AfterComma) (Mark Comma) (ts ++ (Mark Close ∷ rest)) (comma_read (with cs (xs ++ (x ∷ []))))
     ∙ more_read cs (xs ++ (x ∷ [])) ts y ys rest k
     ∙ ap (λ (zs : List (List ℕ)). runs next (head (with cs zs) (AtEnd plain.Finals)) rest) (append_assoc xs (x ∷ []) (y ∷ ys))
@@ -168,9 +170,9 @@ more_read cs xs _ x (y ∷ ys) rest (grammar.more {ts = ts} k) =
 names_read : (cs : List Command) (ts : List Token) (xs : List (List ℕ)) (rest : List Token) → SpellsNames ts xs
     → runs next (head (with cs []) AfterOpen) (ts ++ (Mark Close ∷ rest)) ≡ runs next (head (with cs xs) (AtEnd plain.Finals)) rest
 names_read cs _ _ rest grammar.none = rw (none_read (with cs [])) refl
-names_read cs _ _ rest (grammar.one {x = x}) = rw (first_read cs [] x, close_read (with cs (x ∷ []))) refl
-names_read cs _ _ rest (grammar.more {x = x} {y = y} {ts = ts} {xs = xs} k) =
-    one (head (with cs []) AfterOpen) (head (with cs (x ∷ [])) AfterName) (Name x) (Mark Comma ∷ (ts ++ (Mark Close ∷ rest))) (first_read cs [] x)
+names_read cs _ _ rest (grammar.one {t = t} {x = x} is) = rw (first_read cs [] t x is, close_read (with cs (x ∷ []))) refl
+names_read cs _ _ rest (grammar.more {t = t} {x = x} {y = y} {ts = ts} {xs = xs} is k) =
+    one (head (with cs []) AfterOpen) (head (with cs (x ∷ [])) AfterName) t (Mark Comma ∷ (ts ++ (Mark Close ∷ rest))) (first_read cs [] t x is)
     ∙ one (head (with cs (x ∷ [])) AfterName) (head (with cs (x ∷ [])) AfterComma) (Mark Comma) (ts ++ (Mark Close ∷ rest)) (comma_read (with cs (x ∷ [])))
     ∙ more_read cs (x ∷ []) ts y xs rest k
 

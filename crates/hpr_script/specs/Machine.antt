@@ -12,8 +12,9 @@
 -- at_head o        == at the place of a head, if there is one
 -- at_turn o        == at what comes next, if something does
 -- found_at, turns_at, turns_to == what was found, with what comes next, if something does
--- word_turn, any_name_turn == the same behind a word of scripts, and behind a name that may be any
+-- word_turn, any_name_turn == the same behind a word of scripts, and behind a variable that may be any
 -- name_turn f s x  == what comes next behind the name x, if it can stand there
+-- keyword_turn f s k == what comes next behind the keyword k, if it can stand there: where a variable can, the stream's word
 -- number_after f s n == what comes next behind the number n, if it can stand there
 -- dot_stage, comma_stage, close_stage, opened, ended == where one sign leads, if it can stand there
 -- sign_after f sign s == the place of the head behind the sign, if it can stand there
@@ -27,10 +28,13 @@
 -- is_end s         == a script may end here
 -- commands_of s    == the commands that were read
 use Rattle.std.specs.Prelude.{ℕ, Bool, true, false, if◌then◌else◌, List, [], ◌∷◌, ◌++◌, Option, Some, None}
+use Rattle.hpr_terms.specs.declared.keyword.Keyword.{Keyword}
+use Rattle.hpr_terms.specs.declared.keyword.Keyword.TheVariants.{Out}
 use Rattle.hpr_terms.specs.declared.token.Sign.{Sign}
 use Rattle.hpr_terms.specs.declared.token.Sign.TheVariants.{Dot, Comma, Semicolon, Open, Close}
 use Rattle.hpr_terms.specs.declared.token.Token.{Token}
 use Rattle.hpr_terms.specs.declared.token.Token.TheVariants.{Word, Name, Number, Mark}
+use Rattle.hpr_terms.specs.Names.{stream}
 use Rattle.hpr_syntax.specs.declared.rows.Content.{Content}
 use Rattle.hpr_scan.specs.Steps.{and_then}
 use Rattle.hpr_text.specs.declared.content.ContentState.{ContentState}
@@ -114,6 +118,10 @@ any_name_turn f s x = if takes_name s then Some (with_name x f, turn.Head AfterN
 unfoldable pub name_turn : Found → Stage → List ℕ → Option (Found × Turn)
 name_turn f s x = if wants_word s then word_turn f s x else any_name_turn f s x
 
+unfoldable pub keyword_turn : Found → Stage → Keyword → Option (Found × Turn)
+keyword_turn f s Out = any_name_turn f s stream
+keyword_turn f s _ = None
+
 unfoldable pub number_after : Found → Stage → ℕ → Option (Found × Turn)
 number_after f s n = turns_at f (number_turn s n)
 
@@ -160,7 +168,7 @@ content_goes f h (Some (Ended c)) = Some (head (with_command (filled h c) f) AtC
 content_goes f h (Some c) = Some (inside f h c)
 
 abbrev pub head_next : Found → Stage → Token → Option State
-head_next f s (Word k) = None
+head_next f s (Word k) = at_turn (keyword_turn f s k)
 head_next f s (Name x) = name_next (wants_word s) (at_turn (name_turn f s x))
 head_next f s (Number n) = at_turn (number_after f s n)
 head_next f s (Mark sign) = at_head (sign_after f sign s)

@@ -39,7 +39,7 @@ use Rattle.hpr_script.specs.declared.scanner.Begun.TheVariants.{Gap, Comment, In
 use Rattle.hpr_script.specs.declared.scanner.Reader.{Reader}
 use Rattle.hpr_script.specs.ScriptWords.{script_text, script_words}
 use Rattle.hpr_script.specs.Stages.{word_stage, takes_name, number_turn}
-use Rattle.hpr_script.specs.Machine.{State, head, name_turn, number_after, sign_after}
+use Rattle.hpr_script.specs.Machine.{State, head, name_turn, keyword_turn, number_after, sign_after}
 
 abbrev pub reader : Begun → Found → Stage → Reader
 reader b f s = record { begun = b; found = f; stage = s }
@@ -60,7 +60,7 @@ abbrev pub other_finished : Found → Stage → List ℕ → Option (Found × Tu
 other_finished f s w = if is_name w then name_turn f s w else (if is_numeral w then number_after f s (value_after 0 w) else None)
 
 abbrev pub finished_by : Option Keyword → Found → Stage → List ℕ → Option (Found × Turn)
-finished_by (Some k) f s w = None
+finished_by (Some k) f s w = keyword_turn f s k
 finished_by None f s w = other_finished f s w
 
 unfoldable pub finished : Found → Stage → List ℕ → Option (Found × Turn)

@@ -8,7 +8,7 @@
 -- block_stage placed t k  == what follows the word k behind the tag of a place, if it can stand there
 -- word_stage stage k      == where the word k of scripts leads, if it can stand there
 -- wants_word stage        == a word of scripts stands there, and no other name does
--- takes_name stage        == any name can stand there
+-- takes_name stage        == any variable can stand there
 -- number_turn stage n     == where the number n leads, if it can stand there
 use Rattle.std.specs.Prelude.{ℕ, ◌^◌, Bool, true, false, nat_lt, nat_le, ◌&&◌, if◌then◌else◌, Option, Some, None}
 use Rattle.hpr_terms.specs.declared.tag.Tag.{Tag}

@@ -310,6 +310,24 @@ fn other(alloc: Global, found: Found, stage: Stage, word: &str) -> Result<(Found
     }
 }
 
+#[tactic(auto, unfolding(crate::specs::Machine::keyword_turn))]
+fn after_keyword(
+    alloc: Global,
+    found: Found,
+    stage: Stage,
+    keyword: Keyword,
+) -> Result<(Found, Turn), Fault>
+    ensures { Steps (machine.keyword_turn found stage keyword) result }
+{
+    match keyword {
+        Keyword::Out if stage.takes_name() => {
+            let stream = Name::stream(alloc)?;
+            Ok((found.with_name(stream)?, Turn::Head(Stage::AfterName)))
+        }
+        _ => Err(Fault::Refused),
+    }
+}
+
 /// What comes next behind the word with these letters.
 #[tactic(auto, unfolding(crate::specs::Reading::finished))]
 pub fn finish(
@@ -322,7 +340,7 @@ pub fn finish(
 {
     let word = letters.text();
     match Keyword::of(word.as_bytes()) {
-        Some(_) => Err(Fault::Refused),
+        Some(keyword) => after_keyword(alloc, found, stage, keyword),
         None => other(alloc, found, stage, word),
     }
 }

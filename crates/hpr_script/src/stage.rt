@@ -211,7 +211,7 @@ impl Stage {
         )
     }
 
-    /// Whether a name can stand here that may be any.
+    /// Whether a variable can stand here that may be any.
     #[tactic(auto, unfolding(crate::specs::Stages::takes_name))]
     pub fn takes_name(self) -> bool
         ensures { result ≡ stages.takes_name self }

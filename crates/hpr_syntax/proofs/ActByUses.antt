@@ -1,21 +1,36 @@
 -- What a part does depends on the names that it uses alone.
-use Rattle.std.proofs.Common.{◌≡◌, ◌↔◌, ℕ, List}
+use Rattle.std.proofs.Common.{◌≡◌, ◌↔◌, ℕ, List, [], ◌∷◌, Contains, inl, inr, refl, sym, ap, subst}
+use Rattle.std.proofs.lemmas.List.Elements.{Contains-append_left, Contains-append_right, Contains-append_cases}
 use Rattle.hpr_terms.specs.TermOf.{term_of}
-use Rattle.hpr_terms.specs.Uses.{Uses}
+use Rattle.hpr_terms.specs.Uses.{names_in}
+use Rattle.hpr_terms.proofs.Few.{contains_one, has_one}
+use Rattle.hpr_terms.proofs.NamesUsed.{terms_used}
 use Rattle.hpr_syntax.specs.declared.rows.Content.{Content}
-use Rattle.hpr_syntax.specs.declared.rows.Content.TheVariants.{Assign, If, While}
-use Rattle.hpr_syntax.specs.Rows.{expr_in}
+use Rattle.hpr_syntax.specs.declared.rows.Content.TheVariants.{Assign, If, While, Write}
 use Rattle.hpr_syntax.specs.Values.{Values, value_at}
-use Rattle.hpr_syntax.specs.Contents.{UsesIn, answer_of}
+use Rattle.hpr_syntax.specs.Contents.{UsesIn, used_names, as_number, answer_of}
 use Rattle.hpr_syntax.proofs.ValueByUses.{value_by_uses}
 
 pub act_by_uses : (c : Content) (s t : Values) → ((x : List ℕ) → UsesIn c x → value_at s x ≡ value_at t x) → answer_of c s ≡ answer_of c t
-act_by_uses (Assign y e) s t same = value_by_uses (term_of e) s t same
-act_by_uses (If e) s t same = value_by_uses (term_of e) s t same
-act_by_uses (While e) s t same = value_by_uses (term_of e) s t same
+act_by_uses (Assign y e) s t same = ap as_number (value_by_uses (term_of e) s t same)
+act_by_uses (If e) s t same = ap as_number (value_by_uses (term_of e) s t same)
+act_by_uses (While e) s t same = ap as_number (value_by_uses (term_of e) s t same)
+act_by_uses (Write y e) s t same =
+    let p = value_by_uses (term_of e) s t (λ x h. same x (inl h)) in
+    let q = same y (inr refl) in
+    rw (p, q) refl
 
--- a part uses the names of its expression
-pub uses_in : (c : Content) (x : List ℕ) → Uses (expr_in c) x ↔ UsesIn c x
-uses_in (Assign y e) x = ((λ h. h), (λ h. h))
-uses_in (If e) x = ((λ h. h), (λ h. h))
-uses_in (While e) x = ((λ h. h), (λ h. h))
+-- the names that a part uses, listed
+pub uses_in : (c : Content) (x : List ℕ) → Contains (used_names c) x ↔ UsesIn c x
+uses_in (Assign y e) x = terms_used (term_of e) x
+uses_in (If e) x = terms_used (term_of e) x
+uses_in (While e) x = terms_used (term_of e) x
+uses_in (Write y e) x =
+    let names = names_in (term_of e) in
+    let u = terms_used (term_of e) x in (
+      λ h. elim (Contains-append_cases names (y ∷ []) x h) [ inl i ↦ inl (u.0 i) | inr i ↦ inr (contains_one y x i) ],
+      λ h. elim h [
+        | inl i ↦ Contains-append_left names (y ∷ []) x (u.1 i)
+        | inr i ↦ Contains-append_right names (y ∷ []) x (subst (λ (z : List ℕ). Contains (y ∷ []) z) (sym i) (has_one y))
+      ],
+    )

@@ -3,11 +3,11 @@ use Rattle.std.proofs.Common.{◌≡◌, ℕ, ◌==◌, ◌&&◌, Bool, true, fa
 use Rattle.std.specs.Cmp.Lexicographic.{pointwise}
 use Rattle.hpr_terms.specs.declared.tag.Tag.{Tag}
 use Rattle.hpr_syntax.specs.declared.tree.Stmt.{Stmt}
-use Rattle.hpr_syntax.specs.declared.tree.Stmt.TheVariants.{Assign, If, While}
+use Rattle.hpr_syntax.specs.declared.tree.Stmt.TheVariants.{Assign, If, While, Write}
 use Rattle.hpr_terms.specs.declared.expr.Expr.{Expr}
 use Rattle.hpr_terms.specs.TermOrder.{term_code}
 use Rattle.hpr_terms.specs.TermOf.{term_of}
-use Rattle.hpr_syntax.specs.Action.{assigns}
+use Rattle.hpr_syntax.specs.Action.{assigns, writes}
 use Rattle.hpr_syntax.specs.Body.{Body, done, action, branch, loop}
 use Rattle.hpr_syntax.specs.BodyOrder.{body_code, block_code}
 use Rattle.hpr_syntax.specs.BodyOf.{body_of}
@@ -22,6 +22,7 @@ tag_eq t u = (t.author == u.author) && (t.serial == u.serial)
 abbrev block_eq : Body → Body → Bool
 block_eq done done = true
 block_eq (action t (assigns x e) r) (action u (assigns y f) q) = tag_eq t u && (same x y && ((eqs.ghosts).eq e f && block_eq r q))
+block_eq (action t (writes x e) r) (action u (writes y f) q) = tag_eq t u && (same x y && ((eqs.ghosts).eq e f && block_eq r q))
 block_eq (branch t e a b r) (branch u f c d q) = tag_eq t u && ((eqs.ghosts).eq e f && (block_eq a c && (block_eq b d && block_eq r q)))
 block_eq (loop t e a r) (loop u f c q) = tag_eq t u && ((eqs.ghosts).eq e f && (block_eq a c && block_eq r q))
 block_eq _ _ = false
@@ -32,8 +33,15 @@ expr_part e f s t = term_same (term_of e) (term_of f) s t ∙ ap (λ r. r && sam
 block_same : (b c : Body) (s t : List ℕ) → same (body_code b s) (body_code c t) ≡ block_eq b c && same s t
 block_same done done s t = refl
 block_same (action t (assigns x e) r) (action u (assigns y f) q) s s' = rw (name_same x y _ _, expr_part e f _ _, block_same r q s s') (simp and_assoc)
+block_same (action t (writes x e) r) (action u (writes y f) q) s s' = rw (name_same x y _ _, expr_part e f _ _, block_same r q s s') (simp and_assoc)
 block_same (branch t e a b r) (branch u f c d q) s s' = rw (expr_part e f _ _, block_same a c _ _, block_same b d _ _, block_same r q s s') (simp and_assoc)
 block_same (loop t e a r) (loop u f c q) s s' = rw (expr_part e f _ _, block_same a c _ _, block_same r q s s') (simp and_assoc)
+block_same done (action u (assigns y f) q) s s' = refl
+block_same done (action u (writes y f) q) s s' = refl
+block_same (branch t e a b r) (action u (assigns y f) q) s s' = refl
+block_same (branch t e a b r) (action u (writes y f) q) s s' = refl
+block_same (loop t e a r) (action u (assigns y f) q) s s' = refl
+block_same (loop t e a r) (action u (writes y f) q) s s' = refl
 block_same _ _ s t = refl
 
 and_true' : (a : Bool) → a && true ≡ a
@@ -54,10 +62,12 @@ stmts_eq [] [] = refl
 stmts_eq [] (Assign u y f ∷ ys) = refl
 stmts_eq [] (If u f c d ∷ ys) = refl
 stmts_eq [] (While u f c ∷ ys) = refl
+stmts_eq [] (Write u y f ∷ ys) = refl
 stmts_eq (Assign t x e ∷ xs) (Assign u y f ∷ ys) = regroup_assign (tag_eq t u) (same x y) ((eqs.ghosts).eq e f) _ _ (stmts_eq xs ys)
 stmts_eq (If t e a b ∷ xs) (If u f c d ∷ ys) =
     regroup_branch (tag_eq t u) ((eqs.ghosts).eq e f) _ _ _ _ _ _ (exactly a c) (exactly b d) (stmts_eq xs ys)
 stmts_eq (While t e a ∷ xs) (While u f c ∷ ys) = rw (exactly a c, stmts_eq xs ys) (simp and_assoc)
+stmts_eq (Write t x e ∷ xs) (Write u y f ∷ ys) = regroup_assign (tag_eq t u) (same x y) ((eqs.ghosts).eq e f) _ _ (stmts_eq xs ys)
 stmts_eq _ _ = refl
 
 pub blocks_eq : (xs ys : List Stmt) → pointwise (stmt_eqs.ghosts).eq xs ys ≡ same (block_code (body_of xs)) (block_code (body_of ys))

@@ -4,12 +4,13 @@ use Rattle.hpr_terms.specs.declared.tag.Tag.{Tag}
 use Rattle.hpr_terms.specs.declared.expr.Expr.{Expr}
 use Rattle.hpr_syntax.specs.declared.rows.Content.TheVariants.{If, While}
 use Rattle.hpr_syntax.specs.Rows.{content_by}
-use Rattle.hpr_syntax.specs.Contents.{answer_of, next_state}
+use Rattle.hpr_syntax.specs.Contents.{Given, answer_of, next_state, holds}
 use Rattle.hpr_syntax.specs.Body.{Body, done, action, branch, loop}
 use Rattle.hpr_syntax.specs.Run.{FinalValues, ends, final_values, run, outcome, After, goes, stops, spent, step, then_go, turns, run_body}
 use Rattle.hpr_syntax.specs.Tree.{Tree}
-use Rattle.hpr_syntax.specs.Value.{Answer, Fault, is_true}
-use Rattle.hpr_syntax.specs.Values.{Value, Values}
+use Rattle.hpr_syntax.specs.Value.{Fault}
+use Rattle.hpr_syntax.specs.declared.value.Value.{Value}
+use Rattle.hpr_syntax.specs.Values.{Values}
 use Rattle.hpr_syntax.proofs.Runs.{LeavesAtMost, then_leaves, if_leaves, turns_leaves, run_body_leaves}
 
 same_left : (s : Values) (l : ℕ) → LeavesAtMost (goes s l) l
@@ -41,7 +42,7 @@ module _ (k : ℕ) where
       let fewer : n ≡ l = omega (arith, is, same) in
       ap (λ t. goes t n) (goes_state s u m (l + k) e) ∙ ap (goes u) fewer
 
-  step_less : (t : Tag) (a : Answer) (m n : ℕ) (f g : Value → ℕ → After) → m ≡ n + k → ((v : Value) (l : ℕ) → LeavesAtMost (f v l) l)
+  step_less : (t : Tag) (a : Given) (m n : ℕ) (f g : Value → ℕ → After) → m ≡ n + k → ((v : Value) (l : ℕ) → LeavesAtMost (f v l) l)
       → ((v : Value) (m n : ℕ) → m ≡ n + k → IsLess (f v m) (g v n)) → IsLess (step t a m f) (step t a n g)
   step_less t a zero n f g is leaves h s l e = absurd (never_goes s (l + k) e)
   step_less t (Ok v) (suc m) zero f g is leaves h s l e =
@@ -68,13 +69,13 @@ module _ (k : ℕ) where
       (h : (s : Values) (m n : ℕ) → m ≡ n + k → IsLess (f s m) (f s n)) where
     -- what follows the test of a loop that may make so many turns more
     abbrev behind_test : ℕ → Values → Value → ℕ → After
-    behind_test n s v l = if is_true v then then_go (f s l) (turns n t e f) else goes s l
+    behind_test n s v l = if holds v then then_go (f s l) (turns n t e f) else goes s l
 
     test_leaves : (n : ℕ) (s : Values) (v : Value) (l : ℕ) → LeavesAtMost (behind_test n s v l) l
-    test_leaves n s v l = if_leaves (is_true v) _ _ l (then_leaves (f s l) l (turns n t e f) (turns_leaves n t e f leaves) (leaves s l)) (same_left s l)
+    test_leaves n s v l = if_leaves (holds v) _ _ l (then_leaves (f s l) l (turns n t e f) (turns_leaves n t e f leaves) (leaves s l)) (same_left s l)
 
     module _ (many few : ℕ) (rest : (s : Values) (m n : ℕ) → m ≡ n + k → n < few → IsLess (turns many t e f s m) (turns few t e f s n)) where
-      turn_less : (s : Values) (a : Answer) (m n : ℕ) → m ≡ n + k → n < suc few → IsLess (step t a m (behind_test many s)) (step t a n (behind_test few s))
+      turn_less : (s : Values) (a : Given) (m n : ℕ) → m ≡ n + k → n < suc few → IsLess (step t a m (behind_test many s)) (step t a n (behind_test few s))
       turn_less s a zero n is low u l goes_on = absurd (never_goes u (l + k) goes_on)
       turn_less s (Ok v) (suc m) zero is low u l goes_on =
           let within : l + k ≤ m = left_within (behind_test many s v m) m u (l + k) (test_leaves many s v m) goes_on in
@@ -82,7 +83,7 @@ module _ (k : ℕ) where
       turn_less s (Err x) (suc m) n is low u l goes_on = absurd (never_stops t x m u (l + k) goes_on)
       turn_less s (Ok v) (suc m) (suc n) is low u l goes_on =
           let same : m ≡ n + k = omega (arith, is) in
-          if_less (is_true v) _ _ _ _
+          if_less (holds v) _ _ _ _
           (then_less (f s m) (f s n) (turns many t e f) (turns few t e f) (turns_leaves many t e f leaves)
           (λ x i j both at. (let within : j ≤ n = left_within (f s n) n x j (leaves s n) at in rest x i j both (omega (arith, within, low))))
           (h s m n same))
@@ -102,9 +103,9 @@ module _ (k : ℕ) where
       step_less t (answer_of c s) m n _ _ is (λ v l. run_body_leaves rest (next_state c v s) l) (λ v i j same. body_less rest (next_state c v s) i j same)
   body_less (branch t e a b rest) s m n is =
       step_less t (answer_of (If e) s) m n _ _ is
-      (λ v l. then_leaves _ l (run_body rest) (run_body_leaves rest) (if_leaves (is_true v) _ _ l (run_body_leaves a s l) (run_body_leaves b s l)))
+      (λ v l. then_leaves _ l (run_body rest) (run_body_leaves rest) (if_leaves (holds v) _ _ l (run_body_leaves a s l) (run_body_leaves b s l)))
       (λ v i j same. then_less _ _ (run_body rest) (run_body rest) (run_body_leaves rest) (λ u i j both at. body_less rest u i j both)
-      (if_less (is_true v) _ _ _ _ (body_less a s i j same) (body_less b s i j same)))
+      (if_less (holds v) _ _ _ _ (body_less a s i j same) (body_less b s i j same)))
   body_less (loop t e b rest) s m n is =
       then_less _ _ (run_body rest) (run_body rest) (run_body_leaves rest) (λ u i j both at. body_less rest u i j both)
       (turns_less t e (run_body b) (run_body_leaves b) (λ u i j both. body_less b u i j both) (m + 1) (n + 1) s m n is (omega arith))

@@ -1,16 +1,16 @@
 -- A run with more steps to spend.
-use Rattle.std.proofs.Common.{◌≡◌, ℕ, zero, suc, ◌+◌, ◌-◌, ◌≤◌, Bool, true, false, List, refl, sym, ◌∙◌, subst, arith, if◌then◌else◌, Ok, Err}
+use Rattle.std.proofs.Common.{◌≡◌, ℕ, zero, suc, ◌+◌, ◌-◌, ◌≤◌, Bool, true, false, refl, sym, ◌∙◌, subst, arith, if◌then◌else◌, Ok, Err}
 use Rattle.hpr_terms.specs.declared.tag.Tag.{Tag}
 use Rattle.hpr_terms.specs.declared.expr.Expr.{Expr}
 use Rattle.hpr_syntax.specs.Tree.{Tree}
 use Rattle.hpr_syntax.specs.declared.rows.Content.TheVariants.{If, While}
 use Rattle.hpr_syntax.specs.Rows.{content_by}
-use Rattle.hpr_syntax.specs.Contents.{answer_of, next_state}
+use Rattle.hpr_syntax.specs.Contents.{Given, answer_of, next_state, holds}
 use Rattle.hpr_syntax.specs.Body.{Body, done, action, branch, loop}
 use Rattle.hpr_syntax.specs.Run.{ends, FinalValues, After, goes, stops, spent, step, then_go, turns, run_body, run, outcome}
 use Rattle.hpr_syntax.specs.Meaning.{Ends}
-use Rattle.hpr_syntax.specs.Values.{Value, Values}
-use Rattle.hpr_syntax.specs.Value.{Answer, is_true}
+use Rattle.hpr_syntax.specs.declared.value.Value.{Value}
+use Rattle.hpr_syntax.specs.Values.{Values}
 use Rattle.hpr_syntax.proofs.Runs.{LeavesAtMost, run_body_leaves}
 
 -- y is x with k more steps left, unless x spent all that it had
@@ -24,7 +24,7 @@ then_more k (goes s l) y f g h p = rw p (h s l)
 then_more k (stops t e l) y f g h p = rw p refl
 then_more k spent y f g h p = tt
 
-step_more : (k : ℕ) (t : Tag) (a : Answer) (left : ℕ) (f g : Value → ℕ → After) → ((v : Value) (l : ℕ) → IsMore k (f v l) (g v (l + k))) → IsMore k (step t a left f) (step t a (left + k) g)
+step_more : (k : ℕ) (t : Tag) (a : Given) (left : ℕ) (f g : Value → ℕ → After) → ((v : Value) (l : ℕ) → IsMore k (f v l) (g v (l + k))) → IsMore k (step t a left f) (step t a (left + k) g)
 step_more k t a zero f g h = tt
 step_more k t (Ok v) (suc l) f g h = let e : suc l + k ≡ suc (l + k) = omega arith in rw e (h v l)
 step_more k t (Err x) (suc l) f g h = let e : suc l + k ≡ suc (l + k) = omega arith in rw e refl
@@ -37,13 +37,13 @@ turns_more : (k n m : ℕ) (t : Tag) (e : Expr) (f : Values → ℕ → After) �
 turns_more k zero m t e f le h s left = tt
 turns_more k (suc n) zero t e f le h s left = absurd (omega arith)
 turns_more k (suc n) (suc m) t e f le h s left =
-    step_more k t (answer_of (While e) s) left _ _ (λ v l. if_more k (is_true v) _ _ _ _ (then_more k (f s l) (f s (l + k)) _ _ (turns_more k n m t e f (omega arith) h) (h s l)) refl)
+    step_more k t (answer_of (While e) s) left _ _ (λ v l. if_more k (holds v) _ _ _ _ (then_more k (f s l) (f s (l + k)) _ _ (turns_more k n m t e f (omega arith) h) (h s l)) refl)
 
 pub run_body-more : (k : ℕ) (b : Body) (s : Values) (left : ℕ) → IsMore k (run_body b s left) (run_body b s (left + k))
 run_body-more k done s left = refl
 run_body-more k (action t d rest) s left = step_more k t (answer_of (content_by d) s) left _ _ (λ v l. run_body-more k rest (next_state (content_by d) v s) l)
 run_body-more k (branch t e a b rest) s left =
-    step_more k t (answer_of (If e) s) left _ _ (λ v l. then_more k _ _ _ _ (run_body-more k rest) (if_more k (is_true v) _ _ _ _ (run_body-more k a s l) (run_body-more k b s l)))
+    step_more k t (answer_of (If e) s) left _ _ (λ v l. then_more k _ _ _ _ (run_body-more k rest) (if_more k (holds v) _ _ _ _ (run_body-more k a s l) (run_body-more k b s l)))
 run_body-more k (loop t e b rest) s left =
     then_more k _ _ _ _ (run_body-more k rest) (turns_more k (left + 1) (left + k + 1) t e (run_body b) (omega arith) (run_body-more k b) s left)
 

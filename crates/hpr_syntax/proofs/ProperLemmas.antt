@@ -2,7 +2,7 @@
 use Rattle.hpr_terms.specs.declared.tag.Tag.{Tag}
 use Rattle.hpr_syntax.specs.declared.tree.Stmt.{Stmt}
 use Rattle.hpr_syntax.specs.declared.tree.Stmt.TheVariants.{If}
-use Rattle.hpr_syntax.specs.Action.{Action, assigns}
+use Rattle.hpr_syntax.specs.Action.{Action, assigns, writes}
 use Rattle.hpr_syntax.specs.Body.{Body, done, action}
 use Rattle.hpr_syntax.specs.BodyOf.{before}
 use Rattle.hpr_syntax.specs.Rows.{content_by}
@@ -14,3 +14,4 @@ proper_before s rest h r = (h.0, h.1, h.2, r)
 
 pub proper_action : (t : Tag) (d : Action) (rest : Body) → IsProperTag t → IsProperContent (content_by d) → IsProperBody rest → IsProperBody (action t d rest)
 proper_action t (assigns x e) rest tag said more = (tag, said.0, said.1, more)
+proper_action t (writes x e) rest tag said more = (tag, said.0, said.1, more)

@@ -11,13 +11,13 @@ use Rattle.std.proofs.lemmas.List.Sorted.{All-permutation}
 use Rattle.std.proofs.lemmas.Map.Keys.{IsDistinct-IsPermutation}
 use Rattle.hpr_terms.specs.declared.limits.TheConstants.{MAX_LEVELS}
 use Rattle.hpr_terms.specs.declared.tag.Tag.{Tag}
-use Rattle.hpr_terms.specs.Names.{IsName}
+use Rattle.hpr_terms.specs.Names.{IsVariable}
 use Rattle.hpr_terms.proofs.Facts.{or_false, neither, if_none}
 use Rattle.hpr_syntax.specs.Body.{part_count}
 use Rattle.hpr_syntax.specs.Parts.{tags_of}
 use Rattle.hpr_syntax.specs.Issued.{Issued, AscendsFrom, IsIssued, issued_to, raised, raised_by}
 use Rattle.hpr_syntax.specs.Proper.{IsProperPair, IsProperBody}
-use Rattle.hpr_syntax.specs.Shape.{first_repeated_tag, is_unissued, first_unissued, first_deep, first_large, too_many, first_repeated, IsProgram}
+use Rattle.hpr_syntax.specs.Shape.{first_repeated_tag, is_unissued, first_unissued, first_deep, says_large, is_wrong, first_where, too_many, first_repeated, IsProgram}
 use Rattle.hpr_syntax.specs.Tree.{Tree}
 use Rattle.hpr_syntax.specs.Grammar.{tagged}
 use Rattle.hpr_syntax.specs.Spelling.{Spells}
@@ -172,13 +172,14 @@ program_raised other m h ascending numbers le same permuted =
         ascending = ascending;
         numbers = All-from_recursion IsProperPair m.issued numbers;
         body = subst IsProperBody same h.proper.body;
-        finals = All-permutation IsName other.finals m.finals permuted h.proper.finals;
+        finals = All-permutation IsVariable other.finals m.finals permuted h.proper.finals;
       };
       shape = shaped m (record {
         tags = subst (λ b. first_repeated_tag b ≡ None) same s.tags;
         issued = subst (λ b. first_unissued m.issued (tags_of b []) ≡ None) same issued;
         levels = subst (λ b. first_deep MAX_LEVELS b ≡ None) same s.levels;
-        expressions = subst (λ b. first_large b ≡ None) same s.expressions;
+        expressions = subst (λ b. first_where says_large b ≡ None) same s.expressions;
+        variables = subst (λ b. first_where is_wrong b ≡ None) same s.variables;
         parts = subst (λ b. too_many (part_count b) ≡ None) same s.parts;
         names = names_permuted other.finals m.finals permuted s.names;
       });

@@ -1,5 +1,5 @@
 -- The tokens of a block's canonical text spell the block.
-use Rattle.std.proofs.Common.{◌≡◌, ℕ, zero, suc, ◌+◌, ◌≤◌, List, [], ◌∷◌, ◌++◌, false, nat_lt, ◌==◌, ◌||◌, if◌then◌else◌, None, arith}
+use Rattle.std.proofs.Common.{◌≡◌, ℕ, zero, suc, ◌+◌, ◌≤◌, List, [], ◌∷◌, ◌++◌, false, not, sym, subst, nat_lt, ◌==◌, ◌||◌, if◌then◌else◌, None, arith}
 use Rattle.std.specs.Option.{option_or}
 use Rattle.std.proofs.lemmas.Bool.Decides.{nat_tests}
 use Rattle.hpr_terms.specs.declared.limits.TheConstants.{MAX_BRACKETS, MAX_OPERATORS}
@@ -11,17 +11,19 @@ use Rattle.hpr_terms.specs.declared.token.Token.{Token}
 use Rattle.hpr_terms.specs.declared.token.Token.TheVariants.{Word, Name, Number, Mark}
 use Rattle.hpr_terms.specs.Term.{operators}
 use Rattle.hpr_terms.specs.TermOf.{term_of}
-use Rattle.hpr_terms.proofs.Facts.{if_none}
-use Rattle.hpr_syntax.specs.Action.{assigns}
+use Rattle.hpr_terms.specs.Names.{stream, is_stream}
+use Rattle.hpr_terms.proofs.Facts.{if_none, not_is, or_false}
+use Rattle.hpr_terms.proofs.Plain.{stream_is}
+use Rattle.hpr_syntax.specs.Action.{assigns, writes}
 use Rattle.hpr_syntax.specs.Body.{Body, done, action, branch, loop}
 use Rattle.hpr_syntax.specs.Parts.{tags_of}
 use Rattle.hpr_syntax.specs.Issued.{Issued, issued_to}
-use Rattle.hpr_syntax.specs.Shape.{is_unissued, first_unissued, first_deep, is_large, first_large}
+use Rattle.hpr_syntax.specs.Shape.{is_unissued, first_unissued, first_deep, is_large, says_large, names_stream, is_wrong, first_where}
 use Rattle.hpr_syntax.specs.Grammar as grammar
-use Rattle.hpr_syntax.specs.Grammar.{tagged, IsTag, SpellsExpr, SpellsParts, nothing, assignment, conditional, conditional_else, while_loop}
+use Rattle.hpr_syntax.specs.Grammar.{tagged, IsTag, SpellsExpr, SpellsParts, nothing, assignment, write, conditional, conditional_else, while_loop}
 use Rattle.hpr_syntax.specs.Print.{is_done}
 use Rattle.hpr_syntax.specs.Proper.{IsProperTerm, IsProperTag, IsProperBody}
-use Rattle.hpr_syntax.proofs.NoRefusal.{or_none}
+use Rattle.hpr_syntax.proofs.NoRefusal.{or_none, none_in_action, none_in_branch, none_in_loop}
 use Rattle.hpr_syntax.proofs.Shown.{shown, expr_shown}
 
 abbrev pub label : Tag → List Token
@@ -37,6 +39,7 @@ shown_else block second = if is_done block then [] else (Word keyword.Else ∷ s
 abbrev pub shown_body : Body → List Token
 shown_body done = []
 shown_body (action t (assigns x e) rest) = label t ++ (Name x ∷ Mark sign.Becomes ∷ (shown_expr e ++ (Mark sign.Semicolon ∷ shown_body rest)))
+shown_body (action t (writes x e) rest) = label t ++ (Word keyword.Write ∷ (shown_expr e ++ (Mark sign.Semicolon ∷ shown_body rest)))
 shown_body (branch t e a b rest) =
     label t ++ (Word keyword.If ∷ (shown_expr e ++ (Word keyword.Then ∷ (shown_body a ++ (shown_else b (shown_body b) ++ (Word keyword.Fi ∷ shown_body rest))))))
 shown_body (loop t e b rest) = label t ++ (Word keyword.While ∷ (shown_expr e ++ (Word keyword.Do ∷ (shown_body b ++ (Word keyword.Od ∷ shown_body rest)))))
@@ -111,34 +114,45 @@ branch_spelled l t e then_part else_part rest ht he hy hn hr =
           (r.0, conditional_else (grammar.tag ht) he y.1 z.1 r.1);
     }
 
-parts_spelled : (l : ℕ) (body : Body) → IsProperBody body → HasSerials body → first_deep l body ≡ None → first_large body ≡ None → Spelled l body
-parts_spelled l done h s deep large = record { spelled = λ n. (n, nothing) }
-parts_spelled zero (action t d rest) h s deep large = absurd cc
-parts_spelled zero (branch t e a b rest) h s deep large = absurd cc
-parts_spelled zero (loop t e b rest) h s deep large = absurd cc
-parts_spelled (suc l) (action t (assigns x e) rest) h s deep large =
-    let g : (is_large e ≡ false) × (first_large rest ≡ None) = if_none (is_large e) t (first_large rest) large in
-    let more = parts_spelled (suc l) rest h.3 s.1 deep g.1 in
+parts_spelled : (l : ℕ) (body : Body) → IsProperBody body → HasSerials body → first_deep l body ≡ None → first_where says_large body ≡ None
+    → first_where is_wrong body ≡ None → Spelled l body
+parts_spelled l done h s deep large wrong = record { spelled = λ n. (n, nothing) }
+parts_spelled zero (action t d rest) h s deep large wrong = absurd cc
+parts_spelled zero (branch t e a b rest) h s deep large wrong = absurd cc
+parts_spelled zero (loop t e b rest) h s deep large wrong = absurd cc
+parts_spelled (suc l) (action t (assigns x e) rest) h s deep large wrong =
+    let g = none_in_action says_large t (assigns x e) rest large in
+    let w = none_in_action is_wrong t (assigns x e) rest wrong in
+    let more = parts_spelled (suc l) rest h.3 s.1 deep g.1 w.1 in
     record {
       spelled = λ n.
           let r = more.spelled (n + 1) in
           (r.0, assignment (grammar.tag (tag_is t h.0 s.0)) (expr_spelled e g.0 h.2) r.1);
     }
-parts_spelled (suc l) (branch t e a b rest) h s deep large =
-    let g : (is_large e ≡ false) × (option_or (first_large a) (option_or (first_large b) (first_large rest)) ≡ None)
-    = if_none (is_large e) t (option_or (first_large a) (option_or (first_large b) (first_large rest))) large in
-    let ga = or_none (first_large a) (option_or (first_large b) (first_large rest)) g.1 in
-    let gb = or_none (first_large b) (first_large rest) ga.1 in
+parts_spelled (suc l) (action t (writes x e) rest) h s deep large wrong =
+    let g = none_in_action says_large t (writes x e) rest large in
+    let w = none_in_action is_wrong t (writes x e) rest wrong in
+    let is : x ≡ stream = stream_is x (not_is (is_stream x) (or_false (not (is_stream x)) (names_stream (term_of e)) w.0).0) in
+    let more = parts_spelled (suc l) rest h.3 s.1 deep g.1 w.1 in
+    record {
+      spelled = λ n.
+          let r = more.spelled (n + 1) in
+          let Told : List ℕ → Type 0 = λ y. SpellsParts tagged (suc l) n r.0 (shown_body (action t (writes x e) rest)) (action t (writes y e) rest) in
+          (r.0, subst Told (sym is) (write (grammar.tag (tag_is t h.0 s.0)) (expr_spelled e g.0 h.2) r.1));
+    }
+parts_spelled (suc l) (branch t e a b rest) h s deep large wrong =
+    let g = none_in_branch says_large t e a b rest large in
+    let w = none_in_branch is_wrong t e a b rest wrong in
     let da = or_none (first_deep l a) (option_or (first_deep l b) (first_deep (suc l) rest)) deep in
     let db = or_none (first_deep l b) (first_deep (suc l) rest) da.1 in
-    branch_spelled l t e a b rest (tag_is t h.0 s.0) (expr_spelled e g.0 h.1) (parts_spelled l a h.2 s.1 da.0 ga.0) (parts_spelled l b h.3 s.2 db.0 gb.0)
-    (parts_spelled (suc l) rest h.4 s.3 db.1 gb.1)
-parts_spelled (suc l) (loop t e b rest) h s deep large =
-    let g : (is_large e ≡ false) × (option_or (first_large b) (first_large rest) ≡ None) = if_none (is_large e) t (option_or (first_large b) (first_large rest)) large in
-    let gb = or_none (first_large b) (first_large rest) g.1 in
+    branch_spelled l t e a b rest (tag_is t h.0 s.0) (expr_spelled e g.0 h.1) (parts_spelled l a h.2 s.1 da.0 g.1 w.1) (parts_spelled l b h.3 s.2 db.0 g.2 w.2)
+    (parts_spelled (suc l) rest h.4 s.3 db.1 g.3 w.3)
+parts_spelled (suc l) (loop t e b rest) h s deep large wrong =
+    let g = none_in_loop says_large t e b rest large in
+    let w = none_in_loop is_wrong t e b rest wrong in
     let db = or_none (first_deep l b) (first_deep (suc l) rest) deep in
-    let inner = parts_spelled l b h.2 s.1 db.0 gb.0 in
-    let more = parts_spelled (suc l) rest h.3 s.2 db.1 gb.1 in
+    let inner = parts_spelled l b h.2 s.1 db.0 g.1 w.1 in
+    let more = parts_spelled (suc l) rest h.3 s.2 db.1 g.2 w.2 in
     record {
       spelled = λ n.
           let y = inner.spelled (n + 1) in
@@ -146,6 +160,6 @@ parts_spelled (suc l) (loop t e b rest) h s deep large =
           (r.0, while_loop (grammar.tag (tag_is t h.0 s.0)) (expr_spelled e g.0 h.1) y.1 r.1);
     }
 
-pub body_spelled : (l n : ℕ) (body : Body) → IsProperBody body → HasSerials body → first_deep l body ≡ None → first_large body ≡ None
-    → (m : ℕ) × SpellsParts tagged l n m (shown_body body) body
-body_spelled l n body h s deep large = (parts_spelled l body h s deep large).spelled n
+pub body_spelled : (l n : ℕ) (body : Body) → IsProperBody body → HasSerials body → first_deep l body ≡ None → first_where says_large body ≡ None
+    → first_where is_wrong body ≡ None → (m : ℕ) × SpellsParts tagged l n m (shown_body body) body
+body_spelled l n body h s deep large wrong = (parts_spelled l body h s deep large wrong).spelled n

@@ -1,19 +1,22 @@
 -- What is read in a state behind a part: what the part gave under the name that it defines, and what was there under another.
-use Rattle.std.proofs.Common.{◌≡◌, ℕ, Bool, true, false, Some, List, refl, sym, ap}
+use Rattle.std.proofs.Common.{◌≡◌, ℕ, pos, Bool, true, false, if◌then◌else◌, Some, List, [], refl, sym, ap}
 use Rattle.std.specs.Ordering.{nat_cmp, is_eq}
 use Rattle.std.specs.Cmp.{eq_by_cmp_equiv, Equal-is}
 use Rattle.std.specs.Cmp.Lexicographic.{slice_cmp, nat_list_cmp_total}
 use Rattle.std.specs.FinMap.{get-insert, nat_cmp-IsAntisymmetric, slice_cmp-IsAntisymmetric}
 use Rattle.hpr_syntax.specs.declared.rows.Content.{Content}
-use Rattle.hpr_syntax.specs.declared.rows.Content.TheVariants.{Assign, If, While}
+use Rattle.hpr_syntax.specs.declared.rows.Content.TheVariants.{Assign, If, While, Write}
 use Rattle.hpr_syntax.specs.Rows.{assigned}
-use Rattle.hpr_syntax.specs.Values.{Value, Values, value_at, put}
+use Rattle.hpr_terms.specs.Names.{is_stream}
+use Rattle.hpr_syntax.specs.declared.value.Value.{Value}
+use Rattle.hpr_syntax.specs.declared.value.Value.TheVariants as value
+use Rattle.hpr_syntax.specs.Values.{Values, number_in, written_in, blank, value_at, put}
 use Rattle.hpr_syntax.specs.Contents.{next_state}
 
 abbrev pub same_name : List ℕ → List ℕ → Bool
 same_name x y = is_eq (slice_cmp nat_cmp x y)
 
-tied : (x y : List ℕ) → same_name x y ≡ true → x ≡ y
+pub tied : (x y : List ℕ) → same_name x y ≡ true → x ≡ y
 tied x y e = slice_cmp-IsAntisymmetric nat_cmp-IsAntisymmetric x y ((Equal-is (slice_cmp nat_cmp x y)).0 e)
 
 pub same_itself : (x : List ℕ) → same_name x x ≡ true
@@ -25,6 +28,21 @@ same_not x y n = go (same_name x y) refl
     go : (b : Bool) → same_name x y ≡ b → same_name x y ≡ false
     go false e = e
     go true e = absurd (n (ap Some (sym (tied x y e))))
+
+-- where nothing was put there is the number 0, and nothing was written
+no_number : (b : Bool) → number_in (if b then value.List [] else value.Number (pos 0)) ≡ pos 0
+no_number true = refl
+no_number false = refl
+
+pub blank_number : (x : List ℕ) → number_in (blank x) ≡ pos 0
+blank_number x = no_number (is_stream x)
+
+none_written : (b : Bool) → written_in (if b then value.List [] else value.Number (pos 0)) ≡ []
+none_written true = refl
+none_written false = refl
+
+pub blank_written : (x : List ℕ) → written_in (blank x) ≡ []
+blank_written x = none_written (is_stream x)
 
 -- a state after a value is put
 pub get_put : (s : Values) (x : List ℕ) (v : Value) → value_at (put s x v) x ≡ v
@@ -38,8 +56,10 @@ pub value_given : (c : Content) (v : Value) (s : Values) (x : List ℕ) → assi
 value_given (Assign y e) v s x is = let same : y ≡ x = cc in rw same (get_put s x v)
 value_given (If e) v s x is = absurd cc
 value_given (While e) v s x is = absurd cc
+value_given (Write y e) v s x is = let same : y ≡ x = cc in rw same (get_put s x v)
 
 pub value_kept : (c : Content) (v : Value) (s : Values) (x : List ℕ) → ¬ (assigned c ≡ Some x) → value_at (next_state c v s) x ≡ value_at s x
 value_kept (Assign y e) v s x n = get_other s x y v n
 value_kept (If e) v s x n = refl
 value_kept (While e) v s x n = refl
+value_kept (Write y e) v s x n = get_other s x y v n

@@ -1,5 +1,5 @@
 -- The canonical text of a program spells it.
-use Rattle.std.proofs.Common.{◌≡◌, ℕ, ◌+◌, ◌<◌, ◌≤◌, List, [], ◌∷◌, ◌++◌, true, false, nat_lt, ◌==◌, ◌||◌, map, codes, Option, Some, None, refl, ap, sym, ◌∙◌, append_assoc, arith}
+use Rattle.std.proofs.Common.{◌≡◌, ℕ, ◌+◌, ◌<◌, ◌≤◌, List, [], ◌∷◌, ◌++◌, Bool, true, false, nat_lt, ◌==◌, ◌||◌, if◌then◌else◌, map, codes, Option, Some, None, refl, ap, sym, ◌∙◌, subst, append_assoc, arith}
 use Rattle.std.specs.Fmt.{decimal}
 use Rattle.std.proofs.lemmas.Bool.{le-ltb, ne_eqb}
 use Rattle.std.proofs.lemmas.Bool.Decides.{nat_tests}
@@ -12,18 +12,19 @@ use Rattle.hpr_terms.specs.declared.keyword.Keyword.TheVariants as keyword
 use Rattle.hpr_terms.specs.declared.token.Sign.TheVariants as sign
 use Rattle.hpr_terms.specs.declared.token.Token.{Token}
 use Rattle.hpr_terms.specs.declared.token.Token.TheVariants.{Word, Name, Mark}
-use Rattle.hpr_terms.specs.Names.{IsName}
+use Rattle.hpr_terms.specs.Names.{IsVariable, is_stream}
 use Rattle.hpr_terms.specs.Tokens.{nothing, blanks, Text, ending}
 use Rattle.hpr_terms.proofs.Facts.{if_none}
+use Rattle.hpr_terms.proofs.Plain.{stream_is, plain_name}
 use Rattle.hpr_syntax.specs.Body.{Body}
 use Rattle.hpr_syntax.specs.Parts.{tags_of}
 use Rattle.hpr_syntax.specs.Issued.{Issued, AscendsFrom, IsIssued, raised, raised_by}
 use Rattle.hpr_syntax.specs.Grammar as grammar
-use Rattle.hpr_syntax.specs.Grammar.{tagged, pair_then, IsIssuedPair, SpellsPairs, SpellsHeader, SpellsNames, SpellsProgram, issued_of}
+use Rattle.hpr_syntax.specs.Grammar.{tagged, pair_then, IsIssuedPair, SpellsPairs, SpellsHeader, SpellsFinal, SpellsNames, SpellsProgram, issued_of}
 use Rattle.hpr_syntax.specs.Spelling.{Spells}
 use Rattle.hpr_syntax.specs.Print.{pair_text, after_commas, joined, issued_text, text}
 use Rattle.hpr_syntax.specs.Proper.{IsProperPair, IsProper}
-use Rattle.hpr_syntax.specs.Shape.{is_unissued, first_unissued, IsProgram}
+use Rattle.hpr_syntax.specs.Shape.{is_unissued, first_unissued, is_wrong, first_where, IsProgram}
 use Rattle.hpr_syntax.specs.Tree.{Tree}
 use Rattle.hpr_syntax.proofs.NoRefusal.{HasNoRefusal, no_refusal}
 use Rattle.hpr_syntax.proofs.Printed.{Printed, weaker, space, newline, mark, word, number, name}
@@ -32,29 +33,46 @@ use Rattle.hpr_syntax.proofs.PrintedParts.{body_is}
 
 -- ---- the names of `end`
 
+abbrev final_token : List ℕ → Token
+final_token x = if is_stream x then Word keyword.Out else Name x
+
 abbrev shown_after : List (List ℕ) → List Token
 shown_after [] = []
-shown_after (x ∷ xs) = Mark sign.Comma ∷ Name x ∷ shown_after xs
+shown_after (x ∷ xs) = Mark sign.Comma ∷ final_token x ∷ shown_after xs
 
 abbrev shown_names : List (List ℕ) → List Token
 shown_names [] = []
-shown_names (x ∷ xs) = Name x ∷ shown_after xs
+shown_names (x ∷ xs) = final_token x ∷ shown_after xs
 
-names_from : (x : List ℕ) (xs : List (List ℕ)) → SpellsNames (Name x ∷ shown_after xs) (x ∷ xs)
-names_from x [] = grammar.SpellsNames.one
-names_from x (y ∷ ys) = grammar.SpellsNames.more (names_from y ys)
+final_spelled : (x : List ℕ) → SpellsFinal (final_token x) x
+final_spelled x = go (is_stream x) refl
+  where
+    go : (b : Bool) → is_stream x ≡ b → SpellsFinal (if b then Word keyword.Out else Name x) x
+    go true e = subst (SpellsFinal (Word keyword.Out)) (sym (stream_is x e)) grammar.out
+    go false e = grammar.plain
+
+names_from : (x : List ℕ) (xs : List (List ℕ)) → SpellsNames (final_token x ∷ shown_after xs) (x ∷ xs)
+names_from x [] = grammar.SpellsNames.one (final_spelled x)
+names_from x (y ∷ ys) = grammar.SpellsNames.more (final_spelled x) (names_from y ys)
 
 names_spelled : (xs : List (List ℕ)) → SpellsNames (shown_names xs) xs
 names_spelled [] = grammar.SpellsNames.none
 names_spelled (x ∷ xs) = names_from x xs
 
-after_is : (xs : List (List ℕ)) → AllByRecursion IsName xs → Printed true true (after_commas xs) (shown_after xs)
-after_is [] h rest ts k = k
-after_is (x ∷ xs) h rest ts k = simp append_assoc (mark sign.Comma _ _ (weaker (space _ _ (name x h.0 _ _ (after_is xs h.1 rest ts k)))))
+final_is : (x : List ℕ) → IsVariable x → Printed false true x (final_token x ∷ [])
+final_is x h = go (is_stream x) refl
+  where
+    go : (b : Bool) → is_stream x ≡ b → Printed false true x ((if b then Word keyword.Out else Name x) ∷ [])
+    go true e = subst (λ (y : List ℕ). Printed false true y (Word keyword.Out ∷ [])) (sym (stream_is x e)) (word keyword.Out)
+    go false e = name x (plain_name x h e)
 
-names_are : (xs : List (List ℕ)) → AllByRecursion IsName xs → Printed false true (joined xs) (shown_names xs)
+after_is : (xs : List (List ℕ)) → AllByRecursion IsVariable xs → Printed true true (after_commas xs) (shown_after xs)
+after_is [] h rest ts k = k
+after_is (x ∷ xs) h rest ts k = simp append_assoc (mark sign.Comma _ _ (weaker (space _ _ (final_is x h.0 _ _ (after_is xs h.1 rest ts k)))))
+
+names_are : (xs : List (List ℕ)) → AllByRecursion IsVariable xs → Printed false true (joined xs) (shown_names xs)
 names_are [] h rest ts k = weaker k
-names_are (x ∷ xs) h rest ts k = simp append_assoc (name x h.0 _ _ (after_is xs h.1 rest ts k))
+names_are (x ∷ xs) h rest ts k = simp append_assoc (final_is x h.0 _ _ (after_is xs h.1 rest ts k))
 
 -- ---- the header
 
@@ -139,21 +157,21 @@ abbrev shown_program : Tree → List Token
 shown_program t =
     Word keyword.Program ∷ (shown_header t.issued ++ (shown_body t.body ++ (Word keyword.End ∷ Mark sign.Open ∷ (shown_names t.finals ++ (Mark sign.Close ∷ [])))))
 
-text_is : (t : Tree) → IsProper t → Text false (text t) (shown_program t)
+text_is : (t : Tree) → IsProper t → first_where is_wrong t.body ≡ None → Text false (text t) (shown_program t)
 unfolding text
-text_is t h =
+text_is t h w =
     simp append_assoc
     (word keyword.Program _ _
     (newline _ _
     (header_is t.issued _ _
-    (body_is 0 t.body h.body _ _
+    (body_is 0 t.body h.body w _ _
     (word keyword.End _ _
-    (mark sign.Open _ _ (names_are t.finals (recursion_from_All IsName t.finals h.finals) _ _ (mark sign.Close _ _ (weaker (newline [] [] (ending (blanks nothing))))))))))))
+    (mark sign.Open _ _ (names_are t.finals (recursion_from_All IsVariable t.finals h.finals) _ _ (mark sign.Close _ _ (weaker (newline [] [] (ending (blanks nothing))))))))))))
 
 program_spelled : (t : Tree) → IsProper t → HasNoRefusal t → SpellsProgram tagged (shown_program t) t
 program_spelled t h s =
     let serials = has_serials t.issued t.body [] s.issued in
-    let body = body_spelled MAX_LEVELS 0 t.body h.body serials.0 s.levels s.expressions in
+    let body = body_spelled MAX_LEVELS 0 t.body h.body serials.0 s.levels s.expressions s.variables in
     record {
       header = shown_header t.issued;
       pairs = pairs_of t.issued;
@@ -168,4 +186,6 @@ program_spelled t h s =
     }
 
 pub text_spells : (t : Tree) → IsProgram t → Spells tagged (text t) t
-text_spells t h = record { tokens = shown_program t; text = text_is t h.proper; program = program_spelled t h.proper (no_refusal t h.shape) }
+text_spells t h =
+    let none = no_refusal t h.shape in
+    record { tokens = shown_program t; text = text_is t h.proper none.variables; program = program_spelled t h.proper none }

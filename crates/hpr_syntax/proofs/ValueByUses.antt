@@ -2,12 +2,12 @@
 use Rattle.std.proofs.Common.{◌≡◌, ℕ, List, refl, ap, inl, inr, Ok}
 use Rattle.hpr_terms.specs.Term.{Term, num, var, prefix, infix'}
 use Rattle.hpr_terms.specs.Uses.{TermUses}
-use Rattle.hpr_syntax.specs.Values.{Values, value_at}
+use Rattle.hpr_syntax.specs.Values.{Values, number_in, value_at}
 use Rattle.hpr_syntax.specs.Value.{term_value, with_value, apply_unary}
 
 pub value_by_uses : (e : Term) (s t : Values) → ((x : List ℕ) → TermUses e x → value_at s x ≡ value_at t x) → term_value e s ≡ term_value e t
 value_by_uses (num n) s t same = refl
-value_by_uses (var x) s t same = ap Ok (same x refl)
+value_by_uses (var x) s t same = ap (λ v. Ok (number_in v)) (same x refl)
 value_by_uses (prefix op a) s t same = ap (λ v. with_value v (apply_unary op)) (value_by_uses a s t same)
 value_by_uses (infix' op a b) s t same =
     let p = value_by_uses a s t (λ x h. same x (inl h)) in

@@ -4,14 +4,15 @@
 -- body_of stmts    == the block of these statements
 use Rattle.std.specs.Prelude.{List, [], ◌∷◌}
 use Rattle.hpr_syntax.specs.declared.tree.Stmt.{Stmt}
-use Rattle.hpr_syntax.specs.declared.tree.Stmt.TheVariants.{Assign, If, While}
-use Rattle.hpr_syntax.specs.Action.{assigns}
+use Rattle.hpr_syntax.specs.declared.tree.Stmt.TheVariants.{Assign, If, While, Write}
+use Rattle.hpr_syntax.specs.Action.{assigns, writes}
 use Rattle.hpr_syntax.specs.Body.{Body, done, action, branch, loop}
 
 abbrev pub before : Stmt → Body → Body
 before (Assign t x e) rest = action t (assigns x e) rest
 before (If t e a b) rest = branch t e a b rest
 before (While t e b) rest = loop t e b rest
+before (Write t x e) rest = action t (writes x e) rest
 
 abbrev pub body_of : List Stmt → Body
 body_of [] = done

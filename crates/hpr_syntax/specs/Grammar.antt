@@ -3,9 +3,11 @@
 --   program = "program" header parts "end" "(" names ")"
 --   header  = (nothing) | "issued" pair { "," pair }
 --   pair    = author ":" serial
---   names   = (nothing) | name { "," name }
+--   names   = (nothing) | final { "," final }
+--   final   = name | "out"
 --   parts   = (nothing) | part parts
 --   part    = tag ":" name ":=" expr ";"
+--           | tag ":" "write" expr ";"
 --           | tag ":" "if" expr "then" parts "fi"
 --           | tag ":" "if" expr "then" parts "else" parts "fi"
 --           | tag ":" "while" expr "do" parts "od"
@@ -35,7 +37,8 @@
 --                                  had their tags, after it m
 -- SpellsPairs ts pairs          == the tokens are one or more pairs, with commas between them
 -- SpellsHeader form ts header   == the tokens are a header with these pairs, or nothing
--- SpellsNames ts names          == the tokens are names, with commas between them
+-- SpellsFinal t x               == the token is the variable x: a name, or the stream's word
+-- SpellsNames ts names          == the tokens are variables, with commas between them
 -- issued_of header body         == the greatest number that the header gives each author, or without a header the greatest of its tags
 -- SpellsProgram form ts tree    == the tokens spell the tree
 use Rattle.std.specs.Prelude.{◌≡◌, ℕ, suc, ◌+◌, ◌≤◌, ◌<◌, ◌^◌, List, [], ◌∷◌, ◌++◌, map, Option, Some, None}
@@ -50,9 +53,10 @@ use Rattle.hpr_terms.specs.declared.keyword.Keyword.TheVariants as keyword
 use Rattle.hpr_terms.specs.declared.token.Sign.TheVariants as sign
 use Rattle.hpr_terms.specs.declared.token.Token.{Token}
 use Rattle.hpr_terms.specs.declared.token.Token.TheVariants.{Word, Name, Number, Mark}
+use Rattle.hpr_terms.specs.Names.{stream}
 use Rattle.hpr_terms.specs.Term.{Term, num, var, prefix, infix', operators}
 use Rattle.hpr_terms.specs.TermOf.{term_of}
-use Rattle.hpr_syntax.specs.Action.{assigns}
+use Rattle.hpr_syntax.specs.Action.{assigns, writes}
 use Rattle.hpr_syntax.specs.Body.{Body, done, action, branch, loop}
 use Rattle.hpr_syntax.specs.Parts.{tags_of}
 use Rattle.hpr_syntax.specs.Issued as issued
@@ -135,6 +139,9 @@ pub data SpellsParts : Form → ℕ → ℕ → ℕ → List Token → Body → 
   assignment : {f : Form} {l n m : ℕ} {t : Tag} {x : List ℕ} {e : Expr} {label value more : List Token} {rest : Body}
       → Labels f n label t → SpellsExpr value e → SpellsParts f (suc l) (n + 1) m more rest
       → SpellsParts f (suc l) n m (label ++ (Name x ∷ Mark sign.Becomes ∷ (value ++ (Mark sign.Semicolon ∷ more)))) (action t (assigns x e) rest)
+  write : {f : Form} {l n m : ℕ} {t : Tag} {e : Expr} {label value more : List Token} {rest : Body}
+      → Labels f n label t → SpellsExpr value e → SpellsParts f (suc l) (n + 1) m more rest
+      → SpellsParts f (suc l) n m (label ++ (Word keyword.Write ∷ (value ++ (Mark sign.Semicolon ∷ more)))) (action t (writes stream e) rest)
   conditional : {f : Form} {l n k m : ℕ} {t : Tag} {e : Expr} {label test first more : List Token} {yes rest : Body}
       → Labels f n label t → SpellsExpr test e → SpellsParts f l (n + 1) k first yes → SpellsParts f (suc l) k m more rest
       → SpellsParts f (suc l) n m (label ++ (Word keyword.If ∷ (test ++ (Word keyword.Then ∷ (first ++ (Word keyword.Fi ∷ more)))))) (branch t e yes done rest)
@@ -161,10 +168,15 @@ pub data SpellsHeader : Form → List Token → Option (List (ℕ × ℕ)) → T
   none : {f : Form} → SpellsHeader f [] None
   pairs : {ts : List Token} {ps : List (ℕ × ℕ)} → SpellsPairs ts ps → SpellsHeader tagged (Word keyword.Issued ∷ ts) (Some ps)
 
+pub data SpellsFinal : Token → List ℕ → Type 0 where
+  plain : {x : List ℕ} → SpellsFinal (Name x) x
+  out : SpellsFinal (Word keyword.Out) stream
+
 pub data SpellsNames : List Token → List (List ℕ) → Type 0 where
   none : SpellsNames [] []
-  one : {x : List ℕ} → SpellsNames (Name x ∷ []) (x ∷ [])
-  more : {x y : List ℕ} {ts : List Token} {xs : List (List ℕ)} → SpellsNames ts (y ∷ xs) → SpellsNames (Name x ∷ Mark sign.Comma ∷ ts) (x ∷ y ∷ xs)
+  one : {t : Token} {x : List ℕ} → SpellsFinal t x → SpellsNames (t ∷ []) (x ∷ [])
+  more : {t : Token} {x y : List ℕ} {ts : List Token} {xs : List (List ℕ)} → SpellsFinal t x → SpellsNames ts (y ∷ xs)
+      → SpellsNames (t ∷ Mark sign.Comma ∷ ts) (x ∷ y ∷ xs)
 
 abbrev pub tag_pair : Tag → ℕ × ℕ
 tag_pair t = (t.author, t.serial)

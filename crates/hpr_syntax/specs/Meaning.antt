@@ -7,7 +7,8 @@
 --                       the common value where all three agree
 use Rattle.std.specs.Prelude.{◌≡◌, ℕ, ◌+◌, List, Contains}
 use Rattle.hpr_syntax.specs.Tree.{Tree}
-use Rattle.hpr_syntax.specs.Values.{Value, Values}
+use Rattle.hpr_syntax.specs.declared.value.Value.{Value}
+use Rattle.hpr_syntax.specs.Values.{Values}
 use Rattle.hpr_syntax.specs.Run.{FinalValues, ends, run}
 
 abbrev pub Ends : Tree → Values → ℕ → FinalValues → Type 0

@@ -14,13 +14,13 @@ use Rattle.std.specs.Prelude.{ℕ, ◌+◌, ◌*◌, Bool, true, false, nat_lt, 
 use Rattle.std.specs.Fmt.{decimal}
 use Rattle.hpr_terms.specs.declared.expr.Expr.{Expr}
 use Rattle.hpr_syntax.specs.declared.rows.Content.{Content}
-use Rattle.hpr_syntax.specs.declared.rows.Content.TheVariants.{Assign, If, While}
+use Rattle.hpr_syntax.specs.declared.rows.Content.TheVariants.{Assign, If, While, Write}
 use Rattle.hpr_terms.specs.Term.{Term, num, var, prefix, infix'}
 use Rattle.hpr_terms.specs.TermOf.{term_of}
 use Rattle.hpr_terms.specs.Texts.{tag_text}
 use Rattle.hpr_syntax.specs.Issued.{Issued}
 use Rattle.hpr_syntax.specs.Tree.{Tree}
-use Rattle.hpr_syntax.specs.Action.{assigns}
+use Rattle.hpr_syntax.specs.Action.{assigns, writes}
 use Rattle.hpr_syntax.specs.Body.{Body, done, action, branch, loop}
 use Rattle.hpr_terms.specs.declared.expr.Unary.{Unary}
 use Rattle.hpr_terms.specs.declared.expr.Unary.TheVariants.{Neg, Not}
@@ -85,6 +85,7 @@ abbrev pub content_text : Content → List ℕ
 content_text (Assign x e) = x ++ codes " := " ++ expr_text e
 content_text (If e) = codes "if " ++ expr_text e
 content_text (While e) = codes "while " ++ expr_text e
+content_text (Write x e) = codes "write " ++ expr_text e
 
 abbrev pub indent : ℕ → List ℕ
 indent n = replicate (2 * n) 32
@@ -104,6 +105,7 @@ else_text n block shown = if is_done block then [] else (line n (codes "else") +
 unfoldable pub body_text : ℕ → Body → List ℕ
 body_text n done = []
 body_text n (action t (assigns x e) rest) = line n (tag_text t ++ codes ": " ++ x ++ codes " := " ++ term_text (term_of e) ++ codes ";") ++ body_text n rest
+body_text n (action t (writes x e) rest) = line n (tag_text t ++ codes ": write " ++ term_text (term_of e) ++ codes ";") ++ body_text n rest
 body_text n (branch t e a b rest) =
     line n (tag_text t ++ codes ": if " ++ term_text (term_of e) ++ codes " then") ++ body_text (n + 1) a
     ++ else_text n b (body_text (n + 1) b) ++ line n (codes "fi") ++ body_text n rest

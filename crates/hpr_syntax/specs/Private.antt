@@ -3,3 +3,4 @@ pub mod BodyCode
 pub mod BodyFalls
 pub mod ContentCode
 pub mod Refusals
+pub mod ValueCode

@@ -8,8 +8,8 @@
 -- structure_of c   == which blocks a part that says this has
 -- is_simple s      == a part of this structure has no blocks
 -- same_structure a b == the two structures are one
--- assigned content == the name that is assigned; none for a predicate
--- expr_in content  == the expression that is assigned or tested
+-- assigned content == the name that the part defines: an assignment its variable, a write the stream, a predicate none
+-- expr_in content  == the expression that is assigned, written or tested
 -- made t c a b     == the part with this tag that says this, with these blocks, as far as it has blocks
 use Rattle.std.specs.Prelude.{ℕ, ◌+◌, Bool, true, false, Option, Some, None, List, [], ◌∷◌, ◌++◌}
 use Rattle.hpr_terms.specs.declared.tag.Tag.{Tag}
@@ -17,10 +17,10 @@ use Rattle.hpr_terms.specs.declared.expr.Expr.{Expr}
 use Rattle.hpr_syntax.specs.declared.tree.Stmt.{Stmt}
 use Rattle.hpr_syntax.specs.declared.rows.Row.{Row}
 use Rattle.hpr_syntax.specs.declared.rows.Content.{Content}
-use Rattle.hpr_syntax.specs.declared.rows.Content.TheVariants.{Assign, If, While}
+use Rattle.hpr_syntax.specs.declared.rows.Content.TheVariants.{Assign, If, While, Write}
 use Rattle.hpr_syntax.specs.declared.rows.Structure.{Structure}
 use Rattle.hpr_syntax.specs.declared.rows.Structure.TheVariants.{Simple, Conditional, Loop}
-use Rattle.hpr_syntax.specs.Action.{Action, assigns}
+use Rattle.hpr_syntax.specs.Action.{Action, assigns, writes}
 use Rattle.hpr_syntax.specs.Body.{Body, done, action, branch, loop}
 use Rattle.hpr_syntax.specs.declared.tree.Stmt.TheVariants as stmt
 
@@ -31,9 +31,11 @@ Parent = Option (Tag × Bool)
 -- an action as what its part says
 abbrev pub content_by : Action → Content
 content_by (assigns x e) = Assign x e
+content_by (writes x e) = Write x e
 
 abbrev pub stmt_by : Tag → Action → Stmt
 stmt_by t (assigns x e) = stmt.Assign t x e
+stmt_by t (writes x e) = stmt.Write t x e
 
 abbrev pub row_of : Tag → Parent → ℕ → Content → Row
 row_of t p i c = record { tag = t; parent = p; at = i; content = c }
@@ -50,11 +52,13 @@ abbrev pub content_of : Stmt → Content
 content_of (stmt.Assign t x e) = Assign x e
 content_of (stmt.If t e a b) = If e
 content_of (stmt.While t e b) = While e
+content_of (stmt.Write t x e) = Write x e
 
 abbrev pub structure_of : Content → Structure
 structure_of (Assign x e) = Simple
 structure_of (If e) = Conditional
 structure_of (While e) = Loop
+structure_of (Write x e) = Simple
 
 abbrev pub is_simple : Structure → Bool
 is_simple Simple = true
@@ -71,13 +75,16 @@ abbrev pub assigned : Content → Option (List ℕ)
 assigned (Assign x e) = Some x
 assigned (If e) = None
 assigned (While e) = None
+assigned (Write x e) = Some x
 
 abbrev pub expr_in : Content → Expr
 expr_in (Assign x e) = e
 expr_in (If e) = e
 expr_in (While e) = e
+expr_in (Write x e) = e
 
 abbrev pub made : Tag → Content → Body → Body → Stmt
 made t (Assign x e) a b = stmt.Assign t x e
 made t (If e) a b = stmt.If t e a b
 made t (While e) a b = stmt.While t e a
+made t (Write x e) a b = stmt.Write t x e

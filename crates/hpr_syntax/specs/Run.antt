@@ -1,8 +1,8 @@
--- What a program does, with so many steps to spend. A step is an assignment or an evaluation of a predicate.
+-- What a program does, with so many steps to spend. A step is an assignment, a write or an evaluation of a predicate.
 --
 -- After             == where a run is after some statements: it goes on from a state with some steps left, a part stopped it
 --                      with a fault, or it is spent and has a further step to do
--- step t a left go  == one step of the part t whose value is a, if a step is left; go says what follows
+-- step t a left go  == one step of the part t that gives a, if a step is left; go says what follows
 -- then_go after go  == what follows, where the run goes on
 -- turns n t e body  == at most n turns of the loop t with the predicate e
 -- run_body body s left == a block, from the state s with so many steps left
@@ -14,18 +14,19 @@ use Rattle.hpr_terms.specs.declared.tag.Tag.{Tag}
 use Rattle.hpr_terms.specs.declared.expr.Expr.{Expr}
 use Rattle.hpr_syntax.specs.declared.rows.Content.TheVariants.{If, While}
 use Rattle.hpr_syntax.specs.Rows.{content_by}
-use Rattle.hpr_syntax.specs.Contents.{answer_of, next_state}
+use Rattle.hpr_syntax.specs.Contents.{Given, answer_of, next_state, holds}
 use Rattle.hpr_syntax.specs.Body.{Body, done, action, branch, loop}
 use Rattle.hpr_syntax.specs.Tree.{Tree}
-use Rattle.hpr_syntax.specs.Values.{Value, Values, value_at}
-use Rattle.hpr_syntax.specs.Value.{Fault, Answer, is_true}
+use Rattle.hpr_syntax.specs.declared.value.Value.{Value}
+use Rattle.hpr_syntax.specs.Values.{Values, value_at}
+use Rattle.hpr_syntax.specs.Value.{Fault}
 
 pub data After : Type 0 where
   goes : (state : Values) → (left : ℕ) → After
   stops : (tag : Tag) → (fault : Fault) → (left : ℕ) → After
   spent : After
 
-abbrev pub step : Tag → Answer → ℕ → (Value → ℕ → After) → After
+abbrev pub step : Tag → Given → ℕ → (Value → ℕ → After) → After
 step t a zero go = spent
 step t (Ok v) (suc left) go = go v left
 step t (Err f) (suc left) go = stops t f left
@@ -38,7 +39,7 @@ then_go spent go = spent
 abbrev pub turns : ℕ → Tag → Expr → (Values → ℕ → After) → Values → ℕ → After
 turns zero t e body s left = spent
 turns (suc n) t e body s left =
-    step t (answer_of (While e) s) left (λ v left'. if is_true v then then_go (body s left') (turns n t e body) else goes s left')
+    step t (answer_of (While e) s) left (λ v left'. if holds v then then_go (body s left') (turns n t e body) else goes s left')
 
 -- A loop makes no more turns than it has steps, and one to see that none is left.
 abbrev pub run_body : Body → Values → ℕ → After
@@ -46,7 +47,7 @@ run_body done s left = goes s left
 run_body (action t d rest) s left =
     step t (answer_of (content_by d) s) left (λ v left'. run_body rest (next_state (content_by d) v s) left')
 run_body (branch t e a b rest) s left =
-    step t (answer_of (If e) s) left (λ v left'. then_go (if is_true v then run_body a s left' else run_body b s left') (run_body rest))
+    step t (answer_of (If e) s) left (λ v left'. then_go (if holds v then run_body a s left' else run_body b s left') (run_body rest))
 run_body (loop t e b rest) s left = then_go (turns (left + 1) t e (run_body b) s left) (run_body rest)
 
 -- names and their values

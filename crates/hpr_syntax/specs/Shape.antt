@@ -4,21 +4,27 @@
 -- first_repeated_tag body     == the first part's tag, in preorder, that stands earlier
 -- first_unissued issued body  == the first part's tag whose serial is 0 or above its author's issued number
 -- first_deep n body           == the first part's tag that stands more than n levels deep
--- first_large body            == the first part's tag whose expression has more than MAX_OPERATORS operators
+-- first_where test body       == the first part's tag, in preorder, that says something of which the test is true
+-- is_large e                  == the expression has more than MAX_OPERATORS operators
+-- names_stream e              == the expression names the stream
+-- is_wrong c                  == the part has a wrong name: its expression names the stream, or it assigns it, or writes to another name
 -- left_after most k           == what is left of most after k are taken, if there are as many
 -- shape tree                  == the first refusal, in the order of the tests, or none
--- IsProgram tree              == its names are names, its numbers in range, and the tree has no refusal
-use Rattle.std.specs.Prelude.{◌≡◌, ℕ, Bool, zero, suc, ◌-◌, ◌==◌, ◌||◌, nat_lt, nat_le, if◌then◌else◌, List, [], ◌∷◌, Option, Some, None, option_map}
+-- IsProgram tree              == its names are variables, its numbers in range, and the tree has no refusal
+use Rattle.std.specs.Prelude.{◌≡◌, ℕ, Bool, false, not, zero, suc, ◌-◌, ◌==◌, ◌||◌, nat_lt, nat_le, if◌then◌else◌, List, [], ◌∷◌, Option, Some, None, option_map}
 use Rattle.std.specs.Option.{option_or}
 use Rattle.std.specs.List.{list_any}
 use Rattle.std.specs.Str.{bytes_eq}
 use Rattle.hpr_terms.specs.declared.limits.TheConstants.{MAX_LEVELS, MAX_OPERATORS, MAX_PARTS}
 use Rattle.hpr_terms.specs.declared.tag.Tag.{Tag}
 use Rattle.hpr_terms.specs.declared.expr.Expr.{Expr}
-use Rattle.hpr_terms.specs.Term.{operators}
+use Rattle.hpr_terms.specs.Names.{is_stream}
+use Rattle.hpr_terms.specs.Term.{Term, num, var, prefix, infix', operators}
 use Rattle.hpr_terms.specs.TermOf.{term_of}
 use Rattle.hpr_syntax.specs.declared.shape.ShapeError.{ShapeError}
-use Rattle.hpr_syntax.specs.declared.shape.ShapeError.TheVariants.{DuplicateTag, Unissued, TooDeep, ExprTooLarge, TooManyParts, DuplicateFinal}
+use Rattle.hpr_syntax.specs.declared.shape.ShapeError.TheVariants.{DuplicateTag, Unissued, TooDeep, ExprTooLarge, WrongName, TooManyParts, DuplicateFinal}
+use Rattle.hpr_syntax.specs.declared.rows.Content.{Content}
+use Rattle.hpr_syntax.specs.declared.rows.Content.TheVariants.{Assign, If, While, Write}
 use Rattle.hpr_syntax.specs.Body.{Body, done, action, branch, loop, part_count}
 use Rattle.hpr_syntax.specs.Rows.{content_by, expr_in}
 use Rattle.hpr_syntax.specs.Parts.{same_tag, tags_of}
@@ -55,11 +61,27 @@ is_large e = nat_lt MAX_OPERATORS (operators (term_of e))
 abbrev pub left_after : ℕ → ℕ → Option ℕ
 left_after most k = if nat_le k most then Some (most - k) else None
 
-abbrev pub first_large : Body → Option Tag
-first_large done = None
-first_large (action t d rest) = if is_large (expr_in (content_by d)) then Some t else first_large rest
-first_large (branch t e a b rest) = if is_large e then Some t else option_or (first_large a) (option_or (first_large b) (first_large rest))
-first_large (loop t e b rest) = if is_large e then Some t else option_or (first_large b) (first_large rest)
+abbrev pub names_stream : Term → Bool
+names_stream (num n) = false
+names_stream (var x) = is_stream x
+names_stream (prefix op a) = names_stream a
+names_stream (infix' op a b) = names_stream a || names_stream b
+
+abbrev pub says_large : Content → Bool
+says_large c = is_large (expr_in c)
+
+abbrev pub is_wrong : Content → Bool
+is_wrong (Assign x e) = is_stream x || names_stream (term_of e)
+is_wrong (If e) = names_stream (term_of e)
+is_wrong (While e) = names_stream (term_of e)
+is_wrong (Write x e) = not (is_stream x) || names_stream (term_of e)
+
+abbrev pub first_where : (Content → Bool) → Body → Option Tag
+first_where test done = None
+first_where test (action t d rest) = if test (content_by d) then Some t else first_where test rest
+first_where test (branch t e a b rest) =
+    if test (If e) then Some t else option_or (first_where test a) (option_or (first_where test b) (first_where test rest))
+first_where test (loop t e b rest) = if test (While e) then Some t else option_or (first_where test b) (first_where test rest)
 
 abbrev pub too_many : ℕ → Option ShapeError
 too_many n = if nat_lt MAX_PARTS n then Some (TooManyParts n) else None
@@ -69,9 +91,10 @@ shape t =
     option_or (option_map DuplicateTag (first_repeated_tag t.body))
     (option_or (option_map Unissued (first_unissued t.issued (tags_of t.body [])))
     (option_or (option_map TooDeep (first_deep MAX_LEVELS t.body))
-    (option_or (option_map ExprTooLarge (first_large t.body))
+    (option_or (option_map ExprTooLarge (first_where says_large t.body))
+    (option_or (option_map WrongName (first_where is_wrong t.body))
     (option_or (too_many (part_count t.body))
-    (option_map DuplicateFinal (first_repeated bytes_eq [] t.finals))))))
+    (option_map DuplicateFinal (first_repeated bytes_eq [] t.finals)))))))
 
 pub record IsProgram (t : Tree) : Type 0 where
   pub proper : IsProper t

@@ -1,11 +1,12 @@
 -- What an expression is worth in a state.
 --
--- Fault              == overflow, where a result leaves the range of i64; zero_divide, where a right operand of `/` or `%` is 0
--- Answer             == a value or a fault
+-- Fault              == overflow, where a result leaves the range of i64; zero_divide, where a right operand of `/` or `%` is 0; output_full,
+--                       where as many numbers were written as may be
+-- Answer             == a number or a fault
 -- exact z            == the number z where it lies within i64, else overflow
--- is_true z          == a value is true where it is not 0
--- apply_unary op x   == what the prefix makes of a value
--- apply_binary op x y == what the sign makes of two values
+-- is_true z          == a number is true where it is not 0
+-- apply_unary op x   == what the prefix makes of a number
+-- apply_binary op x y == what the sign makes of two numbers
 -- term_value e s     == the value of a term: both operands always, the left one first
 -- value e s          == the value of an expression
 use Rattle.std.specs.Prelude.{◌^◌, ℤ, pos, negsuc, ◌+ℤ◌, ◌-ℤ◌, ◌*ℤ◌, neg_ℤ, int_div, int_rem, int_lt, int_le, Bool, not, ◌&&◌, ◌||◌, if◌then◌else◌, nat_lt, Result, Ok, Err}
@@ -17,14 +18,15 @@ use Rattle.hpr_terms.specs.declared.expr.Unary.TheVariants.{Neg, Not}
 use Rattle.hpr_terms.specs.declared.expr.Binary.{Binary}
 use Rattle.hpr_terms.specs.declared.expr.Binary.TheVariants.{Or, And, Equal, Differ, Less, LessEqual, Greater, GreaterEqual, Add, Sub, Mul, Div, Rem}
 use Rattle.hpr_terms.specs.declared.expr.Expr.{Expr}
-use Rattle.hpr_syntax.specs.Values.{Value, Values, value_at}
+use Rattle.hpr_syntax.specs.Values.{Values, number_in, value_at}
 
 pub data Fault : Type 0 where
   overflow : Fault
   zero_divide : Fault
+  output_full : Fault
 
 abbrev pub Answer : Type 0
-Answer = Result Value Fault
+Answer = Result ℤ Fault
 
 -- whether a number lies within i64
 abbrev pub in_range : ℤ → Bool
@@ -37,18 +39,18 @@ exact z = if in_range z then Ok z else Err overflow
 abbrev pub truth : Bool → Answer
 truth b = Ok (if b then pos 1 else pos 0)
 
-abbrev pub is_true : Value → Bool
+abbrev pub is_true : ℤ → Bool
 is_true z = not (int_eq z (pos 0))
 
-abbrev pub apply_unary : Unary → Value → Answer
+abbrev pub apply_unary : Unary → ℤ → Answer
 apply_unary Neg x = exact (neg_ℤ x)
 apply_unary Not x = truth (not (is_true x))
 
 -- z, a quotient or a remainder of x and y, where y is not 0 and the quotient is in range
-abbrev pub divided : Value → Value → Value → Answer
+abbrev pub divided : ℤ → ℤ → ℤ → Answer
 divided x y z = if is_true y then (if in_range (int_div x y) then Ok z else Err overflow) else Err zero_divide
 
-abbrev pub apply_binary : Binary → Value → Value → Answer
+abbrev pub apply_binary : Binary → ℤ → ℤ → Answer
 apply_binary Or x y = truth (is_true x || is_true y)
 apply_binary And x y = truth (is_true x && is_true y)
 apply_binary Equal x y = truth (int_eq x y)
@@ -64,13 +66,13 @@ apply_binary Div x y = divided x y (int_div x y)
 apply_binary Rem x y = divided x y (int_rem x y)
 
 -- goes on with a number, or stays at a fault
-abbrev pub with_value : Answer → (Value → Answer) → Answer
+abbrev pub with_value : Answer → (ℤ → Answer) → Answer
 with_value (Ok v) go = go v
 with_value (Err f) go = Err f
 
 abbrev pub term_value : Term → Values → Answer
 term_value (num n) s = Ok (pos n)
-term_value (var x) s = Ok (value_at s x)
+term_value (var x) s = Ok (number_in (value_at s x))
 term_value (prefix op a) s = with_value (term_value a s) (apply_unary op)
 term_value (infix' op a b) s = with_value (term_value a s) (λ x. with_value (term_value b s) (apply_binary op x))
 

@@ -1,22 +1,35 @@
 -- States.
 --
--- Value        == what a variable is worth: a whole number
+-- number_in v  == the number that a value is; 0 of a list
+-- written_in v == the numbers that were written; none of a number
+-- blank x      == what the name x is worth where nothing was put under it: 0, and of the stream the empty list
 -- Values       == a state: a finite map from names to values
--- value_at s x == the value of the name x in the state s, 0 where s doesn't list it
+-- value_at s x == the value of the name x in the state s
 -- put s x v    == the state s, where the name x has the value v now
-use Rattle.std.specs.Prelude.{ℕ, ℤ, pos, List, unwrap_or}
+use Rattle.std.specs.Prelude.{ℕ, ℤ, pos, List, [], if◌then◌else◌, unwrap_or}
 use Rattle.std.specs.Ordering.{nat_cmp}
 use Rattle.std.specs.Cmp.Lexicographic.{slice_cmp}
 use Rattle.std.specs.FinMap.{FinMap, get, insert}
+use Rattle.hpr_terms.specs.Names.{is_stream}
+use Rattle.hpr_syntax.specs.declared.value.Value.{Value}
+use Rattle.hpr_syntax.specs.declared.value.Value.TheVariants as value
 
-abbrev pub Value : Type 0
-Value = ℤ
+abbrev pub number_in : Value → ℤ
+number_in (value.Number z) = z
+number_in (value.List zs) = pos 0
+
+abbrev pub written_in : Value → List ℤ
+written_in (value.Number z) = []
+written_in (value.List zs) = zs
+
+abbrev pub blank : List ℕ → Value
+blank x = if is_stream x then value.List [] else value.Number (pos 0)
 
 abbrev pub Values : Type 0
 Values = FinMap {K = List ℕ} (slice_cmp nat_cmp) Value
 
 abbrev pub value_at : Values → List ℕ → Value
-value_at s x = unwrap_or (get s x) (pos 0)
+value_at s x = unwrap_or (get s x) (blank x)
 
 abbrev pub put : Values → List ℕ → Value → Values
 put s x v = insert s x v

@@ -1,9 +1,10 @@
 //! What a block, an expression, issued numbers and names that are at hand are known to be.
 //!
-//! A contract sees a name as its bytes and a number as a number. That the bytes are a name, and the
-//! number in range, is known where a name or a number is read: so these walks read them, and do no more.
+//! A contract sees a name as its bytes and a number as a number. That the bytes are a name or
+//! the stream's, and the number in range, is known where a name or a number is read: so these walks read
+//! them, and do no more.
 ghost use Rattle.std.specs.Prelude.{All};
-ghost use Rattle.hpr_terms.specs.Names.{IsName};
+ghost use Rattle.hpr_terms.specs.Names.{IsVariable};
 ghost use Rattle.hpr_terms.specs.TermOf.{term_of};
 ghost use Rattle.hpr_syntax.specs.Body.{done};
 ghost use Rattle.hpr_syntax.specs.BodyOf.{before};
@@ -52,6 +53,10 @@ pub fn read_content(content: &Content)
         }
         Content::If(test) => read_expr(test),
         Content::While(test) => read_expr(test),
+        Content::Write(name, value) => {
+            let _text = name.text();
+            read_expr(value);
+        }
     }
 }
 
@@ -85,6 +90,10 @@ fn read_stmt(stmt: &Stmt)
             read_expr(test);
             read_block(body);
         }
+        Stmt::Write(_, name, value) => {
+            let _text = name.text();
+            read_expr(value);
+        }
     }
 }
 
@@ -112,7 +121,7 @@ pub fn read_issued(issued: &Issued)
 
 /// Reads names.
 pub fn read_names(names: &[Name])
-    ensures { All IsName names.now }
+    ensures { All IsVariable names.now }
 {
     for name in names {
         let _text = name.text();

@@ -4,9 +4,11 @@ ghost use Rattle.std.specs.Option.{option_copied};
 ghost use Rattle.hpr_syntax.specs.Body.{done};
 ghost use Rattle.hpr_syntax.specs.BodyOf.{before};
 ghost use Rattle.hpr_syntax.specs.Parts.{tag_of};
+ghost use Rattle.hpr_syntax.specs.Contents.{UsesIn, used_names};
 ghost use Rattle.hpr_syntax.specs.Rows.{rows_of, row_of, content_of, made, structure_of, is_simple, same_structure, assigned, expr_in};
 
 use crate::tree::{Block, Stmt};
+use hpr_terms::names::names_in;
 use hpr_terms::{Expr, Name, NoMemory, Tag};
 use std::alloc::Global;
 
@@ -19,6 +21,8 @@ pub enum Content {
     If(Expr),
     /// The test of a loop.
     While(Expr),
+    /// The number goes behind those that were written to the stream, which the name is.
+    Write(Name, Expr),
 }
 
 // By hand, so that each way out of a function that holds a content is one call, proved here.
@@ -28,6 +32,7 @@ impl Drop for Content {
             Content::Assign(_, _) => {}
             Content::If(_) => {}
             Content::While(_) => {}
+            Content::Write(_, _) => {}
         }
     }
 }
@@ -41,6 +46,7 @@ impl Content {
             Content::Assign(name, value) => assigning(alloc, name, value),
             Content::If(test) => Ok(Content::If(test.copy(alloc)?)),
             Content::While(test) => Ok(Content::While(test.copy(alloc)?)),
+            Content::Write(name, value) => writing(alloc, name, value),
         }
     }
 
@@ -52,10 +58,11 @@ impl Content {
             Content::Assign(_, _) => Structure::Simple,
             Content::If(_) => Structure::Conditional,
             Content::While(_) => Structure::Loop,
+            Content::Write(_, _) => Structure::Simple,
         }
     }
 
-    /// The name that a part that says this defines: none for a predicate.
+    /// The name that a part that says this defines: an assignment its variable, a write the stream, a predicate none.
     pub fn assigned(&self) -> Option<&Name>
         ensures { option_copied result ≡ assigned self.now }
     {
@@ -63,6 +70,7 @@ impl Content {
             Content::Assign(name, _) => Some(name),
             Content::If(_) => None,
             Content::While(_) => None,
+            Content::Write(name, _) => Some(name),
         }
     }
 
@@ -74,7 +82,32 @@ impl Content {
             Content::Assign(_, value) => value,
             Content::If(test) => test,
             Content::While(test) => test,
+            Content::Write(_, value) => value,
         }
+    }
+
+    /// Whether a part that says this uses the name: in its expression, or as the stream that it writes.
+    pub fn uses(&self, name: &Name) -> bool
+        ensures { IsTrue result ↔ UsesIn self.now name.now }
+    {
+        match self {
+            Content::Assign(_, value) => value.uses(name),
+            Content::If(test) => test.uses(name),
+            Content::While(test) => test.uses(name),
+            Content::Write(stream, value) => value.uses(name) || name.is_same(stream),
+        }
+    }
+
+    /// The names that a part that says this uses: those of its expression from left to right, each as often
+    /// as it stands there, and then the stream that it writes.
+    pub fn used_names(&self, alloc: Global) -> Result<Vec<Name>, NoMemory>
+        ensures { IfOk result (λ names. names.items ≡ used_names self.now) }
+    {
+        let mut names = names_in(alloc, self.expr())?;
+        if let Content::Write(stream, _) = self {
+            names.push(stream.copy(alloc)?)?;
+        }
+        Ok(names)
     }
 
     /// The part that says this, with this tag and these blocks, as far as it has blocks.
@@ -85,6 +118,7 @@ impl Content {
             Content::Assign(name, value) => Stmt::Assign(tag, name, value),
             Content::If(test) => Stmt::If(tag, test, first, second),
             Content::While(test) => Stmt::While(tag, test, first),
+            Content::Write(name, value) => Stmt::Write(tag, name, value),
         }
     }
 }
@@ -96,6 +130,15 @@ fn assigning(alloc: Global, name: &Name, value: &Expr) -> Result<Content, NoMemo
     let name = name.copy(alloc)?;
     let value = value.copy(alloc)?;
     Ok(Content::Assign(name, value))
+}
+
+/// What a write of a copy of the value to the stream of this name says.
+fn writing(alloc: Global, name: &Name, value: &Expr) -> Result<Content, NoMemory>
+    ensures { IfOk result (λ c. c ≡ Content.Write name.now value.now) }
+{
+    let name = name.copy(alloc)?;
+    let value = value.copy(alloc)?;
+    Ok(Content::Write(name, value))
 }
 
 /// Which blocks a part has.
@@ -165,6 +208,7 @@ pub fn content_of(alloc: Global, stmt: &Stmt) -> Result<Content, NoMemory>
         Stmt::Assign(_, name, value) => assigning(alloc, name, value),
         Stmt::If(_, test, _, _) => Ok(Content::If(test.copy(alloc)?)),
         Stmt::While(_, test, _) => Ok(Content::While(test.copy(alloc)?)),
+        Stmt::Write(_, name, value) => writing(alloc, name, value),
     }
 }
 
@@ -176,6 +220,7 @@ pub fn structure_of(stmt: &Stmt) -> Structure
         Stmt::Assign(_, _, _) => Structure::Simple,
         Stmt::If(_, _, _, _) => Structure::Conditional,
         Stmt::While(_, _, _) => Structure::Loop,
+        Stmt::Write(_, _, _) => Structure::Simple,
     }
 }
 
@@ -189,6 +234,8 @@ pub fn has_content(stmt: &Stmt, content: &Content) -> bool
         ) && value.is_same(other),
         (Stmt::If(_, test, _, _), Content::If(other)) => test.is_same(other),
         (Stmt::While(_, test, _), Content::While(other)) => test.is_same(other),
+        (Stmt::Write(_, name, value), Content::Write(other_name, other)) => name.is_same(other_name)
+            && value.is_same(other),
         _ => false,
     }
 }
@@ -203,6 +250,8 @@ pub fn same_content(a: &Content, b: &Content) -> bool
         ) && value.is_same(other),
         (Content::If(test), Content::If(other)) => test.is_same(other),
         (Content::While(test), Content::While(other)) => test.is_same(other),
+        (Content::Write(name, value), Content::Write(other_name, other)) => name.is_same(other_name)
+            && value.is_same(other),
         _ => false,
     }
 }

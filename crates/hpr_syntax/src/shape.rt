@@ -7,10 +7,12 @@ ghost use Rattle.hpr_terms.specs.TermOf.{term_of};
 ghost use Rattle.hpr_syntax.specs.Body.{done};
 ghost use Rattle.hpr_syntax.specs.BodyOf.{before};
 ghost use Rattle.hpr_syntax.specs.Parts.{tags_of, same_tag};
-ghost use Rattle.hpr_syntax.specs.Shape.{first_repeated, first_unissued, first_deep, first_large, is_large, left_after, shape};
-ghost use Rattle.hpr_syntax.specs.Private.Refusals.{end_refusal, body_refusal, tag_refusal};
+ghost use Rattle.hpr_syntax.specs.Shape.{first_repeated, first_unissued, first_deep, first_where, is_large, names_stream, is_wrong, left_after, shape};
+ghost use Rattle.hpr_syntax.specs.Rows.{content_of};
+ghost use Rattle.hpr_syntax.specs.Private.Refusals.{test_of, end_refusal, part_refusal, body_refusal, tag_refusal};
 
 use crate::issued::Issued;
+use crate::rows::Content;
 use crate::tree::{Block, Stmt, expr_of};
 use hpr_terms::limits::{MAX_LEVELS, MAX_OPERATORS, MAX_PARTS};
 use hpr_terms::{Expr, Name, NoMemory, Tag};
@@ -28,6 +30,9 @@ pub enum ShapeError {
     TooDeep(Tag),
     /// The first part whose expression has more than [`MAX_OPERATORS`] operators.
     ExprTooLarge(Tag),
+    /// The first part with a wrong name: its expression names the stream, or it assigns it, or it writes to
+    /// another name.
+    WrongName(Tag),
     /// There are more than [`MAX_PARTS`] parts: so many.
     TooManyParts(usize),
     /// The first final name that stands earlier.
@@ -138,32 +143,90 @@ fn deep_in(stmt: &Stmt, levels: usize) -> Option<Tag>
     }
 }
 
-/// The first part whose expression is too large.
-#[cycle(large)]
-fn first_large(block: &Block) -> Option<Tag>
-    ensures { result ≡ first_large block.now }
+/// What no part of a program may say, whatever stands around it.
+#[derive(Clone, Copy)]
+enum PartTest {
+    /// An expression with more than [`MAX_OPERATORS`] operators.
+    Large,
+    /// A wrong name.
+    Wrong,
+}
+
+impl PartTest {
+    /// Whether the part says it.
+    fn holds(self, stmt: &Stmt) -> bool
+        ensures { result ≡ test_of self (content_of stmt.now) }
+    {
+        match self {
+            PartTest::Large => is_large(expr_of(stmt)),
+            PartTest::Wrong => is_wrong(stmt),
+        }
+    }
+}
+
+/// Whether the part has a wrong name.
+fn is_wrong(stmt: &Stmt) -> bool
+    ensures { result ≡ is_wrong (content_of stmt.now) }
+{
+    match stmt {
+        Stmt::Assign(_, name, value) => name.is_stream() || names_stream(value),
+        Stmt::If(_, test, _, _) => names_stream(test),
+        Stmt::While(_, test, _) => names_stream(test),
+        Stmt::Write(_, name, value) => !name.is_stream() || names_stream(value),
+    }
+}
+
+/// Whether a part that says this has a wrong name: its expression names the stream, or it assigns it, or it
+/// writes to another name.
+pub fn has_wrong_name(content: &Content) -> bool
+    ensures { result ≡ is_wrong content.now }
+{
+    match content {
+        Content::Assign(name, value) => name.is_stream() || names_stream(value),
+        Content::If(test) => names_stream(test),
+        Content::While(test) => names_stream(test),
+        Content::Write(name, value) => !name.is_stream() || names_stream(value),
+    }
+}
+
+/// Whether an expression names the stream.
+fn names_stream(expr: &Expr) -> bool
+    ensures { result ≡ names_stream (term_of expr.now) }
+{
+    match expr {
+        Expr::Num(_) => false,
+        Expr::Var(name) => name.is_stream(),
+        Expr::Prefix(_, operand) => names_stream(operand.expr()),
+        Expr::Infix(_, left, right) => names_stream(left.expr()) || names_stream(right.expr()),
+    }
+}
+
+/// The first part of which the test holds.
+#[cycle(tested)]
+fn first_where(block: &Block, test: PartTest) -> Option<Tag>
+    ensures { result ≡ first_where (test_of test) block.now }
 {
     for stmt in &block.stmts {
-        if let Some(tag) = large_in(stmt) {
+        if let Some(tag) = tested_in(stmt, test) {
             return Some(tag);
         }
     }
     None
 }
 
-#[cycle(large)]
-fn large_in(stmt: &Stmt) -> Option<Tag>
-    ensures { result ≡ first_large (before stmt.now done) }
+#[cycle(tested)]
+fn tested_in(stmt: &Stmt, test: PartTest) -> Option<Tag>
+    ensures { result ≡ first_where (test_of test) (before stmt.now done) }
 {
-    if is_large(expr_of(stmt)) {
+    if test.holds(stmt) {
         return Some(stmt.tag());
     }
     match stmt {
-        Stmt::If(_, _, yes, no) => match first_large(yes) {
+        Stmt::If(_, _, yes, no) => match first_where(yes, test) {
             Some(tag) => Some(tag),
-            None => first_large(no),
+            None => first_where(no, test),
         },
-        Stmt::While(_, _, body) => first_large(body),
+        Stmt::While(_, _, body) => first_where(body, test),
         _ => None,
     }
 }
@@ -229,6 +292,24 @@ fn refusal_of_ends(
     }
 }
 
+/// Why what the parts of this body say, their number and these names of `end` make no program, if they don't.
+fn refusal_of_parts(
+    alloc: Global,
+    count: usize,
+    body: &Block,
+    finals: &[Name],
+) -> Result<Option<ShapeError>, NoMemory>
+    ensures { IfOk result (λ e. e ≡ part_refusal count body.now finals.now) }
+{
+    if let Some(tag) = first_where(body, PartTest::Large) {
+        return Ok(Some(ShapeError::ExprTooLarge(tag)));
+    }
+    if let Some(tag) = first_where(body, PartTest::Wrong) {
+        return Ok(Some(ShapeError::WrongName(tag)));
+    }
+    refusal_of_ends(alloc, count, finals)
+}
+
 /// Why this body, with so many parts, and these names of `end` make no program, if they don't.
 fn refusal_of_body(
     alloc: Global,
@@ -241,10 +322,7 @@ fn refusal_of_body(
     if let Some(tag) = first_deep(body, MAX_LEVELS) {
         return Ok(Some(ShapeError::TooDeep(tag)));
     }
-    if let Some(tag) = first_large(body) {
-        return Ok(Some(ShapeError::ExprTooLarge(tag)));
-    }
-    refusal_of_ends(alloc, count, finals)
+    refusal_of_parts(alloc, count, body, finals)
 }
 
 /// Why these make no program, where the tags are the body's, if they don't.

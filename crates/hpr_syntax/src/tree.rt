@@ -4,7 +4,8 @@
 //! them, but the stack that it takes is outside what is proved.
 ghost use Rattle.std.specs.Prelude.{◌≡◌, ◌↔◌, ℕ, ◌≤◌, ◌+◌, ◌^◌, ◌<◌, IfOk, IsTrue, length, OnOk, ◌++◌};
 ghost use Rattle.std.specs.Option.{option_copied};
-ghost use Rattle.hpr_terms.specs.Uses.{Uses};
+ghost use Rattle.hpr_syntax.specs.Contents.{UsesIn};
+ghost use Rattle.hpr_syntax.specs.Rows.{content_of};
 ghost use Rattle.std.proofs.Common.{rules, ◌==◌};
 ghost use Rattle.std.specs.Cmp.Rules.{comparing};
 ghost use Rattle.std.specs.Cmp.Lexicographic.{pointwise, slice_cmp};
@@ -37,6 +38,8 @@ pub enum Stmt {
     If(Tag, Expr, Block, Block),
     /// The block again and again while the test holds.
     While(Tag, Expr, Block),
+    /// The number goes behind those that were written to the stream, which the name is.
+    Write(Tag, Name, Expr),
 }
 
 // By hand, so that each way out of a function that holds a block is one call, proved here.
@@ -55,6 +58,7 @@ impl Drop for Stmt {
             Stmt::Assign(_, _, _) => {}
             Stmt::If(_, _, _, _) => {}
             Stmt::While(_, _, _) => {}
+            Stmt::Write(_, _, _) => {}
         }
     }
 }
@@ -164,6 +168,7 @@ impl Stmt {
             Stmt::Assign(tag, _, _) => *tag,
             Stmt::If(tag, _, _, _) => *tag,
             Stmt::While(tag, _, _) => *tag,
+            Stmt::Write(tag, _, _) => *tag,
         }
     }
 
@@ -201,6 +206,7 @@ impl Stmt {
                 let body = body.copy(alloc)?;
                 repetition(alloc, *tag, test, body)
             }
+            Stmt::Write(tag, name, value) => writing(alloc, *tag, name, value),
         }
     }
 }
@@ -212,6 +218,15 @@ fn assignment(alloc: Global, tag: Tag, name: &Name, value: &Expr) -> Result<Stmt
     let name = name.copy(alloc)?;
     let value = value.copy(alloc)?;
     Ok(Stmt::Assign(tag, name, value))
+}
+
+/// The write with copies of the name and the value.
+fn writing(alloc: Global, tag: Tag, name: &Name, value: &Expr) -> Result<Stmt, NoMemory>
+    ensures { IfOk result (λ s. s ≡ Stmt.Write tag name.now value.now) }
+{
+    let name = name.copy(alloc)?;
+    let value = value.copy(alloc)?;
+    Ok(Stmt::Write(tag, name, value))
 }
 
 /// The conditional of these blocks, with a copy of the test.
@@ -236,7 +251,7 @@ fn repetition(alloc: Global, tag: Tag, test: &Expr, body: Block) -> Result<Stmt,
     Ok(Stmt::While(tag, test, body))
 }
 
-/// The expression of a part: the value that it assigns, or what it tests.
+/// The expression of a part: the value that it assigns or writes, or what it tests.
 pub fn expr_of(stmt: &Stmt) -> &Expr
     ensures { result.now ≡ expr_of stmt.now }
 {
@@ -244,10 +259,11 @@ pub fn expr_of(stmt: &Stmt) -> &Expr
         Stmt::Assign(_, _, value) => value,
         Stmt::If(_, test, _, _) => test,
         Stmt::While(_, test, _) => test,
+        Stmt::Write(_, _, value) => value,
     }
 }
 
-/// The name that a part defines: none for a predicate.
+/// The name that a part defines: an assignment its variable, a write the stream, a predicate none.
 pub fn defines(stmt: &Stmt) -> Option<&Name>
     ensures { option_copied result ≡ defines stmt.now }
 {
@@ -255,14 +271,20 @@ pub fn defines(stmt: &Stmt) -> Option<&Name>
         Stmt::Assign(_, name, _) => Some(name),
         Stmt::If(_, _, _, _) => None,
         Stmt::While(_, _, _) => None,
+        Stmt::Write(_, name, _) => Some(name),
     }
 }
 
-/// Whether a part's expression uses this name.
+/// Whether a part uses this name: in its expression, or as the stream that it writes.
 pub fn uses(stmt: &Stmt, name: &Name) -> bool
-    ensures { IsTrue result ↔ Uses (expr_of stmt.now) name.now }
+    ensures { IsTrue result ↔ UsesIn (content_of stmt.now) name.now }
 {
-    expr_of(stmt).uses(name)
+    match stmt {
+        Stmt::Assign(_, _, value) => value.uses(name),
+        Stmt::If(_, test, _, _) => test.uses(name),
+        Stmt::While(_, test, _) => test.uses(name),
+        Stmt::Write(_, stream, value) => value.uses(name) || name.is_same(stream),
+    }
 }
 
 impl PartialEq for Block {

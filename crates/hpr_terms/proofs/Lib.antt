@@ -1,4 +1,5 @@
 pub mod Facts
+pub mod Plain
 pub mod Compare
 pub mod Equal
 pub mod InOrder

@@ -1,12 +1,17 @@
--- Names.
+-- Names, and what may have a value.
 --
 -- is_name_byte b == b is an ASCII letter, a digit or `_`
 -- is_name_like w == w has 1 to MAX_NAME such bytes and doesn't begin with a digit: a name, or a keyword
 -- is_name w      == w is like a name, and no keyword
 -- IsName w       == w is a name
-use Rattle.std.specs.Prelude.{ℕ, Bool, false, not, ◌==◌, ◌||◌, ◌&&◌, nat_le, List, [], ◌∷◌, length, is_none, IsTrue}
+-- stream         == the name of the stream that a program writes: the keyword `out`, so no name is the stream's
+-- is_stream w    == w is that name
+-- is_variable w  == w is a name, or the stream's: what may have a value
+-- IsVariable w   == w is a variable
+use Rattle.std.specs.Prelude.{ℕ, Bool, false, not, ◌==◌, ◌||◌, ◌&&◌, nat_le, List, [], ◌∷◌, length, is_none, codes, IsTrue}
 use Rattle.std.specs.Char.{is_ascii_digit, is_ascii_alphanumeric}
 use Rattle.std.specs.List.{list_all}
+use Rattle.std.specs.Str.{bytes_eq}
 use Rattle.hpr_terms.specs.declared.limits.TheConstants.{MAX_NAME}
 use Rattle.hpr_terms.specs.Keywords.{keyword_of}
 
@@ -25,3 +30,15 @@ is_name w = is_name_like w && is_none (keyword_of w)
 
 abbrev pub IsName : List ℕ → Type 0
 IsName w = IsTrue (is_name w)
+
+abbrev pub stream : List ℕ
+stream = codes "out"
+
+abbrev pub is_stream : List ℕ → Bool
+is_stream w = bytes_eq w stream
+
+unfoldable pub is_variable : List ℕ → Bool
+is_variable w = is_name w || is_stream w
+
+abbrev pub IsVariable : List ℕ → Type 0
+IsVariable w = IsTrue (is_variable w)

@@ -31,5 +31,8 @@ pub const DEFAULT_TRIES: u64 = 10_000;
 /// How many steps a run has at most, whatever is asked for.
 pub const MAX_STEPS: u32 = 1_000_000_000;
 
+/// How many numbers a run writes at most.
+pub const MAX_WRITTEN: usize = 1_000_000;
+
 /// How many steps a run has where nothing is said.
 pub const DEFAULT_STEPS: u64 = 1_000_000;

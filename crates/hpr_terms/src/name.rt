@@ -6,7 +6,7 @@ ghost use Rattle.std.specs.List.{list_all};
 ghost use Rattle.std.specs.Cmp.Rules.{comparing};
 ghost use Rattle.std.specs.Cmp.Lexicographic.{slice_cmp, pointwise};
 ghost use Rattle.std.specs.Ordering.{nat_cmp, as_partial_cmp};
-ghost use Rattle.hpr_terms.specs.Names.{IsName, is_name, is_name_like, is_name_byte, begins_with_digit};
+ghost use Rattle.hpr_terms.specs.Names.{IsName, IsVariable, stream, is_stream, is_name, is_name_like, is_name_byte, begins_with_digit};
 
 use crate::keyword::Keyword;
 use crate::limits::MAX_NAME;
@@ -48,7 +48,8 @@ impl<T: Drop> From<AllocFailed<T>> for NameError {
     }
 }
 
-/// A name: 1 to 64 ASCII letters, digits and `_`, not beginning with a digit, and no keyword.
+/// What may have a value: a plain name, which is 1 to 64 ASCII letters, digits and `_`, not beginning with a
+/// digit, and no keyword; or the stream `out`, which a program writes.
 ///
 /// A contract sees a name as its bytes. Names compare by their bytes.
 pub struct Name {
@@ -64,13 +65,13 @@ impl Drop for Name {
 
 impl Model for Name {
     ghost use Rattle.std.specs.Prelude.{List, ℕ, string_bytes};
-    ghost use Rattle.hpr_terms.specs.Names.{IsName};
+    ghost use Rattle.hpr_terms.specs.Names.{IsVariable};
 
     ghost Value = { List ℕ };
 
     ghost view = { λ n. string_bytes n.text.value };
 
-    ghost invariant = { λ n. IsName (string_bytes n.text.value) };
+    ghost invariant = { λ n. IsVariable (string_bytes n.text.value) };
 }
 
 /// Whether the byte is a letter, a digit or `_`.
@@ -117,7 +118,8 @@ pub fn is_name(text: &[u8]) -> bool
 }
 
 impl Name {
-    /// The name with this text. `NotAName` comes exactly where the text is no name.
+    /// The plain name with this text. `NotAName` comes exactly where the text is no plain name.
+    #[tactic(auto, using(crate::proofs::Plain::name_is_variable))]
     pub fn new(alloc: Global, text: &str) -> Result<Name, NameError>
         ensures ok { IfOk result (λ name. name ≡ text.now) }
         ensures not_a_name { IsErrOf result NameError.NotAName ↔ (¬ IsName text.now) }
@@ -132,12 +134,30 @@ impl Name {
         })
     }
 
+    /// The name of the stream, `out`. The refusal is want of memory.
+    #[tactic(auto, using(crate::proofs::Plain::stream_is_variable))]
+    pub fn stream(alloc: Global) -> Result<Name, NoMemory>
+        ensures { IfOk result (λ name. name ≡ stream) }
+    {
+        let text = String::from_str(alloc, "out")?;
+        Ok(Name {
+            text: Rc::new(alloc, text)?,
+        })
+    }
+
     /// The text of the name.
     pub fn text(&self) -> &str
         ensures text { result.now ≡ self.now }
-        ensures name { IsName self.now }
+        ensures variable { IsVariable self.now }
     {
         self.text.as_str()
+    }
+
+    /// Whether it is the name of the stream.
+    pub fn is_stream(&self) -> bool
+        ensures { result ≡ is_stream self.now }
+    {
+        self.text.as_str() == "out"
     }
 
     /// Whether two names are the same.

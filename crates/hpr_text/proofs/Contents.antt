@@ -15,7 +15,7 @@ use Rattle.hpr_scan.specs.Steps.{and_then, runs, IsReading}
 use Rattle.hpr_scan.proofs.Place.{same_place}
 use Rattle.hpr_expressions.specs.declared.expression.Reading.{Reading}
 use Rattle.hpr_text.specs.declared.content.Aim.{Aim}
-use Rattle.hpr_text.specs.declared.content.Aim.TheVariants.{Assign, Test, Guard}
+use Rattle.hpr_text.specs.declared.content.Aim.TheVariants.{Assign, Test, Guard, Output}
 use Rattle.hpr_text.specs.declared.content.ContentState.{ContentState}
 use Rattle.hpr_text.specs.declared.content.ContentState.TheVariants.{Start, AfterTarget, InExpression, Ended}
 use Rattle.hpr_expressions.specs.Expression.{start, read, ended}
@@ -34,6 +34,7 @@ abbrev pub begins : Aim → List Token
 begins (Assign x) = Name x ∷ Mark Becomes ∷ []
 begins Test = Word keyword.If ∷ []
 begins Guard = Word keyword.While ∷ []
+begins Output = Word keyword.Write ∷ []
 
 abbrev pub ContentIs : ContentState → List Token → Type 0
 ContentIs Start ts = ts ≡ []
@@ -48,6 +49,7 @@ spelled : (aim : Aim) (e : Expr) (ts : List Token) → SpellsExpr ts e → Spell
 spelled (Assign x) e ts s = contents.assignment s
 spelled Test e ts s = contents.conditional s
 spelled Guard e ts s = contents.while_loop s
+spelled Output e ts s = contents.write s
 
 goes_on_is : (aim : Aim) (r : Reading) (t : Token) (o : Option Reading) (n : ContentState) (ts : List Token) → ContentIs (InExpression aim r) ts → read r t ≡ o → content_goes_on aim o ≡ Some n → ContentIs n (ts ++ (t ∷ []))
 goes_on_is aim r t None n ts h q e = absurd cc
@@ -64,6 +66,7 @@ unfolding content_next
 content_step Start (Name x) n ts h e = to_content (AfterTarget x) n (ts ++ (Name x ∷ [])) e (rw h refl)
 content_step Start (Word keyword.If) n ts h e = to_content (InExpression Test start) n (ts ++ (Word keyword.If ∷ [])) e ([], start_is, rw h refl)
 content_step Start (Word keyword.While) n ts h e = to_content (InExpression Guard start) n (ts ++ (Word keyword.While ∷ [])) e ([], start_is, rw h refl)
+content_step Start (Word keyword.Write) n ts h e = to_content (InExpression Output start) n (ts ++ (Word keyword.Write ∷ [])) e ([], start_is, rw h refl)
 content_step Start t n ts h e = absurd cc
 content_step (AfterTarget x) (Mark Becomes) n ts h e = to_content (InExpression (Assign x) start) n (ts ++ (Mark Becomes ∷ [])) e ([], start_is, rw h refl)
 content_step (AfterTarget x) t n ts h e = absurd cc
@@ -106,6 +109,7 @@ inside_runs aim ts e s =
 pub content_runs : (ts : List Token) (c : Content) → SpellsContent ts c → runs content_next Start (ts ++ (Mark Semicolon ∷ [])) ≡ Some (Ended c)
 unfolding content_next
 content_runs _ _ (contents.assignment {x = x} {e = e} {value = value} s) = inside_runs (Assign x) value e s
+content_runs _ _ (contents.write {e = e} {value = value} s) = inside_runs Output value e s
 content_runs _ _ (contents.conditional {e = e} {test = test} s) = inside_runs Test test e s
 content_runs _ _ (contents.while_loop {e = e} {test = test} s) = inside_runs Guard test e s
 

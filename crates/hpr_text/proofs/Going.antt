@@ -9,7 +9,7 @@ use Rattle.hpr_expressions.specs.Expression.{read}
 use Rattle.hpr_expressions.specs.declared.expression.Reading.{Reading}
 use Rattle.hpr_text.specs.declared.found.Found.{Found}
 use Rattle.hpr_text.specs.declared.state.Purpose.{Purpose}
-use Rattle.hpr_text.specs.declared.state.Purpose.TheVariants.{Assign, Test, Guard}
+use Rattle.hpr_text.specs.declared.state.Purpose.TheVariants.{Assign, Test, Guard, Output}
 use Rattle.hpr_text.specs.Machine.{goes_on, ends_here, expression_next}
 use Rattle.hpr_text.specs.Private.EndsAt.{ends_at}
 
@@ -22,9 +22,11 @@ ends_here_is_some l f p None = refl
 ends_here_is_some l f (Assign t x) (Some e) = refl
 ends_here_is_some l f (Test t) (Some e) = refl
 ends_here_is_some l f (Guard t) (Some e) = refl
+ends_here_is_some l f (Output t) (Some e) = refl
 
 pub goes_on_within : (l : Option ℕ) (f : Found) (p : Purpose) (r : Reading) (t : Token) → ends_at p t ≡ false → expression_next l f p r t ≡ goes_on f p (read r t)
 goes_on_within l f (Assign t x) r (Mark Semicolon) e = absurd cc
 goes_on_within l f (Test t) r (Word Then) e = absurd cc
 goes_on_within l f (Guard t) r (Word Do) e = absurd cc
+goes_on_within l f (Output t) r (Mark Semicolon) e = absurd cc
 goes_on_within l f p r t e = refl

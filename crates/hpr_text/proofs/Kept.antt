@@ -5,12 +5,13 @@ use Rattle.hpr_terms.specs.declared.limits.TheConstants.{MAX_LEVELS, MAX_PARTS}
 use Rattle.hpr_terms.specs.declared.tag.Tag.{Tag}
 use Rattle.hpr_terms.specs.declared.expr.Expr.{Expr}
 use Rattle.hpr_terms.specs.declared.expr.Expr.TheVariants.{Num}
-use Rattle.hpr_terms.specs.declared.keyword.Keyword.TheVariants.{Program, Issued, End, If, Then, Else, Fi, While, Do, Od}
+use Rattle.hpr_terms.specs.declared.keyword.Keyword.TheVariants.{Program, Issued, End, If, Then, Else, Fi, While, Do, Od, Write, Out}
 use Rattle.hpr_terms.specs.declared.token.Sign.TheVariants.{Colon, Becomes, Dot, Comma, Semicolon, Open, Close}
 use Rattle.hpr_terms.specs.declared.token.Token.{Token}
 use Rattle.hpr_terms.specs.declared.token.Token.TheVariants.{Word, Name, Number, Mark}
 use Rattle.hpr_terms.proofs.Facts.{some_inj}
-use Rattle.hpr_syntax.specs.Action.{assigns}
+use Rattle.hpr_terms.specs.Names.{stream}
+use Rattle.hpr_syntax.specs.Action.{assigns, writes}
 use Rattle.hpr_syntax.specs.Body.{Body, done, action, branch, loop}
 use Rattle.hpr_scan.specs.Steps.{runs}
 use Rattle.hpr_scan.proofs.SoundText.{then_of}
@@ -22,7 +23,7 @@ use Rattle.hpr_text.specs.declared.form.Mode.{Mode}
 use Rattle.hpr_text.specs.declared.form.Mode.TheVariants.{Tagged, Untagged}
 use Rattle.hpr_text.specs.declared.found.Found.{Found}
 use Rattle.hpr_text.specs.declared.state.Purpose.{Purpose}
-use Rattle.hpr_text.specs.declared.state.Purpose.TheVariants.{Assign, Test, Guard}
+use Rattle.hpr_text.specs.declared.state.Purpose.TheVariants.{Assign, Test, Guard, Output}
 use Rattle.hpr_text.specs.declared.state.Place.{Place}
 use Rattle.hpr_text.specs.declared.state.Place.TheVariants.{Start, AfterProgram, BeforePair, AfterPairAuthor, AfterPairColon, AfterPair, AtPart, AfterAuthor, AfterDot, AfterSerial, AfterColon, AfterTarget, InExpression, AfterEnd, AfterOpen, AfterName, AfterComma, AtEnd}
 use Rattle.hpr_text.specs.declared.state.State.{State}
@@ -55,6 +56,7 @@ abbrev bare_purpose : Purpose → Purpose
 bare_purpose (Assign t x) = Assign bare_tag x
 bare_purpose (Test t) = Test bare_tag
 bare_purpose (Guard t) = Guard bare_tag
+bare_purpose (Output t) = Output bare_tag
 
 abbrev pub bare_place : Place → Place
 bare_place (AfterSerial t) = AfterSerial bare_tag
@@ -113,6 +115,7 @@ colon_bare : (f g : Found) (t u : Tag) (k : Token) → bare_found f ≡ bare_fou
 colon_bare f g t u (Name x) e = ap (shown_at (AfterTarget bare_tag x)) e
 colon_bare f g t u (Word If) e = ap (shown_at (InExpression (Test bare_tag) start)) e
 colon_bare f g t u (Word While) e = ap (shown_at (InExpression (Guard bare_tag) start)) e
+colon_bare f g t u (Word Write) e = ap (shown_at (InExpression (Output bare_tag) start)) e
 colon_bare f g t u k e = refl
 
 firsts_bare : (b : Bool) (u v : Found × Tag) (k : Token) → bare_found u.0 ≡ bare_found v.0 → bared (first_next (cond b (Some u) None) k) ≡ bared (first_next (cond b (Some v) None) k)
@@ -179,6 +182,7 @@ part_bare l m f g (Number a) e = tag_bare f.mode f g a e ∙ ap (λ (o : Mode). 
 part_bare l m f g (Name x) e = first_bare l m f.mode f g (Name x) e ∙ ap (λ (o : Mode). bared (first_next (begun_in m o g) (Name x))) (same_mode f g e)
 part_bare l m f g (Word If) e = first_bare l m f.mode f g (Word If) e ∙ ap (λ (o : Mode). bared (first_next (begun_in m o g) (Word If))) (same_mode f g e)
 part_bare l m f g (Word While) e = first_bare l m f.mode f g (Word While) e ∙ ap (λ (o : Mode). bared (first_next (begun_in m o g) (Word While))) (same_mode f g e)
+part_bare l m f g (Word Write) e = first_bare l m f.mode f g (Word Write) e ∙ ap (λ (o : Mode). bared (first_next (begun_in m o g) (Word Write))) (same_mode f g e)
 part_bare l m f g (Word End) e = end_bare f.blocks f refl ∙ ap (λ (x : Found). bare_end x.blocks x) e ∙ sym (end_bare g.blocks g refl)
 part_bare l m f g (Word Else) e = else_bare f.blocks f ∙ ap (λ (x : Found). bare_else x.blocks x) e ∙ sym (else_bare g.blocks g)
 part_bare l m f g (Word Fi) e = fi_bare l f.blocks f ∙ ap (λ (x : Found). bare_fi x.blocks x) e ∙ sym (fi_bare m g.blocks g)
@@ -194,11 +198,13 @@ ends_bare l m f g p None e = refl
 ends_bare l m f g (Assign t x) (Some v) e = ap (shown_at AtPart) e
 ends_bare l m f g (Test t) (Some v) e = ap (λ (x : Found). shown_at AtPart (record x { blocks = begun.Then bare_around ∷ x.blocks })) e
 ends_bare l m f g (Guard t) (Some v) e = ap (λ (x : Found). shown_at AtPart (record x { blocks = begun.Loop bare_around ∷ x.blocks })) e
+ends_bare l m f g (Output t) (Some v) e = ap (shown_at AtPart) e
 
 again_purpose : (p : Purpose) → bare_purpose p ≡ bare_purpose (bare_purpose p)
 again_purpose (Assign t x) = refl
 again_purpose (Test t) = refl
 again_purpose (Guard t) = refl
+again_purpose (Output t) = refl
 
 goes_bare : (f g : Found) (p : Purpose) (o : Option Reading) → bare_found f ≡ bare_found g → bared (goes_on f p o) ≡ bared (goes_on g (bare_purpose p) o)
 goes_bare f g p None e = refl
@@ -210,9 +216,11 @@ expression_bare : (l m : Option ℕ) (f g : Found) (p : Purpose) (r : Reading) (
 expression_bare l m f g (Assign a x) r (Mark Semicolon) e = ends_bare l m f g (Assign a x) (ended r) e
 expression_bare l m f g (Test a) r (Word Then) e = ends_bare l m f g (Test a) (ended r) e
 expression_bare l m f g (Guard a) r (Word Do) e = ends_bare l m f g (Guard a) (ended r) e
+expression_bare l m f g (Output a) r (Mark Semicolon) e = ends_bare l m f g (Output a) (ended r) e
 expression_bare l m f g (Assign a x) r t e = goes_bare f g (Assign a x) (read r t) e
 expression_bare l m f g (Test a) r t e = goes_bare f g (Test a) (read r t) e
 expression_bare l m f g (Guard a) r t e = goes_bare f g (Guard a) (read r t) e
+expression_bare l m f g (Output a) r t e = goes_bare f g (Output a) (read r t) e
 
 step_bare : (l m : Option ℕ) (f g : Found) (p : Place) (t : Token) → bare_found f ≡ bare_found g → bared (next_at l f p t) ≡ bared (next_at m g (bare_place p) t)
 step_bare l m f g Start (Word Program) e = ap (shown_at AfterProgram) e
@@ -236,10 +244,12 @@ step_bare l m f g (AfterTarget u x) (Mark Becomes) e = ap (shown_at (InExpressio
 step_bare l m f g (InExpression p r) t e = expression_bare l m f g p r t e
 step_bare l m f g AfterEnd (Mark Open) e = ap (shown_at AfterOpen) e
 step_bare l m f g AfterOpen (Name x) e = ap (λ (y : Found). shown_at AfterName (with_name x y)) e
+step_bare l m f g AfterOpen (Word Out) e = ap (λ (y : Found). shown_at AfterName (with_name stream y)) e
 step_bare l m f g AfterOpen (Mark Close) e = ap (shown_at AtEnd) e
 step_bare l m f g AfterName (Mark Comma) e = ap (shown_at AfterComma) e
 step_bare l m f g AfterName (Mark Close) e = ap (shown_at AtEnd) e
 step_bare l m f g AfterComma (Name x) e = ap (λ (y : Found). shown_at AfterName (with_name x y)) e
+step_bare l m f g AfterComma (Word Out) e = ap (λ (y : Found). shown_at AfterName (with_name stream y)) e
 step_bare l m f g p t e = refl
 
 -- states that show the same go on to states that show the same
@@ -268,6 +278,7 @@ colon_counts : (c : ℕ) (f : Found) (t : Tag) (k : Token) (n : State) → OneMo
 colon_counts c f t (Name x) n h e = counts_some (state_at f (AfterTarget t x)) n c h e
 colon_counts c f t (Word If) n h e = counts_some (state_at f (InExpression (Test t) start)) n c h e
 colon_counts c f t (Word While) n h e = counts_some (state_at f (InExpression (Guard t) start)) n c h e
+colon_counts c f t (Word Write) n h e = counts_some (state_at f (InExpression (Output t) start)) n c h e
 colon_counts c f t k n h e = absurd cc
 
 firsts_count : (c : ℕ) (b : Bool) (u : Found × Tag) (k : Token) (n : State) → OneMore c u.0.count → first_next (cond b (Some u) None) k ≡ Some n → OneMore c n.found.count
@@ -310,6 +321,7 @@ part_counts f (Number a) n e = tag_counts f.mode f a n e
 part_counts f (Name x) n e = first_counts f.mode f (Name x) n e
 part_counts f (Word If) n e = first_counts f.mode f (Word If) n e
 part_counts f (Word While) n e = first_counts f.mode f (Word While) n e
+part_counts f (Word Write) n e = first_counts f.mode f (Word Write) n e
 part_counts f (Word End) n e = end_counts f.blocks f n e
 part_counts f (Word Else) n e = else_counts f.blocks f n e
 part_counts f (Word Fi) n e = fi_counts f.blocks f n e
@@ -322,9 +334,10 @@ header_counts (Untagged a) f n e = absurd cc
 
 ends_counts : (f : Found) (p : Purpose) (o : Option Expr) (n : State) → ends_here None f p o ≡ Some n → OneMore f.count n.found.count
 ends_counts f p None n e = absurd cc
-ends_counts f (Assign t x) (Some v) n e = counts_some (state_at (with_part None t x v f) AtPart) n f.count (as_many f.count) e
+ends_counts f (Assign t x) (Some v) n e = counts_some (state_at (with_part None t (assigns x v) f) AtPart) n f.count (as_many f.count) e
 ends_counts f (Test t) (Some v) n e = counts_some (state_at (in_then t v f) AtPart) n f.count (as_many f.count) e
 ends_counts f (Guard t) (Some v) n e = counts_some (state_at (in_loop t v f) AtPart) n f.count (as_many f.count) e
+ends_counts f (Output t) (Some v) n e = counts_some (state_at (with_part None t (writes stream v) f) AtPart) n f.count (as_many f.count) e
 
 goes_counts : (f : Found) (p : Purpose) (o : Option Reading) (n : State) → goes_on f p o ≡ Some n → OneMore f.count n.found.count
 goes_counts f p None n e = absurd cc
@@ -334,6 +347,7 @@ expression_counts : (f : Found) (p : Purpose) (r : Reading) (t : Token) (n : Sta
 expression_counts f (Assign a x) r (Mark Semicolon) n e = ends_counts f (Assign a x) (ended r) n e
 expression_counts f (Test a) r (Word Then) n e = ends_counts f (Test a) (ended r) n e
 expression_counts f (Guard a) r (Word Do) n e = ends_counts f (Guard a) (ended r) n e
+expression_counts f (Output a) r (Mark Semicolon) n e = ends_counts f (Output a) (ended r) n e
 expression_counts f p r t n e = goes_counts f p (read r t) n e
 
 step_counts : (f : Found) (p : Place) (t : Token) (n : State) → next_at None f p t ≡ Some n → OneMore f.count n.found.count
@@ -356,10 +370,12 @@ step_counts f (AfterTarget u x) (Mark Becomes) n e = counts_some (state_at f (In
 step_counts f (InExpression p r) t n e = expression_counts f p r t n e
 step_counts f AfterEnd (Mark Open) n e = counts_some (state_at f AfterOpen) n f.count (as_many f.count) e
 step_counts f AfterOpen (Name x) n e = counts_some (state_at (with_name x f) AfterName) n f.count (as_many f.count) e
+step_counts f AfterOpen (Word Out) n e = counts_some (state_at (with_name stream f) AfterName) n f.count (as_many f.count) e
 step_counts f AfterOpen (Mark Close) n e = counts_some (state_at f AtEnd) n f.count (as_many f.count) e
 step_counts f AfterName (Mark Comma) n e = counts_some (state_at f AfterComma) n f.count (as_many f.count) e
 step_counts f AfterName (Mark Close) n e = counts_some (state_at f AtEnd) n f.count (as_many f.count) e
 step_counts f AfterComma (Name x) n e = counts_some (state_at (with_name x f) AfterName) n f.count (as_many f.count) e
+step_counts f AfterComma (Word Out) n e = counts_some (state_at (with_name stream f) AfterName) n f.count (as_many f.count) e
 step_counts f p t n e = absurd cc
 
 -- ---- where each part is kept
@@ -382,6 +398,7 @@ colon_few : (f : Found) (t : Tag) (k : Token) (n : State) → colon_next f t k �
 colon_few f t (Name x) n e le = few (state_at f (AfterTarget t x)) n e le
 colon_few f t (Word If) n e le = few (state_at f (InExpression (Test t) start)) n e le
 colon_few f t (Word While) n e le = few (state_at f (InExpression (Guard t) start)) n e le
+colon_few f t (Word Write) n e le = few (state_at f (InExpression (Output t) start)) n e le
 colon_few f t k n e le = absurd cc
 
 firsts_same : (b : Bool) (u v : Found × Tag) (k : Token) (n : State) → (u.0.count ≤ MAX_PARTS → v ≡ u) → n.found.count ≤ MAX_PARTS
@@ -418,6 +435,7 @@ part_same : (f : Found) (t : Token) (n : State) → n.found.count ≤ MAX_PARTS 
 part_same f (Name x) n le e = first_same f.mode f (Name x) n le e
 part_same f (Word If) n le e = first_same f.mode f (Word If) n le e
 part_same f (Word While) n le e = first_same f.mode f (Word While) n le e
+part_same f (Word Write) n le e = first_same f.mode f (Word Write) n le e
 part_same f (Word Fi) n le e = fi_same f.blocks f n le e
 part_same f (Word Od) n le e = od_same f.blocks f n le e
 part_same f t n le e = e
@@ -427,11 +445,13 @@ ends_same f p None n le e = absurd cc
 ends_same f (Assign t x) (Some v) n le e = kept_same f f.blocks f.parts (action t (assigns x v) done) n le e
 ends_same f (Test t) (Some v) n le e = e
 ends_same f (Guard t) (Some v) n le e = e
+ends_same f (Output t) (Some v) n le e = kept_same f f.blocks f.parts (action t (writes stream v) done) n le e
 
 expression_same : (f : Found) (p : Purpose) (r : Reading) (t : Token) (n : State) → n.found.count ≤ MAX_PARTS → expression_next None f p r t ≡ Some n → expression_next limit f p r t ≡ Some n
 expression_same f (Assign a x) r (Mark Semicolon) n le e = ends_same f (Assign a x) (ended r) n le e
 expression_same f (Test a) r (Word Then) n le e = ends_same f (Test a) (ended r) n le e
 expression_same f (Guard a) r (Word Do) n le e = ends_same f (Guard a) (ended r) n le e
+expression_same f (Output a) r (Mark Semicolon) n le e = ends_same f (Output a) (ended r) n le e
 expression_same f p r t n le e = e
 
 step_same : (f : Found) (p : Place) (t : Token) (n : State) → n.found.count ≤ MAX_PARTS → next_at None f p t ≡ Some n → next_at limit f p t ≡ Some n

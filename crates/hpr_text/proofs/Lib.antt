@@ -15,3 +15,4 @@ pub mod LastSign
 pub mod Contents
 pub mod SomeReading
 pub mod SpelledProper
+mod Named

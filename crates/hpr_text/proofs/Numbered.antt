@@ -16,13 +16,15 @@ use Rattle.hpr_syntax.specs.Grammar as grammar
 use Rattle.hpr_syntax.specs.Grammar.{Form, SpellsParts, SpellsHeader, SpellsProgram, untagged, tag_pair, issued_of}
 use Rattle.hpr_syntax.specs.Spelling.{Spells}
 use Rattle.hpr_text.specs.Spelled.{tags_from, last_issued, IsInOrder}
-use Rattle.hpr_text.proofs.Shapes.{none_deep, none_large}
+use Rattle.hpr_text.proofs.Named.{Named, parts_named}
+use Rattle.hpr_text.proofs.Shapes.{none_deep, none_large, none_wrong}
 
 -- ---- the parts are counted
 
 pub parts_counted : {f : Form} {l n m : ℕ} {ts : List Token} {b : Body} → SpellsParts f l n m ts b → n + part_count b ≡ m
 parts_counted grammar.nothing = omega arith
 parts_counted (grammar.assignment is v s) = omega (arith, parts_counted s)
+parts_counted (grammar.write is v s) = omega (arith, parts_counted s)
 parts_counted (grammar.conditional is v s u) = omega (arith, parts_counted s, parts_counted u)
 parts_counted (grammar.conditional_else is v s w u) = omega (arith, parts_counted s, parts_counted w, parts_counted u)
 parts_counted (grammar.while_loop is v s u) = omega (arith, parts_counted s, parts_counted u)
@@ -37,6 +39,7 @@ Run a n m (t ∷ ts) = (t ≡ record { author = a; serial = n + 1 }) × Run a (n
 pub tags_run : {a l n k : ℕ} {ts : List Token} {b : Body} → SpellsParts (untagged a) l n k ts b → (m : ℕ) (after : List Tag) → Run a k m after → Run a n m (tags_of b after)
 tags_run grammar.nothing m after h = h
 tags_run (grammar.assignment grammar.none v s) m after h = (refl, tags_run s m after h)
+tags_run (grammar.write grammar.none v s) m after h = (refl, tags_run s m after h)
 tags_run (grammar.conditional {rest = rest} grammar.none v s u) m after h = (refl, tags_run s m (tags_of rest after) (tags_run u m after h))
 tags_run (grammar.conditional_else {no = other} {rest = rest} grammar.none v s w u) m after h =
     (refl, tags_run s m (tags_of other (tags_of rest after)) (tags_run w m (tags_of rest after) (tags_run u m after h)))
@@ -120,15 +123,15 @@ too_many_is : (n : ℕ) → MAX_PARTS < n → too_many n ≡ Some (TooManyParts 
 too_many_is n lt = ap (λ (b : Bool). cond b (Some (TooManyParts n)) None) (lt-ltb MAX_PARTS n lt)
 
 -- more parts than a program may have are the first refusal
-pub many_parts : (a : ℕ) (ts : List Token) (t : Tree) (h : SpellsProgram (untagged a) ts t) → MAX_PARTS < h.count → shape t ≡ Some (TooManyParts h.count)
+pub many_parts : (a : ℕ) (ts : List Token) (t : Tree) (h : SpellsProgram (untagged a) ts t) → Named ts → MAX_PARTS < h.count → shape t ≡ Some (TooManyParts h.count)
 unfolding shape
-many_parts a ts t h lt =
+many_parts a ts t h names lt =
     let run : Run a 0 h.count (tags_of t.body []) = tags_run h.parts_are h.count [] refl in
     let once : first_repeated same_tag [] (tags_of t.body []) ≡ None = none_repeated a 0 h.count [] (tags_of t.body []) tt run in
     let same : t.issued ≡ raised_by (map tag_pair (tags_of t.body [])) [] = h.issued_is ∙ ap (λ ps. issued_of ps t.body) (no_pairs h.header_is) in
     let all : first_unissued t.issued (tags_of t.body []) ≡ None = ap (λ (is : Issued). first_unissued is (tags_of t.body [])) same ∙ all_issued a h.count (tags_of t.body []) run in
     let count : part_count t.body ≡ h.count = omega (arith, parts_counted h.parts_are) in
-    rw (once, all, none_deep h.parts_are, none_large h.parts_are, count, too_many_is h.count lt) refl
+    rw (once, all, none_deep h.parts_are, none_large h.parts_are, none_wrong h.parts_are (parts_named h names), count, too_many_is h.count lt) refl
 
 -- ---- the tags and the issued numbers, written out
 

@@ -107,6 +107,7 @@ tag_raises os b t =
 pub parts_then : {f : Form} {l n k m : ℕ} {a b : List Token} {p q : Body} → SpellsParts f l n k a p → SpellsParts f l k m b q → SpellsParts f l n m (a ++ b) (then_parts p q)
 parts_then grammar.nothing h = h
 parts_then (grammar.assignment {x = x} label value rest) h = rw (append_assoc, append_assoc) (grammar.assignment {x = x} label value (parts_then rest h))
+parts_then (grammar.write label value rest) h = rw (append_assoc, append_assoc) (grammar.write label value (parts_then rest h))
 parts_then (grammar.conditional label test first rest) h = rw (append_assoc, append_assoc, append_assoc) (grammar.conditional label test first (parts_then rest h))
 parts_then (grammar.conditional_else label test first second rest) h =
     rw (append_assoc, append_assoc, append_assoc, append_assoc) (grammar.conditional_else label test first second (parts_then rest h))

@@ -5,17 +5,18 @@ use Rattle.std.proofs.lemmas.List.{append-nil}
 use Rattle.hpr_terms.specs.declared.limits.TheConstants.{MAX_LEVELS}
 use Rattle.hpr_terms.specs.declared.tag.Tag.{Tag}
 use Rattle.hpr_terms.specs.declared.expr.Expr.{Expr}
-use Rattle.hpr_terms.specs.declared.keyword.Keyword.TheVariants.{Program, Issued, End, If, Then, Else, Fi, While, Do, Od}
+use Rattle.hpr_terms.specs.declared.keyword.Keyword.TheVariants.{Program, Issued, End, If, Then, Else, Fi, While, Do, Od, Write, Out}
 use Rattle.hpr_terms.specs.declared.token.Sign.TheVariants.{Colon, Becomes, Dot, Comma, Semicolon, Open, Close}
 use Rattle.hpr_terms.specs.declared.token.Token.{Token}
 use Rattle.hpr_terms.specs.declared.token.Token.TheVariants.{Word, Name, Number, Mark}
 use Rattle.hpr_terms.proofs.Facts.{and_both, some_inj}
-use Rattle.hpr_syntax.specs.Action.{assigns}
+use Rattle.hpr_terms.specs.Names.{stream}
+use Rattle.hpr_syntax.specs.Action.{Action, assigns, writes}
 use Rattle.hpr_syntax.specs.Body.{Body, done, action, branch, loop}
 use Rattle.hpr_syntax.specs.Issued as issued
 use Rattle.hpr_syntax.specs.Tree.{Tree}
 use Rattle.hpr_syntax.specs.Grammar as grammar
-use Rattle.hpr_syntax.specs.Grammar.{Form, IsAuthor, IsSerial, IsTag, IsIssuedPair, Labels, SpellsExpr, SpellsParts, SpellsPairs, SpellsHeader, SpellsNames, SpellsProgram, tag_pair, pair_then, issued_of}
+use Rattle.hpr_syntax.specs.Grammar.{Form, IsAuthor, IsSerial, IsTag, IsIssuedPair, Labels, SpellsExpr, SpellsParts, SpellsPairs, SpellsHeader, SpellsFinal, SpellsNames, SpellsProgram, tag_pair, pair_then, issued_of}
 use Rattle.hpr_scan.specs.Steps.{and_then, runs}
 use Rattle.hpr_scan.proofs.SoundText.{guard_is}
 use Rattle.hpr_expressions.specs.declared.expression.Reading.{Reading}
@@ -26,7 +27,7 @@ use Rattle.hpr_text.specs.declared.form.Mode.{Mode}
 use Rattle.hpr_text.specs.declared.form.Mode.TheVariants.{Tagged, Untagged}
 use Rattle.hpr_text.specs.declared.found.Found.{Found}
 use Rattle.hpr_text.specs.declared.state.Purpose.{Purpose}
-use Rattle.hpr_text.specs.declared.state.Purpose.TheVariants.{Assign, Test, Guard}
+use Rattle.hpr_text.specs.declared.state.Purpose.TheVariants.{Assign, Test, Guard, Output}
 use Rattle.hpr_text.specs.declared.state.Place.{Place}
 use Rattle.hpr_text.specs.declared.state.Place.TheVariants.{Start, AfterProgram, BeforePair, AfterPairAuthor, AfterPairColon, AfterPair, AtPart, AfterAuthor, AfterDot, AfterSerial, AfterColon, AfterTarget, InExpression, AfterEnd, AfterOpen, AfterName, AfterComma, AtEnd}
 use Rattle.hpr_text.specs.declared.state.State.{State}
@@ -177,6 +178,7 @@ abbrev pub PurposeIs : Mode → Purpose → Found → Reading → List Token →
 PurposeIs m (Assign t x) f r ts = (e : List Token) × ReadingIs r e × BegunIs m f t (Name x ∷ Mark Becomes ∷ e) ts
 PurposeIs m (Test t) f r ts = (e : List Token) × ReadingIs r e × BegunIs m f t (Word If ∷ e) ts
 PurposeIs m (Guard t) f r ts = (e : List Token) × ReadingIs r e × BegunIs m f t (Word While ∷ e) ts
+PurposeIs m (Output t) f r ts = (e : List Token) × ReadingIs r e × BegunIs m f t (Word Write ∷ e) ts
 
 abbrev pub PlaceIs : Mode → Place → Found → List Token → Type 0
 PlaceIs m Start f ts = (f ≡ nothing_found m) × (ts ≡ [])
@@ -195,7 +197,8 @@ PlaceIs m (InExpression p r) f ts = PurposeIs m p f r ts
 PlaceIs m AfterEnd f ts = BodyIs m f [] [] ts
 PlaceIs m AfterOpen f ts = BodyIs m f [] (Mark Open ∷ []) ts
 PlaceIs m AfterName f ts =
-    (front : List Token) × (xs : List (List ℕ)) × (x : List ℕ) × NamesGo front xs × BodyIs m f (xs ++ (x ∷ [])) (Mark Open ∷ (front ++ (Name x ∷ []))) ts
+    (front : List Token) × (xs : List (List ℕ)) × (t : Token) × (x : List ℕ) × SpellsFinal t x × NamesGo front xs
+    × BodyIs m f (xs ++ (x ∷ [])) (Mark Open ∷ (front ++ (t ∷ []))) ts
 PlaceIs m AfterComma f ts = (front : List Token) × (xs : List (List ℕ)) × NamesGo front xs × BodyIs m f xs (Mark Open ∷ front) ts
 PlaceIs m AtEnd f ts = (names : List Token) × (xs : List (List ℕ)) × SpellsNames names xs × BodyIs m f xs (Mark Open ∷ (names ++ (Mark Close ∷ []))) ts
 
@@ -408,6 +411,7 @@ colon_is : (m : Mode) (f : Found) (g : Tag) (t : Token) (ts : List Token) (n : S
 colon_is m f g (Name x) ts n h e = to_state m f (AfterTarget g x) (ts ++ (Name x ∷ [])) n e (behind m f g [] (Name x) ts h)
 colon_is m f g (Word If) ts n h e = to_state m f (InExpression (Test g) start) (ts ++ (Word If ∷ [])) n e ([], start_is, behind m f g [] (Word If) ts h)
 colon_is m f g (Word While) ts n h e = to_state m f (InExpression (Guard g) start) (ts ++ (Word While ∷ [])) n e ([], start_is, behind m f g [] (Word While) ts h)
+colon_is m f g (Word Write) ts n h e = to_state m f (InExpression (Output g) start) (ts ++ (Word Write ∷ [])) n e ([], start_is, behind m f g [] (Word Write) ts h)
 colon_is m f g t ts n h e = absurd cc
 
 -- a part that gets its tag from the machine
@@ -448,10 +452,12 @@ tag_is m l f Tagged a ts n h q e =
     (ltb-true a (2 ^ 32) two.1, record { tagged = sym h.mode ∙ q; level = l; past = ts; parts = h; room = ltb-true (length f.blocks) MAX_LEVELS two.0; tokens = refl })
 tag_is m l f (Untagged b) a ts n h q e = absurd cc
 
-assigned : (m : Mode) (l : ℕ) (f : Found) (t : Tag) (x : List ℕ) (e : Expr) (past label value ts : List Token) (p : PartsAre m l f (t ∷ []) past) → length f.blocks < MAX_LEVELS → Labels (form_of m) p.to label t
-    → SpellsExpr value e → ts ≡ past ++ (label ++ (Name x ∷ Mark Becomes ∷ value)) → (k : ℕ) × PartsAre m k (with_part None t x e f) [] (ts ++ (Mark Semicolon ∷ []))
-assigned m zero f t x e past label value ts p room is v q = no_room m f (t ∷ []) past p room
-assigned m (suc l) f t x e past label value ts p room is v q = (
+-- a part that does d and has no blocks, with its `;`
+action_ends : (m : Mode) (l : ℕ) (f : Found) (t : Tag) (d : Action) (past label said ts : List Token) (p : PartsAre m l f (t ∷ []) past) → length f.blocks < MAX_LEVELS
+    → ((k : ℕ) → SpellsParts (form_of m) (suc k) p.to (p.to + 1) (label ++ (said ++ (Mark Semicolon ∷ []))) (action t d done)) → ts ≡ past ++ (label ++ said)
+    → (k : ℕ) × PartsAre m k (with_part None t d f) [] (ts ++ (Mark Semicolon ∷ []))
+action_ends m zero f t d past label said ts p room is q = no_room m f (t ∷ []) past p room
+action_ends m (suc l) f t d past label said ts p room is q = (
   suc l,
   record {
     header = p.header;
@@ -459,13 +465,13 @@ assigned m (suc l) f t x e past label value ts p room is v q = (
     from = p.from;
     to = p.to + 1;
     around = p.around;
-    inside = p.inside ++ (label ++ (Name x ∷ Mark Becomes ∷ (value ++ (Mark Semicolon ∷ []))));
+    inside = p.inside ++ (label ++ (said ++ (Mark Semicolon ∷ [])));
     mode = p.mode;
     counts = p.counts;
     header_is = p.header_is;
     blocks = p.blocks;
-    spelled = parts_then p.spelled (grammar.assignment {x = x} is v grammar.nothing);
-    numbers = renumbered p.pairs f (with_part None t x e f) (t ∷ []) [] refl refl (sym (read_then f.blocks f.parts (action t (assigns x e) done) [])) p.numbers;
+    spelled = parts_then p.spelled (is l);
+    numbers = renumbered p.pairs f (with_part None t d f) (t ∷ []) [] refl refl (sym (read_then f.blocks f.parts (action t d done) [])) p.numbers;
     no_names = p.no_names;
     tokens = rw (q, p.tokens) (simp append_assoc);
   },
@@ -681,6 +687,7 @@ part_is m l f (Number a) ts n h e = tag_is m l f f.mode a ts n h refl e
 part_is m l f (Name x) ts n h e = first_is m l f f.mode (Name x) ts n h refl e
 part_is m l f (Word If) ts n h e = first_is m l f f.mode (Word If) ts n h refl e
 part_is m l f (Word While) ts n h e = first_is m l f f.mode (Word While) ts n h refl e
+part_is m l f (Word Write) ts n h e = first_is m l f f.mode (Word Write) ts n h refl e
 part_is m l f (Word End) ts n h e = parts_end_is m f.blocks l f ts n h refl e
 part_is m l f (Word Else) ts n h e = at_part_is m (else_in f.blocks f) n (ts ++ (Word Else ∷ [])) e (λ g q. else_is m f.blocks l f g ts h refl q)
 part_is m l f (Word Fi) ts n h e = at_part_is m (fi_in None f.blocks f) n (ts ++ (Word Fi ∷ [])) e (λ g q. fi_is m f.blocks l f g ts h refl q)
@@ -693,6 +700,7 @@ further : (m : Mode) (p : Purpose) (f : Found) (r k : Reading) (t : Token) (ts :
 further m (Assign g x) f r k t ts h e = (h.0 ++ (t ∷ []), read_is r t k h.0 h.1 e, behind m f g (Name x ∷ Mark Becomes ∷ h.0) t ts h.2)
 further m (Test g) f r k t ts h e = (h.0 ++ (t ∷ []), read_is r t k h.0 h.1 e, behind m f g (Word If ∷ h.0) t ts h.2)
 further m (Guard g) f r k t ts h e = (h.0 ++ (t ∷ []), read_is r t k h.0 h.1 e, behind m f g (Word While ∷ h.0) t ts h.2)
+further m (Output g) f r k t ts h e = (h.0 ++ (t ∷ []), read_is r t k h.0 h.1 e, behind m f g (Word Write ∷ h.0) t ts h.2)
 
 goes_on_is : (m : Mode) (f : Found) (p : Purpose) (r : Reading) (t : Token) (o : Option Reading) (ts : List Token) (n : State) → PurposeIs m p f r ts → read r t ≡ o → goes_on f p o ≡ Some n → StateIs m n (ts ++ (t ∷ []))
 goes_on_is m f p r t None ts n h e q = absurd cc
@@ -703,7 +711,16 @@ value_ends : (m : Mode) (f : Found) (g : Tag) (x : List ℕ) (r : Reading) (o : 
 value_ends m f g x r None ts n h e q = absurd cc
 value_ends m f g x r (Some v) ts n h e q =
     let s = h.2 in
-    to_state m (with_part None g x v f) AtPart (ts ++ (Mark Semicolon ∷ [])) n q (assigned m s.level f g x v s.past s.label h.0 ts s.parts s.room s.label_is (ended_is r v h.0 h.1 e) s.tokens)
+    to_state m (with_part None g (assigns x v) f) AtPart (ts ++ (Mark Semicolon ∷ [])) n q
+    (action_ends m s.level f g (assigns x v) s.past s.label (Name x ∷ Mark Becomes ∷ h.0) ts s.parts s.room (λ k. grammar.assignment {x = x} s.label_is (ended_is r v h.0 h.1 e) grammar.nothing) s.tokens)
+
+write_ends : (m : Mode) (f : Found) (g : Tag) (r : Reading) (o : Option Expr) (ts : List Token) (n : State) → PurposeIs m (Output g) f r ts → ended r ≡ o → ends_here None f (Output g) o ≡ Some n
+    → StateIs m n (ts ++ (Mark Semicolon ∷ []))
+write_ends m f g r None ts n h e q = absurd cc
+write_ends m f g r (Some v) ts n h e q =
+    let s = h.2 in
+    to_state m (with_part None g (writes stream v) f) AtPart (ts ++ (Mark Semicolon ∷ [])) n q
+    (action_ends m s.level f g (writes stream v) s.past s.label (Word Write ∷ h.0) ts s.parts s.room (λ k. grammar.write s.label_is (ended_is r v h.0 h.1 e) grammar.nothing) s.tokens)
 
 test_ends : (m : Mode) (f : Found) (g : Tag) (r : Reading) (o : Option Expr) (ts : List Token) (n : State) → PurposeIs m (Test g) f r ts → ended r ≡ o → ends_here None f (Test g) o ≡ Some n
     → StateIs m n (ts ++ (Word Then ∷ []))
@@ -723,6 +740,7 @@ expression_is : (m : Mode) (f : Found) (p : Purpose) (r : Reading) (t : Token) (
 expression_is m f (Assign g x) r (Mark Semicolon) ts n h e = value_ends m f g x r (ended r) ts n h refl e
 expression_is m f (Test g) r (Word Then) ts n h e = test_ends m f g r (ended r) ts n h refl e
 expression_is m f (Guard g) r (Word Do) ts n h e = guard_ends m f g r (ended r) ts n h refl e
+expression_is m f (Output g) r (Mark Semicolon) ts n h e = write_ends m f g r (ended r) ts n h refl e
 expression_is m f p r t ts n h e = goes_on_is m f p r t (read r t) ts n h refl e
 
 -- ---- steps at the end
@@ -742,8 +760,9 @@ ended_with m f names last t ts h =
       tokens = rw h.tokens (simp append_assoc);
     }
 
-named : (m : Mode) (f : Found) (names : List (List ℕ)) (last : List Token) (x : List ℕ) (ts : List Token) → BodyIs m f names last ts → BodyIs m (with_name x f) (names ++ (x ∷ [])) (last ++ (Name x ∷ [])) (ts ++ (Name x ∷ []))
-named m f names last x ts h =
+named : (m : Mode) (f : Found) (names : List (List ℕ)) (last : List Token) (t : Token) (x : List ℕ) (ts : List Token) → BodyIs m f names last ts
+    → BodyIs m (with_name x f) (names ++ (x ∷ [])) (last ++ (t ∷ [])) (ts ++ (t ∷ []))
+named m f names last t x ts h =
     record {
       header = h.header;
       pairs = h.pairs;
@@ -756,6 +775,14 @@ named m f names last x ts h =
       names_are = ap (λ xs. xs ++ (x ∷ [])) h.names_are;
       tokens = rw h.tokens (simp append_assoc);
     }
+
+first_name : (m : Mode) (f : Found) (t : Token) (x : List ℕ) (ts : List Token) (n : State) → SpellsFinal t x → PlaceIs m AfterOpen f ts
+    → Some (state_at (with_name x f) AfterName) ≡ Some n → StateIs m n (ts ++ (t ∷ []))
+first_name m f t x ts n is h e = to_state m (with_name x f) AfterName (ts ++ (t ∷ [])) n e ([], [], t, x, is, λ us y ys s. s, named m f [] (Mark Open ∷ []) t x ts h)
+
+next_name : (m : Mode) (f : Found) (t : Token) (x : List ℕ) (ts : List Token) (n : State) → SpellsFinal t x → PlaceIs m AfterComma f ts
+    → Some (state_at (with_name x f) AfterName) ≡ Some n → StateIs m n (ts ++ (t ∷ []))
+next_name m f t x ts n is h e = to_state m (with_name x f) AfterName (ts ++ (t ∷ [])) n e (h.0, h.1, t, x, is, h.2, named m f h.1 (Mark Open ∷ h.0) t x ts h.3)
 
 -- ---- one step, and many
 
@@ -789,21 +816,21 @@ next_is m f (AfterTarget g x) (Mark Becomes) ts n h e =
     to_state m f (InExpression (Assign g x) start) (ts ++ (Mark Becomes ∷ [])) n e ([], start_is, behind m f g (Name x ∷ []) (Mark Becomes) ts h)
 next_is m f (InExpression p r) t ts n h e = expression_is m f p r t ts n h e
 next_is m f AfterEnd (Mark Open) ts n h e = to_state m f AfterOpen (ts ++ (Mark Open ∷ [])) n e (ended_with m f [] [] (Mark Open) ts h)
-next_is m f AfterOpen (Name x) ts n h e =
-    to_state m (with_name x f) AfterName (ts ++ (Name x ∷ [])) n e ([], [], x, λ us y ys s. s, named m f [] (Mark Open ∷ []) x ts h)
+next_is m f AfterOpen (Name x) ts n h e = first_name m f (Name x) x ts n grammar.plain h e
+next_is m f AfterOpen (Word Out) ts n h e = first_name m f (Word Out) stream ts n grammar.out h e
 next_is m f AfterOpen (Mark Close) ts n h e = to_state m f AtEnd (ts ++ (Mark Close ∷ [])) n e ([], [], grammar.none, ended_with m f [] (Mark Open ∷ []) (Mark Close) ts h)
 next_is m f AfterName (Mark Comma) ts n h e =
     to_state m f AfterComma (ts ++ (Mark Comma ∷ [])) n e (
-      h.0 ++ (Name h.2 ∷ Mark Comma ∷ []),
-      h.1 ++ (h.2 ∷ []),
-      λ us y ys s. rw (append_assoc, append_assoc) (h.3 _ _ _ (grammar.more s)),
-      rw append_assoc at (ended_with m f (h.1 ++ (h.2 ∷ [])) (Mark Open ∷ (h.0 ++ (Name h.2 ∷ []))) (Mark Comma) ts h.4),
+      h.0 ++ (h.2 ∷ Mark Comma ∷ []),
+      h.1 ++ (h.3 ∷ []),
+      λ us y ys s. rw (append_assoc, append_assoc) (h.5 _ _ _ (grammar.more h.4 s)),
+      rw append_assoc at (ended_with m f (h.1 ++ (h.3 ∷ [])) (Mark Open ∷ (h.0 ++ (h.2 ∷ []))) (Mark Comma) ts h.6),
     )
 next_is m f AfterName (Mark Close) ts n h e =
     to_state m f AtEnd (ts ++ (Mark Close ∷ [])) n e
-    (h.0 ++ (Name h.2 ∷ []), h.1 ++ (h.2 ∷ []), h.3 _ _ _ grammar.one, ended_with m f (h.1 ++ (h.2 ∷ [])) (Mark Open ∷ (h.0 ++ (Name h.2 ∷ []))) (Mark Close) ts h.4)
-next_is m f AfterComma (Name x) ts n h e =
-    to_state m (with_name x f) AfterName (ts ++ (Name x ∷ [])) n e (h.0, h.1, x, h.2, named m f h.1 (Mark Open ∷ h.0) x ts h.3)
+    (h.0 ++ (h.2 ∷ []), h.1 ++ (h.3 ∷ []), h.5 _ _ _ (grammar.one h.4), ended_with m f (h.1 ++ (h.3 ∷ [])) (Mark Open ∷ (h.0 ++ (h.2 ∷ []))) (Mark Close) ts h.6)
+next_is m f AfterComma (Name x) ts n h e = next_name m f (Name x) x ts n grammar.plain h e
+next_is m f AfterComma (Word Out) ts n h e = next_name m f (Word Out) stream ts n grammar.out h e
 next_is m f p t ts n h e = absurd cc
 
 step_is : (m : Mode) (s : State) (t : Token) (ts : List Token) (n : State) → StateIs m s ts → next None s t ≡ Some n → StateIs m n (ts ++ (t ∷ []))

@@ -1,21 +1,18 @@
 -- The names and the numbers of a tree that a text spells are proper.
-use Rattle.std.proofs.Common.{ℕ, ◌<◌, ◌≤◌, ◌^◌, ◌==◌, max, nat_lt, Bool, true, false, if◌then◌else◌, All, Option, List, [], ◌∷◌, ◌++◌, map, Contains, inl, inr, sym, subst, arith, ◌≡◌, None}
+use Rattle.std.proofs.Common.{ℕ, ◌<◌, ◌≤◌, ◌^◌, ◌==◌, max, nat_lt, Bool, true, false, if◌then◌else◌, All, Option, List, [], ◌∷◌, ◌++◌, map, sym, subst, arith, ◌≡◌, None}
 use Rattle.std.specs.List.{AllByRecursion}
-use Rattle.std.proofs.lemmas.List.Elements.{All-from_recursion, Contains-append_left, Contains-append_right}
+use Rattle.std.proofs.lemmas.List.Elements.{All-from_recursion}
 use Rattle.hpr_terms.specs.declared.tag.Tag.{Tag}
-use Rattle.hpr_terms.specs.declared.keyword.Keyword.TheVariants as keyword
 use Rattle.hpr_terms.specs.declared.token.Sign.TheVariants as sign
 use Rattle.hpr_terms.specs.declared.token.Token.{Token}
-use Rattle.hpr_terms.specs.declared.token.Token.TheVariants.{Word, Name, Mark}
-use Rattle.hpr_terms.specs.Names.{IsName}
+use Rattle.hpr_terms.specs.declared.token.Token.TheVariants.{Name, Mark}
+use Rattle.hpr_terms.specs.Names.{IsVariable}
 use Rattle.hpr_terms.specs.Term.{Term}
-use Rattle.hpr_terms.specs.Tokens as tokens
-use Rattle.hpr_terms.specs.Tokens.{IsToken, Text}
-use Rattle.hpr_terms.proofs.Facts.{in_none, in_cons, in_here, in_later}
+use Rattle.hpr_terms.proofs.Facts.{in_here}
 use Rattle.hpr_terms.specs.declared.limits.TheConstants.{MAX_PARTS}
 use Rattle.hpr_syntax.specs.Body.{Body, part_count}
 use Rattle.hpr_syntax.specs.Grammar as grammar
-use Rattle.hpr_syntax.specs.Grammar.{Form, tagged, untagged, Rule, IsTag, Labels, IsIssuedPair, SpellsTerm, SpellsParts, SpellsPairs, SpellsHeader, SpellsNames, issued_of, tag_pair}
+use Rattle.hpr_syntax.specs.Grammar.{Form, tagged, untagged, Rule, IsTag, Labels, IsIssuedPair, SpellsTerm, SpellsParts, SpellsPairs, SpellsHeader, SpellsFinal, SpellsNames, issued_of, tag_pair}
 use Rattle.hpr_syntax.specs.Issued.{Issued, IsIssued, raised, raised_by}
 use Rattle.hpr_syntax.specs.Parts.{tags_of}
 use Rattle.hpr_syntax.specs.Proper.{IsProperTerm, IsProperTag, IsProperBody, IsProperPair, IsProper}
@@ -25,40 +22,22 @@ use Rattle.hpr_syntax.proofs.IssuedLemmas.{raised_keeps}
 use Rattle.hpr_syntax.proofs.PartBound.{few}
 use Rattle.hpr_syntax.proofs.NoRefusal.{no_refusal}
 use Rattle.hpr_syntax.specs.Shape.{shape}
+use Rattle.hpr_terms.proofs.Plain.{name_is_variable, stream_is_variable}
+use Rattle.hpr_text.proofs.Named.{Named, named_rest, named_around, named_assignment, named_write, named_conditional, named_conditional_else, named_loop, text_named, parts_named, finals_named}
 use Rattle.hpr_text.proofs.Numbered.{parts_counted}
-
--- the names among the tokens are names
-abbrev Named : List Token → Type 0
-Named ts = (x : List ℕ) → Contains ts (Name x) → IsName x
-
-named_left : (a b : List Token) → Named (a ++ b) → Named a
-named_left a b n x h = n x (Contains-append_left a b (Name x) h)
-
-named_right : (a b : List Token) → Named (a ++ b) → Named b
-named_right a b n x h = n x (Contains-append_right a b (Name x) h)
-
-named_rest : (t : Token) (ts : List Token) → Named (t ∷ ts) → Named ts
-named_rest t ts n x h = n x (in_later t (Name x) ts h)
-
-text_named : {w : Bool} {bytes : List ℕ} {ts : List Token} → Text w bytes ts → Named ts
-text_named (tokens.ending h) x there = absurd (in_none (Name x) there)
-text_named (tokens.token blanks text {t = t} {ts = ts} b is apart rest) x there = elim (in_cons t (Name x) ts there) [
-  | inl e ↦ (subst (λ (u : Token). IsToken text u) e is).1
-  | inr later ↦ text_named rest x later
-]
 
 -- expressions
 term_proper : {r : Rule} {d : ℕ} {ts : List Token} {x : Term} → SpellsTerm r d ts x → Named ts → IsProperTerm x
 term_proper (grammar.SpellsTerm.one on s) n = term_proper s n
 term_proper (grammar.SpellsTerm.joined {a = a} {b = b} {t = t} on is s u) n =
-    (term_proper s (named_left a (t ∷ b) n), term_proper u (named_rest t b (named_right a (t ∷ b) n)))
+    let two = named_around a t b n in (term_proper s two.0, term_proper u two.1)
 term_proper (grammar.SpellsTerm.compared {a = a} {b = b} {t = t} is s u) n =
-    (term_proper s (named_left a (t ∷ b) n), term_proper u (named_rest t b (named_right a (t ∷ b) n)))
+    let two = named_around a t b n in (term_proper s two.0, term_proper u two.1)
 term_proper (grammar.SpellsTerm.signed {a = a} {t = t} is s) n = term_proper s (named_rest t a n)
 term_proper (grammar.SpellsTerm.literal is) n = is
-term_proper (grammar.SpellsTerm.name {x = x}) n = n x (in_here (Name x) [])
+term_proper (grammar.SpellsTerm.name {x = x}) n = name_is_variable x (n x (in_here (Name x) []))
 term_proper (grammar.SpellsTerm.bracket {ts = ts} s) n =
-    term_proper s (named_left ts (Mark sign.Close ∷ []) (named_rest (Mark sign.Open) (ts ++ (Mark sign.Close ∷ [])) n))
+    term_proper s (named_around ts (Mark sign.Close) [] (named_rest (Mark sign.Open) (ts ++ (Mark sign.Close ∷ [])) n)).0
 
 -- the tags of the parts, of which there are no more than `most`, are tags
 abbrev pub AreLabels : Form → ℕ → Type 0
@@ -71,46 +50,37 @@ module _ (form : Form) (most : ℕ) (labels : AreLabels form most) where
   body_proper : {l n m : ℕ} {ts : List Token} {b : Body} → SpellsParts form l n m ts b → m ≤ most → Named ts → IsProperBody b
   body_proper grammar.SpellsParts.nothing up names = tt
   body_proper (grammar.SpellsParts.assignment {n = n} {t = t} {x = x} {label = label} {value = value} {more = more} is v s) up names =
-      let from = named_right label (Name x ∷ Mark sign.Becomes ∷ (value ++ (Mark sign.Semicolon ∷ more))) names in
-      let tail = named_rest (Mark sign.Becomes) (value ++ (Mark sign.Semicolon ∷ more)) (named_rest (Name x) (Mark sign.Becomes ∷ (value ++ (Mark sign.Semicolon ∷ more))) from) in (
+      let said = named_assignment label x value more names in (
         tag_proper t (labels n label t is (omega (arith, up, parts_counted s))),
-        from x (in_here (Name x) (Mark sign.Becomes ∷ (value ++ (Mark sign.Semicolon ∷ more)))),
-        term_proper v.0 (named_left value (Mark sign.Semicolon ∷ more) tail),
-        body_proper s up (named_rest (Mark sign.Semicolon) more (named_right value (Mark sign.Semicolon ∷ more) tail)),
+        name_is_variable x said.0,
+        term_proper v.0 said.1,
+        body_proper s up said.2,
       )
+  body_proper (grammar.SpellsParts.write {n = n} {t = t} {label = label} {value = value} {more = more} is v s) up names =
+      let said = named_write label value more names in
+      (tag_proper t (labels n label t is (omega (arith, up, parts_counted s))), stream_is_variable, term_proper v.0 said.0, body_proper s up said.1)
   body_proper (grammar.SpellsParts.conditional {n = n} {t = t} {label = label} {test = test} {first = first} {more = more} is v s u) up names =
-      let behind_then = first ++ (Word keyword.Fi ∷ more) in
-      let behind_if = test ++ (Word keyword.Then ∷ behind_then) in
-      let from = named_rest (Word keyword.If) behind_if (named_right label (Word keyword.If ∷ behind_if) names) in
-      let yes = named_rest (Word keyword.Then) behind_then (named_right test (Word keyword.Then ∷ behind_then) from) in (
+      let said = named_conditional label test first more names in (
         tag_proper t (labels n label t is (omega (arith, up, parts_counted s, parts_counted u))),
-        term_proper v.0 (named_left test (Word keyword.Then ∷ behind_then) from),
-        body_proper s (omega (arith, up, parts_counted u)) (named_left first (Word keyword.Fi ∷ more) yes),
+        term_proper v.0 said.0,
+        body_proper s (omega (arith, up, parts_counted u)) said.1,
         tt,
-        body_proper u up (named_rest (Word keyword.Fi) more (named_right first (Word keyword.Fi ∷ more) yes)),
+        body_proper u up said.2,
       )
   body_proper (grammar.SpellsParts.conditional_else {n = n} {t = t} {label = label} {test = test} {first = first} {second = second} {more = more} is v s w u) up names =
-      let behind_else = second ++ (Word keyword.Fi ∷ more) in
-      let behind_then = first ++ (Word keyword.Else ∷ behind_else) in
-      let behind_if = test ++ (Word keyword.Then ∷ behind_then) in
-      let from = named_rest (Word keyword.If) behind_if (named_right label (Word keyword.If ∷ behind_if) names) in
-      let yes = named_rest (Word keyword.Then) behind_then (named_right test (Word keyword.Then ∷ behind_then) from) in
-      let no = named_rest (Word keyword.Else) behind_else (named_right first (Word keyword.Else ∷ behind_else) yes) in (
+      let said = named_conditional_else label test first second more names in (
         tag_proper t (labels n label t is (omega (arith, up, parts_counted s, parts_counted w, parts_counted u))),
-        term_proper v.0 (named_left test (Word keyword.Then ∷ behind_then) from),
-        body_proper s (omega (arith, up, parts_counted w, parts_counted u)) (named_left first (Word keyword.Else ∷ behind_else) yes),
-        body_proper w (omega (arith, up, parts_counted u)) (named_left second (Word keyword.Fi ∷ more) no),
-        body_proper u up (named_rest (Word keyword.Fi) more (named_right second (Word keyword.Fi ∷ more) no)),
+        term_proper v.0 said.0,
+        body_proper s (omega (arith, up, parts_counted w, parts_counted u)) said.1,
+        body_proper w (omega (arith, up, parts_counted u)) said.2,
+        body_proper u up said.3,
       )
   body_proper (grammar.SpellsParts.while_loop {n = n} {t = t} {label = label} {test = test} {inner = inner} {more = more} is v s u) up names =
-      let behind_do = inner ++ (Word keyword.Od ∷ more) in
-      let behind_while = test ++ (Word keyword.Do ∷ behind_do) in
-      let from = named_rest (Word keyword.While) behind_while (named_right label (Word keyword.While ∷ behind_while) names) in
-      let body = named_rest (Word keyword.Do) behind_do (named_right test (Word keyword.Do ∷ behind_do) from) in (
+      let said = named_loop label test inner more names in (
         tag_proper t (labels n label t is (omega (arith, up, parts_counted s, parts_counted u))),
-        term_proper v.0 (named_left test (Word keyword.Do ∷ behind_do) from),
-        body_proper s (omega (arith, up, parts_counted u)) (named_left inner (Word keyword.Od ∷ more) body),
-        body_proper u up (named_rest (Word keyword.Od) more (named_right inner (Word keyword.Od ∷ more) body)),
+        term_proper v.0 said.0,
+        body_proper s (omega (arith, up, parts_counted u)) said.1,
+        body_proper u up said.2,
       )
 
 -- pairs with numbers in range, of which none is 0
@@ -144,16 +114,22 @@ proper_pairs : (ps : Issued) → InRange ps → AllByRecursion IsProperPair ps
 proper_pairs [] h = tt
 proper_pairs (p ∷ ps) h = ((h.0.0, h.0.1.1), proper_pairs ps h.1)
 
-names_proper : {ts : List Token} {xs : List (List ℕ)} → SpellsNames ts xs → Named ts → AllByRecursion IsName xs
+final_proper : {t : Token} {x : List ℕ} (ts : List Token) → SpellsFinal t x → Named (t ∷ ts) → IsVariable x
+final_proper ts (grammar.plain {x = x}) n = name_is_variable x (n x (in_here (Name x) ts))
+final_proper ts grammar.out n = stream_is_variable
+
+names_proper : {ts : List Token} {xs : List (List ℕ)} → SpellsNames ts xs → Named ts → AllByRecursion IsVariable xs
 names_proper grammar.SpellsNames.none n = tt
-names_proper (grammar.SpellsNames.one {x = x}) n = (n x (in_here (Name x) []), tt)
-names_proper (grammar.SpellsNames.more {x = x} {ts = ts} s) n =
-    (n x (in_here (Name x) (Mark sign.Comma ∷ ts)), names_proper s (named_rest (Mark sign.Comma) ts (named_rest (Name x) (Mark sign.Comma ∷ ts) n)))
+names_proper (grammar.SpellsNames.one is) n = (final_proper [] is n, tt)
+names_proper (grammar.SpellsNames.more {t = t} {ts = ts} is s) n =
+    (final_proper (Mark sign.Comma ∷ ts) is n, names_proper s (named_rest (Mark sign.Comma) ts (named_rest t (Mark sign.Comma ∷ ts) n)))
 
 module _ (form : Form) (most : ℕ) (labels : AreLabels form most) where
   tags_in : {l n m : ℕ} {ts : List Token} {b : Body} → SpellsParts form l n m ts b → m ≤ most → (after : List Tag) → InRange (map tag_pair after) → InRange (map tag_pair (tags_of b after))
   tags_in grammar.SpellsParts.nothing up after h = h
   tags_in (grammar.SpellsParts.assignment {n = n} {t = t} {label = label} is v s) up after h =
+      (labels n label t is (omega (arith, up, parts_counted s)), tags_in s up after h)
+  tags_in (grammar.SpellsParts.write {n = n} {t = t} {label = label} is v s) up after h =
       (labels n label t is (omega (arith, up, parts_counted s)), tags_in s up after h)
   tags_in (grammar.SpellsParts.conditional {n = n} {t = t} {label = label} {rest = rest} is v s u) up after h =
       (labels n label t is (omega (arith, up, parts_counted s, parts_counted u)), tags_in s (omega (arith, up, parts_counted u)) (tags_of rest after) (tags_in u up after h))
@@ -173,18 +149,13 @@ header_in b (grammar.SpellsHeader.pairs {ps = ps} h) tags = raises_in ps [] (pai
 pub spelled_proper : (form : Form) (bytes : List ℕ) (t : Tree) (h : Spells form bytes t) → AreLabels form h.program.count → IsProper t
 spelled_proper form bytes t h labels =
     let p = h.program in
-    let names_then : List Token = p.names ++ (Mark sign.Close ∷ []) in
-    let ending : List Token = Word keyword.End ∷ Mark sign.Open ∷ names_then in
-    let all : Named (Word keyword.Program ∷ (p.header ++ (p.parts ++ ending))) = subst Named p.tokens_are (text_named h.text) in
-    let parts = named_right p.header (p.parts ++ ending) (named_rest (Word keyword.Program) (p.header ++ (p.parts ++ ending)) all) in
-    let end = named_right p.parts ending parts in
-    let names = named_left p.names (Mark sign.Close ∷ []) (named_rest (Mark sign.Open) names_then (named_rest (Word keyword.End) (Mark sign.Open ∷ names_then) end)) in
+    let all : Named h.tokens = text_named h.text in
     let issued = header_in t.body p.header_is (tags_in form p.count labels p.parts_are (omega arith) [] tt) in
     record {
       ascending = subst IsIssued (sym p.issued_is) issued.0;
       numbers = subst (λ (i : Issued). All IsProperPair i) (sym p.issued_is) (All-from_recursion IsProperPair (issued_of p.pairs t.body) (proper_pairs (issued_of p.pairs t.body) issued.1));
-      body = body_proper form p.count labels p.parts_are (omega arith) (named_left p.parts ending parts);
-      finals = All-from_recursion IsName t.finals (names_proper p.names_are names);
+      body = body_proper form p.count labels p.parts_are (omega arith) (parts_named p all);
+      finals = All-from_recursion IsVariable t.finals (names_proper p.names_are (finals_named p all));
     }
 
 tagged_labels : (most : ℕ) → AreLabels tagged most

@@ -28,6 +28,7 @@ use Rattle.hpr_text.proofs.Sound.{IsCounted, found_spelled}
 use Rattle.hpr_text.proofs.Whole.{spelled_state, spelled_runs, spelled_accepted, spelled_ends}
 use Rattle.hpr_text.proofs.Kept.{most, bare_place, Kept, begin_kept, kept_runs, kept_runs_back}
 use Rattle.hpr_text.proofs.Lengths.{text_counts}
+use Rattle.hpr_text.proofs.Named.{Named, text_named}
 use Rattle.hpr_text.proofs.Numbered.{many_parts}
 use Rattle.hpr_text.proofs.Once.{text_once}
 
@@ -86,9 +87,9 @@ pub record TreeIs (m : Mode) (bytes : List ℕ) (k : State) : Type 0 where
   pub few : k.found.count ≤ MAX_PARTS → tree ≡ tree_of k.found
   pub many : MAX_PARTS < k.found.count → shape tree ≡ Some (TooManyParts k.found.count)
 
-many_is : (m : Mode) (ts : List Token) (t : Tree) (n : ℕ) (h : SpellsProgram (form_of m) ts t) → n ≡ tally m h.count → MAX_PARTS < n → shape t ≡ Some (TooManyParts n)
-many_is Tagged ts t n h e lt = absurd (omega (arith, e, lt))
-many_is (Untagged a) ts t n h e lt = many_parts a ts t h (subst (λ (k : ℕ). MAX_PARTS < k) e lt) ∙ ap (λ (k : ℕ). Some (TooManyParts k)) (sym e)
+many_is : (m : Mode) (ts : List Token) (t : Tree) (n : ℕ) (h : SpellsProgram (form_of m) ts t) → Named ts → n ≡ tally m h.count → MAX_PARTS < n → shape t ≡ Some (TooManyParts n)
+many_is Tagged ts t n h names e lt = absurd (omega (arith, e, lt))
+many_is (Untagged a) ts t n h names e lt = many_parts a ts t h names (subst (λ (k : ℕ). MAX_PARTS < k) e lt) ∙ ap (λ (k : ℕ). Some (TooManyParts k)) (sym e)
 
 -- fewer parts than 2 ^ 63 are counted exactly
 exact : (n k : State) → Kept n k → n.found.count < 2 ^ 63 → k.found.count ≡ n.found.count
@@ -107,7 +108,7 @@ reading_is m bytes k short r e =
       tree = t;
       spelled = record { tokens = r.tokens; text = r.text; program = h.0 };
       few = λ le. ap (λ (s : State). tree_of s.found) (n.2.same (omega (arith, le, count)));
-      many = λ lt. many_is m r.tokens t n.0.found.count h.0 h.1 (omega (arith, lt, count)) ∙ ap (λ (c : ℕ). Some (TooManyParts c)) (sym count);
+      many = λ lt. many_is m r.tokens t n.0.found.count h.0 (text_named r.text) h.1 (omega (arith, lt, count)) ∙ ap (λ (c : ℕ). Some (TooManyParts c)) (sym count);
     }
 
 -- the refusal of what was read is that of the tree

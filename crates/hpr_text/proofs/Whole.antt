@@ -5,18 +5,19 @@ use Rattle.std.proofs.lemmas.List.{append-nil}
 use Rattle.hpr_terms.specs.declared.limits.TheConstants.{MAX_LEVELS}
 use Rattle.hpr_terms.specs.declared.tag.Tag.{Tag}
 use Rattle.hpr_terms.specs.declared.expr.Expr.{Expr}
-use Rattle.hpr_terms.specs.declared.keyword.Keyword.TheVariants.{Program, Issued, End, If, Then, Else, Fi, While, Do, Od}
+use Rattle.hpr_terms.specs.declared.keyword.Keyword.TheVariants.{Program, Issued, End, If, Then, Else, Fi, While, Do, Od, Write}
 use Rattle.hpr_terms.specs.declared.token.Sign.TheVariants.{Colon, Becomes, Dot, Comma, Semicolon, Open, Close}
 use Rattle.hpr_terms.specs.declared.token.Token.{Token}
 use Rattle.hpr_terms.specs.declared.token.Token.TheVariants.{Word, Name, Number, Mark}
 use Rattle.hpr_terms.proofs.Facts.{some_inj}
-use Rattle.hpr_syntax.specs.Action.{assigns}
+use Rattle.hpr_terms.specs.Names.{stream}
+use Rattle.hpr_syntax.specs.Action.{Action, assigns, writes}
 use Rattle.hpr_syntax.specs.Body.{Body, done, action, branch, loop}
 use Rattle.hpr_syntax.specs.Parts.{tags_of}
 use Rattle.hpr_syntax.specs.Issued as issued
 use Rattle.hpr_syntax.specs.Tree.{Tree}
 use Rattle.hpr_syntax.specs.Grammar as grammar
-use Rattle.hpr_syntax.specs.Grammar.{Form, IsAuthor, IsSerial, IsTag, IsIssuedPair, Labels, SpellsExpr, SpellsParts, SpellsPairs, SpellsHeader, SpellsNames, SpellsProgram, tag_pair, pair_then, issued_of}
+use Rattle.hpr_syntax.specs.Grammar.{Form, IsAuthor, IsSerial, IsTag, IsIssuedPair, Labels, SpellsExpr, SpellsParts, SpellsPairs, SpellsHeader, SpellsFinal, SpellsNames, SpellsProgram, tag_pair, pair_then, issued_of}
 use Rattle.hpr_scan.specs.Steps.{and_then, runs}
 use Rattle.hpr_text.specs.declared.blocks.Around.{Around}
 use Rattle.hpr_text.specs.declared.blocks.Begun.{Begun}
@@ -26,7 +27,7 @@ use Rattle.hpr_text.specs.declared.form.Mode.{Mode}
 use Rattle.hpr_text.specs.declared.form.Mode.TheVariants.{Tagged, Untagged}
 use Rattle.hpr_text.specs.declared.found.Found.{Found}
 use Rattle.hpr_text.specs.declared.state.Purpose.{Purpose}
-use Rattle.hpr_text.specs.declared.state.Purpose.TheVariants.{Assign, Test, Guard}
+use Rattle.hpr_text.specs.declared.state.Purpose.TheVariants.{Assign, Test, Guard, Output}
 use Rattle.hpr_text.specs.declared.state.Place.{Place}
 use Rattle.hpr_text.specs.declared.state.Place.TheVariants.{AfterProgram, BeforePair, AfterPairAuthor, AfterPairColon, AfterPair, AtPart, AfterAuthor, AfterDot, AfterSerial, AfterColon, AfterTarget, InExpression, AfterEnd, AfterOpen, AfterName, AfterComma, AtEnd}
 use Rattle.hpr_text.specs.declared.state.State.{State}
@@ -56,9 +57,13 @@ lift : (f : Found) (p : Purpose) (r n : Reading) (ts rest : List Token) → runs
 lift f p r n [] rest e = ap (λ (m : Reading). runs (next None) (reading f p m) rest) (some_inj _ _ e)
 lift f p r n (t ∷ ts) rest e = reads_at f p r n t ts rest (read r t) refl e (λ m q. lift f p m n ts rest q)
 
-value_step : (f : Found) (t : Tag) (x : List ℕ) (r : Reading) (e : Expr) → ended r ≡ Some e → next None (reading f (Assign t x) r) (Mark Semicolon) ≡ Some (state_at (with_part None t x e f) AtPart)
+value_step : (f : Found) (t : Tag) (x : List ℕ) (r : Reading) (e : Expr) → ended r ≡ Some e → next None (reading f (Assign t x) r) (Mark Semicolon) ≡ Some (state_at (with_part None t (assigns x e) f) AtPart)
 unfolding next
 value_step f t x r e h = rw h refl
+
+write_step : (f : Found) (t : Tag) (r : Reading) (e : Expr) → ended r ≡ Some e → next None (reading f (Output t) r) (Mark Semicolon) ≡ Some (state_at (with_part None t (writes stream e) f) AtPart)
+unfolding next
+write_step f t r e h = rw h refl
 
 then_step : (f : Found) (t : Tag) (r : Reading) (e : Expr) → ended r ≡ Some e → next None (reading f (Test t) r) (Word Then) ≡ Some (state_at (in_then t e f) AtPart)
 unfolding next
@@ -69,10 +74,16 @@ unfolding next
 do_step f t r e h = rw h refl
 
 value_runs : (ts : List Token) (e : Expr) → SpellsExpr ts e → (f : Found) (t : Tag) (x : List ℕ) (rest : List Token)
-    → runs (next None) (reading f (Assign t x) start) (ts ++ (Mark Semicolon ∷ rest)) ≡ runs (next None) (state_at (with_part None t x e f) AtPart) rest
+    → runs (next None) (reading f (Assign t x) start) (ts ++ (Mark Semicolon ∷ rest)) ≡ runs (next None) (state_at (with_part None t (assigns x e) f) AtPart) rest
 value_runs ts e s f t x rest =
     let n = expression_read ts e s in
-    lift f (Assign t x) start n.0 ts (Mark Semicolon ∷ rest) n.1 ∙ run_one _ (state_at (with_part None t x e f) AtPart) (Mark Semicolon) rest (value_step f t x n.0 e n.2)
+    lift f (Assign t x) start n.0 ts (Mark Semicolon ∷ rest) n.1 ∙ run_one _ (state_at (with_part None t (assigns x e) f) AtPart) (Mark Semicolon) rest (value_step f t x n.0 e n.2)
+
+write_runs : (ts : List Token) (e : Expr) → SpellsExpr ts e → (f : Found) (t : Tag) (rest : List Token)
+    → runs (next None) (reading f (Output t) start) (ts ++ (Mark Semicolon ∷ rest)) ≡ runs (next None) (state_at (with_part None t (writes stream e) f) AtPart) rest
+write_runs ts e s f t rest =
+    let n = expression_read ts e s in
+    lift f (Output t) start n.0 ts (Mark Semicolon ∷ rest) n.1 ∙ run_one _ (state_at (with_part None t (writes stream e) f) AtPart) (Mark Semicolon) rest (write_step f t n.0 e n.2)
 
 test_runs : (ts : List Token) (e : Expr) → SpellsExpr ts e → (f : Found) (t : Tag) (rest : List Token)
     → runs (next None) (reading f (Test t) start) (ts ++ (Word Then ∷ rest)) ≡ runs (next None) (state_at (in_then t e f) AtPart) rest
@@ -183,6 +194,7 @@ data Begins : Token → Type 0 where
   a_name : (x : List ℕ) → Begins (Name x)
   a_test : Begins (Word If)
   a_guard : Begins (Word While)
+  a_write : Begins (Word Write)
 
 -- with the tag of a part that begins behind n others
 abbrev labelled : ℕ → Tag → Found → Found
@@ -194,6 +206,7 @@ unfolding next
 first_step f a t (a_name x) e room = ap (λ (o : Mode). first_next (begun_in None o f) (Name x)) e ∙ rw (lt-ltb _ _ room) refl
 first_step f a t a_test e room = ap (λ (o : Mode). first_next (begun_in None o f) (Word If)) e ∙ rw (lt-ltb _ _ room) refl
 first_step f a t a_guard e room = ap (λ (o : Mode). first_next (begun_in None o f) (Word While)) e ∙ rw (lt-ltb _ _ room) refl
+first_step f a t a_write e room = ap (λ (o : Mode). first_next (begun_in None o f) (Word Write)) e ∙ rw (lt-ltb _ _ room) refl
 
 -- a label and the first token of a part
 label_runs : (f : Found) (o : Mode) (n : ℕ) (label : List Token) (g : Tag) (t : Token) (s : State) (rest : List Token) → f.mode ≡ o → f.count ≡ tally f.mode n → Labels (form_of o) n label g → Begins t
@@ -232,9 +245,9 @@ part_then : (f : Found) (c m : ℕ) (is : issued.Issued) (part rest : Body) → 
 part_then f c m is part rest e =
     λ i. record { mode = f.mode; count = tally f.mode m; has_header = f.has_header; issued = e i; blocks = f.blocks; parts = then_assoc f.parts part rest i; names = f.names }
 
-assign_raises : (h : Bool) (t : Tag) (x : List ℕ) (e : Expr) (rest : Body) (is : issued.Issued) → parts_raised h rest (tag_raised h t is) ≡ parts_raised h (action t (assigns x e) rest) is
-assign_raises true t x e rest is = refl
-assign_raises false t x e rest is = refl
+action_raises : (h : Bool) (t : Tag) (d : Action) (rest : Body) (is : issued.Issued) → parts_raised h rest (tag_raised h t is) ≡ parts_raised h (action t d rest) is
+action_raises true t d rest is = refl
+action_raises false t d rest is = refl
 
 branch_raises : (h : Bool) (t : Tag) (e : Expr) (first rest : Body) (is : issued.Issued)
     → parts_raised h rest (parts_raised h first (tag_raised h t is)) ≡ parts_raised h (branch t e first done rest) is
@@ -263,13 +276,22 @@ parts_run {n = n} {m = m} f eq (grammar.assignment {t = t} {x = x} {e = e} {labe
     let g : Found = labelled n t f in
     let room : length f.blocks < MAX_LEVELS = omega (arith, deep) in
     let tail : List Token = (value ++ (Mark Semicolon ∷ more)) ++ rest in
-    let k : Found = with_part None t x e g in
+    let k : Found = with_part None t (assigns x e) g in
     ap (runs (next None) (state_at f AtPart)) (append_assoc label (Name x ∷ Mark Becomes ∷ (value ++ (Mark Semicolon ∷ more))) rest)
     ∙ label_runs f f.mode n label t (Name x) (state_at g (AfterTarget t x)) (Mark Becomes ∷ tail) refl c (own f label t n eq is) (a_name x) room refl
     ∙ run_one _ (reading g (Assign t x) start) (Mark Becomes) tail (becomes_step g t x)
     ∙ ap (runs (next None) (reading g (Assign t x) start)) (append_assoc value (Mark Semicolon ∷ more) rest)
     ∙ value_runs value e v g t x (more ++ rest) ∙ parts_run k eq s rest deep refl
-    ∙ ap (λ y. runs (next None) (state_at y AtPart) rest) (part_then f g.count m g.issued (action t (assigns x e) done) body (assign_raises f.has_header t x e body f.issued))
+    ∙ ap (λ y. runs (next None) (state_at y AtPart) rest) (part_then f g.count m g.issued (action t (assigns x e) done) body (action_raises f.has_header t (assigns x e) body f.issued))
+parts_run {n = n} {m = m} f eq (grammar.write {t = t} {e = e} {label = label} {value = value} {more = more} {rest = body} is v s) rest deep c =
+    let g : Found = labelled n t f in
+    let room : length f.blocks < MAX_LEVELS = omega (arith, deep) in
+    let k : Found = with_part None t (writes stream e) g in
+    ap (runs (next None) (state_at f AtPart)) (append_assoc label (Word Write ∷ (value ++ (Mark Semicolon ∷ more))) rest)
+    ∙ label_runs f f.mode n label t (Word Write) (reading g (Output t) start) ((value ++ (Mark Semicolon ∷ more)) ++ rest) refl c (own f label t n eq is) a_write room refl
+    ∙ ap (runs (next None) (reading g (Output t) start)) (append_assoc value (Mark Semicolon ∷ more) rest)
+    ∙ write_runs value e v g t (more ++ rest) ∙ parts_run k eq s rest deep refl
+    ∙ ap (λ y. runs (next None) (state_at y AtPart) rest) (part_then f g.count m g.issued (action t (writes stream e) done) body (action_raises f.has_header t (writes stream e) body f.issued))
 parts_run {n = n} {m = m} f eq (grammar.conditional {k = c1} {t = t} {e = e} {label = label} {test = test} {first = inner} {more = more} {yes = chosen} {rest = body} is v s u) rest deep c =
     let g : Found = labelled n t f in
     let room : length f.blocks < MAX_LEVELS = omega (arith, deep) in
@@ -342,6 +364,7 @@ unfolding next
 begins_alike t (a_name x) f = refl
 begins_alike t a_test f = refl
 begins_alike t a_guard f = refl
+begins_alike t a_write f = refl
 
 label_alike : {m : Form} {n : ℕ} {label : List Token} {g : Tag} (t : Token) (ts : List Token) → Labels m n label g → Begins t → Alike AfterProgram AtPart (label ++ (t ∷ ts))
 label_alike {g = g} t ts (grammar.tag is) b = same_first AfterProgram AtPart (Number g.author) (Mark Dot ∷ Number g.serial ∷ Mark Colon ∷ t ∷ ts) (number_alike g.author)
@@ -351,6 +374,8 @@ program_parts : {m : Form} {l n k : ℕ} {ts : List Token} {body : Body} → Spe
 program_parts grammar.nothing rest = same_first AfterProgram AtPart (Word End) rest end_alike
 program_parts (grammar.assignment {x = x} {label = label} {value = value} {more = more} is v s) rest =
     rw append_assoc (label_alike (Name x) ((Mark Becomes ∷ (value ++ (Mark Semicolon ∷ more))) ++ (Word End ∷ rest)) is (a_name x))
+program_parts (grammar.write {label = label} {value = value} {more = more} is v s) rest =
+    rw append_assoc (label_alike (Word Write) ((value ++ (Mark Semicolon ∷ more)) ++ (Word End ∷ rest)) is a_write)
 program_parts (grammar.conditional {label = label} {test = test} {first = inner} {more = more} is v s u) rest =
     rw append_assoc (label_alike (Word If) ((test ++ (Word Then ∷ (inner ++ (Word Fi ∷ more)))) ++ (Word End ∷ rest)) is a_test)
 program_parts (grammar.conditional_else {label = label} {test = test} {first = inner} {second = other} {more = more} is v s w u) rest =
@@ -363,6 +388,7 @@ header_parts : {l n m : ℕ} {ts : List Token} {body : Body} → SpellsParts gra
 unfolding next
 header_parts grammar.nothing f rest = refl
 header_parts (grammar.assignment (grammar.tag is) v s) f rest = refl
+header_parts (grammar.write (grammar.tag is) v s) f rest = refl
 header_parts (grammar.conditional (grammar.tag is) v s u) f rest = refl
 header_parts (grammar.conditional_else (grammar.tag is) v s w u) f rest = refl
 header_parts (grammar.while_loop (grammar.tag is) v s u) f rest = refl
@@ -384,31 +410,33 @@ more_step : (f : Found) → next None (state_at f AfterName) (Mark Comma) ≡ So
 unfolding next
 more_step f = refl
 
-first_name_step : (f : Found) (x : List ℕ) → next None (state_at f AfterOpen) (Name x) ≡ Some (state_at (with_name x f) AfterName)
-unfolding next
-first_name_step f x = refl
-
-next_name_step : (f : Found) (x : List ℕ) → next None (state_at f AfterComma) (Name x) ≡ Some (state_at (with_name x f) AfterName)
-unfolding next
-next_name_step f x = refl
-
 abbrev TakesName : Place → Type 0
-TakesName p = (f : Found) (x : List ℕ) → next None (state_at f p) (Name x) ≡ Some (state_at (with_name x f) AfterName)
+TakesName p = (f : Found) (t : Token) (x : List ℕ) → SpellsFinal t x → next None (state_at f p) t ≡ Some (state_at (with_name x f) AfterName)
+
+first_name_step : TakesName AfterOpen
+unfolding next
+first_name_step f t x grammar.plain = refl
+first_name_step f t x grammar.out = refl
+
+next_name_step : TakesName AfterComma
+unfolding next
+next_name_step f t x grammar.plain = refl
+next_name_step f t x grammar.out = refl
 
 names_from : {ts : List Token} {y : List ℕ} {ys : List (List ℕ)} → SpellsNames ts (y ∷ ys) → (p : Place) → TakesName p → (f : Found)
     → runs (next None) (state_at f p) (ts ++ (Mark Close ∷ [])) ≡ Some (state_at (with_names (y ∷ ys) f) AtEnd)
-names_from (grammar.one {x = x}) p takes f =
-    run_one _ (state_at (with_name x f) AfterName) (Name x) (Mark Close ∷ []) (takes f x) ∙ run_one _ (state_at (with_name x f) AtEnd) (Mark Close) [] (last_step (with_name x f))
-names_from (grammar.more {x = x} {y = z} {ts = ts} {xs = xs} s) p takes f =
+names_from (grammar.one {t = t} {x = x} is) p takes f =
+    run_one _ (state_at (with_name x f) AfterName) t (Mark Close ∷ []) (takes f t x is) ∙ run_one _ (state_at (with_name x f) AtEnd) (Mark Close) [] (last_step (with_name x f))
+names_from (grammar.more {t = t} {x = x} {y = z} {ts = ts} {xs = xs} is s) p takes f =
     let g : Found = with_name x f in
-    run_one _ (state_at g AfterName) (Name x) (Mark Comma ∷ (ts ++ (Mark Close ∷ []))) (takes f x) ∙ run_one _ (state_at g AfterComma) (Mark Comma) (ts ++ (Mark Close ∷ [])) (more_step g)
+    run_one _ (state_at g AfterName) t (Mark Comma ∷ (ts ++ (Mark Close ∷ []))) (takes f t x is) ∙ run_one _ (state_at g AfterComma) (Mark Comma) (ts ++ (Mark Close ∷ [])) (more_step g)
     ∙ names_from s AfterComma next_name_step g ∙ ap (λ ns. Some (state_at (record f { names = ns }) AtEnd)) (append_assoc f.names (x ∷ []) (z ∷ xs))
 
 names_run : {ts : List Token} {xs : List (List ℕ)} → SpellsNames ts xs → (f : Found) → runs (next None) (state_at f AfterOpen) (ts ++ (Mark Close ∷ [])) ≡ Some (state_at (with_names xs f) AtEnd)
 names_run grammar.none f =
     run_one _ (state_at f AtEnd) (Mark Close) [] (close_step f) ∙ ap (λ ns. Some (state_at (record f { names = ns }) AtEnd)) (sym (append-nil f.names))
-names_run grammar.one f = names_from grammar.one AfterOpen first_name_step f
-names_run (grammar.more s) f = names_from (grammar.more s) AfterOpen first_name_step f
+names_run (grammar.one is) f = names_from (grammar.one is) AfterOpen first_name_step f
+names_run (grammar.more is s) f = names_from (grammar.more is s) AfterOpen first_name_step f
 
 -- ---- programs
 

@@ -14,7 +14,7 @@ use Rattle.hpr_terms.specs.declared.token.Token.TheVariants.{Word, Name, Number,
 use Rattle.hpr_scan.specs.Machine.{IsTokenMachine, Live, ends, goes, EndsAtOnce}
 use Rattle.hpr_expressions.specs.declared.expression.Reading.{Reading}
 use Rattle.hpr_text.specs.declared.content.Aim.{Aim}
-use Rattle.hpr_text.specs.declared.content.Aim.TheVariants.{Assign, Test, Guard}
+use Rattle.hpr_text.specs.declared.content.Aim.TheVariants.{Assign, Test, Guard, Output}
 use Rattle.hpr_text.specs.declared.content.ContentState.{ContentState}
 use Rattle.hpr_text.specs.declared.content.ContentState.TheVariants.{Start, AfterTarget, InExpression, Ended}
 use Rattle.hpr_expressions.specs.Expression.{start, read, ended, can_end}
@@ -168,6 +168,7 @@ unfolding content_next
 content_ends_at_once Start n (Name x) e f = absurd (not_ended (AfterTarget x) n e refl f)
 content_ends_at_once Start n (Word keyword.If) e f = absurd (not_ended (InExpression Test start) n e refl f)
 content_ends_at_once Start n (Word keyword.While) e f = absurd (not_ended (InExpression Guard start) n e refl f)
+content_ends_at_once Start n (Word keyword.Write) e f = absurd (not_ended (InExpression Output start) n e refl f)
 content_ends_at_once Start n t e f = absurd cc
 content_ends_at_once (AfterTarget x) n (Mark sign.Becomes) e f = tt
 content_ends_at_once (AfterTarget x) n t e f = absurd cc

@@ -13,11 +13,12 @@ use Rattle.hpr_terms.specs.declared.keyword.Keyword.TheVariants as keyword
 use Rattle.hpr_terms.specs.declared.token.Sign.TheVariants.{Becomes, Semicolon}
 use Rattle.hpr_terms.specs.declared.token.Token.{Token}
 use Rattle.hpr_terms.specs.declared.token.Token.TheVariants.{Word, Name, Mark}
+use Rattle.hpr_terms.specs.Names.{stream}
 use Rattle.hpr_syntax.specs.declared.rows.Content.{Content}
 use Rattle.hpr_syntax.specs.declared.rows.Content.TheVariants as content
 use Rattle.hpr_expressions.specs.declared.expression.Reading.{Reading}
 use Rattle.hpr_text.specs.declared.content.Aim.{Aim}
-use Rattle.hpr_text.specs.declared.content.Aim.TheVariants.{Assign, Test, Guard}
+use Rattle.hpr_text.specs.declared.content.Aim.TheVariants.{Assign, Test, Guard, Output}
 use Rattle.hpr_text.specs.declared.content.ContentState.{ContentState}
 use Rattle.hpr_text.specs.declared.content.ContentState.TheVariants.{Start, AfterTarget, InExpression, Ended}
 use Rattle.hpr_expressions.specs.Expression.{start, read, ended}
@@ -26,6 +27,7 @@ abbrev pub content_of : Aim → Expr → Content
 content_of (Assign x) e = content.Assign x e
 content_of Test e = content.If e
 content_of Guard e = content.While e
+content_of Output e = content.Write stream e
 
 abbrev pub content_ends : Aim → Option Expr → Option ContentState
 content_ends aim None = None
@@ -39,6 +41,7 @@ abbrev pub begin_next : Token → Option ContentState
 begin_next (Name x) = Some (AfterTarget x)
 begin_next (Word keyword.If) = Some (InExpression Test start)
 begin_next (Word keyword.While) = Some (InExpression Guard start)
+begin_next (Word keyword.Write) = Some (InExpression Output start)
 begin_next _ = None
 
 abbrev pub becomes_next : List ℕ → Token → Option ContentState

@@ -17,7 +17,7 @@ use Rattle.hpr_text.specs.declared.form.Mode.{Mode}
 use Rattle.hpr_text.specs.declared.form.Mode.TheVariants.{Tagged, Untagged}
 use Rattle.hpr_text.specs.declared.found.Found.{Found}
 use Rattle.hpr_text.specs.declared.state.Purpose.{Purpose}
-use Rattle.hpr_text.specs.declared.state.Purpose.TheVariants.{Assign, Test, Guard}
+use Rattle.hpr_text.specs.declared.state.Purpose.TheVariants.{Assign, Test, Guard, Output}
 use Rattle.hpr_text.specs.declared.state.Place.{Place}
 use Rattle.hpr_text.specs.declared.state.Place.TheVariants.{Start, AfterProgram, BeforePair, AfterPairAuthor, AfterPairColon, AfterPair, AtPart, AfterAuthor, AfterDot, AfterSerial, AfterColon, AfterTarget, InExpression, AfterEnd, AfterOpen, AfterName, AfterComma, AtEnd}
 use Rattle.hpr_text.specs.declared.state.State.{State}
@@ -31,36 +31,43 @@ name_goes : (l : Option ℕ) (f : Found) (p : Purpose) (r : Reading) (x : List �
 name_goes l f (Assign t y) r x = refl
 name_goes l f (Test t) r x = refl
 name_goes l f (Guard t) r x = refl
+name_goes l f (Output t) r x = refl
 
 number_goes : (l : Option ℕ) (f : Found) (p : Purpose) (r : Reading) (n : ℕ) → expression_next l f p r (Number n) ≡ goes_on f p (read r (Number n))
 number_goes l f (Assign t y) r n = refl
 number_goes l f (Test t) r n = refl
 number_goes l f (Guard t) r n = refl
+number_goes l f (Output t) r n = refl
 
 equal_goes : (l : Option ℕ) (f : Found) (p : Purpose) (r : Reading) → expression_next l f p r (Mark Equal) ≡ goes_on f p (read r (Mark Equal))
 equal_goes l f (Assign t y) r = refl
 equal_goes l f (Test t) r = refl
 equal_goes l f (Guard t) r = refl
+equal_goes l f (Output t) r = refl
 
 colon_goes : (l : Option ℕ) (f : Found) (p : Purpose) (r : Reading) → expression_next l f p r (Mark Colon) ≡ goes_on f p (read r (Mark Colon))
 colon_goes l f (Assign t y) r = refl
 colon_goes l f (Test t) r = refl
 colon_goes l f (Guard t) r = refl
+colon_goes l f (Output t) r = refl
 
 less_goes : (l : Option ℕ) (f : Found) (p : Purpose) (r : Reading) → expression_next l f p r (Mark Less) ≡ goes_on f p (read r (Mark Less))
 less_goes l f (Assign t y) r = refl
 less_goes l f (Test t) r = refl
 less_goes l f (Guard t) r = refl
+less_goes l f (Output t) r = refl
 
 greater_goes : (l : Option ℕ) (f : Found) (p : Purpose) (r : Reading) → expression_next l f p r (Mark Greater) ≡ goes_on f p (read r (Mark Greater))
 greater_goes l f (Assign t y) r = refl
 greater_goes l f (Test t) r = refl
 greater_goes l f (Guard t) r = refl
+greater_goes l f (Output t) r = refl
 
 greater_equal_goes : (l : Option ℕ) (f : Found) (p : Purpose) (r : Reading) → expression_next l f p r (Mark GreaterEqual) ≡ goes_on f p (read r (Mark GreaterEqual))
 greater_equal_goes l f (Assign t y) r = refl
 greater_equal_goes l f (Test t) r = refl
 greater_equal_goes l f (Guard t) r = refl
+greater_equal_goes l f (Output t) r = refl
 
 some_goes : (f : Found) (p : Purpose) (o : Option Reading) → is_some (goes_on f p o) ≡ is_some o
 some_goes f p None = refl
@@ -71,6 +78,7 @@ unfolding next
 goes_read l f (Assign g x) r n (Mark Semicolon) e = absurd (no_semicolon r n e)
 goes_read l f (Test g) r n (Word Then) e = absurd (no_then r n e)
 goes_read l f (Guard g) r n (Word Do) e = absurd (no_do r n e)
+goes_read l f (Output g) r n (Mark Semicolon) e = absurd (no_semicolon r n e)
 goes_read l f p r n t e = rw e refl
 
 -- ---- tests

@@ -12,14 +12,15 @@ use Rattle.hpr_terms.specs.declared.token.Sign.{Sign}
 use Rattle.hpr_terms.specs.declared.token.Sign.TheVariants as sign
 use Rattle.hpr_terms.specs.declared.token.Token.TheVariants.{Word, Name, Number, Mark}
 use Rattle.hpr_terms.specs.Keywords.{keyword_of}
-use Rattle.hpr_terms.specs.Names.{is_name_like, IsName, is_name, is_name_byte}
+use Rattle.hpr_terms.specs.Names.{is_name_like, IsName, is_name, is_name_byte, stream}
+use Rattle.hpr_syntax.specs.Action.{assigns, writes}
 use Rattle.hpr_scan.specs.Machine.{Live, ends, goes}
 use Rattle.hpr_text.specs.declared.blocks.Begun.{Begun}
 use Rattle.hpr_text.specs.declared.blocks.Begun.TheVariants as begun
 use Rattle.hpr_expressions.specs.declared.expression.Reading.{Reading}
 use Rattle.hpr_text.specs.declared.found.Found.{Found}
 use Rattle.hpr_text.specs.declared.state.Purpose.{Purpose}
-use Rattle.hpr_text.specs.declared.state.Purpose.TheVariants.{Assign, Test, Guard}
+use Rattle.hpr_text.specs.declared.state.Purpose.TheVariants.{Assign, Test, Guard, Output}
 use Rattle.hpr_text.specs.declared.state.Place.{Place}
 use Rattle.hpr_text.specs.declared.state.Place.TheVariants.{Start, AfterProgram, BeforePair, AfterPairAuthor, AfterPairColon, AfterPair, AtPart, AfterAuthor, AfterDot, AfterSerial, AfterColon, AfterTarget, InExpression, AfterEnd, AfterOpen, AfterName, AfterComma, AtEnd}
 use Rattle.hpr_text.specs.declared.state.State.{State}
@@ -100,9 +101,10 @@ live_part f = live_parts f.blocks f AtPart at_parts refl
 live_ends : (f : Found) (p : Purpose) (r : Reading) (o : Option Expr) → ended r ≡ o → is_some o ≡ true → IsLive (state_at f (InExpression p r))
 unfolding next
 live_ends f p r None q e = absurd cc
-live_ends f (Assign t x) r (Some v) q e = mark _ (state_at (with_part limit t x v f) AtPart) sign.Semicolon (ap (ends_here limit f (Assign t x)) q) (live_part _)
+live_ends f (Assign t x) r (Some v) q e = mark _ (state_at (with_part limit t (assigns x v) f) AtPart) sign.Semicolon (ap (ends_here limit f (Assign t x)) q) (live_part _)
 live_ends f (Test t) r (Some v) q e = word _ (state_at (in_then t v f) AtPart) keyword.Then (ap (ends_here limit f (Test t)) q) (live_part _)
 live_ends f (Guard t) r (Some v) q e = word _ (state_at (in_loop t v f) AtPart) keyword.Do (ap (ends_here limit f (Guard t)) q) (live_part _)
+live_ends f (Output t) r (Some v) q e = mark _ (state_at (with_part limit t (writes stream v) f) AtPart) sign.Semicolon (ap (ends_here limit f (Output t)) q) (live_part _)
 
 live_in : (f : Found) (p : Purpose) {r : Reading} → Live read can_end r → IsLive (state_at f (InExpression p r))
 live_in f p (ends {s = r} e) = live_ends f p r (ended r) refl e

@@ -16,7 +16,7 @@
 -- with_header f       == there is a header
 -- with_tag t f        == the tag's author's number is raised to its serial, unless a header says the numbers
 -- part_begun l f      == with one more part, which has begun, and its tag, if a part without a tag can begin
--- with_part l t x e f == one more part, x := e
+-- with_part l t d f   == one more part, which does d
 -- in_then t e f       == the first block of a conditional begins
 -- in_loop t e f       == the block of a loop begins
 -- else_found f        == the second block of a conditional begins, if it can begin here
@@ -34,11 +34,12 @@ use Rattle.std.specs.Prelude.{ℕ, ◌+◌, ◌-◌, ◌^◌, min, Bool, true, f
 use Rattle.hpr_terms.specs.declared.limits.TheConstants.{MAX_LEVELS, MAX_PARTS}
 use Rattle.hpr_terms.specs.declared.tag.Tag.{Tag}
 use Rattle.hpr_terms.specs.declared.expr.Expr.{Expr}
-use Rattle.hpr_terms.specs.declared.keyword.Keyword.TheVariants.{Program, Issued, End, If, Then, Else, Fi, While, Do, Od}
+use Rattle.hpr_terms.specs.declared.keyword.Keyword.TheVariants.{Program, Issued, End, If, Then, Else, Fi, While, Do, Od, Write, Out}
 use Rattle.hpr_terms.specs.declared.token.Sign.TheVariants.{Colon, Becomes, Dot, Comma, Semicolon, Open, Close}
 use Rattle.hpr_terms.specs.declared.token.Token.{Token}
 use Rattle.hpr_terms.specs.declared.token.Token.TheVariants.{Word, Name, Number, Mark}
-use Rattle.hpr_syntax.specs.Action.{assigns}
+use Rattle.hpr_terms.specs.Names.{stream}
+use Rattle.hpr_syntax.specs.Action.{Action, assigns, writes}
 use Rattle.hpr_syntax.specs.Body.{Body, done, action, branch, loop}
 use Rattle.hpr_syntax.specs.Issued as issued
 use Rattle.hpr_syntax.specs.Tree.{Tree}
@@ -53,7 +54,7 @@ use Rattle.hpr_text.specs.declared.form.Mode.{Mode}
 use Rattle.hpr_text.specs.declared.form.Mode.TheVariants.{Tagged, Untagged}
 use Rattle.hpr_text.specs.declared.found.Found.{Found}
 use Rattle.hpr_text.specs.declared.state.Purpose.{Purpose}
-use Rattle.hpr_text.specs.declared.state.Purpose.TheVariants.{Assign, Test, Guard}
+use Rattle.hpr_text.specs.declared.state.Purpose.TheVariants.{Assign, Test, Guard, Output}
 use Rattle.hpr_text.specs.declared.state.Place.{Place}
 use Rattle.hpr_text.specs.declared.state.Place.TheVariants.{Start, AfterProgram, BeforePair, AfterPairAuthor, AfterPairColon, AfterPair, AtPart, AfterAuthor, AfterDot, AfterSerial, AfterColon, AfterTarget, InExpression, AfterEnd, AfterOpen, AfterName, AfterComma, AtEnd}
 use Rattle.hpr_text.specs.declared.state.State.{State}
@@ -119,8 +120,8 @@ part_begun l f = begun_in l f.mode f
 abbrev pub with_parts : Option ℕ → Body → Body → Found → Found
 with_parts l before part f = record f { parts = then_kept (keeps l f.count) before part }
 
-abbrev pub with_part : Option ℕ → Tag → List ℕ → Expr → Found → Found
-with_part l t x e f = with_parts l f.parts (action t (assigns x e) done) f
+abbrev pub with_part : Option ℕ → Tag → Action → Found → Found
+with_part l t d f = with_parts l f.parts (action t d done) f
 
 abbrev pub around : Tag → Expr → Found → Around
 around t e f = record { before = f.parts; tag = t; test = e }
@@ -186,6 +187,7 @@ abbrev pub colon_next : Found → Tag → Token → Option State
 colon_next f t (Name x) = Some (state_at f (AfterTarget t x))
 colon_next f t (Word If) = Some (state_at f (InExpression (Test t) start))
 colon_next f t (Word While) = Some (state_at f (InExpression (Guard t) start))
+colon_next f t (Word Write) = Some (state_at f (InExpression (Output t) start))
 colon_next f t _ = None
 
 -- the first token of a part, which has its tag
@@ -202,6 +204,7 @@ part_next l f (Number a) = tag_next f.mode f a
 part_next l f (Name x) = first_next (part_begun l f) (Name x)
 part_next l f (Word If) = first_next (part_begun l f) (Word If)
 part_next l f (Word While) = first_next (part_begun l f) (Word While)
+part_next l f (Word Write) = first_next (part_begun l f) (Word Write)
 part_next l f (Word End) = ends_parts f.blocks f
 part_next l f (Word Else) = at_part (else_found f)
 part_next l f (Word Fi) = at_part (fi_found l f)
@@ -253,9 +256,10 @@ target_next f t x _ = None
 
 abbrev pub ends_here : Option ℕ → Found → Purpose → Option Expr → Option State
 ends_here l f p None = None
-ends_here l f (Assign t x) (Some e) = Some (state_at (with_part l t x e f) AtPart)
+ends_here l f (Assign t x) (Some e) = Some (state_at (with_part l t (assigns x e) f) AtPart)
 ends_here l f (Test t) (Some e) = Some (state_at (in_then t e f) AtPart)
 ends_here l f (Guard t) (Some e) = Some (state_at (in_loop t e f) AtPart)
+ends_here l f (Output t) (Some e) = Some (state_at (with_part l t (writes stream e) f) AtPart)
 
 abbrev pub goes_on : Found → Purpose → Option Reading → Option State
 goes_on f p None = None
@@ -265,6 +269,7 @@ abbrev pub expression_next : Option ℕ → Found → Purpose → Reading → To
 expression_next l f (Assign t x) r (Mark Semicolon) = ends_here l f (Assign t x) (ended r)
 expression_next l f (Test t) r (Word Then) = ends_here l f (Test t) (ended r)
 expression_next l f (Guard t) r (Word Do) = ends_here l f (Guard t) (ended r)
+expression_next l f (Output t) r (Mark Semicolon) = ends_here l f (Output t) (ended r)
 expression_next l f p r t = goes_on f p (read r t)
 
 abbrev pub end_next : Found → Token → Option State
@@ -273,6 +278,7 @@ end_next f _ = None
 
 abbrev pub open_next : Found → Token → Option State
 open_next f (Name x) = Some (state_at (with_name x f) AfterName)
+open_next f (Word Out) = Some (state_at (with_name stream f) AfterName)
 open_next f (Mark Close) = Some (state_at f AtEnd)
 open_next f _ = None
 
@@ -283,6 +289,7 @@ name_next f _ = None
 
 abbrev pub comma_next : Found → Token → Option State
 comma_next f (Name x) = Some (state_at (with_name x f) AfterName)
+comma_next f (Word Out) = Some (state_at (with_name stream f) AfterName)
 comma_next f _ = None
 
 abbrev pub next_at : Option ℕ → Found → Place → Token → Option State

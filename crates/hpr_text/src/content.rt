@@ -12,7 +12,7 @@ use crate::boxed::BoxedReader;
 use crate::reader::TextError;
 use hpr_scan::{Fault, FrontMachine, Refusal, TokenMachine, read_front};
 use hpr_syntax::Content;
-use hpr_terms::{Expr, Keyword, Name, Sign, Token};
+use hpr_terms::{Expr, Keyword, Name, NoMemory, Sign, Token};
 use std::alloc::Global;
 use std::mem;
 
@@ -25,6 +25,8 @@ pub enum Aim {
     Test,
     /// The test of a loop.
     Guard,
+    /// The number that is written.
+    Output,
 }
 
 /// How far a content was read.
@@ -51,13 +53,14 @@ impl Drop for ContentState {
     }
 }
 
-fn content(aim: Aim, value: Expr) -> Content
-    ensures { result ≡ machine.content_of aim value }
+fn content(alloc: Global, aim: Aim, value: Expr) -> Result<Content, NoMemory>
+    ensures { IfOk result (λ c. c ≡ machine.content_of aim value) }
 {
     match aim {
-        Aim::Assign(name) => Content::Assign(name, value),
-        Aim::Test => Content::If(value),
-        Aim::Guard => Content::While(value),
+        Aim::Assign(name) => Ok(Content::Assign(name, value)),
+        Aim::Test => Ok(Content::If(value)),
+        Aim::Guard => Ok(Content::While(value)),
+        Aim::Output => Ok(Content::Write(Name::stream(alloc)?, value)),
     }
 }
 
@@ -71,6 +74,9 @@ fn begin_next(alloc: Global, token: Token) -> Result<ContentState, Fault>
         }
         Token::Word(Keyword::While) => {
             Ok(ContentState::InExpression(Aim::Guard, BoxedReader::start(alloc)?))
+        }
+        Token::Word(Keyword::Write) => {
+            Ok(ContentState::InExpression(Aim::Output, BoxedReader::start(alloc)?))
         }
         _ => Err(Fault::Refused),
     }
@@ -91,7 +97,7 @@ fn ends(alloc: Global, aim: Aim, reading: BoxedReader) -> Result<ContentState, F
     ensures { Steps (machine.content_ends aim (expression.ended reading)) result }
 {
     let value = reading.ended(alloc)?;
-    Ok(ContentState::Ended(content(aim, value)))
+    Ok(ContentState::Ended(content(alloc, aim, value)?))
 }
 
 fn goes_on(
@@ -140,7 +146,9 @@ impl TokenMachine for ContentState {
     #[tactic(auto, unfolding(crate::specs::ContentMachine::content_next), using(crate::proofs::ContentGoing::content_goes_on_is_some))]
     fn takes_keyword(&self, keyword: Keyword) -> bool {
         match self {
-            ContentState::Start => matches!(keyword, Keyword::If | Keyword::While),
+            ContentState::Start => {
+                matches!(keyword, Keyword::If | Keyword::While | Keyword::Write)
+            }
             ContentState::InExpression(_, reading) => reading.reader().takes_keyword(keyword),
             _ => false,
         }
@@ -216,7 +224,7 @@ impl ContentState {
 /// from the start of all bytes, and `start` is at most their length.
 ///
 /// What follows the `;` is not read. A content is what a part says without its tag and its blocks:
-/// `name := expr`, `if expr` or `while expr`, with the limits of an expression. `Syntax` comes
+/// `name := expr`, `write expr`, `if expr` or `while expr`, with the limits of an expression. `Syntax` comes
 /// exactly where the bytes from `start` on begin with no content and `;`; its place is `start` and
 /// the length of the longest front of the bytes from there on that some further bytes complete.
 /// `Shape` never comes; `Memory` where memory ran out.

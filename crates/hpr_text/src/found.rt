@@ -1,6 +1,8 @@
 //! What was read so far.
 ghost use Rattle.std.specs.Prelude.{◌≡◌, ◌≢◌, ◌≤◌, [], ◌∷◌, ◌++◌, length, nat_lt, is_some, Some, IfOk, IfErr, OnOk};
 ghost use Rattle.hpr_terms.specs.declared.limits.TheConstants.{MAX_LEVELS, MAX_PARTS};
+ghost use Rattle.hpr_terms.specs.Names.{stream};
+ghost use Rattle.hpr_syntax.specs.Action.{assigns, writes};
 ghost use Rattle.hpr_syntax.specs.Body.{done, branch, loop};
 ghost use Rattle.hpr_syntax.specs.BodyOf.{before};
 ghost use Rattle.hpr_syntax.specs.Shape.{IsProgram};
@@ -178,11 +180,19 @@ impl Found {
         push_kept(&mut self.parts, self.count, part)
     }
 
-    /// One more part, unless more have begun than a program may have.
-    pub fn add_part(&mut self, tag: Tag, name: Name, value: Expr) -> Result<(), NoMemory>
-        ensures { OnOk result (self.new ≡ machine.with_part machine.limit tag name value self.old) }
+    /// One more part, an assignment, unless more have begun than a program may have.
+    pub fn add_assignment(&mut self, tag: Tag, name: Name, value: Expr) -> Result<(), NoMemory>
+        ensures { OnOk result (self.new ≡ machine.with_part machine.limit tag (assigns name value) self.old) }
     {
         self.add_stmt(Stmt::Assign(tag, name, value))
+    }
+
+    /// One more part, a write, unless more have begun than a program may have.
+    pub fn add_write(&mut self, alloc: Global, tag: Tag, value: Expr) -> Result<(), NoMemory>
+        ensures { OnOk result (self.new ≡ machine.with_part machine.limit tag (writes stream value) self.old) }
+    {
+        let stream = Name::stream(alloc)?;
+        self.add_stmt(Stmt::Write(tag, stream, value))
     }
 
     /// Takes the parts of the innermost block.

@@ -58,10 +58,14 @@ impl TokenMachine for State {
             }
             Place::AfterPair => takes_block(&self.found, keyword),
             Place::AtPart => takes_block(&self.found, keyword),
-            Place::AfterColon(_) => matches!(keyword, Keyword::If | Keyword::While),
+            Place::AfterColon(_) => {
+                matches!(keyword, Keyword::If | Keyword::While | Keyword::Write)
+            }
             Place::InExpression(purpose, reading) => {
                 takes_expression_keyword(&self.found, purpose, reading.reader(), keyword)
             }
+            Place::AfterOpen => matches!(keyword, Keyword::Out),
+            Place::AfterComma => matches!(keyword, Keyword::Out),
             _ => false,
         }
     }

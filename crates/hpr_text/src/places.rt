@@ -56,6 +56,7 @@ pub fn takes_block(found: &Found, keyword: Keyword) -> bool
     match keyword {
         Keyword::If => found.can_begin(),
         Keyword::While => found.can_begin(),
+        Keyword::Write => found.can_begin(),
         Keyword::End => matches!(found.blocks.kind(), Kind::Top),
         Keyword::Else => matches!(found.blocks.kind(), Kind::Then),
         Keyword::Fi => matches!(found.blocks.kind(), Kind::Then | Kind::Else),
@@ -90,6 +91,7 @@ pub fn takes_expression_sign(found: &Found, purpose: &Purpose, reading: &Reader,
 {
     match (purpose, sign) {
         (Purpose::Assign(_, _), Sign::Semicolon) => reading.can_end(),
+        (Purpose::Output(_), Sign::Semicolon) => reading.can_end(),
         _ => reading.takes_sign(sign),
     }
 }
@@ -163,6 +165,7 @@ impl Found {
         match keyword {
             Keyword::If => self.first_next(alloc, Token::Word(keyword)),
             Keyword::While => self.first_next(alloc, Token::Word(keyword)),
+            Keyword::Write => self.first_next(alloc, Token::Word(keyword)),
             Keyword::End => self.parts_end(),
             Keyword::Else => self.else_next(alloc),
             Keyword::Fi => self.fi_next(alloc),
@@ -289,6 +292,10 @@ impl Found {
                 Purpose::Guard(tag),
                 BoxedReader::start(alloc)?,
             )),
+            Token::Word(Keyword::Write) => Ok(Place::InExpression(
+                Purpose::Output(tag),
+                BoxedReader::start(alloc)?,
+            )),
             _ => Err(Fault::Refused),
         }
     }
@@ -337,7 +344,7 @@ impl Found {
         let value = reading.ended(alloc)?;
         match purpose {
             Purpose::Assign(tag, name) => {
-                self.add_part(tag, name, value)?;
+                self.add_assignment(tag, name, value)?;
                 Ok(Place::AtPart)
             }
             Purpose::Test(tag) => {
@@ -346,6 +353,10 @@ impl Found {
             }
             Purpose::Guard(tag) => {
                 self.begin_loop(alloc, tag, value)?;
+                Ok(Place::AtPart)
+            }
+            Purpose::Output(tag) => {
+                self.add_write(alloc, tag, value)?;
                 Ok(Place::AtPart)
             }
         }
@@ -371,6 +382,9 @@ impl Found {
             (Purpose::Guard(_), Token::Word(Keyword::Do)) => {
                 self.expression_ends(alloc, purpose, reading)
             }
+            (Purpose::Output(_), Token::Mark(Sign::Semicolon)) => {
+                self.expression_ends(alloc, purpose, reading)
+            }
             _ => self.expression_goes_on(alloc, purpose, reading, token),
         }
     }
@@ -384,12 +398,12 @@ impl Found {
         }
     }
 
-    fn open_next(&mut self, token: Token) -> Result<Place, Fault>
+    fn open_next(&mut self, alloc: Global, token: Token) -> Result<Place, Fault>
         ensures { InPlace (machine.state_at self.new) (machine.open_next self.old token) result }
     {
         match token {
             Token::Mark(Sign::Close) => Ok(Place::AtEnd),
-            _ => self.comma_next(token),
+            _ => self.comma_next(alloc, token),
         }
     }
 
@@ -403,12 +417,17 @@ impl Found {
         }
     }
 
-    fn comma_next(&mut self, token: Token) -> Result<Place, Fault>
+    fn comma_next(&mut self, alloc: Global, token: Token) -> Result<Place, Fault>
         ensures { InPlace (machine.state_at self.new) (machine.comma_next self.old token) result }
     {
         match token {
             Token::Name(name) => {
                 self.add_name(name)?;
+                Ok(Place::AfterName)
+            }
+            Token::Word(Keyword::Out) => {
+                let stream = Name::stream(alloc)?;
+                self.add_name(stream)?;
                 Ok(Place::AfterName)
             }
             _ => Err(Fault::Refused),
@@ -437,9 +456,9 @@ impl Found {
                 alloc, purpose, reading, token,
             ),
             Place::AfterEnd => self.end_next(token),
-            Place::AfterOpen => self.open_next(token),
+            Place::AfterOpen => self.open_next(alloc, token),
             Place::AfterName => self.name_next(token),
-            Place::AfterComma => self.comma_next(token),
+            Place::AfterComma => self.comma_next(alloc, token),
             Place::AtEnd => Err(Fault::Refused),
         }
     }

@@ -25,8 +25,8 @@ pub enum TextError {
         place: usize,
     },
     /// The bytes spell a tree that is no program, and this is why. It is never `TooDeep`,
-    /// `ExprTooLarge` or `Memory`: a text has no part so deep and no expression so large, and want
-    /// of memory is `TextError::Memory`.
+    /// `ExprTooLarge`, `WrongName` or `Memory`: a text has no part so deep, no expression so large
+    /// and no name out of place, and want of memory is `TextError::Memory`.
     Shape(ShapeError),
     /// Memory ran out.
     Memory,

@@ -18,6 +18,8 @@ pub enum Purpose {
     Test(Tag),
     /// The test of a loop.
     Guard(Tag),
+    /// The number that is written.
+    Output(Tag),
 }
 
 impl Purpose {
@@ -29,6 +31,7 @@ impl Purpose {
             Purpose::Assign(_, _) => matches!(token, Token::Mark(Sign::Semicolon)),
             Purpose::Test(_) => matches!(token, Token::Word(Keyword::Then)),
             Purpose::Guard(_) => matches!(token, Token::Word(Keyword::Do)),
+            Purpose::Output(_) => matches!(token, Token::Mark(Sign::Semicolon)),
         }
     }
 }

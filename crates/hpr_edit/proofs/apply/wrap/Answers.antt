@@ -6,7 +6,7 @@ use Rattle.hpr_edit.specs.declared.command.Inverse.TheVariants.{Lift}
 use Rattle.hpr_edit.specs.declared.command.EditError.TheVariants.{KindDiffers, SerialsSpent}
 use Rattle.hpr_edit.specs.Places.{place_of}
 use Rattle.hpr_edit.specs.Changes.{at_part, wrapped}
-use Rattle.hpr_edit.specs.Edited.{refuse, settled, is_assignment, is_spent, next_tag, with_new}
+use Rattle.hpr_edit.specs.Edited.{refuse, settled, is_action, is_spent, next_tag, with_new}
 use Rattle.hpr_edit.proofs.Ends.{spare, passed, passed_found, ended}
 use Rattle.hpr_edit.proofs.apply.wrap.Goals as goal
 
@@ -21,9 +21,9 @@ returns c = λ author is.
     let s = spare spent new next (sym c.in-Some-new.is ∙ is) in
     let after = with_new author (at_part t (wrapped next content) p.body) p in
     let end = settled after (Lift next) in
-    passed_found t (find_stmt t p.body) (place_of t p.body) (λ part old. refuse (KindDiffers t) (is_assignment content) (refuse SerialsSpent spent end))
+    passed_found t (find_stmt t p.body) (place_of t p.body) (λ part old. refuse (KindDiffers t) (is_action content) (refuse SerialsSpent spent end))
     c.in-Some.field-0-0.now c.in-Some.field-0-1 c.answer.result c.in-Some.ensures.found.0 c.in-Some.ensures.found.1
-    (passed (KindDiffers t) (is_assignment content) (refuse SerialsSpent spent end) c.answer.result (sym c.is_assignment.ensures ∙ c.if-is_assignment.false)
+    (passed (KindDiffers t) (is_action content) (refuse SerialsSpent spent end) c.answer.result (sym c.is_action.ensures ∙ c.if-is_action.false)
     (passed SerialsSpent spent end c.answer.result s.0
     (ended (record { issued = raised new.author new.serial p.issued; body = c.in_ok-body.body; finals = p.finals }) after (Lift new) (Lift next) c.settle_new.result c.answer.result
     c.answer.ensures

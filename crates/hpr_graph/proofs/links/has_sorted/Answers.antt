@@ -1,4 +1,4 @@
-use Rattle.std.proofs.Common.{◌≡◌, ◌↔◌, ℕ, IsTrue, Contains, Result, subst}
+use Rattle.std.proofs.Common.{◌↔◌, ℕ, IsTrue, Contains, Result, subst}
 use Rattle.std.specs.Result.{is_ok}
 use Rattle.hpr_graph.proofs.LinkOrder.{search_found}
 use Rattle.hpr_graph.proofs.links.has_sorted.Goals as goal

@@ -1,9 +1,9 @@
 use Rattle.std.proofs.Common.{rules, ◌≡◌, ◌++◌, IsUtf8, List, ℕ, codes, sym, subst}
 use Rattle.hpr_terms.specs.TermOf.{term_of}
 use Rattle.hpr_syntax.specs.Print.{term_text}
-use Rattle.hpr_print.proofs.Utf8.{assignment_utf8, if_utf8, while_utf8}
+use Rattle.hpr_print.proofs.Utf8.{assignment_utf8, if_utf8, while_utf8, write_utf8}
 use Rattle.hpr_print.proofs.contents.content_text.Goals as goal
-use Rattle.hpr_print.proofs.contents.content_text.Goals.{in-Assign+in_ok-put-in-Assign+in_ok-put-in-Assign-2+in_ok-put_expr-in-Assign, in-If+in_ok-put-in-If+in_ok-put_expr-in-If, in-While+in_ok-put-in-While+in_ok-put_expr-in-While}
+use Rattle.hpr_print.proofs.contents.content_text.Goals.{in-Assign+in_ok-put-in-Assign+in_ok-put-in-Assign-2+in_ok-put_expr-in-Assign, in-If+in_ok-put-in-If+in_ok-put_expr-in-If, in-While+in_ok-put-in-While+in_ok-put_expr-in-While, in-Write+in_ok-put-in-Write+in_ok-put_expr-in-Write}
 
 pub returns-clause-utf8 : goal.returns-clause-utf8
 returns-clause-utf8 c =
@@ -18,4 +18,7 @@ returns-clause-utf8 c =
       | in-While+in_ok-put-in-While+in_ok-put_expr-in-While w ↦
           (let e : out ≡ codes "while " ++ term_text (term_of w.in-While.test) = search rules in
           subst IsUtf8 (sym e) (while_utf8 (term_text (term_of w.in-While.test)) (w.in_ok-put_expr-in-While.ensures).utf8))
+      | in-Write+in_ok-put-in-Write+in_ok-put_expr-in-Write w ↦
+          (let e : out ≡ codes "write " ++ term_text (term_of w.in-Write.value) = search rules in
+          subst IsUtf8 (sym e) (write_utf8 (term_text (term_of w.in-Write.value)) (w.in_ok-put_expr-in-Write.ensures).utf8))
     ]

@@ -1,4 +1,4 @@
-use Rattle.std.proofs.Common.{◌≡◌, ℕ, List, subst}
+use Rattle.std.proofs.Common.{subst}
 use Rattle.hpr_graph.specs.Numbered.{graph_in}
 use Rattle.hpr_forest.specs.Choices.{IsWhole}
 use Rattle.hpr_region.specs.declared.plan.Plan.{Plan}

@@ -1,5 +1,4 @@
-use Rattle.std.proofs.Common.{rules, ◌≡◌, ◌++◌, SFits, w64, flat_map, refl, ap, ◌∙◌}
-use Rattle.std.proofs.lemmas.Int.{to_z-of_z}
+use Rattle.std.proofs.Common.{flat_map, refl}
 use Rattle.hpr_report.specs.Texts.{value_line}
 use Rattle.hpr_report.proofs.Lines.{put_next}
 use Rattle.hpr_report.proofs.outcome.put_values.Goals as goal
@@ -7,7 +6,5 @@ use Rattle.hpr_report.proofs.outcome.put_values.Goals as goal
 pub loop-name-preserved : goal.loop-name-preserved
 loop-name-preserved c =
     let item = c.loop-name-item.result in
-    let fits : SFits w64 item.1 = search rules in
-    let put : c.put_value.new.out.items ≡ c.loop-name.out.items ++ value_line item = c.in_ok-put_value.ensures ∙ ap (λ v. c.loop-name.out.items ++ value_line (item.0, v)) (to_z-of_z w64 item.1 fits) in
     put_next (flat_map value_line) value_line (λ x rest. refl) c.args.values.now c.loop-name.name-index item c.loop-name.out.items c.put_value.new.out.items _ c.loop-name-test.true
-    c.loop-name-item.is c.loop-name.invariant put
+    c.loop-name-item.is c.loop-name.invariant c.in_ok-put_value.ensures

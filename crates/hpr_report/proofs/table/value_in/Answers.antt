@@ -1,18 +1,15 @@
-use Rattle.std.proofs.Common.{rules, ◌≡◌, Contains, Some, get_or, SFits, w64, sym, ap, subst, ◌∙◌}
-use Rattle.std.proofs.lemmas.Int.{to_z-of_z}
+use Rattle.std.proofs.Common.{◌≡◌, Contains, get_or, sym, ap, subst, ◌∙◌}
 use Rattle.std.proofs.lemmas.List.{take_all}
-use Rattle.hpr_report.specs.TableText.{IsValueIn}
 use Rattle.hpr_report.proofs.TableRows.{value_found, none_found, none_more}
 use Rattle.hpr_report.proofs.table.value_in.Goals as goal
 
 pub returns-then-is_same : goal.returns-then-is_same
 returns-then-is_same c =
     let item = c.loop-other-item.result in
-    let fits : SFits w64 item.1 = search rules in
     let same : item.0 ≡ c.args.name.now = c.is_same.ensures.0 c.if-is_same.true in
     let there : Contains c.args.values.now item = (c.loop-other.other-index, c.loop-other-test.true, sym c.loop-other-item.is) in
     let named : Contains c.args.values.now (c.args.name.now, item.1) = subst (λ x. Contains c.args.values.now (x, item.1)) same there in
-    subst (λ v. IsValueIn c.args.values.now c.args.name.now (Some v)) (sym (to_z-of_z w64 item.1 fits)) (value_found c.args.values.now c.args.name.now item.1 c.requires named)
+    value_found c.args.values.now c.args.name.now item.1 c.requires named
 
 pub loop-other-preserved : goal.loop-other-preserved
 loop-other-preserved c =

@@ -2,8 +2,9 @@ use Rattle.std.proofs.Common.{◌≡◌, ℕ, ◌+◌, ◌-◌, ◌<◌, ◌∙�
 use Rattle.std.proofs.lemmas.Int.{to_z-of_z}
 use Rattle.std.proofs.lemmas.Result.{err_from_is_err_and}
 use Rattle.hpr_syntax.specs.Value.{is_true}
+use Rattle.hpr_syntax.specs.Parts.{tag_of, expr_of}
 use Rattle.hpr_run.specs.Observed.{observing, walk, walk_turns}
-use Rattle.hpr_run.proofs.Observed.{failed_in, if_no, if_stopped, if_yes, turn_done, turn_failed, turn_last, turn_stopped}
+use Rattle.hpr_run.proofs.Observed.{branch_goes, branch_stopped, failed_in, turn_done, turn_failed, turn_last, turn_stopped}
 use Rattle.hpr_run.proofs.interpreter.+walk.Goals as goal
 
 pub walk_block-returns-in_err-walk_stmt-clause-did : goal.walk_block-returns-in_err-walk_stmt-clause-did
@@ -19,8 +20,8 @@ walk_loop-loop-turn-preserved g t c =
     let fits : FitsSigned w64 c.in_ok-take_step.field-0 = search rules in
     let holds : is_true c.in_ok-take_step.field-0 ≡ true = rw to_z-of_z at (sym c.is_true.ensures ∙ c.if-not-is_true.false) in
     let below : c.loop-turn.turn < c.args.left.now + 1 = omega (arith, c.loop-turn-test.true) in
-    let more = turn_done w c.args.tag c.args.test.now c.args.body.now c.args.around.now (c.args.left.now + 1) c.loop-turn.turn below _ c.loop-turn.observer c.loop-turn.state c.loop-turn.left
-    c.loop-turn.invariant.0 c.in_ok-turns.turns c.in_ok-turns.ensures c.in_ok-take_step.field-0 _ _ a.0 a.1 a.2 holds _ _ _ c.in_ok-walk_block.ensures.did in
+    let more = turn_done w c.args.stmt.now (tag_of c.args.stmt.now) (expr_of c.args.stmt.now) c.args.body.now c.requires c.args.around.now (c.args.left.now + 1) c.loop-turn.turn below _ c.loop-turn.observer c.loop-turn.state c.loop-turn.left
+    c.loop-turn.invariant.0 c.in_ok-turns.turns c.in_ok-turns.ensures c.in_ok-take_step.field-0 _ _ a holds _ _ _ c.in_ok-walk_block.ensures.did in
     (more, omega (arith, c.loop-turn.invariant.1, a.0, c.in_ok-walk_block.ensures.fewer))
 
 pub walk_loop-returns-in_err-take_step-clause-did : goal.walk_loop-returns-in_err-take_step-clause-did
@@ -28,8 +29,8 @@ walk_loop-returns-in_err-take_step-clause-did g t c =
     let w = observing g.O.Observer.in_turn g.O.Observer.told g.O.Observer.assigned in
     let p = err_from_is_err_and c.from_residual-in_err-take_step.result c.from_residual-in_err-take_step.ensures.1 in
     let below : c.loop-turn.turn < c.args.left.now + 1 = omega (arith, c.loop-turn-test.true) in
-    rw (p.1, p.2) (turn_stopped w c.args.tag c.args.test.now c.args.body.now c.args.around.now (c.args.left.now + 1) c.loop-turn.turn below _ c.loop-turn.observer c.loop-turn.state c.loop-turn.left
-    c.loop-turn.invariant.0 c.in_ok-turns.turns c.in_ok-turns.ensures _ _ _ _ c.in_err-take_step.ensures.stepped)
+    rw (p.1, p.2) (turn_stopped w c.args.stmt.now (tag_of c.args.stmt.now) (expr_of c.args.stmt.now) c.args.body.now c.requires c.args.around.now (c.args.left.now + 1) c.loop-turn.turn below _ c.loop-turn.observer c.loop-turn.state c.loop-turn.left
+    c.loop-turn.invariant.0 c.in_ok-turns.turns c.in_ok-turns.ensures _ _ _ c.in_err-take_step.ensures.stepped)
 
 pub walk_loop-returns-in_err-walk_block-clause-did : goal.walk_loop-returns-in_err-walk_block-clause-did
 walk_loop-returns-in_err-walk_block-clause-did g t c =
@@ -39,8 +40,8 @@ walk_loop-returns-in_err-walk_block-clause-did g t c =
     let fits : FitsSigned w64 c.in_ok-take_step.field-0 = search rules in
     let holds : is_true c.in_ok-take_step.field-0 ≡ true = rw to_z-of_z at (sym c.is_true.ensures ∙ c.if-not-is_true.false) in
     let below : c.loop-turn.turn < c.args.left.now + 1 = omega (arith, c.loop-turn-test.true) in
-    rw (p.1, p.2) (turn_failed w c.args.tag c.args.test.now c.args.body.now c.args.around.now (c.args.left.now + 1) c.loop-turn.turn below _ c.loop-turn.observer c.loop-turn.state c.loop-turn.left
-    c.loop-turn.invariant.0 c.in_ok-turns.turns c.in_ok-turns.ensures c.in_ok-take_step.field-0 _ _ a.0 a.1 a.2 holds _ _ _ _ c.in_err-walk_block.ensures.did)
+    rw (p.1, p.2) (turn_failed w c.args.stmt.now (tag_of c.args.stmt.now) (expr_of c.args.stmt.now) c.args.body.now c.requires c.args.around.now (c.args.left.now + 1) c.loop-turn.turn below _ c.loop-turn.observer c.loop-turn.state c.loop-turn.left
+    c.loop-turn.invariant.0 c.in_ok-turns.turns c.in_ok-turns.ensures c.in_ok-take_step.field-0 _ _ a holds _ _ _ _ c.in_err-walk_block.ensures.did)
 
 pub walk_loop-returns-then-not-is_true-clause-did : goal.walk_loop-returns-then-not-is_true-clause-did
 walk_loop-returns-then-not-is_true-clause-did g t c =
@@ -49,36 +50,34 @@ walk_loop-returns-then-not-is_true-clause-did g t c =
     let fits : FitsSigned w64 c.in_ok-take_step.field-0 = search rules in
     let off : is_true c.in_ok-take_step.field-0 ≡ false = rw to_z-of_z at (sym c.is_true.ensures ∙ c.if-not-is_true.true) in
     let below : c.loop-turn.turn < c.args.left.now + 1 = omega (arith, c.loop-turn-test.true) in
-    turn_last w c.args.tag c.args.test.now c.args.body.now c.args.around.now (c.args.left.now + 1) c.loop-turn.turn below _ c.loop-turn.observer c.loop-turn.state c.loop-turn.left
-    c.loop-turn.invariant.0 c.in_ok-turns.turns c.in_ok-turns.ensures c.in_ok-take_step.field-0 _ _ a.0 a.1 a.2 off
+    turn_last w c.args.stmt.now (tag_of c.args.stmt.now) (expr_of c.args.stmt.now) c.args.body.now c.requires c.args.around.now (c.args.left.now + 1) c.loop-turn.turn below _ c.loop-turn.observer c.loop-turn.state c.loop-turn.left
+    c.loop-turn.invariant.0 c.in_ok-turns.turns c.in_ok-turns.ensures c.in_ok-take_step.field-0 _ _ a off
 
 pub walk_loop-returns-clause-did : goal.walk_loop-returns-clause-did
 walk_loop-returns-clause-did g t c =
     let w = observing g.O.Observer.in_turn g.O.Observer.told g.O.Observer.assigned in
     let none : c.args.left.now + 1 - c.loop-turn.turn ≡ 0 = omega (arith, c.loop-turn-test.false) in
-    c.loop-turn.invariant.0 ∙ ap (λ (n : ℕ). walk_turns w c.loop-turn.turn n c.args.tag c.args.test.now (walk w c.args.body.now) c.args.around.now c.loop-turn.observer c.loop-turn.state c.loop-turn.left) none
+    c.loop-turn.invariant.0 ∙ ap (λ (n : ℕ). walk_turns w c.loop-turn.turn n (tag_of c.args.stmt.now) (expr_of c.args.stmt.now) (walk w c.args.body.now) c.args.around.now c.loop-turn.observer c.loop-turn.state c.loop-turn.left) none
 
 pub walk_stmt-returns-in_err-take_step-in-If-clause-did : goal.walk_stmt-returns-in_err-take_step-in-If-clause-did
 walk_stmt-returns-in_err-take_step-in-If-clause-did g t c =
     let w = observing g.O.Observer.in_turn g.O.Observer.told g.O.Observer.assigned in
     let p = err_from_is_err_and c.from_residual.result c.from_residual.ensures.1 in
-    rw (p.1, p.2) (if_stopped w c.args.stmt.now c.in-If.tag c.in-If.test c.in-If.yes c.in-If.no c.in-If.is c.args.around.now c.args.observer.now c.args.state.now c.args.left.now
-    _ _ _ _ c.in_err-take_step-in-If.ensures.stepped)
+    rw (p.1, p.2) (branch_stopped w c.args.stmt.now c.in-If.field-0 c.in-If.field-1 c.in-If.yes c.in-If.no c.in-If.is c.args.around.now c.args.observer.now c.args.state.now c.args.left.now
+    _ _ _ c.in_err-take_step-in-If.ensures.stepped)
 
 pub walk_stmt-returns-then-is_true-clause-did : goal.walk_stmt-returns-then-is_true-clause-did
 walk_stmt-returns-then-is_true-clause-did g t c =
     let w = observing g.O.Observer.in_turn g.O.Observer.told g.O.Observer.assigned in
-    let a = c.in_ok-take_step-in-If.ensures.stepped in
     let fits : FitsSigned w64 c.in_ok-take_step-in-If.field-0 = search rules in
     let test : is_true c.in_ok-take_step-in-If.field-0 ≡ true = rw to_z-of_z at (sym c.is_true.ensures ∙ c.if-is_true.true) in
-    if_yes w c.args.stmt.now c.in-If.tag c.in-If.test c.in-If.yes c.in-If.no c.in-If.is c.args.around.now c.args.observer.now c.args.state.now c.args.left.now
-    c.in_ok-take_step-in-If.field-0 _ _ a.0 a.1 a.2 c.walk_block.result _ _ _ test c.walk_block.ensures.did
+    branch_goes w c.args.stmt.now c.in-If.field-0 c.in-If.field-1 c.in-If.yes c.in-If.no c.in-If.is c.args.around.now c.args.observer.now c.args.state.now c.args.left.now
+    c.in_ok-take_step-in-If.field-0 _ _ c.in_ok-take_step-in-If.ensures.stepped true test c.walk_block.result _ _ _ c.walk_block.ensures.did
 
 pub walk_stmt-returns-else-is_true-clause-did : goal.walk_stmt-returns-else-is_true-clause-did
 walk_stmt-returns-else-is_true-clause-did g t c =
     let w = observing g.O.Observer.in_turn g.O.Observer.told g.O.Observer.assigned in
-    let a = c.in_ok-take_step-in-If.ensures.stepped in
     let fits : FitsSigned w64 c.in_ok-take_step-in-If.field-0 = search rules in
     let test : is_true c.in_ok-take_step-in-If.field-0 ≡ false = rw to_z-of_z at (sym c.is_true.ensures ∙ c.if-is_true.false) in
-    if_no w c.args.stmt.now c.in-If.tag c.in-If.test c.in-If.yes c.in-If.no c.in-If.is c.args.around.now c.args.observer.now c.args.state.now c.args.left.now
-    c.in_ok-take_step-in-If.field-0 _ _ a.0 a.1 a.2 c.walk_block-else-is_true.result _ _ _ test c.walk_block-else-is_true.ensures.did
+    branch_goes w c.args.stmt.now c.in-If.field-0 c.in-If.field-1 c.in-If.yes c.in-If.no c.in-If.is c.args.around.now c.args.observer.now c.args.state.now c.args.left.now
+    c.in_ok-take_step-in-If.field-0 _ _ c.in_ok-take_step-in-If.ensures.stepped false test c.walk_block-else-is_true.result _ _ _ c.walk_block-else-is_true.ensures.did

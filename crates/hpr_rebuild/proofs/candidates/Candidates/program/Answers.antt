@@ -1,6 +1,5 @@
-use Rattle.std.proofs.Common.{◌≡◌, sym, subst, List, ℕ, ◌∙◌, ap}
+use Rattle.std.proofs.Common.{sym, subst, List, ℕ}
 use Rattle.hpr_order.specs.Arranging.{IsPreorderOf}
-use Rattle.hpr_region.specs.Plans.{placed_in}
 use Rattle.hpr_rebuild.proofs.Searched.{for_ok, arrangement_of, preorder_of, of_preorder}
 use Rattle.hpr_rebuild.proofs.candidates.Candidates.program.Goals as goal
 
