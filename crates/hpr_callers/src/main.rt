@@ -27,7 +27,8 @@ fn main(rt: HostRuntime) -> io::Result<()> {
     }
     if let Ok(Some(finals)) = final_values(alloc, merged.as_slice(), 1000) {
         for (name, value) in finals.list() {
-            println!(rt; "{name} {value}")?;
+            let number = value.number();
+            println!(rt; "{name} {number}")?;
         }
     }
     Ok(())

@@ -78,6 +78,7 @@ fn put_value(out: &mut Out, expr: &Expr, state: &State) {
         }
         Err(Fault::Overflow) => out.put_piece("overflow\n"),
         Err(Fault::ZeroDivide) => out.put_piece("zero-divide\n"),
+        Err(Fault::OutputFull) => out.put_piece("output-full\n"),
     }
 }
 

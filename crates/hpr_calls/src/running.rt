@@ -3,18 +3,19 @@ ghost use Rattle.std.specs.Prelude.{IfOk};
 ghost use Rattle.hpr_report.specs.TableText.{IsSingleValued};
 
 use crate::state::read_state;
-use hpr_meaning::{Instance, Origin, Read, Traced, trace};
+use hpr_meaning::{Instance, Origin, Read, Reading, Traced, trace};
 use hpr_report::{outcome_text, table_text};
-use hpr_rows::{Out, Row, put, put_counted, put_made, put_tag};
-use hpr_run::{FinalValues, Outcome, State, run};
+use hpr_rows::{Out, Row, put, put_counted, put_made, put_tag, truth};
+use hpr_run::{FinalValues, Outcome, State, Value, run};
 use hpr_syntax::Program;
-use hpr_terms::NoMemory;
+use hpr_terms::{Name, NoMemory};
 use std::alloc::Global;
 
 /// Answers the call.
 pub(crate) fn call(row: Row<'_>, out: &mut Out) -> Option<()> {
     match row.word(1)? {
         "table" => table(row, out),
+        "state" => stated(row, out),
         _ => started(row, out),
     }
 }
@@ -54,9 +55,16 @@ fn put_origin(out: &mut Out, origin: Origin) {
     }
 }
 
+fn put_reading(out: &mut Out, reading: Reading) {
+    match reading {
+        Reading::Number(number) => out.put_value(number),
+        Reading::Size(size) => put_counted(out, "size ", size),
+    }
+}
+
 fn put_read(out: &mut Out, read: &Read) {
     put(out, &[" ", read.name.text(), "="]);
-    out.put_value(read.value);
+    put_reading(out, read.value);
     put_origin(out, read.origin);
 }
 
@@ -159,5 +167,40 @@ fn put_table(alloc: Global, out: &mut Out, programs: &[Program]) {
 fn table(row: Row<'_>, out: &mut Out) -> Option<()> {
     let programs = row.programs(2, 6)?;
     put_table(row.alloc, out, &programs);
+    Some(())
+}
+
+fn put_worth(out: &mut Out, value: &Value) {
+    match value {
+        Value::Number(number) => out.put_value(*number),
+        Value::List(written) => put_counted(out, "size ", written.len()),
+    }
+}
+
+fn put_listed(out: &mut Out, state: &State, name: &Name) {
+    put(out, &["lists ", truth(state.lists(name)), ", under it "]);
+    match state.listed(name) {
+        Some(value) => put_worth(out, value),
+        None => out.put_piece("nothing"),
+    }
+    out.put_piece(", number ");
+    out.put_value(state.get(name));
+}
+
+fn put_name_in(alloc: Global, out: &mut Out, state: &State, name: &Name) {
+    put_listed(out, state, name);
+    out.put_piece(", worth ");
+    match state.value(alloc, name) {
+        Ok(value) => put_worth(out, &value),
+        Err(_) => out.cut(),
+    }
+    out.put_piece("\n");
+}
+
+// `state NAME STATE..`: what the name is worth in the state, and whether the state lists it.
+fn stated(row: Row<'_>, out: &mut Out) -> Option<()> {
+    let name = row.name(2)?;
+    let state = read_state(row, 3)?;
+    put_name_in(row.alloc, out, &state, &name);
     Some(())
 }

@@ -1,5 +1,5 @@
 //! Calls of the names of hpr_terms.
-use hpr_rows::{Out, Row, put, put_counted, put_names, truth};
+use hpr_rows::{Out, Row, name_of, put, put_counted, put_names, truth};
 use hpr_terms::{Name, copy_names, is_name, is_name_like, names};
 use std::alloc::Global;
 
@@ -7,6 +7,7 @@ use std::alloc::Global;
 pub(crate) fn call(row: Row<'_>, out: &mut Out) -> Option<()> {
     match row.word(1)? {
         "names" => put_lines(row, out),
+        "stream" => put_stream(row, out)?,
         _ => order(row, out)?,
     }
     Some(())
@@ -53,8 +54,18 @@ fn put_lines(row: Row<'_>, out: &mut Out) {
     }
 }
 
+// `stream NAME`: the text of the name, and whether it is the stream's.
+fn put_stream(row: Row<'_>, out: &mut Out) -> Option<()> {
+    let name = row.name(2)?;
+    put(
+        out,
+        &[name.text(), ": the stream ", truth(name.is_stream()), "\n"],
+    );
+    Some(())
+}
+
 fn push_name(alloc: Global, names: &mut Vec<Name>, word: &str) -> Option<()> {
-    names.push(Name::new(alloc, word).ok()?).ok()
+    names.push(name_of(alloc, word)?).ok()
 }
 
 fn names_of(alloc: Global, words: &[String]) -> Option<Vec<Name>> {

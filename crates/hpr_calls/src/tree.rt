@@ -3,11 +3,11 @@ use hpr_print::content_text;
 use hpr_refusals::Refusal;
 use hpr_rows::{
     Out, Row, put, put_comparison, put_content, put_count, put_counted, put_made, put_message,
-    put_tag, truth,
+    put_names, put_tag, truth,
 };
 use hpr_syntax::{
-    Block, Content, Issued, Program, Row as Place, Stmt, Structure, content_of, defines, expr_of,
-    has_content, is_large, same_content, structure_of, uses,
+    Block, Content, Issued, Program, Row as Place, Stmt, Structure, Value, content_of, defines,
+    expr_of, has_content, has_wrong_name, is_large, same_content, structure_of, uses,
 };
 use hpr_terms::{Binary, Expr, Literal, Name, Operand, Tag};
 use std::alloc::Global;
@@ -21,6 +21,9 @@ pub(crate) fn call(row: Row<'_>, out: &mut Out) -> Option<()> {
         "structure" => structure(row, out),
         "compare" => compare(row, out),
         "sum" => sum(row, out),
+        "used" => used_names(row, out),
+        "named" => named(row, out),
+        "value" => value(row, out),
         _ => None,
     }
 }
@@ -249,5 +252,88 @@ fn sum(row: Row<'_>, out: &mut Out) -> Option<()> {
     put(out, &["too large ", truth(is_large(&sum)), ", "]);
     let body = block(row.alloc, assignment(row.alloc, sum)?)?;
     put_judged(row.alloc, out, issued(row.alloc)?, body);
+    Some(())
+}
+
+fn put_used(alloc: Global, out: &mut Out, content: &Content, name: &Name) {
+    put(out, &["uses it ", truth(content.uses(name)), ", uses"]);
+    match content.used_names(alloc) {
+        Ok(names) => put_names(out, "", &names),
+        Err(_) => out.cut(),
+    }
+}
+
+fn used_in(row: Row<'_>, out: &mut Out, program: &Program) -> Option<()> {
+    let content = content_of(row.alloc, program.find(row.tag(3)?)?).ok()?;
+    let name = row.name(4)?;
+    put_used(row.alloc, out, &content, &name);
+    Some(())
+}
+
+// `used PROGRAM TAG NAME`: whether what the part says uses the name, and all names that it uses.
+fn used_names(row: Row<'_>, out: &mut Out) -> Option<()> {
+    let program = row.program(2)?;
+    used_in(row, out, &program)
+}
+
+// What a part says that assigns to the name or writes to it.
+fn content_named(kind: &str, name: Name, expr: Expr) -> Option<Content> {
+    match kind {
+        "assign" => Some(Content::Assign(name, expr)),
+        "write" => Some(Content::Write(name, expr)),
+        _ => None,
+    }
+}
+
+fn put_named(row: Row<'_>, out: &mut Out, content: Content) -> Option<()> {
+    let tag = Tag {
+        author: 1,
+        serial: 1,
+    };
+    put(out, &["wrong name ", truth(has_wrong_name(&content)), ", "]);
+    let (first, second) = (
+        Block::new(Vec::new(row.alloc)),
+        Block::new(Vec::new(row.alloc)),
+    );
+    let body = block(row.alloc, content.into_stmt(tag, first, second))?;
+    put_judged(row.alloc, out, issued(row.alloc)?, body);
+    Some(())
+}
+
+// `named KIND NAME NAME`: whether the content that gives the first name the value of the second has a wrong
+// name, and what comes of a program with it.
+fn named(row: Row<'_>, out: &mut Out) -> Option<()> {
+    let name = row.name(3)?;
+    let content = content_named(row.word(2)?, name, Expr::Var(row.name(4)?))?;
+    put_named(row, out, content)
+}
+
+fn put_worth(out: &mut Out, value: &Value) {
+    put_counted(out, "count ", value.count());
+    out.put_piece(", number ");
+    out.put_value(value.number());
+    if let Value::List(written) = value {
+        for number in written.numbers() {
+            out.put_piece(" ");
+            out.put_value(*number);
+        }
+    }
+    out.put_piece("\n");
+}
+
+fn write_numbers(alloc: Global, value: &mut Value, numbers: &[String]) -> Option<()> {
+    for number in numbers {
+        value.write(alloc, number.parse().ok()?).ok()?;
+    }
+    Some(())
+}
+
+// `value NUMBER NUMBER..`: the first number as a value, behind which the others are written, and a copy made before.
+fn value(row: Row<'_>, out: &mut Out) -> Option<()> {
+    let mut value = Value::Number(row.word(2)?.parse().ok()?);
+    let copy = value.copy(row.alloc).ok()?;
+    write_numbers(row.alloc, &mut value, row.rest(3))?;
+    put_worth(out, &copy);
+    put_worth(out, &value.copy(row.alloc).ok()?);
     Some(())
 }

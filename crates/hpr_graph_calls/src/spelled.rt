@@ -5,9 +5,8 @@ ghost use Rattle.hpr_graph.specs.Whole.{IsWhole};
 
 use hpr_build::{BuildError, graph_of};
 use hpr_graph::{Draft, Graph, Link, LinkKind, Vertex};
-use hpr_rows::{Row, tag_of};
+use hpr_rows::{Row, name_of, tag_of};
 use hpr_syntax::Program;
-use hpr_terms::Name;
 use hpr_text::read_content;
 use std::alloc::Global;
 
@@ -26,9 +25,9 @@ pub(crate) fn vertex(alloc: Global, line: &str) -> Option<Vertex> {
     }
     let (kind, rest) = line.split_once(' ')?;
     match kind {
-        "init" => Some(Vertex::Init(Name::new(alloc, rest).ok()?)),
+        "init" => Some(Vertex::Init(name_of(alloc, rest)?)),
         "part" => part(alloc, rest),
-        "final" => Some(Vertex::Final(Name::new(alloc, rest).ok()?)),
+        "final" => Some(Vertex::Final(name_of(alloc, rest)?)),
         _ => None,
     }
 }

@@ -55,7 +55,7 @@ impl<'a> Row<'a> {
 
     /// The name that stands at this place.
     pub fn name(self, at: usize) -> Option<Name> {
-        Name::new(self.alloc, self.word(at)?).ok()
+        name_of(self.alloc, self.word(at)?)
     }
 
     /// The last text with this name.
@@ -95,6 +95,14 @@ impl<'a> Row<'a> {
 
     fn push_program(self, programs: &mut Vec<Program>, at: usize) -> Option<()> {
         programs.push(self.program(at)?).ok()
+    }
+}
+
+/// The name that a word spells: the stream's, or a plain one.
+pub fn name_of(alloc: Global, word: &str) -> Option<Name> {
+    match word {
+        "out" => Name::stream(alloc).ok(),
+        _ => Name::new(alloc, word).ok(),
     }
 }
 
