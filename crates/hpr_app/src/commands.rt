@@ -37,7 +37,11 @@ pub fn decide<S: Shelf>(alloc: Global, asked: Asked<'_>, shelf: &mut S) -> Resul
             trace,
         } => run_file(alloc, file, states.as_slice(), steps, trace, shelf),
         Asked::Graph { file, json } => graph_file(alloc, file, json, shelf),
-        Asked::Slice { file, points } => slice_file(alloc, file, points.as_slice(), shelf),
+        Asked::Slice {
+            file,
+            points,
+            program,
+        } => slice_file(alloc, file, points.as_slice(), program, shelf),
         Asked::Affected { base, a } => affected_files(alloc, base, a, shelf),
         Asked::Trial {
             base,

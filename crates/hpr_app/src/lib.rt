@@ -34,6 +34,8 @@ ghost use Rattle.hpr_decisions.specs.Complete.{RequestCompletes, PrintsOther, Un
 ghost use Rattle.hpr_decisions.specs.Reports.{HasAnswer, HasConflict, HasSpentLeaves, IsInterference, tries_of};
 ghost use Rattle.hpr_decisions.specs.Theorem.{KeepsMeaning};
 ghost use Rattle.hpr_decisions.specs.MergedText.{PrintsMerged};
+ghost use Rattle.hpr_decisions.specs.LeftText.{PrintsLeft};
+ghost use Rattle.hpr_decisions.specs.SliceTheorem.{DoesSlice};
 ghost use Rattle.hpr_decisions.specs.TrialKeeps.{EndsTrial, KeepsTrial};
 ghost use Rattle.hpr_decisions.specs.Ends.{Ends};
 
@@ -132,6 +134,15 @@ pub fn hpr<S: Shelf, O: Sink, E: Sink>(
     // Its graph is the merged graph.
     ensures merged { WhereAsked words.now (S.files shelf.old) (λ asked files. result ≡ Status.Done
         → Took (O.taken out.old) (O.taken out.new) (PrintsMerged asked files)) }
+
+    // Where a slice was asked for as a program, they are the canonical text of what it leaves of the file's program.
+    ensures left { WhereAsked words.now (S.files shelf.old) (λ asked files. result ≡ Status.Done
+        → Took (O.taken out.old) (O.taken out.new) (PrintsLeft asked files)) }
+
+    // The theorem on slices as programs: these bytes spell a program whose graph is the slice, and which does what the
+    // whole does there.
+    ensures slices { WhereAsked words.now (S.files shelf.old) (λ asked files. result ≡ Status.Done
+        → Took (O.taken out.old) (O.taken out.new) (DoesSlice asked files)) }
 
     // A trial is finished wherever base, A and B end. Then the merged program ends too, within as many steps as the
     // three took together, and the rows of the table have what a variant changed and what all three agree on.

@@ -62,10 +62,10 @@ fn put_graph(out: &mut Out, file: &str, json: bool) {
     put(out, &[", json ", truth(json), "\n"]);
 }
 
-fn put_slice(out: &mut Out, file: &str, points: &[&str]) {
+fn put_slice(out: &mut Out, file: &str, points: &[&str], program: bool) {
     put_files(out, "slice", &[file]);
     put_files(out, ", points", points);
-    out.put_piece("\n");
+    put(out, &[", program ", truth(program), "\n"]);
 }
 
 // Puts a command that shows one file.
@@ -78,7 +78,11 @@ fn put_one_file(out: &mut Out, asked: &Asked<'_>) {
             trace,
         } => put_run(out, file, states, *steps, *trace),
         Asked::Graph { file, json } => put_graph(out, file, *json),
-        Asked::Slice { file, points } => put_slice(out, file, points),
+        Asked::Slice {
+            file,
+            points,
+            program,
+        } => put_slice(out, file, points, *program),
         _ => put_change(out, asked),
     }
 }

@@ -13,7 +13,6 @@ use Rattle.hpr_graph.specs.Points.{IsAffected}
 use Rattle.hpr_graph.specs.ProgramGraph.{graph_of}
 use Rattle.hpr_graph.specs.Slices.{slice_of}
 use Rattle.hpr_report.specs.AffectedText.{IsAffectedText}
-use Rattle.hpr_report.specs.GraphTexts.{IsGraphText}
 use Rattle.hpr_words.specs.Request.{Request, Text, IsInRange, integrate, run, graph, slice, affected, trial, edit, tag, sample}
 use Rattle.hpr_decisions.specs.Complete.{DonePrinting, Completes, IsOtherText, PrintsOther, RequestCompletes, Runs, Tries}
 use Rattle.hpr_inputs.specs.Decision.{Decision, Prints, prints}
@@ -35,7 +34,7 @@ use Rattle.hpr_refusals.specs.Refusals.{IsFileIn, IsFileOf, IsRefusedIn, IsRefus
 use Rattle.hpr_refusals.proofs.Once.{one_file, one_script_file}
 use Rattle.hpr_inputs.specs.States.{OnState, states_of}
 use Rattle.hpr_decisions.specs.RunFile.{Ran, RunOutcome}
-use Rattle.hpr_decisions.specs.SliceFile.{Sliced, SliceOutcome}
+use Rattle.hpr_decisions.specs.SliceFile.{IsSliceShown, Sliced, SliceOutcome}
 use Rattle.hpr_decisions.specs.TrialFiles.{IsTried, Tried, TrialOutcome}
 use Rattle.hpr_sample.specs.Sample as made
 use Rattle.hpr_decisions.specs.Sampled.{IsSampled}
@@ -142,13 +141,13 @@ module _ (old new : Option (List ℕ)) (s : Status) (fs : Files) (d : Decision) 
       done_printing (IsShown json (graph_of p)) old new s d is took
       (of_program_graph file p (Prints (IsShown json (graph_of p)) d) d few (of_program fs file (λ q. Graphed file q json d) d p o hp))
 
-  of_slice : (file : Text) (points : List Text) (p : Tree) → SliceOutcome fs file points d → IsFileOf (bytes_of fs file) p → (HasTooManyEdges p → ⊥)
-      → All (IsNamed (graph_of p)) points → DonePrinting (IsGraphText (slice_of (graph_of p) (IsPoint points))) old new s
-  of_slice file points p o hp few named =
-      let Shown = Prints (IsGraphText (slice_of (graph_of p) (IsPoint points))) d in
-      done_printing (IsGraphText (slice_of (graph_of p) (IsPoint points))) old new s d is took
-      (of_points (graph_of p) points Shown d named
-      (of_program_graph file p (OnPoints (graph_of p) points Shown d) d few (of_program fs file (λ q. Sliced file q points d) d p o hp)))
+  of_slice : (file : Text) (points : List Text) (program : Bool) (p : Tree) → SliceOutcome fs file points program d → IsFileOf (bytes_of fs file) p
+      → (HasTooManyEdges p → ⊥) → All (IsNamed (graph_of p)) points → DonePrinting (IsSliceShown program p (slice_of (graph_of p) (IsPoint points))) old new s
+  of_slice file points program p o hp few named =
+      let Shown = IsSliceShown program p (slice_of (graph_of p) (IsPoint points)) in
+      done_printing Shown old new s d is took
+      (of_points (graph_of p) points (Prints Shown d) d named
+      (of_program_graph file p (OnPoints (graph_of p) points (Prints Shown d) d) d few (of_program fs file (λ q. Sliced file q points program d) d p o hp)))
 
   of_affected : (base a : Text) (p q : Tree) → AffectedOutcome fs base a d → IsFileOf (bytes_of fs base) p → IsFileOf (bytes_of fs a) q
       → (HasTooManyEdges p → ⊥) → (HasTooManyEdges q → ⊥) → DonePrinting (IsAffectedText (IsAffected (graph_of q) (graph_of p))) old new s
@@ -181,7 +180,7 @@ request_completes : (request : Request) (fs : Files) (old new : Option (List ℕ
 request_completes (integrate base a b tries) fs old new s d is took o = λ p q r hp hq hr few. of_three p q r tries old new s fs base a b d o hp hq hr few is took
 request_completes (run file words steps trace) fs old new s d is took o = λ state p told hp. of_run state p old new s fs file words steps trace d is took o told hp
 request_completes (graph file json) fs old new s d is took o = λ p hp few. of_graph old new s fs d is took file json p o hp few
-request_completes (slice file points) fs old new s d is took o = λ p hp few named. of_slice old new s fs d is took file points p o hp few named
+request_completes (slice file points program) fs old new s d is took o = λ p hp few named. of_slice old new s fs d is took file points program p o hp few named
 request_completes (affected base a) fs old new s d is took o = λ p q hp hq few few_too. of_affected old new s fs d is took base a p q o hp hq few few_too
 request_completes (trial base a b words steps) fs old new s d is took o = λ state p q r told hp hq hr few. of_trial state p q r old new s fs base a b words steps d is took o told hp hq hr few
 request_completes (edit file script author) fs old new s d is took o = λ p q cs hp hs made. of_edit old new s fs d is took file script author p q cs o hp hs made

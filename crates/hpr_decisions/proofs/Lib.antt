@@ -4,6 +4,7 @@ pub mod TrialLemmas
 pub mod Completeness
 pub mod Once
 pub mod Theorem
+pub mod SliceTheorem
 pub mod TrialTheorem
 pub mod Reported
 mod TotalFiles

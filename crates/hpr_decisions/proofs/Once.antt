@@ -13,12 +13,12 @@ use Rattle.hpr_graph.specs.Points.{IsAffected}
 use Rattle.hpr_graph.specs.ProgramGraph.{graph_of}
 use Rattle.hpr_graph.specs.Slices.{slice_of}
 use Rattle.hpr_report.specs.AffectedText.{IsAffectedText}
-use Rattle.hpr_report.specs.GraphTexts.{IsGraphText}
-use Rattle.hpr_report.proofs.OneText.{one_graph_text, one_affected_text}
+use Rattle.hpr_report.proofs.OneText.{one_affected_text}
 use Rattle.hpr_decisions.specs.Complete.{IsRefusedCall}
 use Rattle.hpr_inputs.specs.Decision.{Decision, OnRead, Prints, prints, refuses}
 use Rattle.hpr_decisions.specs.Ends.{Change, Ends, Decided, SaysIfAny, has_text, message_of, status_of}
 use Rattle.hpr_decisions.specs.GraphFile.{IsShown}
+use Rattle.hpr_decisions.specs.SliceFile.{IsSliceShown}
 use Rattle.hpr_decisions.specs.Graphs.{OnGraph}
 use Rattle.hpr_graph.specs.declared.conflict.Conflict.{Conflict}
 use Rattle.hpr_graph.specs.Answer.{Answer, interference, printed, no_program, spent}
@@ -44,7 +44,7 @@ use Rattle.hpr_inputs.specs.declared.answer.Kind.TheVariants.{Done, Interference
 use Rattle.hpr_decisions.specs.declared.status.Status.{Status}
 use Rattle.hpr_decisions.specs.declared.status.Status.TheVariants as status
 use Rattle.hpr_decisions.proofs.EndsLemmas.{asked_ends}
-use Rattle.hpr_decisions.proofs.GraphLemmas.{one_shown}
+use Rattle.hpr_decisions.proofs.GraphLemmas.{one_shown, one_slice_shown}
 use Rattle.hpr_decisions.proofs.TrialLemmas.{one_tried}
 use Rattle.hpr_inputs.proofs.PointLemmas.{not_stranger, one_stranger}
 
@@ -152,11 +152,11 @@ module _ (fs : Files) (r s : Decision) where
   one_outcome (run file words steps trace) h k = one_on_state (states_of words) _ _ (λ state h k. one_on_file file _ _ (λ p hp h k. inl (h ∙ sym k)) h k) h k
   one_outcome (graph file json) h k =
       one_on_file file _ _ (λ p hp h k. one_on_graph r s file p _ _ (λ h k. inl (one_printed (IsShown json (graph_of p)) (one_shown json (graph_of p)) r s h k)) h k) h k
-  one_outcome (slice file points) h k =
+  one_outcome (slice file points program) h k =
       one_on_file file _ _
       (λ p hp h k. one_on_graph r s file p _ _
       (λ h k. one_on_points r s (graph_of p) points _ _
-      (λ h k. (let part = slice_of (graph_of p) (IsPoint points) in inl (one_printed (IsGraphText part) (one_graph_text part) r s h k))) h k) h k) h k
+      (λ h k. (let part = slice_of (graph_of p) (IsPoint points) in inl (one_printed (IsSliceShown program p part) (one_slice_shown program p part) r s h k))) h k) h k) h k
   one_outcome (affected base a) h k =
       one_on_file base _ _
       (λ p hp h k. one_on_file a _ _

@@ -154,7 +154,7 @@ module _ (fs : Files) (d : Decision) (is : IsReport (status_of d)) where
   reports (graph file json) o =
       let (p, file_is, on_graph) = past_file file _ o in
       absurd (not_done _ (past_graph file p _ on_graph).1)
-  reports (slice file points) o =
+  reports (slice file points program) o =
       let (p, file_is, on_graph) = past_file file _ o in
       absurd (not_done _ (past_points (graph_of p) points _ (past_graph file p _ on_graph).1))
   reports (affected base a) o =

@@ -1,5 +1,5 @@
--- What a printed program means, and its graph.
-use Rattle.std.proofs.Common.{◌≡◌, ℕ, List, sym, subst, inl, inr}
+-- What a printed program means, and its graph; and of which slice it is what is left.
+use Rattle.std.proofs.Common.{◌≡◌, ◌∙◌, ℕ, true, false, List, sym, subst, inl, inr}
 use Rattle.hpr_io.specs.Files.{Files, bytes_of}
 use Rattle.hpr_syntax.specs.Tree.{Tree}
 use Rattle.hpr_syntax.specs.Shape.{IsProgram}
@@ -11,14 +11,19 @@ use Rattle.hpr_text.proofs.Texts.{one_tree}
 use Rattle.hpr_graph.specs.Answer.{interference, printed, no_program, spent, IsAnswer}
 use Rattle.hpr_engine.proofs.OneAnswer.{printed_fits}
 use Rattle.hpr_engine.proofs.PrintedKeeps.{printed_keeps}
-use Rattle.hpr_words.specs.Request.{Request, integrate}
-use Rattle.hpr_inputs.specs.Decision.{prints}
+use Rattle.hpr_words.specs.Request.{Request, Text, integrate, slice}
+use Rattle.hpr_graph.specs.ProgramGraph.{graph_of}
+use Rattle.hpr_graph.specs.Slices.{slice_of}
+use Rattle.hpr_inputs.specs.Decision.{Prints, prints}
+use Rattle.hpr_inputs.specs.Points.{IsPoint, OnPoints}
 use Rattle.hpr_decisions.specs.Graphs.{OnGraph}
 use Rattle.hpr_decisions.specs.Integrate.{IsReported, IntegrateOutcome}
 use Rattle.hpr_refusals.specs.Refusals.{IsFileOf}
 use Rattle.hpr_decisions.specs.Outcome.{RequestOutcome}
 use Rattle.hpr_decisions.specs.Theorem.{IsMergedText, KeepsMeaning}
 use Rattle.hpr_decisions.specs.MergedText.{HasMergedGraph, PrintsMerged}
+use Rattle.hpr_decisions.specs.LeftText.{IsLeftOf, PrintsLeft}
+use Rattle.hpr_decisions.specs.SliceFile.{IsSliceShown, SliceOutcome}
 use Rattle.hpr_inputs.specs.declared.answer.Kind.TheVariants as kind
 
 -- what is so of these three programs is so of whatever the bytes spell
@@ -49,7 +54,7 @@ module _ (fs : Files) (base a b : List ℕ) (tries : ℕ) (bytes : List ℕ) (P 
   outcome_so (inr (p, hp, inr (q, hq, inl (_, _, same)))) = absurd cc
   outcome_so (inr (p, hp, inr (q, hq, inr (r, hr, o)))) = reported_so p q r hp hq hr (past_graph b r _ bytes (past_graph a q _ bytes (past_graph base p _ bytes o)))
 
-printed_spelled : (m : Tree) (bytes : List ℕ) → IsProgram m → bytes ≡ text m → Spells tagged bytes m
+pub printed_spelled : (m : Tree) (bytes : List ℕ) → IsProgram m → bytes ≡ text m → Spells tagged bytes m
 printed_spelled m bytes is_m e = subst (λ (x : List ℕ). Spells tagged x m) (sym e) (text_spells m is_m)
 
 module _ (base a b : List ℕ) (tries : ℕ) (bytes : List ℕ) (p q r m : Tree) (hp : IsFileOf base p) (hq : IsFileOf a q) (hr : IsFileOf b r) (answer : IsAnswer p q r tries (printed m))
@@ -95,3 +100,21 @@ pub request_fits : (request : Request) (fs : Files) (bytes : List ℕ) → Reque
 request_fits (integrate base a b tries) fs bytes h =
     outcome_so fs base a b tries bytes (HasMergedGraph (bytes_of fs base) (bytes_of fs a) (bytes_of fs b) bytes) (merged_graph (bytes_of fs base) (bytes_of fs a) (bytes_of fs b) tries bytes) h
 request_fits _ fs bytes h = tt
+
+-- what is left of a program, where a slice is printed so
+module _ (fs : Files) (file : Text) (points : List Text) (bytes : List ℕ) where
+  past_points : (p : Tree) → IsFileOf (bytes_of fs file) p
+      → OnPoints (graph_of p) points (Prints (IsSliceShown true p (slice_of (graph_of p) (IsPoint points))) (prints kind.Done bytes)) (prints kind.Done bytes)
+      → IsLeftOf (bytes_of fs file) points bytes
+  past_points p hp (inl (word, first, same)) = absurd cc
+  past_points p hp (inr (named, (shown, (q, left, is), same))) =
+      let one : bytes ≡ shown = cc in record { whole = p; file_is = hp; named = named; left = q; pruned = left; printed = one ∙ is }
+
+  left_so : SliceOutcome fs file points true (prints kind.Done bytes) → IsLeftOf (bytes_of fs file) points bytes
+  left_so (inl (message, refused, same)) = absurd cc
+  left_so (inr (p, hp, o)) = past_points p hp (past_graph file p _ bytes o)
+
+pub request_left : (request : Request) (fs : Files) (bytes : List ℕ) → RequestOutcome request fs (prints kind.Done bytes) → PrintsLeft request fs bytes
+request_left (slice file points true) fs bytes h = left_so fs file points bytes h
+request_left (slice file points false) fs bytes h = tt
+request_left _ fs bytes h = tt

@@ -52,7 +52,7 @@ module _ (fs : Files) where
       on_state (states_of words) (λ state r. OnFile fs file (λ p. Ran p state steps trace r) r) (λ state.
       on_file fs file (λ p r. Ran p state steps trace r) (λ p _ n. n (_, refl)))
   request_decided (graph file json) range = on_file fs file (λ p r. Graphed file p json r) (λ p _. graphed file p json)
-  request_decided (slice file points) range = on_file fs file (λ p r. Sliced file p points r) (λ p _. sliced file p points)
+  request_decided (slice file points program) range = on_file fs file (λ p r. Sliced file p points program r) (λ p _. sliced file p points program)
   request_decided (affected base a) range =
       on_file fs base (λ p r. OnFile fs a (λ q. AffectedPoints base p a q r) r) (λ p _.
       on_file fs a (λ q r. AffectedPoints base p a q r) (λ q _. affected_points base p a q))

@@ -1,6 +1,7 @@
 -- Each graph has its texts; so a decision on the graph of a program is there.
 use Rattle.std.proofs.Common.{Bool, true, false, ℕ, List, inl, inr, refl}
 use Rattle.hpr_terms.proofs.Facts.{by_both}
+use Rattle.hpr_syntax.specs.Print.{text}
 use Rattle.hpr_syntax.specs.Tree.{Tree}
 use Rattle.hpr_graph.specs.Points.{IsAffected}
 use Rattle.hpr_graph.specs.ProgramGraph.{graph_of, IsVertexOf, IsEdgeOf}
@@ -8,7 +9,6 @@ use Rattle.hpr_graph.specs.Slices.{slice_of}
 use Rattle.hpr_graph.proofs.Bounded.{of_within}
 use Rattle.hpr_engine.specs.Limit.{HasTooManyEdges}
 use Rattle.hpr_report.specs.AffectedText.{IsAffectedText}
-use Rattle.hpr_report.specs.GraphTexts.{IsGraphText}
 use Rattle.hpr_words.specs.Request.{Text}
 use Rattle.hpr_decisions.specs.AffectedFiles.{AffectedPoints}
 use Rattle.hpr_inputs.specs.Decision.{Decision, Prints, refuses}
@@ -16,7 +16,8 @@ use Rattle.hpr_decisions.specs.GraphFile.{IsShown, Graphed}
 use Rattle.hpr_decisions.specs.Graphs.{OnGraph, too_many_edges}
 use Rattle.hpr_decisions.specs.Integrate.{OnGraphs}
 use Rattle.hpr_inputs.specs.Points.{IsPoint, OnPoints}
-use Rattle.hpr_decisions.specs.SliceFile.{Sliced}
+use Rattle.hpr_decisions.specs.SliceFile.{IsSliceShown, Sliced}
+use Rattle.hpr_prune.proofs.OneProgram.{some_pruned}
 use Rattle.hpr_merge.proofs.BoundedGraph.{vertices_bounded, edges_bounded}
 use Rattle.hpr_inputs.proofs.SomeDecision.{HasOne, on_points, printed}
 use Rattle.hpr_report.proofs.SomeText.{some_graph_text, some_graph_json, some_affected_text}
@@ -42,13 +43,20 @@ shown false p = some_graph_text (graph_of p) (vertices_bounded p) (edges_bounded
 pub graphed : (file : Text) (p : Tree) (json : Bool) → HasOne (Graphed file p json)
 graphed file p json = on_graph file p (Prints (IsShown json (graph_of p))) (printed (IsShown json (graph_of p)) (shown json p))
 
-pub sliced : (file : Text) (p : Tree) (points : List Text) → HasOne (Sliced file p points)
-sliced file p points =
+-- a slice as a graph has its text, and as a program it is one
+slice_shown : (program : Bool) (p : Tree) (points : List Text) → ¬ (¬ ((bytes : List ℕ) × IsSliceShown program p (slice_of (graph_of p) (IsPoint points)) bytes))
+slice_shown true p points n = some_pruned (slice_of (graph_of p) (IsPoint points)).vertex p (λ left. n (text left.0, (left.0, left.1, refl)))
+slice_shown false p points n =
     let part = slice_of (graph_of p) (IsPoint points) in
     let vertices = of_within part.vertex (IsVertexOf p) (λ v h. h.0) (vertices_bounded p) in
     let edges = of_within part.edge (IsEdgeOf p) (λ e h. h.0) (edges_bounded p) in
-    on_graph file p (λ r. OnPoints (graph_of p) points (Prints (IsGraphText part) r) r)
-    (on_points (graph_of p) points (Prints (IsGraphText part)) (printed (IsGraphText part) (some_graph_text part vertices edges)))
+    some_graph_text part vertices edges n
+
+pub sliced : (file : Text) (p : Tree) (points : List Text) (program : Bool) → HasOne (Sliced file p points program)
+sliced file p points program =
+    let Shown = IsSliceShown program p (slice_of (graph_of p) (IsPoint points)) in
+    on_graph file p (λ r. OnPoints (graph_of p) points (Prints Shown r) r)
+    (on_points (graph_of p) points (Prints Shown) (printed Shown (slice_shown program p points)))
 
 pub affected_points : (base : Text) (p : Tree) (a : Text) (q : Tree) → HasOne (AffectedPoints base p a q)
 affected_points base p a q =

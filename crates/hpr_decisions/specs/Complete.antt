@@ -27,10 +27,10 @@ use Rattle.hpr_graph.specs.Points.{IsAffected}
 use Rattle.hpr_graph.specs.ProgramGraph.{graph_of}
 use Rattle.hpr_graph.specs.Slices.{slice_of}
 use Rattle.hpr_report.specs.AffectedText.{IsAffectedText}
-use Rattle.hpr_report.specs.GraphTexts.{IsGraphText}
 use Rattle.hpr_inputs.specs.Decision.{Decision}
 use Rattle.hpr_decisions.specs.Ends.{Change, Says, status_of, status_of_kind, text_of}
 use Rattle.hpr_decisions.specs.GraphFile.{IsShown}
+use Rattle.hpr_decisions.specs.SliceFile.{IsSliceShown}
 use Rattle.hpr_engine.specs.Limit.{AreInLimit, HasTooManyEdges}
 use Rattle.hpr_engine.specs.Budget.{AreTried}
 use Rattle.hpr_rebuild.specs.Settled.{IsSettled}
@@ -81,9 +81,9 @@ RequestCompletes (run file states steps trace) files old new s =
     (state : Values) (p : Tree) → states_of states ≡ Ok state → IsFileOf (bytes_of files file) p → Runs p state steps trace old new s
 RequestCompletes (graph file json) files old new s =
     (p : Tree) → IsFileOf (bytes_of files file) p → (HasTooManyEdges p → ⊥) → DonePrinting (IsShown json (graph_of p)) old new s
-RequestCompletes (slice file points) files old new s =
+RequestCompletes (slice file points program) files old new s =
     (p : Tree) → IsFileOf (bytes_of files file) p → (HasTooManyEdges p → ⊥) → All (IsNamed (graph_of p)) points
-    → DonePrinting (IsGraphText (slice_of (graph_of p) (IsPoint points))) old new s
+    → DonePrinting (IsSliceShown program p (slice_of (graph_of p) (IsPoint points))) old new s
 RequestCompletes (affected base a) files old new s =
     (p q : Tree) → IsFileOf (bytes_of files base) p → IsFileOf (bytes_of files a) q → (HasTooManyEdges p → ⊥) → (HasTooManyEdges q → ⊥)
     → DonePrinting (IsAffectedText (IsAffected (graph_of q) (graph_of p))) old new s

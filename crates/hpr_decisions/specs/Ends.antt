@@ -21,7 +21,7 @@ use Rattle.hpr_inputs.specs.Decision.{Decision, prints, refuses, usage}
 use Rattle.hpr_inputs.specs.Files.{cannot_read}
 
 abbrev pub usage_text : List ℕ
-usage_text = codes "usage: hpr integrate BASE A B [--tries N]\n       hpr run FILE [STATE..] [--steps N] [--trace]\n       hpr graph FILE [--json]\n       hpr slice FILE POINT..\n       hpr affected BASE A\n       hpr trial BASE A B [STATE..] [--steps N]\n       hpr edit FILE SCRIPT --author N\n       hpr tag FILE --author N\n       hpr sample SEED PARTS\n"
+usage_text = codes "usage: hpr integrate BASE A B [--tries N]\n       hpr run FILE [STATE..] [--steps N] [--trace]\n       hpr graph FILE [--json]\n       hpr slice FILE POINT.. [--program]\n       hpr affected BASE A\n       hpr trial BASE A B [STATE..] [--steps N]\n       hpr edit FILE SCRIPT --author N\n       hpr tag FILE --author N\n       hpr sample SEED PARTS\n"
 
 abbrev pub cannot_write : List ℕ
 cannot_write = codes "hpr: cannot write output\n"

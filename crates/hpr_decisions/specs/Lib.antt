@@ -18,4 +18,6 @@ pub mod Complete
 pub mod Reports
 pub mod Theorem
 pub mod MergedText
+pub mod LeftText
+pub mod SliceTheorem
 pub mod TrialKeeps

@@ -25,7 +25,7 @@ abbrev pub RequestOutcome : Request → Files → Decision → Type 0
 RequestOutcome (integrate base a b tries) files r = IntegrateOutcome files base a b tries r
 RequestOutcome (run file states steps trace) files r = RunOutcome files file states steps trace r
 RequestOutcome (graph file json) files r = GraphOutcome files file json r
-RequestOutcome (slice file points) files r = SliceOutcome files file points r
+RequestOutcome (slice file points program) files r = SliceOutcome files file points program r
 RequestOutcome (affected base a) files r = AffectedOutcome files base a r
 RequestOutcome (trial base a b states steps) files r = TrialOutcome files base a b states steps r
 RequestOutcome (edit file script author) files r = EditOutcome files file script author r

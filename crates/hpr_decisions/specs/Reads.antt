@@ -14,7 +14,7 @@ abbrev pub files_of : Request → List Text
 files_of (integrate base a b tries) = base ∷ a ∷ b ∷ []
 files_of (run file states steps trace) = file ∷ []
 files_of (graph file json) = file ∷ []
-files_of (slice file points) = file ∷ []
+files_of (slice file points program) = file ∷ []
 files_of (affected base a) = base ∷ a ∷ []
 files_of (trial base a b states steps) = base ∷ a ∷ b ∷ []
 files_of (edit file script author) = file ∷ script ∷ []
@@ -29,7 +29,7 @@ abbrev pub MayRead : Request → Option Files → Text → Type 0
 MayRead (integrate base a b tries) told file = IsReached told (base ∷ a ∷ b ∷ []) file
 MayRead (run named states steps trace) told file = (file ≡ named) × IsOk (states_of states)
 MayRead (graph named json) told file = file ≡ named
-MayRead (slice named points) told file = file ≡ named
+MayRead (slice named points program) told file = file ≡ named
 MayRead (affected base a) told file = IsReached told (base ∷ a ∷ []) file
 MayRead (trial base a b states steps) told file = IsReached told (base ∷ a ∷ b ∷ []) file × IsOk (states_of states)
 MayRead (edit named script author) told file = IsReached told (named ∷ script ∷ []) file

@@ -1,4 +1,4 @@
-//! Calls of hpr_slice, hpr_affected and hpr_merge on graphs.
+//! Calls of hpr_slice, hpr_prune, hpr_affected and hpr_merge on graphs.
 ghost use Rattle.std.specs.Prelude.{◌≡◌, ◌↔◌, ◌<◌, All, IsTrue, length};
 ghost use Rattle.hpr_graph.specs.Numbered.{graph_in};
 ghost use Rattle.hpr_graph.specs.Whole.{IsWhole};
@@ -8,10 +8,12 @@ use crate::spelled::{graph, graphs, program_graph};
 use hpr_affected::{Comparison, affected, direct, preserved, preserved_beside};
 use hpr_graph::Graph;
 use hpr_merge::{Merged, merge};
+use hpr_prune::prune;
 use hpr_rebuild::part_count;
 use hpr_report::{affected_text, conflicts_text};
-use hpr_rows::{Out, Row, put_count, put_made, put_marked, put_numbers};
+use hpr_rows::{Out, Row, put_count, put_made, put_marked, put_numbers, put_program};
 use hpr_slice::{forward, slice};
+use hpr_syntax::Program;
 use hpr_terms::NoMemory;
 use std::alloc::Global;
 
@@ -21,6 +23,7 @@ pub(crate) fn call(row: Row<'_>, out: &mut Out) -> Option<()> {
         "affected" => changed(row, out),
         "beside" => beside(row, out),
         "direct" => differing(row, out),
+        "left" => left(row, out),
         "preserved" | "merge" => of_three(row, out),
         _ => at_points(row, out),
     }
@@ -81,6 +84,21 @@ fn at(row: Row<'_>, out: &mut Out, graph: &Graph) -> Option<()> {
 fn at_points(row: Row<'_>, out: &mut Out) -> Option<()> {
     let graph = graph(row, 2)?;
     at(row, out, &graph)
+}
+
+fn put_left(alloc: Global, out: &mut Out, left: Result<Program, NoMemory>) {
+    match left {
+        Ok(program) => put_program(alloc, out, &program),
+        Err(_) => out.cut(),
+    }
+}
+
+// `left PROGRAM GRAPH`: what the vertices of a graph leave of the program.
+fn left(row: Row<'_>, out: &mut Out) -> Option<()> {
+    let program = row.program(2)?;
+    let graph = graph(row, 3)?;
+    put_left(row.alloc, out, prune(row.alloc, &program, &graph));
+    Some(())
 }
 
 // `affected BASE VARIANT`: the numbers of the affected points of the variant, both of them programs.

@@ -1,13 +1,14 @@
 -- Options and flags may stand in each of their places.
-use Rattle.std.proofs.Common.{◌≡◌, ◌∙◌, ℕ, Bool, true, false, List, [], ◌∷◌, ◌++◌, map, Option, Some, None, cond, option_and_then, append-nil, refl, sym, ap, ap₂, codes}
+use Rattle.std.proofs.Common.{◌≡◌, ◌∙◌, ℕ, suc, Bool, true, false, List, [], ◌∷◌, ◌++◌, map, Option, Some, None, cond, option_and_then, append-nil, refl, sym, ap, ap₂, codes}
 use Rattle.std.specs.Prelude.{◌&&◌, not}
 use Rattle.std.specs.List.{list_all}
 use Rattle.hpr_terms.specs.declared.limits.TheConstants.{DEFAULT_TRIES, MAX_TRIES}
 use Rattle.clap.proofs.SimpleLemmas.{is_false}
 use Rattle.clap.proofs.WalkLemmas.{both}
 use Rattle.hpr_words.specs.Commands.{Form, asked_with, form_named, slice_form}
-use Rattle.hpr_words.specs.Plain.{Piece, begun, fits_list, flag, flags_of, given, goes_on, is_among, is_name, is_unbroken, name, names, number, options_of, pieces, plain, plainly_asked, uses, values}
+use Rattle.hpr_words.specs.Plain.{Piece, begun, fits_list, flag, flags_of, given, goes_on, is_among, is_name, is_unbroken, is_used, name, names, number, options_of, pieces, plain, plainly_asked, uses, values}
 use Rattle.hpr_words.specs.Request.{Request, Text, integrate, slice}
+use Rattle.hpr_words.specs.Taken.{all_some}
 use Rattle.hpr_words.proofs.PieceLemmas.{spelling}
 
 module _ (base a b : Text) (p : is_name base ≡ true) (q : is_name a ≡ true) (r : is_name b ≡ true) where
@@ -130,9 +131,46 @@ plain_listed form command named ws after behind asked ps words spelled cut parts
 
 -- ---- `slice`
 
-pub slice-plain : (file point : Text) (points : List Text) → is_name file ≡ true → list_all is_name (point ∷ points) ≡ true → plain (codes "slice" ∷ file ∷ point ∷ points) ≡ Some (slice file (point ∷ points))
-slice-plain file point points p q =
-    plain_listed slice_form (codes "slice") refl (point ∷ points) [] alone
-    (λ unbroken ns vs us. cond (unbroken && fits_list slice_form.list ns) (asked_with slice_form (Some (file ∷ [])) ns (Some []) (Some [])) None)
-    (map name (file ∷ point ∷ points) ++ []) (file ∷ point ∷ points) (spelling-names_alone (file ∷ point ∷ points))
-    (is_cut-names [] [] (file ∷ point ∷ points) [] (ap₂ (λ b c. b && c) p q) refl) refl
+module _ (file point : Text) (points : List Text) (p : is_name file ≡ true) (q : list_all is_name (point ∷ points) ≡ true) where
+  -- the points and the pieces behind them, where the pieces before them are `ps` with these, use the flag so often
+  module _ (after : List Piece) (behind : IsBehind after) (flagged : ℕ → ℕ) where
+    abbrev asked : Bool → List Text → (Text → List Text) → (Text → ℕ) → Option Request
+    asked unbroken ns vs us =
+        cond (unbroken && fits_list slice_form.list ns) (asked_with slice_form (Some (file ∷ [])) ns (Some []) (all_some (is_used (flagged (us (codes "--program"))) ∷ []))) None
+
+    abbrev rest : List Piece
+    rest = map name (point ∷ points) ++ after
+
+    slice-pieces : (ps : List Piece) (words : List Text) (program : Bool) → spelling ps ≡ words → list_all (is_cut (options_of slice_form) (flags_of slice_form)) ps ≡ true
+        → plainly_asked slice_form ps ≡ asked (is_unbroken rest) (names rest) (λ option. values option rest) (λ f. uses f rest)
+        → is_used (flagged (uses (codes "--program") after)) ≡ Some program
+        → plain (codes "slice" ∷ words) ≡ Some (slice file (point ∷ points) program)
+    slice-pieces ps words program spelled cut parts used =
+        plain_listed slice_form (codes "slice") refl (point ∷ points) after behind asked ps words spelled cut parts
+        ∙ ap (λ a. asked_with slice_form (Some (file ∷ [])) (point ∷ points) (Some []) (all_some (a ∷ []))) used
+
+  cut_names : (after : List Piece) → list_all (is_cut (options_of slice_form) (flags_of slice_form)) after ≡ true
+      → list_all (is_cut (options_of slice_form) (flags_of slice_form)) (map name (point ∷ points) ++ after) ≡ true
+  cut_names after cut = is_cut-names (options_of slice_form) (flags_of slice_form) (point ∷ points) after q cut
+
+  abbrev listed : List Piece
+  listed = map name (point ∷ points) ++ []
+
+  pub slice-alone : plain (codes "slice" ∷ file ∷ point ∷ points) ≡ Some (slice file (point ∷ points) false)
+  slice-alone = slice-pieces [] alone (λ u. u) (name file ∷ listed) (file ∷ point ∷ points) false (ap (λ ws. file ∷ ws) (spelling-names_alone (point ∷ points)))
+      (ap₂ (λ b c. b && c) p (cut_names [] refl)) refl refl
+
+  pub slice-first : plain (codes "slice" ∷ codes "--program" ∷ file ∷ point ∷ points) ≡ Some (slice file (point ∷ points) true)
+  slice-first = slice-pieces [] alone suc (flag (codes "--program") ∷ name file ∷ listed) (codes "--program" ∷ file ∷ point ∷ points) true
+      (ap (λ ws. codes "--program" ∷ file ∷ ws) (spelling-names_alone (point ∷ points))) (ap₂ (λ b c. b && c) p (cut_names [] refl)) refl refl
+
+  pub slice-second : plain (codes "slice" ∷ file ∷ codes "--program" ∷ point ∷ points) ≡ Some (slice file (point ∷ points) true)
+  slice-second = slice-pieces [] alone suc (name file ∷ flag (codes "--program") ∷ listed) (file ∷ codes "--program" ∷ point ∷ points) true
+      (ap (λ ws. file ∷ codes "--program" ∷ ws) (spelling-names_alone (point ∷ points))) (ap₂ (λ b c. b && c) p (cut_names [] refl)) refl refl
+
+  pub slice-last : plain (codes "slice" ∷ file ∷ point ∷ (points ++ codes "--program" ∷ [])) ≡ Some (slice file (point ∷ points) true)
+  slice-last =
+      let after = flag (codes "--program") ∷ [] in
+      slice-pieces after (record { unbroken = refl; stops = refl; no_names = refl }) (λ u. u) (name file ∷ (map name (point ∷ points) ++ after))
+      (file ∷ point ∷ (points ++ codes "--program" ∷ [])) true (ap (λ ws. file ∷ ws) (spelling-names (point ∷ points) after))
+      (ap₂ (λ b c. b && c) p (cut_names after refl)) refl refl

@@ -84,7 +84,7 @@ graph-range (file ∷ []) list ns (json ∷ []) r range e = in_range _ r tt e
 graph-range _ _ _ _ r range e = absurd (none_some r e)
 
 slice-range : AsksInRange slice_form
-slice-range (file ∷ []) (point ∷ points) ns flags r range e = in_range _ r (omega arith) e
+slice-range (file ∷ []) (point ∷ points) ns (program ∷ []) r range e = in_range _ r (omega arith) e
 slice-range _ _ _ _ r range e = absurd (none_some r e)
 
 affected-range : AsksInRange affected_form

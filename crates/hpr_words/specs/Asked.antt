@@ -10,7 +10,7 @@ abbrev pub request : Asked → Request
 request (asked.Integrate base a b tries) = integrate base.now a.now b.now tries
 request (asked.Run file states steps trace) = run file.now (map (λ s. s.now) states.items) steps trace
 request (asked.Graph file json) = graph file.now json
-request (asked.Slice file points) = slice file.now (map (λ s. s.now) points.items)
+request (asked.Slice file points program) = slice file.now (map (λ s. s.now) points.items) program
 request (asked.Affected base a) = affected base.now a.now
 request (asked.Trial base a b states steps) = trial base.now a.now b.now (map (λ s. s.now) states.items) steps
 request (asked.Edit file script author) = edit file.now script.now author

@@ -8,7 +8,7 @@
 -- integrate_of ws l ns fs == the request of three names and a number
 -- run_of ws l ns fs       == the request of a file, states, a number and a flag
 -- graph_of ws l ns fs     == the request of a file and a flag
--- slice_of ws l ns fs     == the request of a file and one point or more
+-- slice_of ws l ns fs     == the request of a file, one point or more and a flag
 -- affected_of ws l ns fs  == the request of two names
 -- trial_of ws l ns fs     == the request of three names, states and a number
 -- edit_of ws l ns fs      == the request of a file, a script and a number
@@ -18,7 +18,7 @@
 -- integrate_form          == `integrate BASE A B [--tries N]`
 -- run_form                == `run FILE [STATE..] [--steps N] [--trace]`
 -- graph_form              == `graph FILE [--json]`
--- slice_form              == `slice FILE POINT..`
+-- slice_form              == `slice FILE POINT.. [--program]`
 -- affected_form           == `affected BASE A`
 -- trial_form              == `trial BASE A B [STATE..] [--steps N]`
 -- edit_form               == `edit FILE SCRIPT --author N`
@@ -84,7 +84,7 @@ graph_of (file ∷ []) list numbers (json ∷ []) = Some (graph file json)
 graph_of _ _ _ _ = None
 
 abbrev pub slice_of : (words list : List Text) (numbers : List ℕ) (flags : List Bool) → Option Request
-slice_of (file ∷ []) (point ∷ points) numbers flags = Some (slice file (point ∷ points))
+slice_of (file ∷ []) (point ∷ points) numbers (program ∷ []) = Some (slice file (point ∷ points) program)
 slice_of _ _ _ _ = None
 
 abbrev pub affected_of : (words list : List Text) (numbers : List ℕ) (flags : List Bool) → Option Request
@@ -153,7 +153,7 @@ slice_form = record {
   are_numbers = false;
   list = Some (codes "point", true);
   numbers = [];
-  flags = [];
+  flags = codes "program" ∷ [];
   asks = slice_of;
 }
 

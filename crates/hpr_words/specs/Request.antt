@@ -4,7 +4,8 @@
 -- integrate base a b n    == integrate the variants a and b with their base, within n tries
 -- run file states n trace == run the program of a file from the state that the words tell, for at most n steps, and show its trace or not
 -- graph file json         == show the graph of the program of a file, as JSON or as text
--- slice file points       == show the slice of the graph of the program of a file for the points that the words tell
+-- slice file points program == show the slice of the graph of the program of a file for the points that the words tell, as the program that is left of it
+--                            or as a graph
 -- affected base a         == show the affected points of the variant a of base
 -- trial base a b states n == run base, its variants a and b and their integration from the state that the words tell, the first three for at most n steps each
 -- edit file script n      == apply the commands of a script to the program of a file, as the author of the number n
@@ -22,7 +23,7 @@ pub data Request : Type 0 where
   integrate : (base a b : Text) (tries : ℕ) → Request
   run : (file : Text) (states : List Text) (steps : ℕ) (trace : Bool) → Request
   graph : (file : Text) (json : Bool) → Request
-  slice : (file : Text) (points : List Text) → Request
+  slice : (file : Text) (points : List Text) (program : Bool) → Request
   affected : (base a : Text) → Request
   trial : (base a b : Text) (states : List Text) (steps : ℕ) → Request
   edit : (file script : Text) (author : ℕ) → Request
@@ -32,7 +33,7 @@ pub data Request : Type 0 where
 abbrev pub IsInRange : Request → Type 0
 IsInRange (integrate base a b tries) = (1 ≤ tries) × (tries ≤ MAX_TRIES)
 IsInRange (run file states steps trace) = (1 ≤ steps) × (steps ≤ MAX_STEPS)
-IsInRange (slice file points) = 1 ≤ length points
+IsInRange (slice file points program) = 1 ≤ length points
 IsInRange (trial base a b states steps) = (1 ≤ steps) × (steps ≤ MAX_STEPS)
 IsInRange (edit file script author) = (1 ≤ author) × (author ≤ 4294967295)
 IsInRange (tag file author) = (1 ≤ author) × (author ≤ 4294967295)

@@ -34,11 +34,13 @@ pub enum Asked<'a> {
         file: &'a str,
         json: bool,
     },
-    /// `slice FILE POINT..`: show the slice of the graph of the program of a file for at least one
-    /// point. The words of the points, which nothing has read yet, stand in their order.
+    /// `slice FILE POINT.. [--program]`: show the slice of the graph of the program of a file for at
+    /// least one point, as the program that is left of it or as a graph. The words of the points,
+    /// which nothing has read yet, stand in their order.
     Slice {
         file: &'a str,
         points: Vec<&'a str>,
+        program: bool,
     },
     /// `affected BASE A`: show the affected points of a variant of base.
     Affected {

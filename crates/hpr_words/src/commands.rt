@@ -61,6 +61,8 @@ const TRACE: Argument = Argument::Flag("trace");
 
 const JSON: Argument = Argument::Flag("json");
 
+const PROGRAM: Argument = Argument::Flag("program");
+
 /// The commands by their names.
 #[derive(Clone, Copy)]
 pub enum CommandName {
@@ -102,7 +104,7 @@ impl CommandName {
             CommandName::Integrate => &[BASE, A, B, TRIES],
             CommandName::Run => &[FILE, STATES, STEPS, TRACE],
             CommandName::Graph => &[FILE, JSON],
-            CommandName::Slice => &[FILE, POINTS],
+            CommandName::Slice => &[FILE, POINTS, PROGRAM],
             CommandName::Affected => &[BASE, A],
             CommandName::Trial => &[BASE, A, B, STATES, STEPS],
             CommandName::Edit => &[FILE, SCRIPT, AUTHOR],
@@ -168,7 +170,11 @@ fn slice_from<'a>(alloc: Global, matches: &ArgMatches<'a>) -> Result<Asked<'a>, 
     if points.is_empty() {
         return Err(WordsError::Refused);
     }
-    Ok(Asked::Slice { file, points })
+    Ok(Asked::Slice {
+        file,
+        points,
+        program: flag_from(matches, "program"),
+    })
 }
 
 fn affected_from<'a>(matches: &ArgMatches<'a>) -> Result<Asked<'a>, WordsError>

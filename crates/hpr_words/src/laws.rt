@@ -69,10 +69,21 @@ pub fn graph_words_are_plain()
         ≡ Some (graph file true) }
 {}
 
-/// A file and at least one point behind `slice` are plain.
+/// A file and at least one point behind `slice` are plain, with the flag in each of its places or with none.
 pub fn slice_words_are_plain()
-    ensures { (file point : Text) (points : List Text) → is_name file ≡ true → list_all is_name (point ∷ points) ≡ true
-        → plain (codes "slice" ∷ file ∷ point ∷ points) ≡ Some (slice file (point ∷ points)) }
+    ensures alone { (file point : Text) (points : List Text) → is_name file ≡ true
+        → list_all is_name (point ∷ points) ≡ true
+        → plain (codes "slice" ∷ file ∷ point ∷ points) ≡ Some (slice file (point ∷ points) false) }
+    ensures first { (file point : Text) (points : List Text) → is_name file ≡ true
+        → list_all is_name (point ∷ points) ≡ true
+        → plain (codes "slice" ∷ codes "--program" ∷ file ∷ point ∷ points) ≡ Some (slice file (point ∷ points) true) }
+    ensures second { (file point : Text) (points : List Text) → is_name file ≡ true
+        → list_all is_name (point ∷ points) ≡ true
+        → plain (codes "slice" ∷ file ∷ codes "--program" ∷ point ∷ points) ≡ Some (slice file (point ∷ points) true) }
+    ensures last { (file point : Text) (points : List Text) → is_name file ≡ true
+        → list_all is_name (point ∷ points) ≡ true
+        → plain (codes "slice" ∷ file ∷ point ∷ (points ++ codes "--program" ∷ []))
+        ≡ Some (slice file (point ∷ points) true) }
 {}
 
 /// Two names behind `affected` are plain.

@@ -3,11 +3,14 @@ use Rattle.hpr_decisions.specs.Reads.{files_of_taken}
 use Rattle.hpr_decisions.proofs.Completeness.{asked_completes, asked_prints_other}
 use Rattle.hpr_decisions.specs.Theorem.{KeepsMeaning}
 use Rattle.hpr_decisions.specs.MergedText.{PrintsMerged}
+use Rattle.hpr_decisions.specs.LeftText.{PrintsLeft}
+use Rattle.hpr_decisions.specs.SliceTheorem.{DoesSlice}
 use Rattle.hpr_decisions.specs.TrialKeeps.{KeepsTrial}
 use Rattle.hpr_decisions.proofs.EndsLemmas.{Ends-for, asked_ends, done_took}
 use Rattle.hpr_decisions.proofs.Reported.{conflict_ends, interference_ends, interferes_ends, leaves_ends, no_program_ends, spent_ends}
 use Rattle.hpr_decisions.proofs.Once.{asked_refused}
-use Rattle.hpr_decisions.proofs.Theorem.{request_keeps, request_fits}
+use Rattle.hpr_decisions.proofs.Theorem.{request_keeps, request_fits, request_left}
+use Rattle.hpr_decisions.proofs.SliceTheorem.{request_does}
 use Rattle.hpr_decisions.proofs.TrialTheorem.{trial_keeps, ends_trial}
 use Rattle.hpr_words.proofs.WordLemmas.{plain_is_taken}
 use Rattle.hpr_app.proofs.hpr.Goals as goal
@@ -26,6 +29,16 @@ returns-in-Ok-clause-keeps g c asked fs is told done =
 pub returns-in-Ok-clause-merged : goal.returns-in-Ok-clause-merged
 returns-in-Ok-clause-merged g c asked fs is told done =
     done_took PrintsMerged request_fits asked fs _ _ _ _ _ _ done
+    (asked_ends _ asked _ (g.S.Shelf.files c.args.shelf.now) fs _ _ _ _ _ _ (sym c.in-Ok.ensures.taken) is told c.run_asked.ensures.ends)
+
+pub returns-in-Ok-clause-left : goal.returns-in-Ok-clause-left
+returns-in-Ok-clause-left g c asked fs is told done =
+    done_took PrintsLeft request_left asked fs _ _ _ _ _ _ done
+    (asked_ends _ asked _ (g.S.Shelf.files c.args.shelf.now) fs _ _ _ _ _ _ (sym c.in-Ok.ensures.taken) is told c.run_asked.ensures.ends)
+
+pub returns-in-Ok-clause-slices : goal.returns-in-Ok-clause-slices
+returns-in-Ok-clause-slices g c asked fs is told done =
+    done_took DoesSlice request_does asked fs _ _ _ _ _ _ done
     (asked_ends _ asked _ (g.S.Shelf.files c.args.shelf.now) fs _ _ _ _ _ _ (sym c.in-Ok.ensures.taken) is told c.run_asked.ensures.ends)
 
 pub returns-in-Ok-clause-complete : goal.returns-in-Ok-clause-complete

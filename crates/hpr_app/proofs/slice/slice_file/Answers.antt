@@ -7,5 +7,5 @@ pub returns : goal.returns
 returns g c =
     let name = c.args.file.now in
     let points = map (λ w. w.now) c.args.points.now in
-    past_last_file (g.S.Shelf.files c.args.shelf.now) _ _ _ name (λ p r. Sliced name p points r) c.in_ok-program.program c.show_slice.result
+    past_last_file (g.S.Shelf.files c.args.shelf.now) _ _ _ name (λ p r. Sliced name p points c.args.as_program r) c.in_ok-program.program c.show_slice.result
     c.in_ok-program.ensures.reads.0 c.in_ok-program.ensures.reads.1 c.show_slice.ensures

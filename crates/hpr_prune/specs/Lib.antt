@@ -1,0 +1,4 @@
+pub mod Programs
+pub mod Private
+pub mod Pruned
+pub mod KeptLaw
