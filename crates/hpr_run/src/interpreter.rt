@@ -207,6 +207,7 @@ fn walk_assignment<O: Observer>(
     Ok(())
 }
 
+#[inline(never)]
 fn walk_write<O: Observer>(
     alloc: Global,
     stmt: &Stmt,
@@ -263,6 +264,7 @@ fn is_true(number: i64) -> bool
 }
 
 // What the part does in the state: the number of its expression, where it gives something.
+#[inline(always)]
 fn act(stmt: &Stmt, state: &State) -> Result<i64, Fault>
     ensures { given_of (content_of stmt.now) state.now result ≡ answer_of (content_of stmt.now) state.now }
 {
@@ -274,6 +276,7 @@ fn act(stmt: &Stmt, state: &State) -> Result<i64, Fault>
 }
 
 // One step: the number of the part's expression, if a step is left.
+#[inline(always)]
 fn take_step<O: Observer>(
     alloc: Global,
     stmt: &Stmt,
