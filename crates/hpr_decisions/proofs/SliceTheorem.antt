@@ -1,9 +1,8 @@
 -- A slice that is printed as a program does what the whole does there.
-use Rattle.std.proofs.Common.{◌≡◌, ℕ, true, false, List, [], ◌∷◌, Contains, subst}
+use Rattle.std.proofs.Common.{ℕ, true, false, List, [], ◌∷◌, Contains, subst}
 use Rattle.std.proofs.lemmas.List.Elements.{All-contains}
 use Rattle.hpr_terms.proofs.Facts.{in_here}
 use Rattle.hpr_io.specs.Files.{Files, bytes_of}
-use Rattle.hpr_syntax.specs.Tree.{Tree}
 use Rattle.hpr_syntax.specs.Shape.{IsProgram}
 use Rattle.hpr_graph.specs.Graphs.{Graph}
 use Rattle.hpr_graph.specs.ProgramGraph.{graph_of}
@@ -17,7 +16,8 @@ use Rattle.hpr_inputs.specs.Points.{IsNamed, IsPoint}
 use Rattle.hpr_inputs.specs.declared.answer.Kind.TheVariants as kind
 use Rattle.hpr_decisions.specs.Outcome.{RequestOutcome}
 use Rattle.hpr_decisions.specs.LeftText.{IsLeftOf}
-use Rattle.hpr_decisions.specs.SliceTheorem.{DoesItsPart, DoesSlice, IsSliceProgram}
+use Rattle.hpr_prune.specs.KeptLaw.{DoesItsPart}
+use Rattle.hpr_decisions.specs.SliceTheorem.{DoesSlice, IsSliceProgram}
 use Rattle.hpr_decisions.proofs.Theorem.{printed_spelled, request_left}
 
 module _ (file : List ℕ) (point : Text) (points : List Text) (bytes : List ℕ) (l : IsLeftOf file (point ∷ points) bytes) where

@@ -14,7 +14,7 @@ use Rattle.hpr_graph.specs.ProgramGraph.{graph_of}
 use Rattle.hpr_graph.proofs.Laws.{same_turned, same_then, restrict_same}
 use Rattle.hpr_paths.proofs.Among.{here, contains_among}
 use Rattle.hpr_prune.specs.Programs.{BlockLeft, ended, action_kept, action_out, branch_kept, branch_out, loop_kept, loop_out, NamesLeft, none, name_kept, name_out, IsPruned, IsDrawn, without_idle}
-use Rattle.hpr_prune.specs.KeptLaw.{IsSliceOf, IsKeptBy}
+use Rattle.hpr_prune.specs.KeptLaw.{IsSliceOf, IsKeptBy, DoesItsPart}
 use Rattle.hpr_prune.proofs.Shapes.{is_program}
 use Rattle.hpr_prune.proofs.GraphOf.{graph_same, entry_in}
 use Rattle.hpr_prune.proofs.Kept.{kept}
@@ -73,3 +73,6 @@ module _ (p q : Tree) (g : Graph) (ip : IsProgram p) (is : IsSliceOf p g) (pr : 
 
   pub listed_kept : (s : Values) (n : ℕ) (f : FinalValues) → Ends p s n f → IsKeptBy p q s n f
   listed_kept s n f e = slice_kept p q g (Contains (is.0 ∷ is.1)) ip is.0 point (is.2 is.0 point) is.3 pr s n f e
+
+  pub listed_does : DoesItsPart p q g
+  listed_does = record { program = is_program g.vertex p q ip pr; graph = listed_graph; kept = listed_kept }

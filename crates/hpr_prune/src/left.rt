@@ -5,6 +5,7 @@ ghost use Rattle.hpr_syntax.specs.Rows.{content_of};
 ghost use Rattle.hpr_graph.specs.Numbered.{HasVertex, graph_in};
 ghost use Rattle.hpr_graph.specs.declared.vertex.Vertex.TheVariants.{Part, Final};
 ghost use Rattle.hpr_prune.specs.Programs.{BlockLeft, IsPruned, NamesLeft};
+ghost use Rattle.hpr_prune.specs.KeptLaw.{DoesItsPart, IsSliceOf};
 ghost use Rattle.hpr_prune.specs.Private.PartLeft.{IsPartLeft};
 
 use hpr_graph::{Graph, NoMemory, Vertex};
@@ -15,7 +16,9 @@ use std::alloc::Global;
 /// each name of `end` whose Final vertex it lacks. The rest stays in its order, and so do the issued
 /// numbers. Takes a copy and one look-up by hash for each part and each name that is come to.
 pub fn prune(alloc: Global, program: &Program, slice: &Graph) -> Result<Program, NoMemory>
-    ensures { IfOk result (λ q. IsPruned (graph_in slice.now).vertex program.now q) }
+    ensures pruned { IfOk result (λ q. IsPruned (graph_in slice.now).vertex program.now q) }
+    ensures does { IfOk result (λ q. IsSliceOf program.now (graph_in slice.now)
+        → DoesItsPart program.now q (graph_in slice.now)) }
 {
     let issued = program.issued().copy(alloc)?;
     let body = block_left(alloc, slice, program.body())?;
