@@ -29,7 +29,7 @@ impl Drop for SampleSet {
     }
 }
 
-/// The sample of a seed, of so many parts: 1 to 998, so that base with both new parts is a program.
+/// The sample of a seed, of so many parts: 1 to 3,998, so that base with both new parts is a program.
 ///
 /// The words of the generator `SplitMix64`, begun with the seed, are drawn in turn: for the groups of
 /// assignments, conditionals and loops of the base over the variables `v0` to `v7` and `c`, and then for

@@ -8,7 +8,7 @@ pub const MAX_FILE: usize = 4_194_304;
 pub const MAX_NAME: usize = 64;
 
 /// How many parts a program has at most.
-pub const MAX_PARTS: usize = 1000;
+pub const MAX_PARTS: usize = 4000;
 
 /// The greatest level of a part of a program; a part of its top block has level 1.
 pub const MAX_LEVELS: usize = 64;

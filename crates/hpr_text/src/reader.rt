@@ -59,7 +59,7 @@ fn built(alloc: Global, state: State) -> Result<Program, TextError>
 /// `Syntax` comes exactly where the bytes spell no tree in this form, with the length of their
 /// longest front that some further bytes complete; `Shape` exactly where they spell a tree that is
 /// no program, with the first test that it fails; `Memory` where memory ran out. Of an untagged text
-/// with more than 1,000 parts no part past these is kept, and the refusal has the number of them
+/// with more than 4,000 parts no part past these is kept, and the refusal has the number of them
 /// all.
 pub fn parse(alloc: Global, bytes: &[u8], mode: Mode) -> Result<Program, TextError>
     requires author { HasAuthor mode }

@@ -71,7 +71,7 @@ pub enum Asked<'a> {
         author: u32,
     },
     /// `sample SEED PARTS`: make the programs of a seed, any number of 64 bits, the base of so many
-    /// parts, from 1 to 998, and integrate them.
+    /// parts, from 1 to 3,998, and integrate them.
     Sample {
         seed: u64,
         parts: usize,
