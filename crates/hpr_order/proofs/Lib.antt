@@ -1,6 +1,6 @@
 mod Lists
-mod ByHash
 pub mod Ranks
+mod Joins
 pub mod ListFacts
 pub mod BlockOf
 pub mod Lefts

@@ -1,20 +1,14 @@
--- Places of lists: what one splits off, what one more puts in, and what is taken before it.
-use Rattle.std.proofs.Common.{◌≡◌, ℕ, zero, suc, ◌+◌, ◌↔◌, ◌⊎◌, inl, inr, Some, List, [], ◌∷◌, ◌++◌, take, drop, Contains, slice_get, sym, ap, subst}
+-- Places of lists: what one more puts in, and what is taken before it.
+use Rattle.std.proofs.Common.{◌≡◌, ℕ, ◌+◌, ◌↔◌, ◌⊎◌, inl, inr, Some, List, [], ◌∷◌, ◌++◌, take, Contains, slice_get, sym, subst}
 use Rattle.std.proofs.lemmas.Option.{get_or_from_slice_get, slice_get_within}
 use Rattle.std.proofs.lemmas.List.Elements.{Contains-append_left, Contains-append_right, Contains-append_cases}
 use Rattle.hpr_terms.proofs.Facts.{taken_item}
 use Rattle.hpr_graph.specs.Graphs.{IsOnce}
-use Rattle.hpr_graph.proofs.Lists.{some_inj, in_cons, in_here, in_later, once_tail, once_head, once_cons}
+use Rattle.hpr_graph.proofs.Lists.{in_cons, in_here, in_later, once_tail, once_head, once_cons}
 
 module _ {X : Type 0} where
   pub taken_at : (xs : List X) (i : ℕ) (x y : X) → slice_get xs i ≡ Some x → Contains (take (i + 1) xs) y ↔ (Contains (take i xs) y ⊎ (x ≡ y))
   taken_at xs i x y at = taken_item xs i x y (slice_get_within xs i x at) (sym (get_or_from_slice_get xs i x x at))
-
-  -- a place splits a list
-  pub split_at : (xs : List X) (i : ℕ) (x : X) → slice_get xs i ≡ Some x → (xs ≡ take i xs ++ x ∷ drop (suc i) xs) × (drop i xs ≡ x ∷ drop (suc i) xs)
-  split_at [] i x h = absurd cc
-  split_at (y ∷ xs) zero x h = (ap (λ (z : X). z ∷ xs) (some_inj y x h), ap (λ (z : X). z ∷ xs) (some_inj y x h))
-  split_at (y ∷ xs) (suc i) x h = let (whole, rest) = split_at xs i x h in (ap (λ (l : List X). y ∷ l) whole, rest)
 
   -- one more in the midst of a list
   pub put_has : (front back : List X) (v w : X) → Contains (front ++ v ∷ back) w ↔ ((v ≡ w) ⊎ Contains (front ++ back) w)

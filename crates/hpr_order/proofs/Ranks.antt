@@ -1,12 +1,8 @@
 -- What the rank of a base and its variants has: each of their parts, once.
-use Rattle.std.proofs.Common.{◌≡◌, ℕ, zero, suc, ◌+◌, ◌-◌, ◌<◌, Bool, true, false, ◌↔◌, ◌⊎◌, inl, inr, Option, Some, None, IfSome, IsNone, Bor, List, [], ◌∷◌, ◌++◌, map, length, take, drop, get_or, Contains, slice_get, refl, sym, ap, ap₂, ◌∙◌, subst, append_assoc, arith}
-use Rattle.std.specs.List.{AllByRecursion, insert}
+use Rattle.std.proofs.Common.{◌≡◌, ℕ, zero, suc, ◌+◌, true, false, ◌↔◌, ◌⊎◌, inl, inr, Option, Some, None, List, [], ◌∷◌, ◌++◌, map, Contains, slice_get, refl, sym, ap, ap₂, ◌∙◌, subst, append_assoc}
+use Rattle.std.specs.List.{AllByRecursion}
 use Rattle.std.proofs.lemmas.List.{append-nil, map-append}
 use Rattle.std.proofs.lemmas.List.Elements.{All-contains, All-from_recursion, Contains-append_left, Contains-append_right, Contains-append_cases}
-use Rattle.std.specs.Option.{is_some, option_copied}
-use Rattle.std.specs.Slice.{IsItemAt}
-use Rattle.std.proofs.lemmas.Bool.{ltb-true, ltb-false}
-use Rattle.std.proofs.lemmas.Option.{slice_get-get_or, slice_get_past, slice_get_within, get_or_from_slice_get}
 use Rattle.hpr_terms.specs.declared.tag.Tag.{Tag}
 use Rattle.hpr_terms.proofs.Facts.{in_map, map_in}
 use Rattle.hpr_syntax.specs.declared.rows.Row.{Row}
@@ -24,7 +20,7 @@ use Rattle.hpr_graph.specs.declared.vertex.Vertex.TheVariants.{Entry, Init, Part
 use Rattle.hpr_graph.specs.Graphs.{IsOnce}
 use Rattle.hpr_graph.proofs.Lists.{some_inj, in_none, in_cons, in_here, in_later}
 use Rattle.hpr_graph.specs.Rank.{parts_of, IsAddedAt, IsPutIn, IsJoined, AreJoined, IsFirstChanged, IsRankOf, IsRank}
-use Rattle.hpr_order.proofs.Lists.{split_at, put_has, put_once}
+use Rattle.hpr_order.proofs.Lists.{put_has, put_once}
 
 -- the tags of the rows are those of the parts
 row_tags : (p : Parent) (i : ℕ) (body : Body) → map (λ (row : Row). row.tag) (rows_of p i body) ≡ tags_of body []
@@ -115,7 +111,7 @@ joined_has (v ∷ vs) xs ys (zs, joined, put) w =
       ],
     )
 
-joined_once : (vs xs ys : List Vertex) → IsJoined vs xs ys → IsOnce xs → IsOnce ys
+pub joined_once : (vs xs ys : List Vertex) → IsJoined vs xs ys → IsOnce xs → IsOnce ys
 joined_once [] xs ys is once = subst (λ (l : List Vertex). IsOnce l) (sym is) once
 joined_once (v ∷ vs) xs ys (zs, joined, put) once = put_in_once v (slice_get vs 0) zs ys put (joined_once vs xs zs joined once)
 
@@ -209,61 +205,3 @@ rank_from_first a b base r other joined = (a, inr (other, refl), (parts_of a, jo
 pub rank_from_second : (a b base : Tree) (r : List Vertex) → a ≡ base → AreJoined (parts_of a ∷ parts_of base ∷ []) (parts_of b) r → IsRank a b base r
 rank_from_second a b base r same (zs, first, rest) =
     (b, inl (same, refl), (zs, first, (zs, joined_listed (parts_of b) zs (λ w h. (joined_has (parts_of a) (parts_of b) zs first w).1 (inl h)), rest)))
-
--- the steps of the code
-pub put_new : (xs : List Vertex) (i : ℕ) (v next : Vertex) → slice_get xs i ≡ Some next → IsAddedAt v (Some next) xs (insert xs i v)
-put_new xs i v next at =
-    let (whole, rest) = split_at xs i next at in
-    (take i xs, drop (suc i) xs, whole, ap (λ (l : List Vertex). take i xs ++ v ∷ l) rest)
-
-pub none_is : (o : Option ℕ) (b : Bool) → b ≡ is_some o → b ≡ false → IsNone o
-none_is None b e f = refl
-none_is (Some n) b e f = let both : true ≡ false = sym e ∙ f in absurd cc
-
--- a vertex that is listed stays where it is
-pub put_listed : (v : Vertex) (next : Option Vertex) (xs : List Vertex) (o : Option ℕ) (b : Bool) → IfSome o (λ n. slice_get xs n ≡ Some v) → b ≡ is_some o → b ≡ true → IsPutIn v next xs xs
-put_listed v next xs None b found is listed = let both : false ≡ true = sym is ∙ listed in absurd cc
-put_listed v next xs (Some n) b found is listed = inl ((n, slice_get_within xs n v found, get_or_from_slice_get xs n v v found), refl)
-
--- a copy of a vertex that isn't listed, put in
-pub put_copy : (v copy : Vertex) (next : Option Vertex) (xs ys : List Vertex) (at : ℕ) (o : Option ℕ) (b : Bool) → IsNone o ↔ (¬ Contains xs v) → b ≡ is_some o → b ≡ false
-    → ((w : Vertex) → IsAddedAt w next xs (insert xs at w)) → ys ≡ insert xs at copy → copy ≡ v → IsPutIn v next xs ys
-put_copy v copy next xs ys at o b stranger is none added grown same =
-    inr (stranger.0 (none_is o b is none), subst (IsAddedAt v next xs) (sym (grown ∙ ap (insert xs at) same)) (added v))
-
--- the parts of the walk from a place on, with what follows the first of them
-module _ (parts : List Vertex) (at : ℕ) (v : Vertex) (l : at < length parts) (is : v ≡ get_or parts at v) where
-  this : slice_get parts at ≡ Some v
-  this = slice_get-get_or parts at v l ∙ ap Some (sym is)
-
-  from_here : drop at parts ≡ v ∷ drop (at + 1) parts
-  from_here = let e : suc at ≡ at + 1 = omega arith in (split_at parts at v this).1 ∙ ap (λ (n : ℕ). v ∷ drop n parts) e
-
-  follower : (xs : List Vertex) (n : ℕ) → slice_get (drop n xs) 0 ≡ slice_get xs n
-  follower xs zero = refl
-  follower [] (suc n) = refl
-  follower (x ∷ xs) (suc n) = follower xs n
-
-  -- one more part put in
-  pub join_more : (xs zs ys : List Vertex) (next : Option Vertex) → next ≡ slice_get parts (at + 1) → IsJoined (drop (at + 1) parts) xs zs → IsPutIn v next zs ys → IsJoined (drop at parts) xs ys
-  join_more xs zs ys next one joined put =
-      subst (λ (vs : List Vertex). IsJoined vs xs ys) (sym from_here)
-      (zs, joined, subst (λ (o : Option Vertex). IsPutIn v o zs ys) (one ∙ sym (follower parts (at + 1))) put)
-
-pub joined_here : (parts xs zs : List Vertex) (at : ℕ) → 0 < at → IsJoined (drop at parts) xs zs → IsJoined (drop (at - 1 + 1) parts) xs zs
-joined_here parts xs zs at some joined = let e : at ≡ at - 1 + 1 = omega (arith, some) in subst (λ (n : ℕ). IsJoined (drop n parts) xs zs) e joined
-
--- what the code reads of the walk
-pub item_is : (xs : List Vertex) (i : ℕ) (r : Option (Bor Vertex)) → IsItemAt xs i r → option_copied r ≡ slice_get xs i
-item_is xs i None h = sym (slice_get_past xs i (ltb-false i (length xs) (sym h.0)))
-item_is xs i (Some x) h = sym (slice_get-get_or xs i x.now (ltb-true i (length xs) (sym h.0)) ∙ ap Some (sym h.1))
-
-pub item_then : (xs : List Vertex) (r : Option (Bor Vertex)) (P : Vertex → Type 0) → ((v : Vertex) → option_copied r ≡ Some v → P v) → IfSome r (λ x. P x.now)
-item_then xs None P f = tt
-item_then xs (Some x) P f = f x.now refl
-
--- the follower is listed
-pub next_there : (parts xs zs : List Vertex) (n : ℕ) (next : Vertex) → slice_get parts n ≡ Some next → IsJoined (drop n parts) xs zs → Contains zs next
-next_there parts xs zs n next at joined =
-    (joined_has (drop n parts) xs zs joined next).1
-    (inr (subst (λ (l : List Vertex). Contains l next) (sym (split_at parts n next at).1) (in_here next (drop (suc n) parts))))

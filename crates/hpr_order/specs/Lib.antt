@@ -9,3 +9,4 @@ pub mod Tables
 pub mod Building
 pub mod Arranging
 pub mod Ordered
+pub mod Joining

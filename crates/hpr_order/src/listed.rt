@@ -1,6 +1,5 @@
 //! Lists of vertices, each once, in which a vertex is found by hash.
-ghost use Rattle.std.specs.Prelude.{◌≡◌, ◌↔◌, ◌≤◌, Some, IsNone, IfSome, IfOk, OnOk, Contains, length, slice_get};
-ghost use Rattle.std.specs.List.{insert};
+ghost use Rattle.std.specs.Prelude.{◌≡◌, ◌↔◌, Some, IsNone, IfSome, IfOk, Contains, slice_get};
 ghost use Rattle.hpr_graph.specs.Graphs.{IsOnce};
 
 use hpr_graph::{NoMemory, Vertex};
@@ -22,18 +21,4 @@ pub(crate) fn place_in(list: &IndexSet<Vertex>, vertex: &Vertex) -> Option<usize
     ensures stranger { IsNone result ↔ (¬ Contains list.now.keys vertex.now) }
 {
     list.get_index_of(vertex)
-}
-
-/// Puts a vertex that isn't listed at the place. Moves those behind it.
-pub(crate) fn insert_at(
-    list: &mut IndexSet<Vertex>,
-    at: usize,
-    vertex: Vertex,
-) -> Result<(), NoMemory>
-    requires stranger { ¬ Contains list.old.keys vertex }
-    requires at { at ≤ length list.old.keys }
-    ensures { OnOk result (list.new.keys ≡ insert list.old.keys at vertex) }
-{
-    list.shift_insert(at, vertex)?;
-    Ok(())
 }

@@ -11,8 +11,11 @@ use hpr_graph::{NoMemory, Vertex};
 use hpr_syntax::{Block, Program, Stmt, content_of};
 use std::alloc::Global;
 
-/// The parts of a program in preorder.
-pub(crate) fn parts(alloc: Global, program: &Program) -> Result<Vec<Vertex>, NoMemory>
+/// The parts of a program as vertices, in preorder.
+///
+/// Copies what each part says, and recurses to the depth of the program. Errs only where memory runs out.
+/// Horwitz, Prins and Reps 1989 have a vertex for each assignment and predicate of a program, in no order.
+pub fn parts(alloc: Global, program: &Program) -> Result<Vec<Vertex>, NoMemory>
     ensures { IfOk result (λ v. v.items ≡ parts_of program.now) }
 {
     let mut parts = Vec::new(alloc);
