@@ -2,6 +2,7 @@ pub mod Lists
 pub mod Bounded
 mod Rows
 mod Numbers
+mod Named
 pub mod EdgeList
 pub mod Searches
 pub mod LinkOrder
@@ -18,7 +19,7 @@ pub mod Indexed
 mod Blank
 pub mod EdgeOrder
 pub mod InOrder
-mod Reordered
+pub mod Reordered
 pub mod PutInOrder
 pub mod NameOrder
 pub mod NamesOnce

@@ -18,3 +18,4 @@ pub mod Hashed
 pub mod Fits
 pub mod Clashes
 pub mod Leaves
+pub mod Split

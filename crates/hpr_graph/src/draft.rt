@@ -1,5 +1,5 @@
 //! Graphs while they are filled, with dense numbers.
-ghost use Rattle.std.specs.Prelude.{◌≡◌, ◌↔◌, ◌⊎◌, ℕ, ◌+◌, ◌<◌, [], ◌∷◌, ◌++◌, length, replicate, Contains, slice_get, Some, IsNone, IsSome, IsTrue, OnOk, OnErr, IfOk, IfSome};
+ghost use Rattle.std.specs.Prelude.{◌≡◌, ◌↔◌, ◌⊎◌, ℕ, ◌+◌, ◌<◌, [], ◌∷◌, ◌++◌, length, map, replicate, Contains, slice_get, Some, IsNone, IsSome, IsTrue, OnOk, OnErr, IfOk, IfSome};
 ghost use Rattle.hpr_graph.specs.declared.vertex.Vertex.{Vertex};
 ghost use Rattle.hpr_graph.specs.declared.edge.Kind.{Kind};
 ghost use Rattle.hpr_graph.specs.declared.edge.Edge.{Edge};
@@ -246,6 +246,21 @@ impl Draft {
     {
         Ok(Draft {
             vertices: copy_set(self.alloc, self.vertices.as_slice())?,
+            links: copy_rows(self.alloc, &self.links)?,
+            edges: self.edges,
+            alloc: self.alloc,
+        })
+    }
+
+    /// A copy in which these vertices, each once, stand in place of the others: as many, each of which
+    /// defines the name that the one with its number defines here.
+    pub(crate) fn with_vertices(&self, vertices: Vec<Vertex>) -> Result<Draft, NoMemory>
+        requires once { IsOnce vertices.items }
+        requires names { map name_of vertices.items ≡ map name_of self.now.vertices }
+        ensures { IfOk result (λ d. d ≡ record { vertices = vertices.items; links = self.now.links }) }
+    {
+        Ok(Draft {
+            vertices: indexed(self.alloc, vertices)?,
             links: copy_rows(self.alloc, &self.links)?,
             edges: self.edges,
             alloc: self.alloc,

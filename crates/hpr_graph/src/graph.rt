@@ -1,8 +1,8 @@
 //! Graphs with dense numbers.
-ghost use Rattle.std.specs.Prelude.{◌≡◌, ◌↔◌, ℕ, ◌<◌, [], length, Contains, slice_get, Some, IsNone, IsTrue, IfOk, IfSome};
+ghost use Rattle.std.specs.Prelude.{◌≡◌, ◌↔◌, ℕ, ◌<◌, [], length, map, Contains, slice_get, Some, IsNone, IsTrue, IfOk, IfSome};
 ghost use Rattle.std.specs.List.Sorted.{IsSorted};
 ghost use Rattle.hpr_graph.specs.declared.link.Link.{Link};
-ghost use Rattle.hpr_graph.specs.Graphs.{HasEdges, IsOnce, Same, union_of, restrict_to};
+ghost use Rattle.hpr_graph.specs.Graphs.{HasEdges, IsOnce, Same, name_of, union_of, restrict_to};
 ghost use Rattle.hpr_graph.specs.Numbered.{HasVertex, HasLink, IsEdgeAt, IsLink, IsNumbered, IsMarkedVertex, graph_in, link_count};
 ghost use Rattle.hpr_graph.specs.InOrder.{AreVerticesOf, RowsAscend};
 
@@ -141,6 +141,17 @@ impl Graph {
         ensures { IfOk result (λ d. d ≡ self.now) }
     {
         self.draft.copy()
+    }
+
+    /// The graph with the same edges by numbers, and with these vertices under the numbers, each once: as many
+    /// as this one has, each of which defines the name that the one with its number defines here.
+    pub fn with_vertices(&self, vertices: Vec<Vertex>) -> Result<Graph, NoMemory>
+        requires once { IsOnce vertices.items }
+        requires names { map name_of vertices.items ≡ map name_of self.now.vertices }
+        ensures { IfOk result (λ g. g ≡ record { vertices = vertices.items; links = self.now.links }) }
+    {
+        let draft = self.draft.with_vertices(vertices)?;
+        Ok(Graph { draft })
     }
 
     /// The vertices and the edges of both graphs: those of this one under the same numbers, then the other

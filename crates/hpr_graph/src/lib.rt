@@ -25,4 +25,5 @@ pub use graph::Graph;
 pub use hpr_syntax::{Content, Name, NoMemory, Tag};
 pub use link::{Link, LinkKind};
 pub use order::compare_vertices;
+pub use ordered::number_among;
 pub use vertex::{Vertex, place_of, same_vertex};

@@ -58,8 +58,8 @@ fn numbers_among(
     Ok(numbers)
 }
 
-/// The place of a vertex among those that ascend.
-fn number_among(vertex: &Vertex, ascending: &[Vertex]) -> Option<usize>
+/// The place of a vertex among those that ascend, if it is there. Halves the list.
+pub fn number_among(vertex: &Vertex, ascending: &[Vertex]) -> Option<usize>
     requires { Ascends vertex_cmp ascending.now }
     ensures found { IfSome result (λ n. slice_get ascending.now n ≡ Some vertex.now) }
     ensures there { Contains ascending.now vertex.now → IsSome result }

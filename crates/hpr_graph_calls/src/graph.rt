@@ -94,6 +94,14 @@ pub(crate) fn put_vertex(alloc: Global, out: &mut Out, vertex: &Vertex) {
     }
 }
 
+/// Puts vertices, one a line.
+pub(crate) fn put_vertices(alloc: Global, out: &mut Out, vertices: &[Vertex]) {
+    for vertex in vertices {
+        put_vertex(alloc, out, vertex);
+        out.put_piece("\n");
+    }
+}
+
 fn put_kind(out: &mut Out, kind: LinkKind) {
     match kind {
         LinkKind::Control(label) => put(out, &[" control ", truth(label)]),
@@ -119,8 +127,8 @@ fn put_row(alloc: Global, out: &mut Out, graph: &Graph, at: usize)
     put_links(out, graph.edges_into(at));
 }
 
-// Puts each vertex in the order of the numbers, with the edges into it by numbers.
-fn put_rows(alloc: Global, out: &mut Out, graph: &Graph) {
+/// Puts each vertex in the order of the numbers, with the edges into it by numbers.
+pub(crate) fn put_rows(alloc: Global, out: &mut Out, graph: &Graph) {
     for at in 0..graph.vertex_count() {
         put_row(alloc, out, graph, at);
     }
@@ -210,7 +218,8 @@ fn finished(row: Row<'_>, out: &mut Out) -> Option<()> {
     Some(())
 }
 
-fn marks(alloc: Global, word: &str) -> Option<Vec<bool>> {
+/// The marks that a word spells, a digit a mark.
+pub(crate) fn marks(alloc: Global, word: &str) -> Option<Vec<bool>> {
     let mut marks = Vec::new(alloc);
     for byte in word.as_bytes() {
         marks.push(*byte == b'1').ok()?;

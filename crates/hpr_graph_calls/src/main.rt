@@ -10,6 +10,7 @@ mod region;
 mod search;
 mod slices;
 mod spelled;
+mod split;
 mod walk;
 
 use hpr_rows::{Calls, Out, Row, take};

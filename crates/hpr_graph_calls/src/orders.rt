@@ -1,4 +1,4 @@
-//! Calls of hpr_order and hpr_rebuild.
+//! Calls of hpr_order, hpr_rebuild and hpr_split.
 ghost use Rattle.std.specs.Prelude.{◌≤◌, IsTrue, Contains, IfOk};
 ghost use Rattle.hpr_graph.specs.declared.vertex.Vertex.{Vertex};
 ghost use Rattle.hpr_graph.specs.Arrangements.{AreArrangements};
@@ -8,11 +8,12 @@ ghost use Rattle.hpr_order.specs.Arranging.{IsPreorderOf};
 ghost use Rattle.hpr_order.specs.Regions.{AreRegionsOf};
 ghost use Rattle.hpr_rebuild.specs.Parts.{IsIssuedPart};
 
-use crate::graph::put_vertex;
+use crate::graph::{put_vertex, put_vertices};
 use crate::spelled::{graph, program_graph};
+use crate::split;
 use hpr_graph::{Graph, Vertex};
 use hpr_merge::merge;
-use hpr_order::{Arrangements, OrderError, RegionTree, arrange, rank, regions};
+use hpr_order::{Arrangements, OrderError, RegionTree, arrange, parts, rank, regions};
 use hpr_rebuild::{RebuildError, rebuild};
 use hpr_rows::{Out, Row, put, put_counted, put_program, put_tag, truth};
 use hpr_syntax::{Issued, Program};
@@ -23,7 +24,9 @@ use std::alloc::Global;
 pub(crate) fn call(row: Row<'_>, out: &mut Out) -> Option<()> {
     match row.word(1)? {
         "rank" => ranked(row, out),
+        "parts" => in_preorder(row, out),
         "merged" => merged(row, out),
+        "split" => split::call(row, out),
         _ => of_graph(row, out),
     }
 }
@@ -39,13 +42,6 @@ fn of_graph(row: Row<'_>, out: &mut Out) -> Option<()> {
     Some(())
 }
 
-fn put_vertices(alloc: Global, out: &mut Out, vertices: &[Vertex]) {
-    for vertex in vertices {
-        put_vertex(alloc, out, vertex);
-        out.put_piece("\n");
-    }
-}
-
 fn rank_of(alloc: Global, out: &mut Out, programs: &[Program]) -> Option<()> {
     let [a, b, base] = programs else {
         return None;
@@ -59,6 +55,14 @@ fn rank_of(alloc: Global, out: &mut Out, programs: &[Program]) -> Option<()> {
 fn ranked(row: Row<'_>, out: &mut Out) -> Option<()> {
     let programs = row.programs(2, 5)?;
     rank_of(row.alloc, out, &programs)
+}
+
+// `parts P`: the parts of a program in preorder.
+fn in_preorder(row: Row<'_>, out: &mut Out) -> Option<()> {
+    let program = row.program(2)?;
+    let vertices = parts(row.alloc, &program).ok()?;
+    put_vertices(row.alloc, out, &vertices);
+    Some(())
 }
 
 fn put_parent(out: &mut Out, parent: Option<(usize, bool)>) {
@@ -149,8 +153,8 @@ fn is_issued(vertex: &Vertex, issued: &Issued) -> bool
     }
 }
 
-// Whether each part of the graph has a serial that was issued.
-fn are_issued(vertices: &[Vertex], issued: &Issued) -> bool
+/// Whether each part of the graph has a serial that was issued.
+pub(crate) fn are_issued(vertices: &[Vertex], issued: &Issued) -> bool
     ensures { IsTrue result → (v : Vertex) → Contains vertices.now v → IsIssuedPart issued.now v }
 {
     for vertex in vertices {

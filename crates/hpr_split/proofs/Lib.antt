@@ -1,0 +1,5 @@
+pub mod Renamed
+pub mod SplitGraph
+pub mod NewTags
+mod Chosen
+pub mod Answer
