@@ -13,17 +13,21 @@
 -- merged_of_all base vs == the merged graph of a base and its variants
 -- issued_all base is    == each author has the greatest of these issued numbers
 -- issued_of_all base vs == each author has the greatest of the issued numbers of a base and its variants
--- searched_graph_of base vs    == what is searched: the graph that a program is to have
--- IsSearchedRankOf base vs r   == the rank by which its arrangements are tried
--- searched_issued_of base vs   == the issued numbers that a program gets
+-- AreSplitOff base vs rs == rs are the parts that are split off the merged graph, each with its new tag, behind the issued serials; none
+--                          where the serials don't suffice
+-- searched_graph_of rs base vs == what is searched: the merged graph, with these parts under their new tags
+-- IsSearchedRankOf rs base vs r == the rank by which its arrangements are tried, with the same parts under the same tags
+-- searched_issued_of rs base vs == the issued numbers that a program gets, the new tags among them
 -- HasSpentLeavesOf base vs tries == by a rank of what is searched, its arrangements have more leaves than tries, and none of the first
 --                          `tries` fits
 -- AreWithoutConflict at base vs == the list of conflicts is empty, where `at` tells their variant, point and edge
+-- IsFoundFor base vs tries r == what is found for what is searched
 -- IsAnswerBy at base vs tries r == all conflicts where there is one; else what is found for what is searched
--- merged_of base a b, issued_of base a b, searched_graph base a b, IsSearchedRank base a b r, searched_issued base a b,
--- HasSpentLeaves base a b tries, IsWithoutConflict base a b, IsAnswer base a b tries r == these of two variants
+-- merged_of base a b, issued_of base a b, HasSpentLeaves base a b tries, IsWithoutConflict base a b, IsAnswer base a b tries r
+--                       == these of two variants
 use Rattle.std.specs.Prelude.{◌≡◌, ℕ, ◌<◌, ◌↔◌, List, [], ◌∷◌, ◌++◌, map, Contains, length, take}
-use Rattle.hpr_syntax.specs.Issued.{Issued, raised_by}
+use Rattle.hpr_terms.specs.declared.tag.Tag.{Tag}
+use Rattle.hpr_syntax.specs.Issued.{Issued, issued_to, raised_by}
 use Rattle.hpr_syntax.specs.Tree.{Tree}
 use Rattle.hpr_syntax.specs.Shape.{IsProgram}
 use Rattle.hpr_graph.specs.declared.conflict.Conflict.{Conflict}
@@ -36,6 +40,7 @@ use Rattle.hpr_graph.specs.Conflicts.{AreConflictsBy, told_as}
 use Rattle.hpr_graph.specs.Rank.{IsRankOf}
 use Rattle.hpr_graph.specs.Arrangements.{AreArrangements}
 use Rattle.hpr_graph.specs.Leaves.{AreLeavesSpent}
+use Rattle.hpr_graph.specs.Split.{AreRenamedWithin, IsSplitOff, split_graph, split_issued, split_rank}
 pub use Rattle.hpr_graph.specs.Fits.{Fits, IsPart}
 
 pub data AnswerBy (X : Type 0) : Type 0 where
@@ -81,18 +86,30 @@ issued_all base (i ∷ is) = issued_all (raised_by i base) is
 abbrev pub issued_of_all : Tree → List Tree → Issued
 issued_of_all base vs = issued_all base.issued (map (λ v. v.issued) vs)
 
-abbrev pub searched_graph_of : Tree → List Tree → Graph
-searched_graph_of base vs = merged_of_all base vs
+abbrev pub AreSplitOff : Tree → List Tree → List (Vertex × Tag) → Type 0
+AreSplitOff base vs rs =
+    AreRenamedWithin (merged_of_all base vs) (IsSplitOff (graphs_of vs) (merged_of_all base vs)) (issued_to 0 (issued_of_all base vs)) rs
 
-abbrev pub IsSearchedRankOf : Tree → List Tree → List Vertex → Type 0
-IsSearchedRankOf base vs r = IsRankOf base vs r
+abbrev pub searched_graph_of : List (Vertex × Tag) → Tree → List Tree → Graph
+searched_graph_of rs base vs = split_graph rs (merged_of_all base vs)
 
-abbrev pub searched_issued_of : Tree → List Tree → Issued
-searched_issued_of base vs = issued_of_all base vs
+abbrev pub IsSearchedRankOf : List (Vertex × Tag) → Tree → List Tree → List Vertex → Type 0
+IsSearchedRankOf rs base vs r = (rank : List Vertex) × IsRankOf base vs rank × (r ≡ split_rank rs rank)
+
+abbrev pub searched_issued_of : List (Vertex × Tag) → Tree → List Tree → Issued
+searched_issued_of rs base vs = split_issued (length rs) (issued_of_all base vs)
 
 abbrev pub HasSpentLeavesOf : Tree → List Tree → ℕ → Type 0
 HasSpentLeavesOf base vs tries =
-    (rank : List Vertex) × IsSearchedRankOf base vs rank × AreLeavesSpent (searched_graph_of base vs) rank (searched_issued_of base vs) tries
+    (rs : List (Vertex × Tag)) × AreSplitOff base vs rs
+    × ((rank : List Vertex) × IsSearchedRankOf rs base vs rank
+    × AreLeavesSpent (searched_graph_of rs base vs) rank (searched_issued_of rs base vs) tries)
+
+abbrev pub IsFoundFor : {X : Type 0} → Tree → List Tree → ℕ → AnswerBy X → Type 0
+IsFoundFor {X} base vs tries r =
+    (rs : List (Vertex × Tag)) × AreSplitOff base vs rs
+    × ((rank : List Vertex) × IsSearchedRankOf rs base vs rank
+    × IsFound {X = X} (searched_graph_of rs base vs) rank (searched_issued_of rs base vs) tries r)
 
 abbrev pub AreWithoutConflict : {X : Type 0} → (X → ℕ × Vertex × Edge) → Tree → List Tree → Type 0
 AreWithoutConflict at base vs = AreConflictsBy at (graph_of base) (graphs_of vs) []
@@ -100,30 +117,17 @@ AreWithoutConflict at base vs = AreConflictsBy at (graph_of base) (graphs_of vs)
 abbrev pub IsAnswerBy : {X : Type 0} → (X → ℕ × Vertex × Edge) → Tree → List Tree → ℕ → AnswerBy X → Type 0
 IsAnswerBy {X} at base vs tries (interference cs) = AreConflictsBy at (graph_of base) (graphs_of vs) cs × ¬ (cs ≡ [])
 IsAnswerBy {X} at base vs tries (printed m) =
-    AreWithoutConflict at base vs
-    × ((rank : List Vertex) × IsSearchedRankOf base vs rank
-    × IsFound {X = X} (searched_graph_of base vs) rank (searched_issued_of base vs) tries (printed m))
+    AreWithoutConflict at base vs × IsFoundFor {X = X} base vs tries (printed m)
 IsAnswerBy {X} at base vs tries (no_program n) =
-    AreWithoutConflict at base vs × HasNoProgram (searched_graph_of base vs) × HasParts (searched_graph_of base vs) n
+    AreWithoutConflict at base vs × IsFoundFor {X = X} base vs tries (no_program n)
 IsAnswerBy {X} at base vs tries spent =
-    AreWithoutConflict at base vs
-    × ((rank : List Vertex) × IsSearchedRankOf base vs rank
-    × IsFound {X = X} (searched_graph_of base vs) rank (searched_issued_of base vs) tries spent)
+    AreWithoutConflict at base vs × IsFoundFor {X = X} base vs tries spent
 
 abbrev pub merged_of : Tree → Tree → Tree → Graph
 merged_of base a b = merged_of_all base (a ∷ b ∷ [])
 
 abbrev pub issued_of : Tree → Tree → Tree → Issued
 issued_of base a b = issued_of_all base (a ∷ b ∷ [])
-
-abbrev pub searched_graph : Tree → Tree → Tree → Graph
-searched_graph base a b = searched_graph_of base (a ∷ b ∷ [])
-
-abbrev pub IsSearchedRank : Tree → Tree → Tree → List Vertex → Type 0
-IsSearchedRank base a b r = IsSearchedRankOf base (a ∷ b ∷ []) r
-
-abbrev pub searched_issued : Tree → Tree → Tree → Issued
-searched_issued base a b = searched_issued_of base (a ∷ b ∷ [])
 
 abbrev pub HasSpentLeaves : Tree → Tree → Tree → ℕ → Type 0
 HasSpentLeaves base a b tries = HasSpentLeavesOf base (a ∷ b ∷ []) tries

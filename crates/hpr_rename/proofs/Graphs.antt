@@ -152,7 +152,7 @@ module _ (f : Tag → Tag) (back : GoesBack f) where
     vertex_too t (Part u c) h = says_with f t.body u c h
     vertex_too t (Final x) h = h
 
-  vertex_twice : (v : Vertex) → vertex_with f (vertex_with f v) ≡ v
+  pub vertex_twice : (v : Vertex) → vertex_with f (vertex_with f v) ≡ v
   vertex_twice Entry = refl
   vertex_twice (Init x) = refl
   vertex_twice (Part u c) = ap (λ z. Part z c) (back u)

@@ -4,3 +4,9 @@ pub mod Courses
 pub mod Tags
 pub mod Programs
 pub mod Swaps
+pub mod Mapped
+pub mod MappedAlike
+pub mod SplitParts
+pub mod IssuedAll
+pub mod Retagged
+pub mod SplitKeeps

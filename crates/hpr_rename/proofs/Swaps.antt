@@ -1,4 +1,4 @@
--- Tags that are replaced one to one are so replaced by a renaming that takes each tag back: it swaps each with its new one.
+-- What is replaced one to one is so replaced by a map that takes each back: it swaps each with its new one. So it is with the tags of a tree.
 use Rattle.std.proofs.Common.{◌≡◌, ◌⊎◌, List, [], Contains, refl, sym, ap, subst, ◌∙◌, inl, inr}
 use Rattle.hpr_terms.specs.declared.tag.Tag.{Tag}
 use Rattle.hpr_syntax.specs.Body.{Body, done, action, branch, loop}
@@ -6,69 +6,70 @@ use Rattle.hpr_syntax.specs.Issued.{Issued}
 use Rattle.hpr_syntax.specs.Parts.{tags_of}
 use Rattle.hpr_syntax.specs.Skeleton.{at, StandsIn, skeleton}
 use Rattle.hpr_syntax.specs.Tree.{Tree}
+use Rattle.hpr_closure.proofs.Decided.{Decided}
 use Rattle.hpr_closure.proofs.Decisions.{some_decided}
 use Rattle.hpr_closure.proofs.TreeDecided.{tag_decided}
 use Rattle.hpr_rename.specs.Renamed.{GoesBack, body_with, tree_with}
 use Rattle.hpr_rename.specs.Replaced.{IsTagOf, IsReplacement}
 use Rattle.hpr_rename.proofs.Tags.{listed}
 
-module _ (r : Tag → Tag) (ts : List Tag) where
-  -- u is one of the tags, or none of them is
-  abbrev pub Known : Tag → Type 0
-  Known u = ((t : Tag) × Contains ts t × (t ≡ u)) ⊎ ((t : Tag) → Contains ts t → ¬ (t ≡ u))
+module _ {X : Type 0} (decided : (t u : X) → Decided (t ≡ u)) (r : X → X) (ts : List X) where
+  -- u is one of them, or none of them is
+  abbrev pub Known : X → Type 0
+  Known u = ((t : X) × Contains ts t × (t ≡ u)) ⊎ ((t : X) → Contains ts t → ¬ (t ≡ u))
 
-  -- one of the tags is replaced by u, or none is
-  abbrev pub Came : Tag → Type 0
-  Came u = ((t : Tag) × Contains ts t × (r t ≡ u)) ⊎ ((t : Tag) → Contains ts t → ¬ (r t ≡ u))
+  -- one of them is replaced by u, or none is
+  abbrev pub Came : X → Type 0
+  Came u = ((t : X) × Contains ts t × (r t ≡ u)) ⊎ ((t : X) → Contains ts t → ¬ (r t ≡ u))
 
-  pub known : (u : Tag) → Known u
-  known u = some_decided (λ t. t ≡ u) (λ t. tag_decided t u) ts
+  pub known : (u : X) → Known u
+  known u = some_decided (λ t. t ≡ u) (λ t. decided t u) ts
 
-  pub came : (u : Tag) → Came u
-  came u = some_decided (λ t. r t ≡ u) (λ t. tag_decided (r t) u) ts
+  pub came : (u : X) → Came u
+  came u = some_decided (λ t. r t ≡ u) (λ t. decided (r t) u) ts
 
-  abbrev pub swap_by : (u : Tag) → Known u → Came u → Tag
+  abbrev pub swap_by : (u : X) → Known u → Came u → X
   swap_by u (inl one) c = r u
   swap_by u (inr none) (inl (t, h, e)) = t
   swap_by u (inr none) (inr new) = u
 
-  abbrev pub swap : Tag → Tag
+  abbrev pub swap : X → X
   swap u = swap_by u (known u) (came u)
 
-  of_known : (u : Tag) (k : Known u) (c : Came u) → Contains ts u → swap_by u k c ≡ r u
+  of_known : (u : X) (k : Known u) (c : Came u) → Contains ts u → swap_by u k c ≡ r u
   of_known u (inl one) c h = refl
   of_known u (inr none) c h = absurd (none u h refl)
 
-  of_new : (u : Tag) (k : Known u) (c : Came u) → ((t : Tag) → Contains ts t → ¬ (t ≡ u)) → ((t : Tag) → Contains ts t → ¬ (r t ≡ u)) → swap_by u k c ≡ u
+  of_new : (u : X) (k : Known u) (c : Came u) → ((t : X) → Contains ts t → ¬ (t ≡ u)) → ((t : X) → Contains ts t → ¬ (r t ≡ u)) → swap_by u k c ≡ u
   of_new u (inl (t, h, e)) c none new = absurd (none t h e)
   of_new u (inr n) (inl (t, h, e)) none new = absurd (new t h e)
   of_new u (inr n) (inr m) none new = refl
 
-  pub swap_known : (u : Tag) → Contains ts u → swap u ≡ r u
+  pub swap_known : (u : X) → Contains ts u → swap u ≡ r u
   swap_known u h = of_known u (known u) (came u) h
 
-  module _ (one_to_one : (u v : Tag) → Contains ts u → Contains ts v → r u ≡ r v → u ≡ v) (own_or_new : (u : Tag) → Contains ts u → (r u ≡ u) ⊎ ¬ Contains ts (r u)) where
-    of_came : (u : Tag) (k : Known u) (c : Came u) → ¬ Contains ts u → (t : Tag) → Contains ts t → r t ≡ u → swap_by u k c ≡ t
-    of_came u (inl (v, g, is)) c out t h e = absurd (out (subst (λ (w : Tag). Contains ts w) is g))
+  pub swap_new : (u : X) → ((t : X) → Contains ts t → ¬ (t ≡ u)) → ((t : X) → Contains ts t → ¬ (r t ≡ u)) → swap u ≡ u
+  swap_new u none new = of_new u (known u) (came u) none new
+
+  module _ (one_to_one : (u v : X) → Contains ts u → Contains ts v → r u ≡ r v → u ≡ v) (own_or_new : (u : X) → Contains ts u → (r u ≡ u) ⊎ ¬ Contains ts (r u)) where
+    of_came : (u : X) (k : Known u) (c : Came u) → ¬ Contains ts u → (t : X) → Contains ts t → r t ≡ u → swap_by u k c ≡ t
+    of_came u (inl (v, g, is)) c out t h e = absurd (out (subst (λ (w : X). Contains ts w) is g))
     of_came u (inr none) (inl (v, g, is)) out t h e = one_to_one v t g h (is ∙ sym e)
     of_came u (inr none) (inr new) out t h e = absurd (new t h e)
 
-    swap_came : (u : Tag) → ¬ Contains ts u → (t : Tag) → Contains ts t → r t ≡ u → swap u ≡ t
+    swap_came : (u : X) → ¬ Contains ts u → (t : X) → Contains ts t → r t ≡ u → swap u ≡ t
     swap_came u out t h e = of_came u (known u) (came u) out t h e
 
-    swap_new : (u : Tag) → ((t : Tag) → Contains ts t → ¬ (t ≡ u)) → ((t : Tag) → Contains ts t → ¬ (r t ≡ u)) → swap u ≡ u
-    swap_new u none new = of_new u (known u) (came u) none new
-
-    back_known : (u : Tag) → Contains ts u → (r u ≡ u) ⊎ ¬ Contains ts (r u) → swap (swap u) ≡ u
+    back_known : (u : X) → Contains ts u → (r u ≡ u) ⊎ ¬ Contains ts (r u) → swap (swap u) ≡ u
     back_known u h (inl own) = ap swap (swap_known u h ∙ own) ∙ swap_known u h ∙ own
     back_known u h (inr new) = ap swap (swap_known u h) ∙ swap_came (r u) new u h refl
 
-    back_by : (u : Tag) → Known u → Came u → swap (swap u) ≡ u
-    back_by u (inl (t, h, e)) c = let here = subst (λ (w : Tag). Contains ts w) e h in back_known u here (own_or_new u here)
+    back_by : (u : X) → Known u → Came u → swap (swap u) ≡ u
+    back_by u (inl (t, h, e)) c = let here = subst (λ (w : X). Contains ts w) e h in back_known u here (own_or_new u here)
     back_by u (inr none) (inl (t, h, e)) = ap swap (swap_came u (λ g. none u g refl) t h e) ∙ swap_known t h ∙ e
     back_by u (inr none) (inr new) = ap swap (swap_new u none new) ∙ swap_new u none new
 
-    pub swap_back : GoesBack swap
+    pub swap_back : (u : X) → swap (swap u) ≡ u
     swap_back u = back_by u (known u) (came u)
 
 agree : (f r : Tag → Tag) (b : Body) → ((u : Tag) → StandsIn (skeleton b) (at u) → f u ≡ r u) → body_with f b ≡ body_with r b
@@ -90,5 +91,9 @@ pub replaced : (r : Tag → Tag) (t : Tree) → IsReplacement r t
     → (f : Tag → Tag) × GoesBack f × ((u : Tag) → IsTagOf t u → f u ≡ r u) × ((issued : Issued) → tree_with f issued t ≡ tree_with r issued t)
 replaced r t is =
     let ts = tags_of t.body [] in
-    let same = agree (swap r ts) r t.body (λ u h. swap_known r ts u (listed t.body [] u h)) in
-    (swap r ts, swap_back r ts is.one_to_one is.own_or_new, swap_known r ts, λ issued i. record { issued = issued; body = same i; finals = t.finals })
+    let same = agree (swap tag_decided r ts) r t.body (λ u h. swap_known tag_decided r ts u (listed t.body [] u h)) in (
+      swap tag_decided r ts,
+      swap_back tag_decided r ts is.one_to_one is.own_or_new,
+      swap_known tag_decided r ts,
+      λ issued i. record { issued = issued; body = same i; finals = t.finals },
+    )

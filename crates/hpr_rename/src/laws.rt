@@ -1,14 +1,20 @@
 //! Laws of other tags: each function's contract is the law, for all values.
-ghost use Rattle.std.specs.Prelude.{◌≡◌, ℕ, map};
+ghost use Rattle.std.specs.Prelude.{◌≡◌, ℕ, List, [], ◌∷◌, map};
+ghost use Rattle.std.specs.List.{AllByRecursion};
 ghost use Rattle.hpr_terms.specs.declared.tag.Tag.{Tag};
 ghost use Rattle.hpr_syntax.specs.Issued.{Issued};
+ghost use Rattle.hpr_syntax.specs.Meaning.{Keeps};
 ghost use Rattle.hpr_syntax.specs.Run.{run};
 ghost use Rattle.hpr_syntax.specs.Shape.{IsProgram};
 ghost use Rattle.hpr_syntax.specs.Tree.{Tree};
 ghost use Rattle.hpr_syntax.specs.Values.{Values};
+ghost use Rattle.hpr_graph.specs.declared.vertex.Vertex.{Vertex};
+ghost use Rattle.hpr_graph.specs.Answer.{AreSplitOff, Fits, IsWithoutConflict, graphs_of, searched_graph_of};
+ghost use Rattle.hpr_graph.specs.Conflicts.{HasNoConflict};
 ghost use Rattle.hpr_graph.specs.Graphs.{Same};
 ghost use Rattle.hpr_graph.specs.ProgramGraph.{graph_of};
 ghost use Rattle.hpr_meaning.specs.Instances.{instances};
+ghost use Rattle.hpr_meaning.specs.KeptLaw.{KeepsAll};
 ghost use Rattle.hpr_rename.specs.Renamed.{GoesBack, graph_with, tree_with};
 ghost use Rattle.hpr_rename.specs.RenamedRuns.{instance_with, outcome_with};
 ghost use Rattle.hpr_rename.specs.Replaced.{AreAllowed, IsReplacement, IsTagOf};
@@ -34,4 +40,18 @@ pub fn replaced()
     ensures { (r : Tag → Tag) (t : Tree) → IsReplacement r t
         → (f : Tag → Tag) × GoesBack f × ((u : Tag) → IsTagOf t u → f u ≡ r u)
         × ((issued : Issued) → tree_with f issued t ≡ tree_with r issued t) }
+{}
+
+/// The law of split tags. Where there is no conflict, take the merged graph, in which the parts that are split off have
+/// their new tags: each program with that graph keeps the meaning of all variants. So it ends, within as many steps as
+/// base and they took together, wherever all of them end. Of two variants it keeps the meaning of both. Nothing is said
+/// of a merged graph under other new tags, nor of whether some program has the graph. Horwitz, Prins and Reps 1989 have
+/// it of two variants and of the merged graph itself, since their programs have no tags.
+pub fn split_keeps()
+    ensures all { (base m : Tree) (vs : List Tree) (rs : List (Vertex × Tag)) → IsProgram base
+        → AllByRecursion IsProgram vs → IsProgram m → HasNoConflict (graph_of base) (graphs_of vs)
+        → AreSplitOff base vs rs → Fits (searched_graph_of rs base vs) m → KeepsAll base vs m }
+    ensures two { (base a b m : Tree) (rs : List (Vertex × Tag)) → IsProgram base → IsProgram a → IsProgram b
+        → IsProgram m → IsWithoutConflict base a b → AreSplitOff base (a ∷ b ∷ []) rs
+        → Fits (searched_graph_of rs base (a ∷ b ∷ [])) m → Keeps base a b m }
 {}
