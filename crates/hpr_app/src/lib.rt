@@ -53,7 +53,8 @@ use std::alloc::Global;
 /// a tree that is no program is refused. So is a file whose program has a graph of more than
 /// 1,000,000 edges, where the command needs it; then the first word for a point that names no vertex
 /// is refused. Variants that interfere are reported with all their conflicts; else the merged program
-/// is printed, or it is said that there is none, or that the budget of tries is spent. A trial runs
+/// is printed, in which a part may have a new tag of author 0, or it is said that there is none, or that
+/// the budget of tries is spent. A trial runs
 /// where a program would be printed. A script is read after the program that it edits; its first
 /// command that is refused is named with its number, and nothing is printed then. A sample is made of a
 /// seed, and no file is read for it. All text of `out`
@@ -106,8 +107,9 @@ pub fn hpr<S: Shelf, O: Sink, E: Sink>(
         → (cs : List Conflict) × HasAnswer asked files (interference cs)
         × IsInterference cs (O.taken out.old) (O.taken out.new) result) }
 
-    // NoProgram comes only where no program has the merged graph, and Spent only where none of the arrangements that
-    // may be tried has it and there are more; `out` then takes the line that says so.
+    // NoProgram comes only where no program has the merged graph, in which of two contents of one tag the one that A
+    // lacks has a tag of author 0, and Spent only where none of the arrangements that may be tried has it and there are
+    // more; `out` then takes the line that says so.
     ensures no_program { WhereAsked words.now (S.files shelf.old) (λ asked files. result ≡ Status.NoProgram
         → (parts : ℕ) × HasAnswer asked files (no_program parts)
         × (O.taken out.new ≡ taken_then (O.taken out.old) (no_program_text parts))) }
@@ -131,7 +133,7 @@ pub fn hpr<S: Shelf, O: Sink, E: Sink>(
     ensures keeps { WhereAsked words.now (S.files shelf.old) (λ asked files. result ≡ Status.Done
         → Took (O.taken out.old) (O.taken out.new) (KeepsMeaning asked files)) }
 
-    // Its graph is the merged graph.
+    // Its graph is the merged graph, in which the parts that are split off are under their new tags.
     ensures merged { WhereAsked words.now (S.files shelf.old) (λ asked files. result ≡ Status.Done
         → Took (O.taken out.old) (O.taken out.new) (PrintsMerged asked files)) }
 
@@ -139,8 +141,8 @@ pub fn hpr<S: Shelf, O: Sink, E: Sink>(
     ensures left { WhereAsked words.now (S.files shelf.old) (λ asked files. result ≡ Status.Done
         → Took (O.taken out.old) (O.taken out.new) (PrintsLeft asked files)) }
 
-    // The theorem on slices as programs: these bytes spell a program whose graph is the slice, and which does what the
-    // whole does there.
+    // The theorem on slices as programs: these bytes spell a program whose graph is the slice, without the Init
+    // vertices that nothing in it uses, and which does what the whole does there.
     ensures slices { WhereAsked words.now (S.files shelf.old) (λ asked files. result ≡ Status.Done
         → Took (O.taken out.old) (O.taken out.new) (DoesSlice asked files)) }
 

@@ -74,11 +74,12 @@ module _ (p q r : Tree) (tries : ℕ) (old new : Option (List ℕ)) (s : Status)
     spent_status (no_program n) e = absurd cc
     spent_status spent e = refl
 
-    answer_completes : IsProgram q → IsProgram r → Completes p q r tries old new s
-    answer_completes is_q is_r = record {
+    answer_completes : IsProgram p → IsProgram q → IsProgram r → Completes p q r tries old new s
+    answer_completes is_p is_q is_r = record {
       answered = (x, answer, is, took);
-      first = λ free ps m tried fits. printed_so m (λ bytes. bytes ≡ text m) refl (fit_is_printed p q r is_q is_r tries ps free tried m x fits answer);
-      enough = λ free ps tried few e. enough p q r is_q is_r tries ps free tried x few answer (spent_status x (sym e ∙ is));
+      first = λ free rs ps m split tried fits.
+          printed_so m (λ bytes. bytes ≡ text m) refl (fit_is_printed p q r is_p is_q is_r tries rs split ps free tried m x fits answer);
+      enough = λ free rs ps split tried few e. enough p q r is_p is_q is_r tries rs split ps free tried x few answer (spent_status x (sym e ∙ is));
     }
 
     other_b : IsProgram p → IsProgram r → 1 ≤ tries → q ≡ p → DonePrinting (IsOtherText p q r r) old new s
@@ -110,7 +111,7 @@ module _ (p q r : Tree) (tries : ℕ) (old new : Option (List ℕ)) (s : Status)
           (x, answer, is ∙ ap status_of shown, took ∙ ap (λ y. taken_then old (text_of y)) shown)
 
       of_three : Completes p q r tries old new s
-      of_three = let (x, answer, is_x, took_x) = answered in answer_completes x answer is_x took_x hq.program hr.program
+      of_three = let (x, answer, is_x, took_x) = answered in answer_completes x answer is_x took_x hp.program hq.program hr.program
 
       other_printed : 1 ≤ tries → (q ≡ p → DonePrinting (IsOtherText p q r r) old new s) × (r ≡ p → DonePrinting (IsOtherText p q r q) old new s)
       other_printed one =

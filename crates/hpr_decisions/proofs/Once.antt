@@ -64,9 +64,9 @@ agree_reported tries x y r s (inl e) is so = inl (is ∙ ap (report tries) e ∙
 agree_reported tries x y r s (inr (inl (e, h))) is so = inr (inl ((spent_text tries, is ∙ ap (report tries) e), searched tries y s h so))
 agree_reported tries x y r s (inr (inr (h, e))) is so = inr (inr (searched tries x r h is, (spent_text tries, so ∙ ap (report tries) e)))
 
-one_reported : (r s : Decision) (p q o : Tree) (tries : ℕ) → IsProgram q → IsProgram o → IsReported p q o tries r → IsReported p q o tries s → AgreeButForBudget r s
-one_reported r s p q o tries is_q is_o (x, answer, is) (y, answer_too, so) =
-    agree_reported tries x y r s (one_answer p q o is_q is_o tries x y answer answer_too) is so
+one_reported : (r s : Decision) (p q o : Tree) (tries : ℕ) → IsProgram p → IsProgram q → IsProgram o → IsReported p q o tries r → IsReported p q o tries s → AgreeButForBudget r s
+one_reported r s p q o tries is_p is_q is_o (x, answer, is) (y, answer_too, so) =
+    agree_reported tries x y r s (one_answer p q o is_p is_q is_o tries x y answer answer_too) is so
 
 -- so are they in a sample
 agree_sampled : (seed parts : ℕ) (p q o : Tree) (x y : Answer) (r s : Decision) → budget.Agree x y → r ≡ sample_report seed parts p q o x → s ≡ sample_report seed parts p q o y
@@ -84,9 +84,9 @@ agree_sampled seed parts p q o x y r s agree is so = go x y agree is so
     go x y (inr (inl (e, h))) is so = inr (inl ((spent_text DEFAULT_TRIES, is ∙ ap (sample_report seed parts p q o) e), found y s h so))
     go x y (inr (inr (h, e))) is so = inr (inr (found x r h is, (spent_text DEFAULT_TRIES, so ∙ ap (sample_report seed parts p q o) e)))
 
-one_sampled : (seed parts : ℕ) (r s : Decision) (p q o : Tree) → IsProgram q → IsProgram o → IsSampled seed parts p q o r → IsSampled seed parts p q o s → AgreeButForBudget r s
-one_sampled seed parts r s p q o is_q is_o (x, answer, is) (y, answer_too, so) =
-    agree_sampled seed parts p q o x y r s (one_answer p q o is_q is_o DEFAULT_TRIES x y answer answer_too) is so
+one_sampled : (seed parts : ℕ) (r s : Decision) (p q o : Tree) → IsProgram p → IsProgram q → IsProgram o → IsSampled seed parts p q o r → IsSampled seed parts p q o s → AgreeButForBudget r s
+one_sampled seed parts r s p q o is_p is_q is_o (x, answer, is) (y, answer_too, so) =
+    agree_sampled seed parts p q o x y r s (one_answer p q o is_p is_q is_o DEFAULT_TRIES x y answer answer_too) is so
 
 one_on_graph : (r s : Decision) (file : Text) (p : Tree) (next also : Type 0) → (next → also → AgreeButForBudget r s) → OnGraph file p next r → OnGraph file p also s → AgreeButForBudget r s
 one_on_graph r s file p next also rest (inl (_, is)) (inl (_, so)) = inl (is ∙ sym so)
@@ -99,10 +99,10 @@ one_on_graphs : (r s : Decision) (base : Text) (p : Tree) (a : Text) (q : Tree) 
 one_on_graphs r s base p a q b o next also rest h k =
     one_on_graph r s base p _ _ (λ h k. one_on_graph r s a q _ _ (λ h k. one_on_graph r s b o next also rest h k) h k) h k
 
-one_integrated : (r s : Decision) (base : Text) (p : Tree) (a : Text) (q : Tree) (b : Text) (o : Tree) (tries : ℕ) → IsProgram q → IsProgram o
+one_integrated : (r s : Decision) (base : Text) (p : Tree) (a : Text) (q : Tree) (b : Text) (o : Tree) (tries : ℕ) → IsProgram p → IsProgram q → IsProgram o
     → Integrated base p a q b o tries r → Integrated base p a q b o tries s → AgreeButForBudget r s
-one_integrated r s base p a q b o tries is_q is_o h k =
-    one_on_graphs r s base p a q b o (IsReported p q o tries r) (IsReported p q o tries s) (λ h k. one_reported r s p q o tries is_q is_o h k) h k
+one_integrated r s base p a q b o tries is_p is_q is_o h k =
+    one_on_graphs r s base p a q b o (IsReported p q o tries r) (IsReported p q o tries s) (λ h k. one_reported r s p q o tries is_p is_q is_o h k) h k
 
 one_on_points : (r s : Decision) (g : Graph) (words : List Text) (next also : Type 0) → (next → also → AgreeButForBudget r s) → OnPoints g words next r → OnPoints g words also s → AgreeButForBudget r s
 one_on_points r s g words next also rest (inl (x, h, is)) (inl (y, k, so)) =
@@ -140,15 +140,15 @@ module _ (fs : Files) (r s : Decision) where
   one_on_state (Ok state) next also rest h k = rest state h k
   one_on_state (Err refused) next also rest h k = inl (h ∙ sym k)
 
-  one_on_files : (base a b : List ℕ) (next also : Tree → Tree → Tree → Type 0) → ((p q o : Tree) → IsProgram q → IsProgram o → next p q o → also p q o → AgreeButForBudget r s)
+  one_on_files : (base a b : List ℕ) (next also : Tree → Tree → Tree → Type 0) → ((p q o : Tree) → IsProgram p → IsProgram q → IsProgram o → next p q o → also p q o → AgreeButForBudget r s)
       → OnFiles fs base a b next r → OnFiles fs base a b also s → AgreeButForBudget r s
   one_on_files base a b next also rest h k =
-      one_on_file base _ _ (λ p hp h k. one_on_file a _ _ (λ q hq h k. one_on_file b _ _ (λ o ho h k. rest p q o hq.program ho.program h k) h k) h k) h k
+      one_on_file base _ _ (λ p hp h k. one_on_file a _ _ (λ q hq h k. one_on_file b _ _ (λ o ho h k. rest p q o hp.program hq.program ho.program h k) h k) h k) h k
 
   one_outcome : (request : Request) → RequestOutcome request fs r → RequestOutcome request fs s → AgreeButForBudget r s
   one_outcome (integrate base a b tries) h k =
       one_on_files base a b (λ p q o. Integrated base p a q b o tries r) (λ p q o. Integrated base p a q b o tries s)
-      (λ p q o is_q is_o h k. one_integrated r s base p a q b o tries is_q is_o h k) h k
+      (λ p q o is_p is_q is_o h k. one_integrated r s base p a q b o tries is_p is_q is_o h k) h k
   one_outcome (run file words steps trace) h k = one_on_state (states_of words) _ _ (λ state h k. one_on_file file _ _ (λ p hp h k. inl (h ∙ sym k)) h k) h k
   one_outcome (graph file json) h k =
       one_on_file file _ _ (λ p hp h k. one_on_graph r s file p _ _ (λ h k. inl (one_printed (IsShown json (graph_of p)) (one_shown json (graph_of p)) r s h k)) h k) h k
@@ -166,8 +166,8 @@ module _ (fs : Files) (r s : Decision) where
   one_outcome (trial base a b words steps) h k =
       one_on_state (states_of words) (λ state. OnFiles fs base a b (λ p q o. Tried base p a q b o state steps r) r) (λ state. OnFiles fs base a b (λ p q o. Tried base p a q b o state steps s) s)
       (λ state h k. one_on_files base a b (λ p q o. Tried base p a q b o state steps r) (λ p q o. Tried base p a q b o state steps s)
-      (λ p q o is_q is_o h k. one_on_graphs r s base p a q b o (IsTried p q o state steps r) (IsTried p q o state steps s)
-      (λ h k. one_tried p q o state steps r s is_q is_o h k) h k) h k) h k
+      (λ p q o is_p is_q is_o h k. one_on_graphs r s base p a q b o (IsTried p q o state steps r) (IsTried p q o state steps s)
+      (λ h k. one_tried p q o state steps r s is_p is_q is_o h k) h k) h k) h k
   one_outcome (edit file script author) h k =
       one_on_file file (λ p. OnScript fs script (λ cs. r ≡ edit_decision script (applied p cs author)) r) (λ p. OnScript fs script (λ cs. s ≡ edit_decision script (applied p cs author)) s)
       (λ p hp h k. one_on_script script (λ cs. r ≡ edit_decision script (applied p cs author)) (λ cs. s ≡ edit_decision script (applied p cs author))
@@ -179,7 +179,7 @@ module _ (fs : Files) (r s : Decision) where
       let is = is_sample seed parts size in
       one_on_graphs r s (codes "base") three.base (codes "A") three.a (codes "B") three.b
       (IsSampled seed parts three.base three.a three.b r) (IsSampled seed parts three.base three.a three.b s)
-      (λ h k. one_sampled seed parts r s three.base three.a three.b is.a is.b h k) h k
+      (λ h k. one_sampled seed parts r s three.base three.a three.b is.base is.a is.b h k) h k
 
 pub one_decision : (request : Option Request) (fs : Files) (r s : Decision) → Outcome request fs r → Outcome request fs s → AgreeButForBudget r s
 one_decision None fs r s h k = inl (h ∙ sym k)

@@ -219,7 +219,7 @@ module _ (request : Request) (fs : Files) (d : Decision) (o : RequestOutcome req
 
 -- an answer that the budget is spent says so of the leaves too
 leaves_of : (p q r : Tree) (tries : ℕ) → IsAnswer p q r tries spent → answers.HasSpentLeaves p q r tries
-leaves_of p q r tries (free, (rank, is, (ps, are, longer, none, leaves))) = (rank, is, leaves)
+leaves_of p q r tries (free, (rs, split, (rank, is, (ps, are, longer, none, leaves)))) = (rs, split, (rank, is, leaves))
 
 leaves_in : (base a b : List ℕ) (tries : ℕ) → AnswersFiles base a b tries spent → SpentIn base a b tries
 leaves_in base a b tries h =

@@ -77,7 +77,7 @@ module _ (base a b : List ℕ) (tries : ℕ) (bytes : List ℕ) (p q r m : Tree)
 
   merged_graph : HasMergedGraph base a b bytes
   merged_graph =
-      let (is_m, fits) = printed_fits p q r tries m answer in
+      let (is_m, (rs, split, fits)) = printed_fits p q r tries m answer in
       record {
         base_program = p;
         a_program = q;
@@ -88,6 +88,8 @@ module _ (base a b : List ℕ) (tries : ℕ) (bytes : List ℕ) (p q r m : Tree)
         printed = m;
         program = is_m;
         spelled = printed_spelled m bytes is_m e;
+        renamed = rs;
+        split_off = split;
         fits = fits;
       }
 

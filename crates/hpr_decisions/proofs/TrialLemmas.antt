@@ -79,5 +79,5 @@ module _ (p q s : Tree) (state : Values) (steps : ℕ) where
   agree_by x y c d (inr (inr (h, e))) is so =
       inr (inr (searched_by x c h is, (spent_text DEFAULT_TRIES, subst (λ (z : Answer). IsTrialBy p q s state steps z d) e so)))
 
-  pub one_tried : (c d : Decision) → IsProgram q → IsProgram s → IsTried p q s state steps c → IsTried p q s state steps d → AgreeButForBudget c d
-  one_tried c d is_q is_s (x, answer, is) (y, answer_too, so) = agree_by x y c d (one_answer p q s is_q is_s DEFAULT_TRIES x y answer answer_too) is so
+  pub one_tried : (c d : Decision) → IsProgram p → IsProgram q → IsProgram s → IsTried p q s state steps c → IsTried p q s state steps d → AgreeButForBudget c d
+  one_tried c d is_p is_q is_s (x, answer, is) (y, answer_too, so) = agree_by x y c d (one_answer p q s is_p is_q is_s DEFAULT_TRIES x y answer answer_too) is so

@@ -2,7 +2,7 @@
 --
 -- DonePrinting P old new s          == the status is Done, and `out` took a text that has P in full
 -- Completes base a b tries old new s == the status and the text report an answer. Where no variants interfere, the first program that fits, of the
---                                      arrangements that may be tried, is printed; and the budget is not spent where there are no more arrangements
+--                                      arrangements of what is searched that may be tried, is printed; and the budget is not spent where there are no more arrangements
 -- IsOtherText base a b other bytes  == the text of the variant `other` with its finals ascending and, for each author, the greatest issued number of the three
 -- Runs p state steps trace old new s == the status is that of how the run went, and `out` took its text in full
 -- Tries base a b state steps old new s == the status and the text are those of a decision on the trial of the three programs
@@ -13,16 +13,18 @@
 -- PrintsOther request files ..      == where one variant of an integration is the base and no graph has too many edges, the other one is printed so
 -- UnlessFailed shelf_before .. s P    == where no read and no write failed in the call: P, unless memory ran out
 -- IsRefusedCall message s err       == the status is Refused, and `err` got the message; or memory ran out
-use Rattle.std.specs.Prelude.{◌≡◌, ◌≢◌, ◌≤◌, ◌⊎◌, ℕ, Bool, List, All, Option, Ok, length, take}
+use Rattle.std.specs.Prelude.{◌≡◌, ◌≢◌, ◌≤◌, ◌⊎◌, ℕ, Bool, List, [], ◌∷◌, All, Option, Ok, length, take}
 use Rattle.hpr_io.specs.Counts.{Rose}
 use Rattle.hpr_io.specs.Files.{Files, bytes_of}
 use Rattle.hpr_io.specs.Taken.{taken_then}
+use Rattle.hpr_terms.specs.declared.tag.Tag.{Tag}
 use Rattle.hpr_syntax.specs.Grammar.{untagged}
 use Rattle.hpr_syntax.specs.Run as means
 use Rattle.hpr_syntax.specs.Tree.{Tree}
 use Rattle.hpr_syntax.specs.Values.{Values}
 use Rattle.hpr_syntax.specs.Print.{text}
-use Rattle.hpr_graph.specs.Answer.{Answer, IsAnswer, IsFirstFit, IsWithoutConflict, searched_graph, searched_issued}
+use Rattle.hpr_graph.specs.declared.vertex.Vertex.{Vertex}
+use Rattle.hpr_graph.specs.Answer.{Answer, AreSplitOff, IsAnswer, IsFirstFit, IsWithoutConflict, issued_of, searched_graph_of}
 use Rattle.hpr_graph.specs.Points.{IsAffected}
 use Rattle.hpr_graph.specs.ProgramGraph.{graph_of}
 use Rattle.hpr_graph.specs.Slices.{slice_of}
@@ -54,12 +56,13 @@ DonePrinting P old new s = (s ≡ Done) × (bytes : List ℕ) × P bytes × (new
 
 pub record Completes (base a b : Tree) (tries : ℕ) (old new : Option (List ℕ)) (s : Status) : Type 0 where
   pub answered : (x : Answer) × IsAnswer base a b tries x × (s ≡ status_of (report tries x)) × (new ≡ taken_then old (text_of (report tries x)))
-  pub first : IsWithoutConflict base a b → (ps : List Tree) (m : Tree) → AreTried base a b ps → IsFirstFit (searched_graph base a b) (take tries ps) m
-      → DonePrinting (λ bytes. bytes ≡ text m) old new s
-  pub enough : IsWithoutConflict base a b → (ps : List Tree) → AreTried base a b ps → length ps ≤ tries → s ≢ Spent
+  pub first : IsWithoutConflict base a b → (rs : List (Vertex × Tag)) (ps : List Tree) (m : Tree) → AreSplitOff base (a ∷ b ∷ []) rs → AreTried rs base a b ps
+      → IsFirstFit (searched_graph_of rs base (a ∷ b ∷ [])) (take tries ps) m → DonePrinting (λ bytes. bytes ≡ text m) old new s
+  pub enough : IsWithoutConflict base a b → (rs : List (Vertex × Tag)) (ps : List Tree) → AreSplitOff base (a ∷ b ∷ []) rs → AreTried rs base a b ps
+      → length ps ≤ tries → s ≢ Spent
 
 abbrev pub IsOtherText : Tree → Tree → Tree → Tree → List ℕ → Type 0
-IsOtherText base a b other bytes = (m : Tree) × IsSettled (searched_issued base a b) other m × (bytes ≡ text m)
+IsOtherText base a b other bytes = (m : Tree) × IsSettled (issued_of base a b) other m × (bytes ≡ text m)
 
 abbrev pub Runs : Tree → Values → ℕ → Bool → Option (List ℕ) → Option (List ℕ) → Status → Type 0
 Runs p state steps trace old new s =

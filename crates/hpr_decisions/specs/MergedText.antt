@@ -1,15 +1,17 @@
 -- The graph of the program that is printed.
 --
 -- HasMergedGraph base a b bytes   == the bytes base, a and b are accepted files that spell three programs, and the bytes spell a program whose graph is
---                                    their merged graph
+--                                    their merged graph, in which the parts that are split off are under their new tags
 -- PrintsMerged request files bytes == for `integrate`: the bytes are such a text, of the files that it names
-use Rattle.std.specs.Prelude.{ℕ, List}
+use Rattle.std.specs.Prelude.{ℕ, List, [], ◌∷◌}
 use Rattle.hpr_io.specs.Files.{Files, bytes_of}
+use Rattle.hpr_terms.specs.declared.tag.Tag.{Tag}
 use Rattle.hpr_syntax.specs.Tree.{Tree}
 use Rattle.hpr_syntax.specs.Shape.{IsProgram}
 use Rattle.hpr_syntax.specs.Grammar.{tagged}
 use Rattle.hpr_syntax.specs.Spelling.{Spells}
-use Rattle.hpr_graph.specs.Answer.{Fits, searched_graph}
+use Rattle.hpr_graph.specs.declared.vertex.Vertex.{Vertex}
+use Rattle.hpr_graph.specs.Answer.{Fits, AreSplitOff, searched_graph_of}
 use Rattle.hpr_refusals.specs.Refusals.{IsFileOf}
 use Rattle.hpr_words.specs.Request.{Request, integrate}
 
@@ -23,7 +25,9 @@ pub record HasMergedGraph (base a b bytes : List ℕ) : Type 0 where
   pub printed : Tree
   pub program : IsProgram printed
   pub spelled : Spells tagged bytes printed
-  pub fits : Fits (searched_graph base_program a_program b_program) printed
+  pub renamed : List (Vertex × Tag)
+  pub split_off : AreSplitOff base_program (a_program ∷ b_program ∷ []) renamed
+  pub fits : Fits (searched_graph_of renamed base_program (a_program ∷ b_program ∷ [])) printed
 
 abbrev pub PrintsMerged : Request → Files → List ℕ → Type 0
 PrintsMerged (integrate base a b tries) files bytes = HasMergedGraph (bytes_of files base) (bytes_of files a) (bytes_of files b) bytes

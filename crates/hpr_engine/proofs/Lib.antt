@@ -4,6 +4,11 @@ mod SameConflicts
 mod Merge
 mod Raised
 mod Premises
+mod SplitParts
+mod SplitNumbers
+pub mod Searched
+mod KeptParts
+mod SplitOff
 mod OneSideWhole
 mod FirstInRank
 pub mod OneSideAnswer

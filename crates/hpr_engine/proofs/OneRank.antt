@@ -2,21 +2,24 @@
 use Rattle.std.proofs.Common.{◌≡◌, suc, ◌<◌, inl, inr, Option, Some, None, List, [], ◌∷◌, ◌++◌, map, length, Contains, slice_get, refl, sym, ap, ◌∙◌, subst, arith}
 use Rattle.std.specs.List.{AllByRecursion}
 use Rattle.std.proofs.lemmas.List.{append-nil}
+use Rattle.hpr_terms.specs.declared.tag.Tag.{Tag}
 use Rattle.hpr_terms.proofs.Facts.{compared}
 use Rattle.hpr_syntax.specs.Issued.{Issued}
 use Rattle.hpr_syntax.specs.Shape.{IsProgram}
 use Rattle.hpr_syntax.specs.Tree.{Tree}
 use Rattle.hpr_graph.specs.declared.vertex.Vertex.{Vertex}
-use Rattle.hpr_graph.specs.Answer.{merged_of_all, issued_of_all}
+use Rattle.hpr_graph.specs.Answer.{AreSplitOff, searched_graph_of, searched_issued_of}
 use Rattle.hpr_graph.specs.Graphs.{Graph, IsOnce}
 use Rattle.hpr_graph.specs.Rank.{parts_of, StandsBefore, IsAddedAt, IsPutIn, IsJoined, AreJoined, IsFirstChanged, IsRankOf}
 use Rattle.hpr_graph.specs.Arrangements.{IsEarlier, AreArrangements}
+use Rattle.hpr_graph.specs.Split.{split_rank}
 use Rattle.hpr_graph.proofs.Lists.{contains_at, once_tail, once_head, some_inj}
 use Rattle.hpr_graph.proofs.PutInOrder.{one_list}
 use Rattle.hpr_order.proofs.Ranks.{rank_once}
 use Rattle.hpr_engine.specs.Budget.{AreTriedOf}
 use Rattle.hpr_rebuild.proofs.First.{at_middle}
 use Rattle.hpr_engine.proofs.FirstInRank.{moved, never_both, never_itself}
+use Rattle.hpr_engine.proofs.Searched.{searched_once}
 
 module _ {X : Type 0} where
   -- what is there without an item is there once too
@@ -158,8 +161,10 @@ module _ (rank : List Vertex) (once : IsOnce rank) where
       one_list (IsEarlier rank) never_earlier_both ps qs h.1 k.1 (λ p. (λ there. (k.0 p).1 ((h.0 p).0 there), λ there. (h.0 p).1 ((k.0 p).0 there)))
 
 -- the arrangements that are tried are one list
-pub one_tried : (base : Tree) (vs ps qs : List Tree) → AllByRecursion IsProgram vs → AreTriedOf base vs ps → AreTriedOf base vs qs → ps ≡ qs
-one_tried base vs ps qs all (rank, is, are) (rank', is', are') =
-    let same : rank ≡ rank' = one_rank base vs rank rank' all is is' in
-    one_arrangements rank (rank_once base vs rank is all) (merged_of_all base vs) (issued_of_all base vs) ps qs are
-    (subst (λ (r : List Vertex). AreArrangements (merged_of_all base vs) r (issued_of_all base vs) qs) (sym same) are')
+pub one_tried : (base : Tree) (vs : List Tree) (rs : List (Vertex × Tag)) (ps qs : List Tree) → IsProgram base → AllByRecursion IsProgram vs → AreSplitOff base vs rs
+    → AreTriedOf rs base vs ps → AreTriedOf rs base vs qs → ps ≡ qs
+one_tried base vs rs ps qs is all split (ranks, (rank, is_rank, e), are) (ranks', (rank', is_rank', e'), are') =
+    let same : ranks ≡ ranks' = e ∙ ap (split_rank rs) (one_rank base vs rank rank' all is_rank is_rank') ∙ sym e' in
+    let once : IsOnce ranks = subst (λ (r : List Vertex). IsOnce r) (sym e) (searched_once base vs is all rs split rank is_rank) in
+    one_arrangements ranks once (searched_graph_of rs base vs) (searched_issued_of rs base vs) ps qs are
+    (subst (λ (r : List Vertex). AreArrangements (searched_graph_of rs base vs) r (searched_issued_of rs base vs) qs) (sym same) are')

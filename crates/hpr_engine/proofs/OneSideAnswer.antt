@@ -12,7 +12,7 @@ use Rattle.hpr_graph.specs.declared.edge.Edge.{Edge}
 use Rattle.hpr_graph.specs.Conflicts.{told_as}
 use Rattle.hpr_graph.specs.Rank.{parts_of, IsRankOf}
 use Rattle.hpr_graph.specs.Arrangements.{AreArrangements}
-use Rattle.hpr_graph.specs.Answer.{AnswerBy, Answer, interference, printed, no_program, spent, Fits, NoneFits, AreWithoutConflict, graphs_of, merged_of_all, issued_of, issued_of_all, IsAnswer, IsAnswerBy}
+use Rattle.hpr_graph.specs.Answer.{AnswerBy, Answer, interference, printed, no_program, spent, Fits, NoneFits, AreWithoutConflict, IsFound, IsFoundFor, graphs_of, merged_of_all, issued_of, issued_of_all, IsAnswer, IsAnswerBy}
 use Rattle.hpr_graph.specs.ProgramGraph.{graph_of}
 use Rattle.hpr_graph.proofs.Lists.{in_here}
 use Rattle.hpr_order.proofs.Ranks.{rank_once}
@@ -24,6 +24,7 @@ use Rattle.hpr_engine.proofs.OneList.{all_conflicts_one}
 use Rattle.hpr_engine.proofs.OneSide.{a_alone, b_alone, free_when_kept, only_keeps}
 use Rattle.hpr_engine.proofs.OneSideWhole.{only_whole}
 use Rattle.hpr_engine.proofs.Premises.{proper_issued, parts_issued}
+use Rattle.hpr_engine.proofs.Searched.{fitting_content, found_whole}
 
 first_taken : (q : Tree) (qs : List Tree) (tries : ℕ) → 1 ≤ tries → Contains (take tries (q ∷ qs)) q
 first_taken q qs zero l = absurd (omega (arith, l))
@@ -58,16 +59,28 @@ module _ {X : Type 0} (at : X → ℕ × Vertex × Edge) (base : Tree) (vs : Lis
         first_in_rank M rank I q (rank_once base vs rank is_rank all)
         (member M I p q is_p fits (proper_issued base vs is all) (parts_issued base vs is all) s) (order rank (keeps rank is_rank)) ps are
 
-    unchanged : (tries : ℕ) (r : AnswerBy X) → 1 ≤ tries → IsAnswerBy at base vs tries r → Unchanged r
-    unchanged tries (interference xs) one (are, some) = absurd (some (all_conflicts_one at (graph_of base) (graphs_of vs) xs [] are free))
-    unchanged tries (no_program n) one (none_free, none, parts) = absurd (none p is_p fits)
-    unchanged tries spent one (none_free, (rank, is_rank, (ps, are, more, none, leaves))) =
+    -- what is found is p, made an arrangement
+    found_is : (tries : ℕ) (r : AnswerBy X) (rank : List Vertex) → 1 ≤ tries → IsRankOf base vs rank → IsFound {X = X} M rank I tries r → Unchanged r
+    found_is tries (interference xs) rank one is_rank never = absurd never
+    found_is tries (no_program n) rank one is_rank (none, parts) = absurd (none p is_p fits)
+    found_is tries spent rank one is_rank (ps, are, more, none, leaves) =
         let (qs, e) = first rank ps is_rank are in
         absurd (none q (subst (λ (l : List Tree). Contains (take tries l) q) (sym e) (first_taken q qs tries one)) (settled_fits M I p q fits s))
-    unchanged tries (printed m) one (none_free, (rank, is_rank, (ps, are, (front, back, split, fits_m, none)))) =
+    found_is tries (printed m) rank one is_rank (ps, are, (front, back, split, fits_m, none)) =
         let (qs, e) = first rank ps is_rank are in
         let same : m ≡ q = first_is M q qs ps front back m e split none (settled_fits M I p q fits s) in
         (m, refl, subst (IsSettled I p) (sym same) s)
+
+    found_for : (tries : ℕ) (r : AnswerBy X) → 1 ≤ tries → IsFoundFor {X = X} base vs tries r → Unchanged r
+    found_for tries r one found =
+        let (rank, is_rank, whole) = found_whole base vs (fitting_content M p is_p fits) tries r found in
+        found_is tries r rank one is_rank whole
+
+    unchanged : (tries : ℕ) (r : AnswerBy X) → 1 ≤ tries → IsAnswerBy at base vs tries r → Unchanged r
+    unchanged tries (interference xs) one (are, some) = absurd (some (all_conflicts_one at (graph_of base) (graphs_of vs) xs [] are free))
+    unchanged tries (no_program n) one (none_free, found) = found_for tries (no_program n) one found
+    unchanged tries spent one (none_free, found) = found_for tries spent one found
+    unchanged tries (printed m) one (none_free, found) = found_for tries (printed m) one found
 
   answer_is : (tries : ℕ) (r : AnswerBy X) → 1 ≤ tries → IsAnswerBy at base vs tries r → Unchanged r
   answer_is tries r one answer = let (q, s) = settled I p is_p in unchanged q s tries r one answer

@@ -2,7 +2,6 @@
 use Rattle.std.proofs.Common.{inl, inr, List, [], ◌∷◌, Contains}
 use Rattle.std.specs.List.{AllByRecursion}
 use Rattle.hpr_terms.proofs.Facts.{in_here, in_later}
-use Rattle.hpr_syntax.specs.Issued.{Issued}
 use Rattle.hpr_syntax.specs.Shape.{IsProgram}
 use Rattle.hpr_syntax.specs.Tree.{Tree}
 use Rattle.hpr_syntax.proofs.IssuedTags.{serial_of}
@@ -20,7 +19,7 @@ use Rattle.hpr_region.proofs.PartOrder.{says_part}
 use Rattle.hpr_engine.proofs.Raised.{with_issued, program_raised}
 
 -- each vertex of what variants changed is one of a variant's
-of_variant : (base : Graph) (vs : List Tree) (v : Vertex) → (changed base (graphs_of vs)).vertex v → (p : Tree) × Contains vs p × (graph_of p).vertex v
+pub of_variant : (base : Graph) (vs : List Tree) (v : Vertex) → (changed base (graphs_of vs)).vertex v → (p : Tree) × Contains vs p × (graph_of p).vertex v
 of_variant base [] v h = absurd h
 of_variant base (p ∷ []) v h = (p, in_here p [], h.0)
 of_variant base (p ∷ q ∷ vs) v (inl h) = (p, in_here p (q ∷ vs), h.0)
@@ -28,7 +27,7 @@ of_variant base (p ∷ q ∷ vs) v (inr h) = let (r, there, has) = of_variant ba
 
 module _ (base : Tree) (vs : List Tree) where
   -- each vertex of the merged graph is one of base's or of a variant's
-  pub of_program : (v : Vertex) → (merged_of_all base vs).vertex v → (p : Tree) × Contains (base ∷ vs) p × (graph_of p).vertex v
+  of_program : (v : Vertex) → (merged_of_all base vs).vertex v → (p : Tree) × Contains (base ∷ vs) p × (graph_of p).vertex v
   of_program v (inl h) = let (p, there, has) = of_variant (graph_of base) vs v h in (p, in_later base p vs there, has)
   of_program v (inr h) = (base, in_here base vs, h.0)
 
@@ -47,9 +46,6 @@ module _ (base : Tree) (vs : List Tree) where
         let (p, there, says) = of_program (Part t c) h in
         serial_of (with_issued (issued_of_all base vs) p) (program_raised base vs p is all there) t c says
 
--- the same of the same graph
+-- the same graph has the same ranking
 pub ranking_same : (g h : Graph) → Same g h → (r : List Vertex) → IsRanking h r → IsRanking g r
 ranking_same g h same r is = record { all = λ t c there. is.all t c ((same.0 (Part t c)).0 there); once = is.once }
-
-pub issued_same : (g h : Graph) → Same g h → (issued : Issued) → AreIssued h issued → AreIssued g issued
-issued_same g h same issued are t c there = are t c ((same.0 (Part t c)).0 there)

@@ -12,7 +12,7 @@ use Rattle.hpr_graph.specs.ProgramGraph.{graph_of}
 use Rattle.hpr_merge.proofs.NoneListed.{TellsEach, none_told, sides_tell}
 use Rattle.hpr_meaning.specs.KeptLaw.{KeepsAll}
 use Rattle.hpr_meaning.proofs.KeptMeaning.{keeps_two}
-use Rattle.hpr_meaning.proofs.WithoutConflict.{all_kept}
+use Rattle.hpr_rename.proofs.SplitKeeps.{split_kept}
 use Rattle.hpr_engine.proofs.OneAnswer.{printed_fits_by}
 pub use Rattle.hpr_merge.proofs.NoneListed.{triples_tell}
 pub use Rattle.hpr_meaning.proofs.SidesKept.{sides_kept}
@@ -20,8 +20,8 @@ pub use Rattle.hpr_meaning.proofs.SidesKept.{sides_kept}
 pub printed_keeps_by : {X : Type 0} (at : X → ℕ × Vertex × Edge) (base : Tree) (vs : List Tree) → TellsEach at (length (graphs_of vs)) → (tries : ℕ) (m : Tree) → IsProgram base → AllByRecursion IsProgram vs
     → IsAnswerBy at base vs tries (printed m) → KeepsAll base vs m
 printed_keeps_by at base vs tells tries m is all answer =
-    let (is_m, fits) = printed_fits_by at base vs tries m answer in
-    all_kept base m vs is all is_m (none_told at (graph_of base) (graphs_of vs) tells answer.0) fits
+    let (is_m, (rs, split, fits)) = printed_fits_by at base vs tries m answer in
+    split_kept base m vs rs is all is_m (none_told at (graph_of base) (graphs_of vs) tells answer.0) split fits
 
 pub printed_keeps : (base a b : Tree) (tries : ℕ) (m : Tree) → IsProgram base → IsProgram a → IsProgram b → IsAnswer base a b tries (printed m) → Keeps base a b m
 printed_keeps base a b tries m is is_a is_b answer =

@@ -3,3 +3,5 @@ pub mod Answers
 pub mod Budget
 pub mod Made
 pub mod OneSide
+pub mod Kept
+pub mod Searched

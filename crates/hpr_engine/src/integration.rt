@@ -5,26 +5,32 @@ ghost use Rattle.hpr_graph.specs.Answer.{interference, printed, no_program, spen
 ghost use Rattle.hpr_engine.specs.Answers.{IfInterference, IfJudged, IfNoProgram, IfTooManyEdges, IsFirstTooLarge};
 ghost use Rattle.hpr_engine.specs.Limit.{AreInLimit};
 
-use crate::issued::issued_numbers;
 use crate::programs::merge_programs;
+use crate::search::{Searched, searched_for};
 use crate::stop::Stop;
-use hpr_order::rank;
 use hpr_rebuild::{RebuildError, part_count, rebuild};
 use hpr_syntax::Program;
 use std::alloc::Global;
 
 /// The integration of two variants of a program with their base: the first arrangement, by the rank of
-/// the parts, whose graph is the merged graph (Horwitz, Prins and Reps 1989). Its finals are ascending,
-/// and each author has the greatest of its three issued numbers. At least one try is allowed; an
-/// arrangement whose graph is compared is one, and so is a front of parts that is given up with all that begin
-/// with it (Horwitz, Prins and Reps 1989 leave the order open, and know no limit on edges and no budget). It keeps the meaning of both variants: from each state on which base and both
-/// variants end, it ends with what each variant changed and what all three agree on (Reps and Yang 1988).
+/// the parts, whose graph is the merged graph (Horwitz, Prins and Reps 1989), in which of two contents of
+/// one tag the one that A lacks has a new tag of author 0, so that no tag has two contents. No part has a
+/// new tag where their serials would pass the greatest, 4,294,967,295 (Horwitz, Prins and Reps 1989 have
+/// no tags). Its finals are ascending, and each author has the greatest of its three issued numbers,
+/// author 0 as many more as there are new tags. It keeps the meaning of both variants: from each state on
+/// which base and both variants end, it ends with what each variant changed and what all three agree on
+/// (Reps and Yang 1988).
+///
+/// At least one try is allowed; an arrangement whose graph is compared is one, and so is a front of parts
+/// that is given up with all that begin with it (Horwitz, Prins and Reps 1989 leave the order open, and
+/// know no limit on edges and no budget).
 ///
 /// Refuses with `TooManyEdges` where a graph of the three programs has more than 1,000,000 edges, and
 /// names the first of base, A and B; else with `Interference` exactly where there is a conflict, and
-/// lists all of them; else with `NoProgram`, only where no program has the merged graph, and counts
-/// the graph's parts; else with `Spent`, only where there are more arrangements than tries and none of
-/// the first that many has the merged graph, and where it is so of their leaves. `Memory` is want of memory.
+/// lists all of them; else with `NoProgram`, only where no program has the merged graph with these new
+/// tags, and counts that graph's parts; else with `Spent`, only where there are more arrangements than
+/// tries and none of the first that many has this graph, and where it is so of their leaves. `Memory` is
+/// want of memory.
 pub fn integrate(
     alloc: Global,
     base: &Program,
@@ -51,8 +57,11 @@ pub fn integrate(
     ensures too_many { IfTooManyEdges result (λ which. IsFirstTooLarge base.now a.now b.now which) }
 {
     let graph = merge_programs(alloc, base, a, b)?;
-    let rank = rank(alloc, a, b, base)?;
-    let issued = issued_numbers(alloc, base, a, b)?;
+    let Searched {
+        graph,
+        rank,
+        issued,
+    } = searched_for(alloc, graph, base, a, b)?;
     match rebuild(alloc, &graph, &rank, &issued, tries) {
         Ok(program) => Ok(program),
         Err(RebuildError::NoProgram) => Err(Stop::NoProgram(part_count(&graph))),

@@ -2,19 +2,23 @@ use Rattle.hpr_engine.proofs.OneAnswer.{one_answer, one_answer_by, fit_is_printe
 use Rattle.hpr_engine.proofs.laws.one_answer.Goals as goal
 
 pub returns-clause-all_agree : goal.returns-clause-all_agree
-returns-clause-all_agree c = λ base vs tries r s all h k. one_answer_by (λ t. t) base vs all tries r s h k
+returns-clause-all_agree c = λ base vs tries r s is all h k. one_answer_by (λ t. t) base vs is all tries r s h k
 
 pub returns-clause-all_first : goal.returns-clause-all_first
-returns-clause-all_first c = λ base vs tries ps m r all free tried first h. fit_is_printed_by (λ t. t) base vs all tries ps free tried m r first h
+returns-clause-all_first c = λ base vs rs tries ps m r is all free split tried first h.
+    fit_is_printed_by (λ t. t) base vs is all tries rs split ps free tried m r first h
 
 pub returns-clause-all_enough : goal.returns-clause-all_enough
-returns-clause-all_enough c = λ base vs tries ps r all free tried few h. enough_by (λ t. t) base vs all tries ps free tried r few h
+returns-clause-all_enough c = λ base vs rs tries ps r is all free split tried few h.
+    enough_by (λ t. t) base vs is all tries rs split ps free tried r few h
 
 pub returns-clause-agree : goal.returns-clause-agree
-returns-clause-agree c = λ base a b tries r s is_a is_b h k. one_answer base a b is_a is_b tries r s h k
+returns-clause-agree c = λ base a b tries r s is is_a is_b h k. one_answer base a b is is_a is_b tries r s h k
 
 pub returns-clause-first : goal.returns-clause-first
-returns-clause-first c = λ base a b tries ps m r is_a is_b free tried first h. fit_is_printed base a b is_a is_b tries ps free tried m r first h
+returns-clause-first c = λ base a b rs tries ps m r is is_a is_b free split tried first h.
+    fit_is_printed base a b is is_a is_b tries rs split ps free tried m r first h
 
 pub returns-clause-enough : goal.returns-clause-enough
-returns-clause-enough c = λ base a b tries ps r is_a is_b free tried few h. enough base a b is_a is_b tries ps free tried r few h
+returns-clause-enough c = λ base a b rs tries ps r is is_a is_b free split tried few h.
+    enough base a b is is_a is_b tries rs split ps free tried r few h

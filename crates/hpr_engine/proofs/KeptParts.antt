@@ -1,0 +1,167 @@
+-- Parts that keep their tags, found program by program.
+use Rattle.std.proofs.Common.{◌≡◌, ℕ, zero, suc, ◌+◌, ◌<◌, ◌≤◌, Bool, true, false, ◌↔◌, ◌⊎◌, inl, inr, List, [], ◌∷◌, length, take, get_or, replicate, Contains, refl, sym, ap, ◌∙◌, subst}
+use Rattle.hpr_terms.specs.declared.tag.Tag.{Tag}
+use Rattle.hpr_terms.proofs.Facts.{in_none, in_cons, in_here, in_later, taken_item}
+use Rattle.hpr_search.proofs.Marked.{no_marks}
+use Rattle.hpr_syntax.specs.declared.rows.Content.{Content}
+use Rattle.hpr_syntax.specs.Shape.{IsProgram}
+use Rattle.hpr_syntax.specs.Tree.{Tree}
+use Rattle.hpr_graph.specs.declared.vertex.Vertex.{Vertex}
+use Rattle.hpr_graph.specs.declared.vertex.Vertex.TheVariants.{Part}
+use Rattle.hpr_graph.specs.Graphs.{Graph}
+use Rattle.hpr_graph.specs.Numbered.{Numbered, IsMarkedVertex, graph_in}
+use Rattle.hpr_graph.specs.ProgramGraph.{graph_of}
+use Rattle.hpr_graph.specs.Rank.{parts_of}
+use Rattle.hpr_graph.specs.Split.{HasOneContent, HasTag}
+use Rattle.hpr_graph.specs.Whole.{SaysOnce}
+use Rattle.hpr_graph.proofs.Laws.{part_tag}
+use Rattle.hpr_graph.proofs.Lists.{taken_all}
+use Rattle.hpr_closure.proofs.ProgramWhole.{says_once}
+use Rattle.hpr_region.proofs.PartOrder.{part_says, says_part}
+use Rattle.hpr_engine.specs.Kept.{is_taken, IsTaken, IsFreeAmong, HasTagAmong, AreKeptMore, AreTakenMore, AreKeptBy}
+
+pub record AreKept (g : Numbered) (P : Vertex → Type 0) (taken taken' : List (ℕ × ℕ)) (keep keep' : List Bool) : Type 0 where
+  pub marks : length keep' ≡ length keep
+  pub kept : AreKeptMore g P taken keep keep'
+  pub more : AreTakenMore g P taken taken'
+
+-- no vertex yet
+pub kept_none : (g : Numbered) (P : Vertex → Type 0) → ((v : Vertex) → ¬ P v) → (taken : List (ℕ × ℕ)) (keep : List Bool) → AreKept g P taken taken keep keep
+kept_none g P none taken keep = record {
+  marks = refl;
+  kept = λ v. (λ h. inl h, λ h. elim h [ inl was ↦ was | inr (t, tag, p, free) ↦ absurd (none v p) ]);
+  more = λ t. (λ h. inl h, λ h. elim h [ inl was ↦ was | inr (w, tag, p) ↦ absurd (none w p) ]);
+}
+
+-- one vertex more
+module _ (g : Numbered) (P R : Vertex → Type 0) (x : Vertex) (joins : (v : Vertex) → R v ↔ (P v ⊎ (x ≡ v))) (one : HasOneContent R)
+    (taken next last : List (ℕ × ℕ)) (keep keep' keep'' : List Bool) (so_far : AreKept g P taken next keep keep') (now : AreKept g (λ v. v ≡ x) next last keep' keep'') where
+  -- a part with the tag of one that was kept is that one
+  free_then : (v : Vertex) (t : Tag) → HasTag (graph_in g) t v → R v → ¬ IsTaken taken t → x ≡ v → (b : Bool) → is_taken next t ≡ b → IsMarkedVertex g keep'' v
+  free_then v t tag r free same false is =
+      (now.kept v).1 (inr (t, tag, sym same, λ h. (let f : true ≡ false = sym h ∙ is in cc)))
+  free_then v t (c, is_v, has) r free same true is = elim ((so_far.more t).0 is) [
+    | inl was ↦ absurd (free was)
+    | inr (w, (d, is_w, has_w), p) ↦ (let content : d ≡ c = one t d c (subst R is_w ((joins w).1 (inl p))) (subst R is_v r) in
+        let w_is_v : w ≡ v = is_w ∙ ap (λ (e : Content). Part t e) content ∙ sym is_v in
+        (now.kept v).1 (inl ((so_far.kept v).1 (inr (t, (c, is_v, has), subst P w_is_v p, free)))))
+  ]
+
+  kept_then : (v : Vertex) → IsFreeAmong (graph_in g) R taken v → IsMarkedVertex g keep'' v
+  kept_then v (t, tag, r, free) = elim ((joins v).0 r) [
+    | inl p ↦ (now.kept v).1 (inl ((so_far.kept v).1 (inr (t, tag, p, free))))
+    | inr same ↦ free_then v t tag r free same (is_taken next t) refl
+  ]
+
+  kept_before : (v : Vertex) → IsMarkedVertex g keep'' v → IsMarkedVertex g keep v ⊎ IsFreeAmong (graph_in g) R taken v
+  kept_before v h = elim ((now.kept v).0 h) [
+    | inl was ↦ elim ((so_far.kept v).0 was) [ inl old ↦ inl old | inr (t, tag, p, free) ↦ inr (t, tag, (joins v).1 (inl p), free) ]
+    | inr (t, tag, same, free) ↦ inr (t, tag, (joins v).1 (inr (sym same)), λ was. free ((so_far.more t).1 (inl was)))
+  ]
+
+  taken_before : (t : Tag) → IsTaken last t → IsTaken taken t ⊎ HasTagAmong (graph_in g) R t
+  taken_before t h = elim ((now.more t).0 h) [
+    | inl was ↦ elim ((so_far.more t).0 was) [ inl old ↦ inl old | inr (w, tag, p) ↦ inr (w, tag, (joins w).1 (inl p)) ]
+    | inr (w, tag, same) ↦ inr (w, tag, (joins w).1 (inr (sym same)))
+  ]
+
+  taken_then : (t : Tag) → HasTagAmong (graph_in g) R t → IsTaken last t
+  taken_then t (w, tag, r) = elim ((joins w).0 r) [
+    | inl p ↦ (now.more t).1 (inl ((so_far.more t).1 (inr (w, tag, p))))
+    | inr same ↦ (now.more t).1 (inr (w, tag, sym same))
+  ]
+
+  kept_more : AreKept g R taken last keep keep''
+  kept_more = record {
+    marks = now.marks ∙ so_far.marks;
+    kept = λ v. (kept_before v, λ h. elim h [ inl old ↦ (now.kept v).1 (inl ((so_far.kept v).1 (inl old))) | inr free ↦ kept_then v free ]);
+    more = λ t. (taken_before t, λ h. elim h [ inl old ↦ (now.more t).1 (inl ((so_far.more t).1 (inl old))) | inr some ↦ taken_then t some ]);
+  }
+
+in_whole : (n : ℕ) (vs : List Vertex) (v : Vertex) → Contains (take n vs) v → Contains vs v
+in_whole zero vs v h = absurd (in_none v h)
+in_whole (suc n) [] v h = absurd (in_none v h)
+in_whole (suc n) (x ∷ vs) v h = elim (in_cons x v (take n vs) h) [ inl e ↦ subst (Contains (x ∷ vs)) e (in_here x vs) | inr later ↦ in_later x v vs (in_whole n vs v later) ]
+
+-- the parts of a program, one after the other
+module _ (g : Numbered) (parts : List Vertex) (i : ℕ) (taken next : List (ℕ × ℕ)) (keep keep' : List Bool) (so_far : AreKept g (Contains (take i parts)) taken next keep keep') where
+  pub kept_next : (x : Vertex) (last : List (ℕ × ℕ)) (keep'' : List Bool) → HasOneContent (Contains parts) → i < length parts → x ≡ get_or parts i x
+      → AreKept g (λ v. v ≡ x) next last keep' keep'' → AreKept g (Contains (take (i + 1) parts)) taken last keep keep''
+  kept_next x last keep'' one within is now =
+      kept_more g (Contains (take i parts)) (Contains (take (i + 1) parts)) x (λ v. taken_item parts i x v within is)
+      (λ t c d a b. one t c d (in_whole (i + 1) parts (Part t c) a) (in_whole (i + 1) parts (Part t d) b)) taken next last keep keep' keep'' so_far now
+
+  pub kept_all : length parts ≤ i → AreKept g (Contains parts) taken next keep keep'
+  kept_all past =
+      let whole : (v : Vertex) → Contains (take i parts) v ↔ Contains parts v = λ v. (in_whole i parts v, taken_all parts i v past) in
+      record {
+        marks = so_far.marks;
+        kept = λ v. (
+          λ h. elim ((so_far.kept v).0 h) [ inl old ↦ inl old | inr (t, tag, p, free) ↦ inr (t, tag, (whole v).0 p, free) ],
+          λ h. (so_far.kept v).1 (elim h [ inl old ↦ inl old | inr (t, tag, p, free) ↦ inr (t, tag, (whole v).1 p, free) ]),
+        );
+        more = λ t. (
+          λ h. elim ((so_far.more t).0 h) [ inl old ↦ inl old | inr (w, tag, p) ↦ inr (w, tag, (whole w).0 p) ],
+          λ h. (so_far.more t).1 (elim h [ inl old ↦ inl old | inr (w, tag, p) ↦ inr (w, tag, (whole w).1 p) ]),
+        );
+      }
+
+-- a program's parts are those of its graph
+part_in : (p : Tree) (v : Vertex) → Contains (parts_of p) v → (graph_of p).vertex v
+part_in p v h = let (s, d, same, says) = part_says p v h in subst (graph_of p).vertex (sym same) says
+
+pub graph_part : (p : Tree) (g : Graph) (t : Tag) (v : Vertex) → HasTag g t v → Contains (parts_of p) v ↔ (graph_of p).vertex v
+graph_part p g t v (c, is, has) = (
+  part_in p v,
+  λ h. subst (Contains (parts_of p)) (sym is) (says_part p t c (subst (graph_of p).vertex is h)),
+)
+
+parts_content : (p : Tree) → SaysOnce p → HasOneContent (Contains (parts_of p))
+parts_content p once t c d a b = once t c d (part_in p (Part t c) a) (part_in p (Part t d) b)
+
+-- after both programs
+module _ (g : Numbered) (a b : Tree) (taken last : List (ℕ × ℕ)) (keep keep' keep'' : List Bool) (clear : (v : Vertex) → ¬ IsMarkedVertex g keep v)
+    (of_a : AreKept g (Contains (parts_of a)) [] taken keep keep') (of_b : AreKept g (Contains (parts_of b)) taken last keep' keep'') where
+  -- A's keeps it
+  a_keeps : (v : Vertex) (t : Tag) → HasTag (graph_in g) t v → IsMarkedVertex g keep' v ↔ (graph_of a).vertex v
+  a_keeps v t tag = (
+    λ h. elim ((of_a.kept v).0 h) [ inl was ↦ absurd (clear v was) | inr (s, its, p, free) ↦ (graph_part a (graph_in g) t v tag).0 p ],
+    λ h. (of_a.kept v).1 (inr (t, tag, (graph_part a (graph_in g) t v tag).1 h, λ none. (let f : false ≡ true = none in cc))),
+  )
+
+  a_has : (t : Tag) → IsTaken taken t ↔ ((w : Vertex) × HasTag (graph_in g) t w × (graph_of a).vertex w)
+  a_has t = (
+    λ h. elim ((of_a.more t).0 h) [
+      | inl none ↦ (let f : false ≡ true = none in absurd cc)
+      | inr (w, tag, p) ↦ (w, tag, (graph_part a (graph_in g) t w tag).0 p)
+    ],
+    λ (w, tag, has). (of_a.more t).1 (inr (w, tag, (graph_part a (graph_in g) t w tag).1 has)),
+  )
+
+  pub kept_both : AreKeptBy (graph_of a ∷ graph_of b ∷ []) g keep''
+  kept_both v t tag = (
+    λ h. elim ((of_b.kept v).0 h) [
+      | inl was ↦ inl (tag, (a_keeps v t tag).0 was)
+      | inr (s, its, p, free) ↦ (let same : s ≡ t = part_tag s t its.0 tag.0 (sym its.1 ∙ tag.1) in
+          inr (λ some. free (subst (IsTaken taken) (sym same) ((a_has t).1 some)), inl (tag, (graph_part b (graph_in g) t v tag).0 p)))
+    ],
+    λ h. elim h [
+      | inl (its, has) ↦ (of_b.kept v).1 (inl ((a_keeps v t tag).1 has))
+      | inr (none, rest) ↦ elim rest [
+        | inl (its, has) ↦ (of_b.kept v).1 (inr (t, tag, (graph_part b (graph_in g) t v tag).1 has, λ was. none ((a_has t).0 was)))
+        | inr (others, nothing) ↦ absurd nothing
+      ]
+    ],
+  )
+
+pub no_vertex_marked : (g : Numbered) (n : ℕ) (v : Vertex) → ¬ IsMarkedVertex g (replicate n false) v
+no_vertex_marked g n v (at, there, mark) = no_marks n at mark
+
+-- the same of other names for the parts and the tags
+pub kept_alike : (g : Numbered) (vs ws : List Vertex) (taken taken' next : List (ℕ × ℕ)) (keep keep' : List Bool) → vs ≡ ws → taken ≡ taken' → AreKept g (Contains vs) taken next keep keep' → AreKept g (Contains ws) taken' next keep keep'
+kept_alike g vs ws taken taken' next keep keep' same alike are =
+    subst (λ (ts : List (ℕ × ℕ)). AreKept g (Contains ws) ts next keep keep') alike
+    (subst (λ (us : List Vertex). AreKept g (Contains us) taken next keep keep') same are)
+
+pub listed_content : (p : Tree) (vs : List Vertex) → IsProgram p → vs ≡ parts_of p → HasOneContent (Contains vs)
+listed_content p vs is same = subst (λ (us : List Vertex). HasOneContent (Contains us)) (sym same) (parts_content p (says_once p is))

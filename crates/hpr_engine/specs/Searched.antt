@@ -1,0 +1,29 @@
+-- What the search for a program is given.
+--
+-- IsSplitFrom m P s     == s is m with new tags for the parts of its graph that have P; s is m where the serials don't suffice
+-- IsSearched base a b s == s is what is searched for a base and two variants: the merged graph, the rank and the issued numbers, with the
+--                          parts that are split off under their new tags
+use Rattle.std.specs.Prelude.{◌≡◌, List, [], ◌∷◌, length}
+use Rattle.hpr_terms.specs.declared.tag.Tag.{Tag}
+use Rattle.hpr_syntax.specs.Issued.{issued_to}
+use Rattle.hpr_syntax.specs.Tree.{Tree}
+use Rattle.hpr_graph.specs.declared.vertex.Vertex.{Vertex}
+use Rattle.hpr_graph.specs.Answer.{AreSplitOff, IsSearchedRankOf, searched_graph_of, searched_issued_of}
+use Rattle.hpr_graph.specs.Graphs.{Same}
+use Rattle.hpr_graph.specs.Numbered.{graph_in}
+use Rattle.hpr_graph.specs.Split.{AreRenamedWithin, split_graph, split_issued, split_rank}
+use Rattle.hpr_engine.specs.declared.search.Searched.{Searched}
+
+abbrev pub IsSplitFrom : Searched → (Vertex → Type 0) → Searched → Type 0
+IsSplitFrom m P s =
+    (rs : List (Vertex × Tag)) × AreRenamedWithin (graph_in m.graph) P (issued_to 0 m.issued) rs
+    × Same (graph_in s.graph) (split_graph rs (graph_in m.graph))
+    × (s.rank.items ≡ split_rank rs m.rank.items)
+    × (s.issued ≡ split_issued (length rs) m.issued)
+
+abbrev pub IsSearched : Tree → Tree → Tree → Searched → Type 0
+IsSearched base a b s =
+    (rs : List (Vertex × Tag)) × AreSplitOff base (a ∷ b ∷ []) rs
+    × Same (graph_in s.graph) (searched_graph_of rs base (a ∷ b ∷ []))
+    × IsSearchedRankOf rs base (a ∷ b ∷ []) s.rank.items
+    × (s.issued ≡ searched_issued_of rs base (a ∷ b ∷ []))
