@@ -9,6 +9,8 @@ import re
 
 LEAST, GREATEST = -2**63, 2**63 - 1
 MOST_WRITTEN = 1_000_000
+MOST_PARTS = 4000
+GREATEST_SERIAL = 2**32 - 1
 # so many arrangements of a merged graph are looked at
 LOOKED_AT = 100
 
@@ -566,6 +568,29 @@ def greatest_issued(*programs):
     return {author: max(program.issued.get(author, 0) for program in programs) for author in authors}
 
 
+# Of several parts of the merged graph with one tag, that of the first variant which has one of them there keeps it. The others, in
+# the order of vertices, get new tags of author 0 behind its issued serials, where these suffice, wherever they stand.
+def split(merged, ranked, issued, variants):
+    contents = collections.defaultdict(list)
+    for at in merged.vertices:
+        if at[0] == PART:
+            contents[at[1:3]].append(at)
+    loose = []
+    for several in contents.values():
+        if len(several) > 1:
+            of_variants = ([at for at in several if at in variant.vertices] for variant in variants)
+            keeper, = next(found for found in of_variants if found)
+            loose += [at for at in several if at != keeper]
+    last = issued.get(0, 0)
+    if not loose or last + len(loose) > GREATEST_SERIAL:
+        return merged, ranked, issued
+    new = {at: (PART, 0, last + count, at[3]) for count, at in enumerate(sorted(loose), 1)}
+    renamed = lambda at: new.get(at, at)
+    kind_of = lambda kind: (*kind[:-1], renamed(kind[-1])) if kind[0] in (CARRIED, ORDER) else kind
+    edges = frozenset((renamed(to), renamed(source), kind_of(kind)) for to, source, kind in merged.edges)
+    return Graph(frozenset(map(renamed, merged.vertices)), edges), [*map(renamed, ranked)], {**issued, 0: last + len(loose)}
+
+
 class Arrangements:
     """The arrangements of a graph, in the order of the rank: the programs with its parts and its control edges in which no
     independent and no order edge between two parts goes from right to left."""
@@ -689,17 +714,19 @@ class Integration:
         self.merged = merged_graph(of_base, of_a, of_b, *self.affected)
         sides = [("A", of_a, self.affected[0]), ("B", of_b, self.affected[1])]
         self.conflicts = list(conflicts(Slices(self.merged), sides))
-        self.arrangements = Arrangements(self.merged, rank(base, a, b), greatest_issued(base, a, b))
+        searched = split(self.merged, rank(base, a, b), greatest_issued(base, a, b), [of_a.graph, of_b.graph])
+        self.searched, self.arrangements = searched[0], Arrangements(*searched)
 
     def conflicts_text(self):
         lines = (f"{side} {vertex_text(at)}: {edge_text(edge)}" for side, at, edge in self.conflicts)
         return lines_text([f"interference {len(self.conflicts)}", *lines])
 
     def no_program_text(self):
-        count = sum(at[0] == PART for at in self.merged.vertices)
-        return f"no program with at most 1000 parts has the merged graph, which has {count} parts\n"
+        count = sum(at[0] == PART for at in self.searched.vertices)
+        return f"no program with at most {MOST_PARTS} parts has the merged graph, which has {count} parts\n"
 
-    # The answer: all conflicts; else the first arrangement with the merged graph; else none, or that so many tries are spent.
+    # The answer: all conflicts; else the first arrangement with the graph that is searched; else none, or that so many tries are
+    # spent.
     def wrong(self, status, text, tries):
         """What is wrong with an answer, or None."""
         if self.conflicts:
@@ -711,7 +738,7 @@ class Integration:
         if status == 0:
             return self.wrong_program(text, looked_at, whole)
         if status == 2:
-            if any(graph_of(one) == self.merged for one in looked_at):
+            if any(graph_of(one) == self.searched for one in looked_at):
                 return "a program has the merged graph"
             return None if text == self.no_program_text() else self.no_program_text()
         spent = f"spent: none of the first {tries} arrangements has the merged graph\n"
@@ -721,10 +748,10 @@ class Integration:
     def may_be_spent(self, looked_at, whole, tries):
         leaves = set()
         for one in looked_at:
-            leaves.add(self.arrangements.leaf(one, self.merged))
+            leaves.add(self.arrangements.leaf(one, self.searched))
             if len(leaves) > tries:
                 return True
-            if graph_of(one) == self.merged:
+            if graph_of(one) == self.searched:
                 return False
         return not whole
 
@@ -732,13 +759,13 @@ class Integration:
         program = Reader(text).program()
         if program_text(program) != text:
             return "not the canonical text"
-        if graph_of(program) != self.merged:
+        if graph_of(program) != self.searched:
             return "the graph of the printed program is not the merged graph"
         if program.issued != self.arrangements.issued or program.finals != self.arrangements.finals:
             return "other issued numbers, or other finals"
         for one in looked_at:
             if program_text(one) == text:
                 return None
-            if graph_of(one) == self.merged:
+            if graph_of(one) == self.searched:
                 return f"an earlier program has the merged graph:\n{program_text(one)}"
         return "no arrangement" if whole else None
