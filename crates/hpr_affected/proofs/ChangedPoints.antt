@@ -1,11 +1,11 @@
 -- The marks of what is reached from the directly affected points are those of the affected points.
-use Rattle.std.proofs.Common.{◌≡◌, ℕ, ◌↔◌, inl, inr, Bool, IsTrue, Some, List, slice_get, sym, ◌∙◌, subst}
+use Rattle.std.proofs.Common.{◌≡◌, ℕ, ◌↔◌, inl, inr, Bool, IsTrue, Some, List, slice_get, sym, subst}
 use Rattle.hpr_search.specs.Marks.{IsMarked}
 use Rattle.hpr_graph.specs.declared.vertex.Vertex.{Vertex}
 use Rattle.hpr_graph.specs.Numbered.{Numbered, HasVertex, IsNumbered, IsOneOf, graph_in}
-use Rattle.hpr_graph.specs.Points.{IsInit, IsShared, IsAffected, IsPreserved}
+use Rattle.hpr_graph.specs.Points.{IsShared, IsAffected}
 use Rattle.hpr_graph.specs.Slices.{IsReached}
-use Rattle.hpr_graph.proofs.Lists.{some_inj, contains_at}
+use Rattle.hpr_graph.proofs.Lists.{contains_at}
 use Rattle.hpr_slice.specs.Vertices.{MarksExactly}
 use Rattle.hpr_graph.specs.Direct.{IsDirectlyAffected}
 use Rattle.hpr_graph.specs.Whole.{IsWhole}
@@ -57,20 +57,3 @@ marked_test g P marks read at test m is t v at_v = (
 
 pub marks_beside : (s : Sides) (base : Numbered) (marks read : List Bool) → s.graph ≡ base → read ≡ marks → MarksAffected s.graph s.other marks → MarksAffected base s.other read
 marks_beside s base marks read is same m = subst (λ (g : Numbered). MarksAffected g s.other read) is (subst (MarksAffected s.graph s.other) (sym same) m)
-
-module _ (base a b : Numbered) (marks_a marks_b : List Bool) (ma : MarksAffected base a marks_a) (mb : MarksAffected base b marks_b) where
-  pub preserved_test : (at : ℕ) (x : Vertex) (test : Bool) → slice_get base.vertices at ≡ Some x
-      → IsTrue test ↔ ((¬ IsInit x) × (¬ IsMarked marks_a at) × (¬ IsMarked marks_b at)) → (v : Vertex) → slice_get base.vertices at ≡ Some v → IsTrue test ↔ IsPreserved (graph_in base) (graph_in a) (graph_in b) v
-  preserved_test at x test at_x t v at_v =
-      let same : x ≡ v = some_inj x v (sym at_x ∙ at_v) in (
-        λ yes. (let (other, not_a, not_b) = t.0 yes in (
-          subst (λ (z : Vertex). ¬ IsInit z) same other,
-          contains_at base.vertices at v at_v,
-          (ma.shared at v at_v not_a, mb.shared at v at_v not_b),
-        )),
-        λ (other, at_base, (in_a, in_b)). t.1 (
-          subst (λ (z : Vertex). ¬ IsInit z) (sym same) other,
-          λ marked. ((ma.affected.exact at v at_v).0 marked).1 in_a,
-          λ marked. ((mb.affected.exact at v at_v).0 marked).1 in_b,
-        ),
-      )

@@ -5,5 +5,6 @@ pub mod PointLists
 mod MarkRows
 mod DirectTests
 mod ChangedPoints
+mod SharedPoints
 pub mod NumberedPoints
 pub mod SliceMarks

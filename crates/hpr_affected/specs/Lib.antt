@@ -2,3 +2,4 @@ pub mod Numbers
 pub mod Lacking
 pub mod Differing
 pub mod Comparison
+pub mod Shared

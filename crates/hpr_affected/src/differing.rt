@@ -50,7 +50,8 @@ fn differing_marks(alloc: Global, rows: &[Vec<Link>]) -> Result<Vec<bool>, NoMem
     Ok(marks)
 }
 
-fn blank_row(alloc: Global, count: usize) -> Result<Vec<bool>, NoMemory>
+/// So many vertices, none of which is marked.
+pub(crate) fn blank_row(alloc: Global, count: usize) -> Result<Vec<bool>, NoMemory>
     ensures { IfOk result (λ marks. marks.items ≡ replicate count false) }
 {
     Ok(vec![in alloc; false; count]?)
@@ -67,7 +68,8 @@ fn mark_among(links: &[Link], to: usize, marks: &mut Vec<bool>)
     }
 }
 
-fn mark(marks: &mut Vec<bool>, at: usize)
+/// Marks the vertex with this number, if there is one.
+pub(crate) fn mark(marks: &mut Vec<bool>, at: usize)
     ensures count { length marks.new.items ≡ length marks.old.items }
     ensures exact { (n : ℕ) → n < length marks.old.items → IsMarked marks.new.items n
         ↔ (IsMarked marks.old.items n ⊎ (at ≡ n)) }

@@ -1,4 +1,4 @@
-//! What a variant of a program changed, and what three versions share: directly affected, affected and
+//! What a variant of a program changed, and what it shares with others: directly affected, affected and
 //! preserved points (the latter two after Horwitz, Prins and Reps 1989).
 #![tactic(auto)]
 
@@ -11,4 +11,4 @@ mod points;
 
 pub use comparison::Comparison;
 pub use hpr_graph::{Graph, NoMemory};
-pub use points::{affected, direct, preserved, preserved_beside};
+pub use points::{affected, direct, preserved, preserved_beside, preserved_by};

@@ -1,13 +1,15 @@
 //! Directly affected, affected and preserved points.
-ghost use Rattle.std.specs.Prelude.{◌≡◌, ◌↔◌, IfOk, IsTrue};
+ghost use Rattle.std.specs.Prelude.{◌≡◌, ◌↔◌, ◌⊎◌, ◌∷◌, ◌++◌, [], ◌<◌, ℕ, List, IfOk, IsTrue, OnOk, length};
 ghost use Rattle.hpr_search.specs.Marks.{IsMarked};
 ghost use Rattle.hpr_graph.specs.Direct.{IsDirectlyAffected};
-ghost use Rattle.hpr_graph.specs.Numbered.{graph_in};
-ghost use Rattle.hpr_graph.specs.Points.{IsAffected, IsInit, IsPreserved};
-ghost use Rattle.hpr_graph.specs.Whole.{IsWhole};
+ghost use Rattle.hpr_graph.specs.Numbered.{Numbered, graph_in, graphs_in};
+ghost use Rattle.hpr_graph.specs.Points.{IsAffected, IsInit, IsPreserved, IsPreservedBy};
+ghost use Rattle.hpr_graph.specs.Whole.{AreAll, IsWhole};
 ghost use Rattle.hpr_affected.specs.Numbers.{AreNumbersOf};
+ghost use Rattle.hpr_affected.specs.Shared.{AreOfBase, MarksUnshared, others_of};
 
 use crate::comparison::Comparison;
+use crate::differing::{blank_row, mark};
 use crate::lists::push_if;
 use hpr_graph::{Graph, NoMemory, Vertex};
 use hpr_search::is_marked;
@@ -73,22 +75,82 @@ pub fn preserved_beside(
     ensures { IfOk result (λ points. AreNumbersOf base.now (IsPreserved (graph_in base.now)
         (graph_in with_a.now.other) (graph_in with_b.now.other)) points.items) }
 {
-    let beside_a = with_a.affected_marks()?;
-    let beside_b = with_b.affected_marks()?;
+    let mut unshared = with_a.affected_marks()?;
+    mark_affected(base, with_b, &mut unshared)?;
+    shared_points(alloc, base, &unshared)
+}
+
+/// The preserved points of a base that stands beside each of any number of variants, by their numbers in
+/// the base, ascending: the vertices that all these graphs have with the same slice, but no Init vertex
+/// (Horwitz, Prins and Reps 1989, of two variants). The graphs are whole. Refuses for want of memory alone.
+///
+/// Goes forward in the base once for each variant, from what is directly affected there beside it.
+pub fn preserved_by(
+    alloc: Global,
+    base: &Graph,
+    comparisons: &[Comparison],
+) -> Result<Vec<usize>, NoMemory>
+    requires base { AreOfBase base.now comparisons.now }
+    requires whole { IsWhole (graph_in base.now) }
+    requires others { AreAll IsWhole (graphs_in (others_of comparisons.now)) }
+    ensures { IfOk result (λ points. AreNumbersOf base.now (IsPreservedBy (graph_in base.now)
+        (graphs_in (others_of comparisons.now))) points.items) }
+{
+    let mut unshared = blank_row(alloc, base.vertex_count())?;
+    for comparison in comparisons {
+        mark_affected(base, comparison, &mut unshared)?;
+    }
+    shared_points(alloc, base, &unshared)
+}
+
+/// Marks also the affected points of the base beside one variant more.
+fn mark_affected(
+    base: &Graph,
+    comparison: &Comparison,
+    unshared: &mut Vec<bool>,
+) -> Result<(), NoMemory>
+    requires base { comparison.now.graph ≡ base.now }
+    requires whole { IsWhole (graph_in base.now) }
+    requires other { IsWhole (graph_in comparison.now.other) }
+    ensures { OnOk result ((gs : List Numbered) → MarksUnshared base.now gs unshared.old.items
+        → MarksUnshared base.now (gs ++ comparison.now.other ∷ []) unshared.new.items) }
+{
+    let affected = comparison.affected_marks()?;
+    mark_also(&affected, unshared);
+    Ok(())
+}
+
+/// Marks also what the first row marks.
+fn mark_also(more: &[bool], marks: &mut Vec<bool>)
+    ensures count { length marks.new.items ≡ length marks.old.items }
+    ensures exact { (at : ℕ) → at < length marks.old.items → IsMarked marks.new.items at
+        ↔ (IsMarked marks.old.items at ⊎ IsMarked more.now at) }
+{
+    for at in 0..marks.len() {
+        if is_marked(more, at) {
+            mark(marks, at);
+        }
+    }
+}
+
+/// The vertices of the base that aren't marked, but no Init vertex, by their numbers, ascending.
+fn shared_points(alloc: Global, base: &Graph, unshared: &[bool]) -> Result<Vec<usize>, NoMemory>
+    ensures { IfOk result (λ points. (gs : List Numbered) → MarksUnshared base.now gs unshared.now
+        → AreNumbersOf base.now (IsPreservedBy (graph_in base.now) (graphs_in gs)) points.items) }
+{
     let mut points = Vec::new(alloc);
     for at in 0..base.vertex_count() {
-        let kept = is_preserved(base.vertex(at), &beside_a, &beside_b, at);
+        let kept = is_preserved(base.vertex(at), unshared, at);
         push_if(kept, at, &mut points)?;
     }
     Ok(points)
 }
 
-/// Whether the vertex with this number is no Init vertex and is marked in neither.
-fn is_preserved(vertex: &Vertex, beside_a: &[bool], beside_b: &[bool], at: usize) -> bool
-    ensures { IsTrue result ↔ ((¬ IsInit vertex.now) × (¬ IsMarked beside_a.now at)
-        × (¬ IsMarked beside_b.now at)) }
+/// Whether the vertex with this number is no Init vertex and isn't marked.
+fn is_preserved(vertex: &Vertex, unshared: &[bool], at: usize) -> bool
+    ensures { IsTrue result ↔ ((¬ IsInit vertex.now) × (¬ IsMarked unshared.now at)) }
 {
-    !is_init(vertex) && !is_marked(beside_a, at) && !is_marked(beside_b, at)
+    !is_init(vertex) && !is_marked(unshared, at)
 }
 
 fn is_init(vertex: &Vertex) -> bool

@@ -13,13 +13,15 @@
 -- AreConflictsBy at base gs xs == the list has exactly the conflicts, in this order, each once, where `at` tells the
 --                              variant, the point and the edge
 -- told_as c                 == the number of the conflict's side, its point and its edge
+-- told_many c               == the number of the conflict's variant, here from 0, its point and its edge
 -- IsConflict base a b c     == at the conflict's side its point is a conflict in the merged graph, and its edge is the
 --                              least added one
 -- ComesBefore c d           == A's conflicts come first, and on one side the order is that of the points
 -- AreConflicts base a b cs  == the list has exactly the conflicts, in this order, each once
-use Rattle.std.specs.Prelude.{◌≡◌, ℕ, zero, suc, ◌<◌, ◌⊎◌, ◌↔◌, List, [], ◌∷◌, Contains, slice_get, Some}
+use Rattle.std.specs.Prelude.{◌≡◌, ℕ, zero, suc, ◌-◌, ◌<◌, ◌⊎◌, ◌↔◌, List, [], ◌∷◌, Contains, slice_get, Some}
 use Rattle.std.specs.declared.cmp.Ordering.TheVariants.{Less}
 use Rattle.hpr_graph.specs.declared.conflict.Conflict.{Conflict}
+use Rattle.hpr_graph.specs.declared.conflict.ManyConflict.{ManyConflict}
 use Rattle.hpr_graph.specs.declared.conflict.Side.{Side}
 use Rattle.hpr_graph.specs.declared.conflict.Side.TheVariants.{A, B}
 use Rattle.hpr_graph.specs.declared.vertex.Vertex.{Vertex}
@@ -69,6 +71,9 @@ AreConflictsBy {X} at base gs xs =
 
 abbrev pub told_as : Conflict → ℕ × Vertex × Edge
 told_as c = (number_of c.side, c.point, c.edge)
+
+abbrev pub told_many : ManyConflict → ℕ × Vertex × Edge
+told_many c = (c.variant - 1, c.point, c.edge)
 
 abbrev pub IsConflict : Graph → Graph → Graph → Conflict → Type 0
 IsConflict base a b c = IsConflictOf base (a ∷ b ∷ []) (number_of c.side) c.point c.edge

@@ -27,3 +27,22 @@ impl Drop for Conflict {
         } = self;
     }
 }
+
+/// The same of one of any number of variants, which is told by its number.
+pub struct ManyConflict {
+    /// The number of the variant, from 1.
+    pub variant: usize,
+    pub point: Vertex,
+    pub edge: Edge,
+}
+
+/// A conflict is dropped in one call.
+impl Drop for ManyConflict {
+    fn drop(self) {
+        let ManyConflict {
+            variant: _,
+            point: _,
+            edge: _,
+        } = self;
+    }
+}

@@ -18,7 +18,7 @@ mod same;
 mod sets;
 mod vertex;
 
-pub use conflict::{Conflict, Side};
+pub use conflict::{Conflict, ManyConflict, Side};
 pub use draft::Draft;
 pub use edge::{Edge, Kind};
 pub use graph::Graph;

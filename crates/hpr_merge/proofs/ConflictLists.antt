@@ -1,11 +1,9 @@
--- The conflicts of one side, one vertex after another.
-use Rattle.std.proofs.Common.{◌≡◌, ℕ, ◌+◌, ◌<◌, ◌↔◌, ◌⊎◌, inl, inr, Option, Some, None, List, [], ◌∷◌, ◌++◌, length, Contains, slice_get, refl, sym, ap, ◌∙◌, subst, arith}
+-- The conflicts of one variant, one vertex after another.
+use Rattle.std.proofs.Common.{◌≡◌, ℕ, ◌+◌, ◌<◌, ◌↔◌, ◌⊎◌, inl, inr, Option, Some, None, List, [], ◌∷◌, ◌++◌, length, Contains, slice_get, sym, ap, ◌∙◌, subst, arith}
 use Rattle.std.specs.declared.cmp.Ordering.TheVariants.{Less}
 use Rattle.std.proofs.lemmas.Bool.{cases_eq}
 use Rattle.std.proofs.lemmas.Option.{slice_get_within}
 use Rattle.std.proofs.lemmas.List.Elements.{Contains-push, Contains-push_cases, Contains-append_left}
-use Rattle.hpr_graph.specs.declared.conflict.Conflict.{Conflict}
-use Rattle.hpr_graph.specs.declared.conflict.Side.{Side}
 use Rattle.hpr_graph.specs.declared.vertex.Vertex.{Vertex}
 use Rattle.hpr_graph.specs.declared.edge.Edge.{Edge}
 use Rattle.hpr_graph.specs.Graphs.{Graph}
@@ -18,7 +16,7 @@ use Rattle.hpr_graph.proofs.Laws.{closed_by_numbers}
 use Rattle.hpr_slice.specs.Vertices.{IsOneOf}
 use Rattle.hpr_graph.proofs.Lists.{some_inj, in_none, contains_at, place_of, at_push}
 use Rattle.hpr_merge.specs.Beside.{AreBeside, IsLeastAdded}
-use Rattle.hpr_merge.specs.SideConflicts.{IsSideConflict, AreSideConflicts, IsEdgeOfPoint, with_conflict}
+use Rattle.hpr_merge.specs.PointConflicts.{IsPointConflict, ArePointConflicts, IsEdgeOfPoint, with_edge}
 use Rattle.hpr_graph.proofs.EdgeOrder.{edge_one}
 use Rattle.hpr_graph.proofs.LinkOrder.{link_cmp}
 use Rattle.hpr_merge.proofs.Widened.{least_narrow, least_wide}
@@ -27,26 +25,20 @@ abbrev IsBefore : List Vertex → ℕ → Vertex → Type 0
 IsBefore vs n v = (i : ℕ) × (i < n) × (slice_get vs i ≡ Some v)
 
 -- those at the first n vertices
-pub record AreConflictsTo (m k : Graph) (P : Vertex → Type 0) (side : Side) (vs : List Vertex) (n : ℕ) (cs : List Conflict) : Type 0 where
-  pub exact : (c : Conflict) → Contains cs c ↔ (IsSideConflict m k P side c × IsBefore vs n c.point)
-  pub ascend : (i j : ℕ) (c d : Conflict) → i < j → slice_get cs i ≡ Some c → slice_get cs j ≡ Some d → vertex_cmp c.point d.point ≡ Less
+pub record AreConflictsTo (m k : Graph) (P : Vertex → Type 0) (vs : List Vertex) (n : ℕ) (ps : List (Vertex × Edge)) : Type 0 where
+  pub exact : (p : Vertex × Edge) → Contains ps p ↔ (IsPointConflict m k P p × IsBefore vs n p.0)
+  pub ascend : (i j : ℕ) (p q : Vertex × Edge) → i < j → slice_get ps i ≡ Some p → slice_get ps j ≡ Some q → vertex_cmp p.0 q.0 ≡ Less
 
 pub point_edge : (m k : Graph) (P : Vertex → Type 0) (v : Vertex) (o : Option Edge) → P v → IsLeastAdded m k v o → IsEdgeOfPoint m k P v o
 point_edge m k P v None p none = λ q. none
 point_edge m k P v (Some e) p least = (p, least)
 
-abbrev conflict_of : Side → Vertex → Edge → Conflict
-conflict_of side v e = record { side = side; point = v; edge = e }
-
-same_conflict : (c d : Conflict) → c.side ≡ d.side → c.point ≡ d.point → c.edge ≡ d.edge → c ≡ d
-same_conflict c d a b e = λ i. record { side = a i; point = b i; edge = e i }
-
-module _ (m k : Graph) (P : Vertex → Type 0) (side : Side) (vs : List Vertex) where
-  pub conflicts_none : (cs : List Conflict) → cs ≡ [] → AreConflictsTo m k P side vs 0 cs
-  conflicts_none cs e =
+module _ (m k : Graph) (P : Vertex → Type 0) (vs : List Vertex) where
+  pub conflicts_none : (ps : List (Vertex × Edge)) → ps ≡ [] → AreConflictsTo m k P vs 0 ps
+  conflicts_none ps e =
       rw e (record {
-        exact = λ c. (λ h. absurd (in_none c h), λ (is, (i, l, at)). absurd (omega (arith, l)));
-        ascend = λ i j c d l at. absurd (in_none c (contains_at [] i c at));
+        exact = λ p. (λ h. absurd (in_none p h), λ (is, (i, l, at)). absurd (omega (arith, l)));
+        ascend = λ i j p q l at. absurd (in_none p (contains_at [] i p at));
       })
 
   later : (n : ℕ) (v : Vertex) → IsBefore vs n v → IsBefore vs (n + 1) v
@@ -63,60 +55,61 @@ module _ (m k : Graph) (P : Vertex → Type 0) (side : Side) (vs : List Vertex) 
       let (adds', least') = subst (λ (x : Vertex). IsLeast (IsAdded m k x) f) same at_w in
       edge_one e f (least' e adds) (least f adds')
 
-  more_ascend : (n : ℕ) (v : Vertex) (e : Edge) (cs : List Conflict) → Ascends vertex_cmp vs → slice_get vs n ≡ Some v → AreConflictsTo m k P side vs n cs
-      → (i j : ℕ) (c d : Conflict) → i < j → slice_get (cs ++ conflict_of side v e ∷ []) i ≡ Some c → slice_get (cs ++ conflict_of side v e ∷ []) j ≡ Some d → vertex_cmp c.point d.point ≡ Less
-  more_ascend n v e cs up at_n a i j c d l at_i at_j = elim (at_push cs (conflict_of side v e) j d at_j) [
-    | inl old_j ↦ elim (at_push cs (conflict_of side v e) i c at_i) [
-      | inl old_i ↦ a.ascend i j c d l old_i old_j
-      | inr new_i ↦ absurd (let w = slice_get_within cs j d old_j in omega (arith, l, w, new_i.0))
+  more_ascend : (n : ℕ) (v : Vertex) (e : Edge) (ps : List (Vertex × Edge)) → Ascends vertex_cmp vs → slice_get vs n ≡ Some v → AreConflictsTo m k P vs n ps
+      → (i j : ℕ) (p q : Vertex × Edge) → i < j → slice_get (ps ++ (v, e) ∷ []) i ≡ Some p → slice_get (ps ++ (v, e) ∷ []) j ≡ Some q → vertex_cmp p.0 q.0 ≡ Less
+  more_ascend n v e ps up at_n a i j p q l at_i at_j = elim (at_push ps (v, e) j q at_j) [
+    | inl old_j ↦ elim (at_push ps (v, e) i p at_i) [
+      | inl old_i ↦ a.ascend i j p q l old_i old_j
+      | inr new_i ↦ absurd (let w = slice_get_within ps j q old_j in omega (arith, l, w, new_i.0))
     ]
-    | inr new_j ↦ elim (at_push cs (conflict_of side v e) i c at_i) [
+    | inr new_j ↦ elim (at_push ps (v, e) i p at_i) [
       | inl old_i ↦
-          (let (is, (p, less, at_p)) = (a.exact c).0 (contains_at cs i c old_i) in
-          subst (λ (x : Conflict). vertex_cmp c.point x.point ≡ Less) new_j.1 (up p n c.point v less at_p at_n))
+          (let (is, (k', less, at_p)) = (a.exact p).0 (contains_at ps i p old_i) in
+          subst (λ (x : Vertex × Edge). vertex_cmp p.0 x.0 ≡ Less) new_j.1 (up k' n p.0 v less at_p at_n))
       | inr new_i ↦ absurd (omega (arith, l, new_i.0, new_j.0))
     ]
   ]
 
   -- one vertex more
-  pub conflicts_more : (n : ℕ) (v : Vertex) (o : Option Edge) (cs cs' : List Conflict) → Ascends vertex_cmp vs → slice_get vs n ≡ Some v → IsEdgeOfPoint m k P v o → AreConflictsTo m k P side vs n cs → cs' ≡ with_conflict side v o cs → AreConflictsTo m k P side vs (n + 1) cs'
-  conflicts_more n v None cs cs' up at_n none a items =
+  pub conflicts_more : (n : ℕ) (v : Vertex) (o : Option Edge) (ps ps' : List (Vertex × Edge)) → Ascends vertex_cmp vs → slice_get vs n ≡ Some v → IsEdgeOfPoint m k P v o → AreConflictsTo m k P vs n ps → ps' ≡ with_edge v o ps → AreConflictsTo m k P vs (n + 1) ps'
+  conflicts_more n v None ps ps' up at_n none a items =
       rw items (record {
-        exact = λ c. (
-          λ h. (let (is, before) = (a.exact c).0 h in (is, later n c.point before)),
-          λ ((on, p, (adds, least)), before). elim (earlier n v c.point at_n before) [
-            | inl old ↦ (a.exact c).1 ((on, p, (adds, least)), old)
-            | inr here ↦ absurd (none (subst P here p) c.edge (subst (λ (x : Vertex). IsAdded m k x c.edge) here adds))
+        exact = λ p. (
+          λ h. (let (is, before) = (a.exact p).0 h in (is, later n p.0 before)),
+          λ ((has, (adds, least)), before). elim (earlier n v p.0 at_n before) [
+            | inl old ↦ (a.exact p).1 ((has, (adds, least)), old)
+            | inr here ↦ absurd (none (subst P here has) p.1 (subst (λ (x : Vertex). IsAdded m k x p.1) here adds))
           ],
         );
         ascend = a.ascend;
       })
-  conflicts_more n v (Some e) cs cs' up at_n (p_v, least_v) a items =
+  conflicts_more n v (Some e) ps ps' up at_n (p_v, least_v) a items =
       rw items (record {
-        exact = λ c. (
-          λ h. elim (Contains-push_cases cs (conflict_of side v e) c h) [
-            | inl old ↦ (let (is, before) = (a.exact c).0 old in (is, later n c.point before))
-            | inr new ↦ subst (λ (x : Conflict). IsSideConflict m k P side x × IsBefore vs (n + 1) x.point) new ((refl, p_v, least_v), (n, omega arith, at_n))
+        exact = λ p. (
+          λ h. elim (Contains-push_cases ps (v, e) p h) [
+            | inl old ↦ (let (is, before) = (a.exact p).0 old in (is, later n p.0 before))
+            | inr new ↦ subst (λ (x : Vertex × Edge). IsPointConflict m k P x × IsBefore vs (n + 1) x.0) new ((p_v, least_v), (n, omega arith, at_n))
           ],
-          λ ((on, p, least), before). elim (earlier n v c.point at_n before) [
-            | inl old ↦ Contains-append_left cs (conflict_of side v e ∷ []) c ((a.exact c).1 ((on, p, least), old))
+          λ ((has, least), before). elim (earlier n v p.0 at_n before) [
+            | inl old ↦ Contains-append_left ps ((v, e) ∷ []) p ((a.exact p).1 ((has, least), old))
             | inr here ↦
-                subst (λ (x : Conflict). Contains (cs ++ conflict_of side v e ∷ []) x) (same_conflict (conflict_of side v e) c (sym on) (sym here) (one_least v c.point e c.edge here least_v least))
-                (Contains-push cs (conflict_of side v e))
+                (let edge = one_least v p.0 e p.1 here least_v least in
+                let same : (v, e) ≡ p = λ i. (sym here i, edge i) in
+                subst (λ (x : Vertex × Edge). Contains (ps ++ (v, e) ∷ []) x) same (Contains-push ps (v, e)))
           ],
         );
-        ascend = more_ascend n v e cs up at_n a;
+        ascend = more_ascend n v e ps up at_n a;
       })
 
   -- all vertices
-  pub conflicts_all : (n : ℕ) (cs : List Conflict) → length vs ≡ n → AreConflictsTo m k P side vs n cs → AreSideConflicts m k (λ v. P v × Contains vs v) side cs
-  conflicts_all n cs count a = record {
-    exact = λ c. (
-      λ h. (let ((on, p, least), (i, l, at)) = (a.exact c).0 h in (on, (p, contains_at vs i c.point at), least)),
-      λ (on, (p, has), least).
-          (let (i, at) = place_of vs c.point has in
-          let w = slice_get_within vs i c.point at in
-          (a.exact c).1 ((on, p, least), (i, omega (arith, w, count), at))),
+  pub conflicts_all : (n : ℕ) (ps : List (Vertex × Edge)) → length vs ≡ n → AreConflictsTo m k P vs n ps → ArePointConflicts m k (λ v. P v × Contains vs v) ps
+  conflicts_all n ps count a = record {
+    exact = λ p. (
+      λ h. (let ((has, least), (i, l, at)) = (a.exact p).0 h in ((has, contains_at vs i p.0 at), least)),
+      λ ((has, there), least).
+          (let (i, at) = place_of vs p.0 there in
+          let w = slice_get_within vs i p.0 at in
+          (a.exact p).1 ((has, least), (i, omega (arith, w, count), at))),
     );
     ascend = a.ascend;
   }
@@ -142,24 +135,24 @@ module _ (merged variant wide narrow : Numbered) (all : (v : Vertex) → HasVert
   }
 
   -- the conflicts at all vertices are those of the graphs themselves
-  pub conflicts_whole : (points : List ℕ) (side : Side) (cs : List Conflict) → ((e : Edge) → HasEdge wide e ↔ HasEdge merged e) → ((e : Edge) → HasEdge narrow e ↔ HasEdge variant e)
-      → AreSideConflicts (graph_in wide) (graph_in narrow) (λ v. IsOneOf variant points v × HasVertex wide v) side cs → AreSideConflicts (graph_in merged) (graph_in variant) (IsOneOf variant points) side cs
-  conflicts_whole points side cs edges own_edges a =
+  pub conflicts_whole : (points : List ℕ) (ps : List (Vertex × Edge)) → ((e : Edge) → HasEdge wide e ↔ HasEdge merged e) → ((e : Edge) → HasEdge narrow e ↔ HasEdge variant e)
+      → ArePointConflicts (graph_in wide) (graph_in narrow) (λ v. IsOneOf variant points v × HasVertex wide v) ps → ArePointConflicts (graph_in merged) (graph_in variant) (IsOneOf variant points) ps
+  conflicts_whole points ps edges own_edges a =
       let wider : (v : Vertex) → HasVertex variant v → HasVertex narrow v = λ v h. (own v).1 (inl h) in
       let there : (v : Vertex) → IsOneOf variant points v → HasVertex variant v = λ v (i, has, at). contains_at variant.vertices i v at in
       record {
-        exact = λ c. (
+        exact = λ p. (
           λ h.
-              (let (on, (p, has), least) = (a.exact c).0 h in
-              (on, p, least_narrow (graph_in merged) (graph_in wide) (graph_in variant) (graph_in narrow) (closed_by_numbers variant) edges own_edges wider c.point (there c.point p) c.edge least)),
-          λ (on, p, least).
-              (a.exact c).1 (on, (p, (all c.point).1 (inr (there c.point p))), least_wide (graph_in merged) (graph_in wide) (graph_in variant) (graph_in narrow) (closed_by_numbers variant) edges own_edges wider c.point (there c.point p) c.edge least),
+              (let ((one, has), least) = (a.exact p).0 h in
+              (one, least_narrow (graph_in merged) (graph_in wide) (graph_in variant) (graph_in narrow) (closed_by_numbers variant) edges own_edges wider p.0 (there p.0 one) p.1 least)),
+          λ (one, least).
+              (a.exact p).1 ((one, (all p.0).1 (inr (there p.0 one))), least_wide (graph_in merged) (graph_in wide) (graph_in variant) (graph_in narrow) (closed_by_numbers variant) edges own_edges wider p.0 (there p.0 one) p.1 least),
         );
         ascend = a.ascend;
       }
 
-  pub conflicts_read : (x y : Numbered) (points : List ℕ) (side : Side) (cs : List Conflict) → x ≡ wide → y ≡ narrow → AreSideConflicts (graph_in x) (graph_in y) (λ v. IsOneOf variant points v × HasVertex x v) side cs
-      → AreSideConflicts (graph_in wide) (graph_in narrow) (λ v. IsOneOf variant points v × HasVertex wide v) side cs
-  conflicts_read x y points side cs is_x is_y a =
-      subst (λ (z : Numbered). AreSideConflicts (graph_in z) (graph_in narrow) (λ v. IsOneOf variant points v × HasVertex z v) side cs) is_x
-      (subst (λ (z : Numbered). AreSideConflicts (graph_in x) (graph_in z) (λ v. IsOneOf variant points v × HasVertex x v) side cs) is_y a)
+  pub conflicts_read : (x y : Numbered) (points : List ℕ) (ps : List (Vertex × Edge)) → x ≡ wide → y ≡ narrow → ArePointConflicts (graph_in x) (graph_in y) (λ v. IsOneOf variant points v × HasVertex x v) ps
+      → ArePointConflicts (graph_in wide) (graph_in narrow) (λ v. IsOneOf variant points v × HasVertex wide v) ps
+  conflicts_read x y points ps is_x is_y a =
+      subst (λ (z : Numbered). ArePointConflicts (graph_in z) (graph_in narrow) (λ v. IsOneOf variant points v × HasVertex z v) ps) is_x
+      (subst (λ (z : Numbered). ArePointConflicts (graph_in x) (graph_in z) (λ v. IsOneOf variant points v × HasVertex x v) ps) is_y a)

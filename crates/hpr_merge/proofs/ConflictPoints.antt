@@ -1,7 +1,5 @@
 -- The points in conflict are those affected points that the merged graph has with another slice.
 use Rattle.std.proofs.Common.{◌≡◌, ℕ, ◌↔◌, Bool, IsTrue, Some, List, [], ◌∷◌, Contains, slice_get, sym, subst}
-use Rattle.hpr_graph.specs.declared.conflict.Conflict.{Conflict}
-use Rattle.hpr_graph.specs.declared.conflict.Side.{Side}
 use Rattle.hpr_graph.specs.declared.vertex.Vertex.{Vertex}
 use Rattle.hpr_graph.specs.declared.edge.Edge.{Edge}
 use Rattle.hpr_graph.specs.Conflicts.{IsAdded}
@@ -13,7 +11,7 @@ use Rattle.hpr_graph.proofs.Laws.{closed_by_numbers}
 use Rattle.hpr_graph.proofs.Lists.{in_none, contains_at}
 use Rattle.hpr_affected.specs.Comparison.{Sides, MarksAffected}
 use Rattle.hpr_affected.specs.Numbers.{AreNumbersOf}
-use Rattle.hpr_merge.specs.SideConflicts.{AreSideConflicts}
+use Rattle.hpr_merge.specs.PointConflicts.{ArePointConflicts}
 
 leads_to_vertex : (m : Numbered) (a : Vertex) (es : List Edge) (b : Vertex) → HasVertex m a → LeadsTo (graph_in m) a es b → HasVertex m b
 leads_to_vertex m a [] b h w = subst (HasVertex m) w h
@@ -39,23 +37,23 @@ module _ (m g : Numbered) (points : List ℕ) where
   narrower kept are v (at, has, at_v) = ((are.exact at v at_v).0 has).0
 
   -- the conflicts at these are all
-  pub all_conflicts : (kept : List ℕ) (side : Side) (cs : List Conflict) → AreNumbersOf g InConflict kept → AreSideConflicts (graph_in m) (graph_in g) (IsOneOf g kept) side cs → AreSideConflicts (graph_in m) (graph_in g) (IsOneOf g points) side cs
-  all_conflicts kept side cs are a = record {
-    exact = λ c. (
-      λ h. (let (on, one, least) = (a.exact c).0 h in (on, narrower kept are c.point one, least)),
-      λ (on, one, least). (a.exact c).1 (on, wider kept are c.point c.edge one least.0, least),
+  pub all_conflicts : (kept : List ℕ) (ps : List (Vertex × Edge)) → AreNumbersOf g InConflict kept → ArePointConflicts (graph_in m) (graph_in g) (IsOneOf g kept) ps → ArePointConflicts (graph_in m) (graph_in g) (IsOneOf g points) ps
+  all_conflicts kept ps are a = record {
+    exact = λ p. (
+      λ h. (let (one, least) = (a.exact p).0 h in (narrower kept are p.0 one, least)),
+      λ (one, least). (a.exact p).1 (wider kept are p.0 p.1 one least.0, least),
     );
     ascend = a.ascend;
   }
 
   -- without these there is none
-  pub no_conflicts : (kept : List ℕ) (side : Side) (cs : List Conflict) → AreNumbersOf g InConflict kept → kept ≡ [] → cs ≡ [] → AreSideConflicts (graph_in m) (graph_in g) (IsOneOf g points) side cs
-  no_conflicts kept side cs are none blank = record {
-    exact = λ c. (
-      λ h. absurd (in_none c (subst (λ (xs : List Conflict). Contains xs c) blank h)),
-      λ (on, one, least). (let (at, has, at_v) = wider kept are c.point c.edge one least.0 in absurd (in_none at (subst (λ (xs : List ℕ). Contains xs at) none has))),
+  pub no_conflicts : (kept : List ℕ) (ps : List (Vertex × Edge)) → AreNumbersOf g InConflict kept → kept ≡ [] → ps ≡ [] → ArePointConflicts (graph_in m) (graph_in g) (IsOneOf g points) ps
+  no_conflicts kept ps are none blank = record {
+    exact = λ p. (
+      λ h. absurd (in_none p (subst (λ (xs : List (Vertex × Edge)). Contains xs p) blank h)),
+      λ (one, least). (let (at, has, at_v) = wider kept are p.0 p.1 one least.0 in absurd (in_none at (subst (λ (xs : List ℕ). Contains xs at) none has))),
     );
-    ascend = λ i j c d l at_i. absurd (in_none c (subst (λ (xs : List Conflict). Contains xs c) blank (contains_at cs i c at_i)));
+    ascend = λ i j p q l at_i. absurd (in_none p (subst (λ (xs : List (Vertex × Edge)). Contains xs p) blank (contains_at ps i p at_i)));
   }
 
   -- the test of a vertex

@@ -4,9 +4,11 @@ mod AddedLinks
 mod Widened
 mod ConflictLists
 mod ConflictPoints
-mod BothSides
+pub mod MergedParts
 pub mod EdgeStands
 pub mod NoneListed
+pub mod ToldConflicts
 pub mod BoundedGraph
 pub mod SomeConflicts
+mod BothSides
 mod ProgramStands

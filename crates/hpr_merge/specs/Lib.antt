@@ -1,4 +1,4 @@
 pub mod Added
 pub mod Beside
-pub mod SideConflicts
+pub mod PointConflicts
 pub mod ThreePoints

@@ -12,38 +12,39 @@ ghost use Rattle.hpr_graph.specs.Whole.{IsWhole};
 ghost use Rattle.hpr_slice.specs.Vertices.{IsOneOf};
 ghost use Rattle.hpr_affected.specs.Comparison.{MarksAffected};
 ghost use Rattle.hpr_affected.specs.Numbers.{AreNumbersOf};
-ghost use Rattle.hpr_merge.specs.SideConflicts.{AreSideConflicts, IsEdgeOfPoint, with_conflict};
+ghost use Rattle.hpr_merge.specs.PointConflicts.{ArePointConflicts, IsEdgeOfPoint, with_edge};
 
 use crate::beside::{Beside, widened};
 use hpr_affected::Comparison;
-use hpr_graph::{Conflict, Edge, Graph, NoMemory, Side, Vertex};
+use hpr_graph::{Edge, Graph, NoMemory, Vertex};
 use hpr_search::is_marked;
 use std::alloc::Global;
 
 /// The conflicts of a variant at some of its points, by their numbers in it, which ascend: those to whose
 /// slice the merged graph adds an edge that ends in a vertex of the slice, each with the least such edge.
-/// They are in the order of their points. Both graphs are whole.
+/// Each is told by its point and this edge; they are in the order of their points. Both graphs are whole.
+/// Refuses for want of memory alone.
 ///
-/// Goes forward once in the merged graph, to find the points in conflict. Only where there is one, puts
-/// both graphs in order, and makes two searches for each of them.
-pub(crate) fn conflicts_on(
+/// Where the points are the affected ones, these are the variant's conflicts (Horwitz, Prins and Reps 1989,
+/// who name no edge). Goes forward once in the merged graph, to find the points in conflict. Only where
+/// there is one, puts both graphs in order, and makes two searches for each of them.
+pub fn conflicts_of(
     alloc: Global,
-    side: Side,
     variant: &Graph,
     points: &[usize],
     merged: &Graph,
-) -> Result<Vec<Conflict>, NoMemory>
+) -> Result<Vec<(Vertex, Edge)>, NoMemory>
     requires points { Ascends nat_cmp points.now }
     requires variant { IsWhole (graph_in variant.now) }
     requires merged { IsWhole (graph_in merged.now) }
-    ensures { IfOk result (λ cs. AreSideConflicts (graph_in merged.now) (graph_in variant.now)
-        (IsOneOf variant.now points.now) side cs.items) }
+    ensures { IfOk result (λ ps. ArePointConflicts (graph_in merged.now) (graph_in variant.now)
+        (IsOneOf variant.now points.now) ps.items) }
 {
     let kept = conflicting(alloc, variant, points, merged)?;
     if kept.is_empty() {
         return Ok(Vec::new(alloc));
     }
-    conflicts_at(alloc, side, variant, &kept, merged)
+    conflicts_at(alloc, variant, &kept, merged)
 }
 
 /// Those of the points of a variant, by their numbers, which ascend, that the merged graph has with
@@ -102,42 +103,40 @@ fn push_if(test: bool, number: usize, into: &mut Vec<usize>) -> Result<(), NoMem
 /// The conflicts of a variant at some of its points, by their numbers in it, which ascend, of any graphs.
 fn conflicts_at(
     alloc: Global,
-    side: Side,
     variant: &Graph,
     points: &[usize],
     merged: &Graph,
-) -> Result<Vec<Conflict>, NoMemory>
+) -> Result<Vec<(Vertex, Edge)>, NoMemory>
     requires { Ascends nat_cmp points.now }
-    ensures { IfOk result (λ cs. AreSideConflicts (graph_in merged.now) (graph_in variant.now)
-        (IsOneOf variant.now points.now) side cs.items) }
+    ensures { IfOk result (λ ps. ArePointConflicts (graph_in merged.now) (graph_in variant.now)
+        (IsOneOf variant.now points.now) ps.items) }
 {
     let wide = widened(alloc, merged, variant)?;
     let narrow = widened(alloc, variant, merged)?;
     let beside = Beside::of(alloc, &wide, &narrow)?;
-    conflicts_in(alloc, side, variant, points, &wide, &beside)
+    conflicts_in(alloc, variant, points, &wide, &beside)
 }
 
 /// The conflicts at the vertices of this graph, in their order, of which the points are one variant's.
 fn conflicts_in(
     alloc: Global,
-    side: Side,
     variant: &Graph,
     points: &[usize],
     wide: &Graph,
     beside: &Beside,
-) -> Result<Vec<Conflict>, NoMemory>
+) -> Result<Vec<(Vertex, Edge)>, NoMemory>
     requires once { IsOnce variant.now.vertices }
     requires points { Ascends nat_cmp points.now }
     requires order { Ascends vertex_cmp wide.now.vertices }
     requires wide { beside.now.merged ≡ wide.now }
-    ensures { IfOk result (λ cs. AreSideConflicts (graph_in wide.now) (graph_in beside.now.own) (λ v.
-        IsOneOf variant.now points.now v × HasVertex wide.now v) side cs.items) }
+    ensures { IfOk result (λ ps. ArePointConflicts (graph_in wide.now) (graph_in beside.now.own) (λ v.
+        IsOneOf variant.now points.now v × HasVertex wide.now v) ps.items) }
 {
     let mut conflicts = Vec::new(alloc);
     for at in 0..wide.vertex_count() {
         let vertex = wide.vertex(at);
         let edge = edge_at(variant, points, beside, at, vertex)?;
-        push_conflict(alloc, side, vertex, edge, &mut conflicts)?;
+        push_conflict(alloc, vertex, edge, &mut conflicts)?;
     }
     Ok(conflicts)
 }
@@ -182,20 +181,18 @@ fn has_number(numbers: &[usize], number: usize) -> bool
     numbers.binary_search(&number).is_ok()
 }
 
-/// Puts a conflict at the vertex behind the others, if there is an edge that shows it.
+/// Puts the vertex with the edge that shows its conflict behind the others, if there is one.
 fn push_conflict(
     alloc: Global,
-    side: Side,
     vertex: &Vertex,
     edge: Option<Edge>,
-    into: &mut Vec<Conflict>,
+    into: &mut Vec<(Vertex, Edge)>,
 ) -> Result<(), NoMemory>
-    ensures { OnOk result (into.new.items ≡ with_conflict side vertex.now edge into.old.items) }
+    ensures { OnOk result (into.new.items ≡ with_edge vertex.now edge into.old.items) }
 {
     match edge {
         Some(edge) => {
-            let point = vertex.copy(alloc)?;
-            into.push(Conflict { side, point, edge })?;
+            into.push((vertex.copy(alloc)?, edge))?;
             Ok(())
         }
         None => Ok(()),

@@ -1,8 +1,9 @@
 //! Three versions of a program merged.
-ghost use Rattle.std.specs.Prelude.{◌≡◌, ◌++◌, List, IfOk};
+ghost use Rattle.std.specs.Prelude.{◌≡◌, ◌++◌, List, IfOk, map};
 ghost use Rattle.std.specs.Ordering.{nat_cmp};
-ghost use Rattle.hpr_graph.specs.declared.conflict.Conflict.{Conflict};
 ghost use Rattle.hpr_graph.specs.declared.conflict.Side.TheVariants as sides;
+ghost use Rattle.hpr_graph.specs.declared.edge.Edge.{Edge};
+ghost use Rattle.hpr_graph.specs.declared.vertex.Vertex.{Vertex};
 ghost use Rattle.hpr_graph.specs.Graphs.{Same};
 ghost use Rattle.hpr_graph.specs.Numbered.{graph_in};
 ghost use Rattle.hpr_graph.specs.InOrder.{Ascends};
@@ -11,12 +12,12 @@ ghost use Rattle.hpr_graph.specs.Conflicts.{AreConflicts};
 ghost use Rattle.hpr_graph.specs.Whole.{IsWhole};
 ghost use Rattle.hpr_affected.specs.Numbers.{AreNumbersOf};
 ghost use Rattle.hpr_slice.specs.Vertices.{IsOneOf};
-ghost use Rattle.hpr_merge.specs.SideConflicts.{AreSideConflicts};
+ghost use Rattle.hpr_merge.specs.PointConflicts.{ArePointConflicts, conflict_on};
 ghost use Rattle.hpr_merge.specs.ThreePoints.{ArePointsOf};
 
-use crate::conflicts::conflicts_on;
+use crate::conflicts::conflicts_of;
 use hpr_affected::{Comparison, preserved_beside};
-use hpr_graph::{Conflict, Graph, NoMemory, Side};
+use hpr_graph::{Conflict, Edge, Graph, NoMemory, Side, Vertex};
 use hpr_slice::slice;
 use std::alloc::Global;
 
@@ -143,12 +144,26 @@ fn both_conflicts(
     requires a { IsWhole (graph_in a.now) }
     requires b { IsWhole (graph_in b.now) }
     requires graph { IsWhole (graph_in graph.now) }
-    ensures { IfOk result (λ v. (cs ds : List Conflict) × (v.items ≡ cs ++ ds)
-        × AreSideConflicts (graph_in graph.now) (graph_in a.now) (IsOneOf a.now points_a.now) sides.A cs
-        × AreSideConflicts (graph_in graph.now) (graph_in b.now) (IsOneOf b.now points_b.now) sides.B ds) }
+    ensures { IfOk result (λ v. (ps qs : List (Vertex × Edge))
+        × (v.items ≡ map (conflict_on sides.A) ps ++ map (conflict_on sides.B) qs)
+        × ArePointConflicts (graph_in graph.now) (graph_in a.now) (IsOneOf a.now points_a.now) ps
+        × ArePointConflicts (graph_in graph.now) (graph_in b.now) (IsOneOf b.now points_b.now) qs) }
 {
-    let mut conflicts = conflicts_on(alloc, Side::A, a, points_a, graph)?;
-    let mut others = conflicts_on(alloc, Side::B, b, points_b, graph)?;
+    let pairs_a = conflicts_of(alloc, a, points_a, graph)?;
+    let pairs_b = conflicts_of(alloc, b, points_b, graph)?;
+    let mut conflicts = on_side(alloc, Side::A, pairs_a)?;
+    let mut others = on_side(alloc, Side::B, pairs_b)?;
     conflicts.append(&mut others)?;
+    Ok(conflicts)
+}
+
+/// The conflicts of this side, by their points and edges.
+fn on_side(alloc: Global, side: Side, pairs: Vec<(Vertex, Edge)>) -> Result<Vec<Conflict>, NoMemory>
+    ensures { IfOk result (λ v. v.items ≡ map (conflict_on side) pairs.items) }
+{
+    let conflicts = pairs
+        .into_iter()
+        .map(|(point, edge)| Conflict { side, point, edge })
+        .collect(alloc)?;
     Ok(conflicts)
 }

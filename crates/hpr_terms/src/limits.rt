@@ -1,6 +1,9 @@
 //! The limits of the language and of the tool. Each stands here alone: code, contracts, definitions and
 //! messages cite it. Reps and Yang (1988) and Horwitz, Prins and Reps (1989) have no such limits.
 
+/// How many variants of a program are integrated at most. Horwitz, Prins and Reps (1989) have two.
+pub const MAX_VARIANTS: usize = 16;
+
 /// How many bytes a file has at most.
 pub const MAX_FILE: usize = 4_194_304;
 

@@ -4,7 +4,7 @@ use Rattle.hpr_graph.specs.declared.vertex.Vertex.{Vertex}
 use Rattle.hpr_graph.specs.Numbered.{graph_in}
 use Rattle.hpr_slice.specs.Vertices.{IsOneOf}
 use Rattle.hpr_merge.specs.Beside.{IsLeastAdded}
-use Rattle.hpr_merge.specs.SideConflicts.{IsEdgeOfPoint}
+use Rattle.hpr_merge.specs.PointConflicts.{IsEdgeOfPoint}
 use Rattle.hpr_merge.proofs.ConflictLists.{point_edge}
 use Rattle.hpr_merge.proofs.conflicts.edge_at.Goals as goal
 

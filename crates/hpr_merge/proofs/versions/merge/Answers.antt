@@ -3,7 +3,8 @@ use Rattle.hpr_graph.specs.Numbered.{graph_in}
 use Rattle.hpr_graph.specs.Points.{merged}
 use Rattle.hpr_slice.specs.Vertices.{IsOneOf}
 use Rattle.hpr_closure.proofs.WholeSlices.{merged_whole, whole_same}
-use Rattle.hpr_merge.proofs.BothSides.{affected_points, both_sides, ascending_read, conflicts_read}
+use Rattle.hpr_merge.proofs.BothSides.{both_sides}
+use Rattle.hpr_merge.proofs.MergedParts.{affected_points, ascending_read, conflicts_read}
 use Rattle.hpr_merge.proofs.versions.merge.Goals as goal
 
 pub both_conflicts-requires-clause-points_a : goal.both_conflicts-requires-clause-points_a
@@ -26,9 +27,9 @@ returns-clause-conflicts c =
     let b = c.args.b.now in
     let points = c.in_ok-points.points in
     let are = c.in_ok-points.ensures in
-    let (cs, ds, all, on_a, on_b) = c.in_ok-conflicts.ensures in
+    let (ps, qs, all, on_a, on_b) = c.in_ok-conflicts.ensures in
     both_sides (graph_in base) (graph_in a) (graph_in b) (graph_in c.in_ok-graph.graph) c.in_ok-graph.ensures (IsOneOf a points.a.items) (IsOneOf b points.b.items)
-    (affected_points a base points.a.items are.on_a) (affected_points b base points.b.items are.on_b) cs ds
-    (conflicts_read c.in_ok-graph.graph a c.deref.result.now points.a.items _ cs c.deref.ensures.value on_a)
-    (conflicts_read c.in_ok-graph.graph b c.deref-2.result.now points.b.items _ ds c.deref-2.ensures.value on_b)
+    (affected_points a base points.a.items are.on_a) (affected_points b base points.b.items are.on_b) ps qs
+    (conflicts_read c.in_ok-graph.graph a c.deref.result.now points.a.items ps c.deref.ensures.value on_a)
+    (conflicts_read c.in_ok-graph.graph b c.deref-2.result.now points.b.items qs c.deref-2.ensures.value on_b)
     c.in_ok-conflicts.conflicts.items all

@@ -2,7 +2,8 @@ use Rattle.std.proofs.lemmas.Result.{IfOk-weaker}
 use Rattle.hpr_graph.specs.Graphs.{Same, union_of}
 use Rattle.hpr_graph.specs.Numbered.{graph_in}
 use Rattle.hpr_graph.specs.Points.{IsAffected, IsPreserved, merged}
-use Rattle.hpr_merge.proofs.BothSides.{points_slice, points_within, merged_parts}
+use Rattle.hpr_merge.proofs.BothSides.{merged_parts}
+use Rattle.hpr_merge.proofs.MergedParts.{points_slice, points_within}
 use Rattle.hpr_merge.proofs.versions.merged_graph.Goals as goal
 
 pub slice-requires : goal.slice-requires
