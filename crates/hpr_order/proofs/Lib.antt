@@ -1,5 +1,6 @@
 mod Lists
 pub mod Ranks
+mod ManyRanks
 mod Joins
 pub mod ListFacts
 pub mod BlockOf

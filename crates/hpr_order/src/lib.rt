@@ -27,5 +27,5 @@ pub use item::Item;
 pub use numbers::{final_names, places_of};
 pub use ordered::{RankedParts, parts_by_rank};
 pub use preorder::parts;
-pub use ranking::rank;
+pub use ranking::{rank, rank_of_all};
 pub use tree::{OrderError, RegionTree, regions};

@@ -1,7 +1,7 @@
-//! The rank of the parts of three programs.
-ghost use Rattle.std.specs.Prelude.{◌≡◌, ◌∷◌, [], IfOk};
+//! The rank of the parts of a base and its variants.
+ghost use Rattle.std.specs.Prelude.{◌≡◌, ◌≤◌, ◌∷◌, [], IfOk, length};
 ghost use Rattle.hpr_graph.specs.Graphs.{IsOnce};
-ghost use Rattle.hpr_graph.specs.Rank.{parts_of, IsJoined, AreJoined, IsRank};
+ghost use Rattle.hpr_graph.specs.Rank.{parts_of, IsJoined, AreJoined, IsFirstChanged, IsRank, IsRankOf};
 
 use crate::joining::join;
 use crate::preorder::parts;
@@ -28,6 +28,43 @@ pub fn rank(
     } else {
         rank_of(alloc, a, b, base)
     }
+}
+
+/// The parts of a base and of any number of its variants in the order of their rank: the parts of the first
+/// variant that isn't the base in preorder (where each is the base, those of the last, which are the same);
+/// then those of each variant in turn that aren't listed, from its end on each right before the one that
+/// follows it in the variant's preorder, or at the end; then so those of the base. Each part comes once: a
+/// part whose content changed under a kept tag is another one. There is at least one variant, and no limit on
+/// their number; of two it is [`rank`].
+///
+/// Refuses for want of memory alone. For each variant, and for the base, looks each of its parts and each
+/// part listed so far up by hash once. Horwitz, Prins and Reps 1989 have no rank.
+pub fn rank_of_all(
+    alloc: Global,
+    base: &Program,
+    variants: &[Program],
+) -> Result<Vec<Vertex>, NoMemory>
+    requires { 1 ≤ length variants.now }
+    ensures { IfOk result (λ v. IsRankOf base.now variants.now v.items) }
+{
+    let mut list = parts_once(alloc, first_changed(base, variants))?;
+    for variant in variants {
+        list = join_program(alloc, list, variant)?;
+    }
+    join_program(alloc, list, base)
+}
+
+/// The first of the variants that isn't the base; the last where each is.
+fn first_changed<'a>(base: &Program, variants: &'a [Program]) -> &'a Program
+    requires { 1 ≤ length variants.now }
+    ensures { IsFirstChanged base.now variants.now result.now }
+{
+    for variant in variants {
+        if !variant.is_same(base) {
+            return variant;
+        }
+    }
+    &variants[variants.len() - 1]
 }
 
 /// The first program's parts in preorder, with those of the two others put in.
