@@ -1,5 +1,5 @@
 -- Parts that keep their tags, found program by program.
-use Rattle.std.proofs.Common.{◌≡◌, ℕ, zero, suc, ◌+◌, ◌<◌, ◌≤◌, Bool, true, false, ◌↔◌, ◌⊎◌, inl, inr, List, [], ◌∷◌, length, take, get_or, replicate, Contains, refl, sym, ap, ◌∙◌, subst}
+use Rattle.std.proofs.Common.{◌≡◌, ℕ, zero, suc, ◌+◌, ◌<◌, ◌≤◌, Bool, true, false, ◌↔◌, ◌⊎◌, inl, inr, List, [], ◌∷◌, length, take, drop, get_or, replicate, Contains, refl, sym, ap, ◌∙◌, subst}
 use Rattle.hpr_terms.specs.declared.tag.Tag.{Tag}
 use Rattle.hpr_terms.proofs.Facts.{in_none, in_cons, in_here, in_later, taken_item}
 use Rattle.hpr_search.proofs.Marked.{no_marks}
@@ -8,17 +8,19 @@ use Rattle.hpr_syntax.specs.Shape.{IsProgram}
 use Rattle.hpr_syntax.specs.Tree.{Tree}
 use Rattle.hpr_graph.specs.declared.vertex.Vertex.{Vertex}
 use Rattle.hpr_graph.specs.declared.vertex.Vertex.TheVariants.{Part}
+use Rattle.hpr_graph.specs.Answer.{graphs_of}
 use Rattle.hpr_graph.specs.Graphs.{Graph}
 use Rattle.hpr_graph.specs.Numbered.{Numbered, IsMarkedVertex, graph_in}
 use Rattle.hpr_graph.specs.ProgramGraph.{graph_of}
 use Rattle.hpr_graph.specs.Rank.{parts_of}
-use Rattle.hpr_graph.specs.Split.{HasOneContent, HasTag}
+use Rattle.hpr_graph.specs.Split.{HasOneContent, HasTag, KeepsTag}
 use Rattle.hpr_graph.specs.Whole.{SaysOnce}
 use Rattle.hpr_graph.proofs.Laws.{part_tag}
 use Rattle.hpr_graph.proofs.Lists.{taken_all}
 use Rattle.hpr_closure.proofs.ProgramWhole.{says_once}
 use Rattle.hpr_region.proofs.PartOrder.{part_says, says_part}
 use Rattle.hpr_engine.specs.Kept.{is_taken, IsTaken, IsFreeAmong, HasTagAmong, AreKeptMore, AreTakenMore, AreKeptBy}
+use Rattle.hpr_engine.proofs.InTurn.{next_to_come, none_to_come}
 
 pub record AreKept (g : Numbered) (P : Vertex → Type 0) (taken taken' : List (ℕ × ℕ)) (keep keep' : List Bool) : Type 0 where
   pub marks : length keep' ≡ length keep
@@ -119,49 +121,82 @@ graph_part p g t v (c, is, has) = (
 parts_content : (p : Tree) → SaysOnce p → HasOneContent (Contains (parts_of p))
 parts_content p once t c d a b = once t c d (part_in p (Part t c) a) (part_in p (Part t d) b)
 
--- after both programs
-module _ (g : Numbered) (a b : Tree) (taken last : List (ℕ × ℕ)) (keep keep' keep'' : List Bool) (clear : (v : Vertex) → ¬ IsMarkedVertex g keep v)
-    (of_a : AreKept g (Contains (parts_of a)) [] taken keep keep') (of_b : AreKept g (Contains (parts_of b)) taken last keep' keep'') where
-  -- A's keeps it
-  a_keeps : (v : Vertex) (t : Tag) → HasTag (graph_in g) t v → IsMarkedVertex g keep' v ↔ (graph_of a).vertex v
-  a_keeps v t tag = (
-    λ h. elim ((of_a.kept v).0 h) [ inl was ↦ absurd (clear v was) | inr (s, its, p, free) ↦ (graph_part a (graph_in g) t v tag).0 p ],
-    λ h. (of_a.kept v).1 (inr (t, tag, (graph_part a (graph_in g) t v tag).1 h, λ none. (let f : false ≡ true = none in cc))),
+-- the parts of a program, listed, are its graph's
+module _ (g : Numbered) (p : Tree) (vs : List Vertex) (same : vs ≡ parts_of p) where
+  listed : (t : Tag) (v : Vertex) → HasTag (graph_in g) t v → Contains vs v ↔ (graph_of p).vertex v
+  listed t v tag =
+      let part = graph_part p (graph_in g) t v tag in
+      (λ h. part.0 (subst (λ (us : List Vertex). Contains us v) same h), λ h. subst (λ (us : List Vertex). Contains us v) (sym same) (part.1 h))
+
+  pub kept_of : (taken : List (ℕ × ℕ)) (keep keep' : List Bool) → AreKeptMore g (Contains vs) taken keep keep' → AreKeptMore g (graph_of p).vertex taken keep keep'
+  kept_of taken keep keep' more v = (
+    λ h. elim ((more v).0 h) [ inl old ↦ inl old | inr (t, tag, there, free) ↦ inr (t, tag, (listed t v tag).0 there, free) ],
+    λ h. (more v).1 (elim h [ inl old ↦ inl old | inr (t, tag, has, free) ↦ inr (t, tag, (listed t v tag).1 has, free) ]),
   )
 
-  a_has : (t : Tag) → IsTaken taken t ↔ ((w : Vertex) × HasTag (graph_in g) t w × (graph_of a).vertex w)
-  a_has t = (
-    λ h. elim ((of_a.more t).0 h) [
-      | inl none ↦ (let f : false ≡ true = none in absurd cc)
-      | inr (w, tag, p) ↦ (w, tag, (graph_part a (graph_in g) t w tag).0 p)
-    ],
-    λ (w, tag, has). (of_a.more t).1 (inr (w, tag, (graph_part a (graph_in g) t w tag).1 has)),
+  pub taken_of : (taken taken' : List (ℕ × ℕ)) → AreTakenMore g (Contains vs) taken taken' → AreTakenMore g (graph_of p).vertex taken taken'
+  taken_of taken taken' more t = (
+    λ h. elim ((more t).0 h) [ inl old ↦ inl old | inr (w, tag, there) ↦ inr (w, tag, (listed t w tag).0 there) ],
+    λ h. (more t).1 (elim h [ inl old ↦ inl old | inr (w, tag, has) ↦ inr (w, tag, (listed t w tag).1 has) ]),
   )
 
-  pub kept_both : AreKeptBy (graph_of a ∷ graph_of b ∷ []) g keep''
-  kept_both v t tag = (
-    λ h. elim ((of_b.kept v).0 h) [
-      | inl was ↦ inl (tag, (a_keeps v t tag).0 was)
-      | inr (s, its, p, free) ↦ (let same : s ≡ t = part_tag s t its.0 tag.0 (sym its.1 ∙ tag.1) in
-          inr (λ some. free (subst (IsTaken taken) (sym same) ((a_has t).1 some)), inl (tag, (graph_part b (graph_in g) t v tag).0 p)))
-    ],
-    λ h. elim h [
-      | inl (its, has) ↦ (of_b.kept v).1 (inl ((a_keeps v t tag).1 has))
-      | inr (none, rest) ↦ elim rest [
-        | inl (its, has) ↦ (of_b.kept v).1 (inr (t, tag, (graph_part b (graph_in g) t v tag).1 has, λ was. none ((a_has t).0 was)))
-        | inr (others, nothing) ↦ absurd nothing
-      ]
-    ],
-  )
+-- what keeps its tag by all graphs: what is marked, and what keeps it by those to come where its tag isn't taken
+abbrev pub AreKeptSoFar : List Graph → List Graph → Numbered → List (ℕ × ℕ) → List Bool → Type 0
+AreKeptSoFar all rest g taken keep =
+    (v : Vertex) (t : Tag) → HasTag (graph_in g) t v → KeepsTag all (graph_in g) t v ↔ (IsMarkedVertex g keep v ⊎ ((¬ IsTaken taken t) × KeepsTag rest (graph_in g) t v))
+
+pub none_kept : (all : List Graph) (g : Numbered) (taken : List (ℕ × ℕ)) (keep : List Bool) → taken ≡ [] → ((v : Vertex) → ¬ IsMarkedVertex g keep v) → AreKeptSoFar all all g taken keep
+none_kept all g taken keep none clear v t tag = (
+  λ k. inr (λ was. (let f : false ≡ true = ap (λ (ts : List (ℕ × ℕ)). is_taken ts t) (sym none) ∙ was in cc), k),
+  λ h. elim h [ inl marked ↦ absurd (clear v marked) | inr (free, k) ↦ k ],
+)
+
+-- the next graph
+module _ (all rest : List Graph) (h : Graph) (g : Numbered) (taken taken' : List (ℕ × ℕ)) (keep keep' : List Bool)
+    (so_far : AreKeptSoFar all (h ∷ rest) g taken keep) (kept : AreKeptMore g h.vertex taken keep keep') (more : AreTakenMore g h.vertex taken taken') where
+  kept_then_more : (v : Vertex) (t : Tag) → HasTag (graph_in g) t v → KeepsTag all (graph_in g) t v → IsMarkedVertex g keep' v ⊎ ((¬ IsTaken taken' t) × KeepsTag rest (graph_in g) t v)
+  kept_then_more v t tag k = elim ((so_far v t tag).0 k) [
+    | inl marked ↦ inl ((kept v).1 (inl marked))
+    | inr (free, later) ↦ elim later [
+      | inl (its, has) ↦ inl ((kept v).1 (inr (t, its, has, free)))
+      | inr (none, behind) ↦ inr (λ was. elim ((more t).0 was) [ inl old ↦ free old | inr some ↦ none some ], behind)
+    ]
+  ]
+
+  kept_by_more : (v : Vertex) (t : Tag) → HasTag (graph_in g) t v → IsMarkedVertex g keep' v ⊎ ((¬ IsTaken taken' t) × KeepsTag rest (graph_in g) t v) → KeepsTag all (graph_in g) t v
+  kept_by_more v t tag m = elim m [
+    | inl marked ↦ elim ((kept v).0 marked) [
+      | inl old ↦ (so_far v t tag).1 (inl old)
+      | inr (s, its, has, free) ↦ (let same : s ≡ t = part_tag s t its.0 tag.0 (sym its.1 ∙ tag.1) in
+          (so_far v t tag).1 (inr (λ was. free (subst (IsTaken taken) (sym same) was), inl (tag, has))))
+    ]
+    | inr (free, behind) ↦ (so_far v t tag).1 (inr (λ old. free ((more t).1 (inl old)), inr (λ some. free ((more t).1 (inr some)), behind)))
+  ]
+
+  pub kept_graph : AreKeptSoFar all rest g taken' keep'
+  kept_graph v t tag = (kept_then_more v t tag, kept_by_more v t tag)
+
+pub kept_by_all : (all : List Graph) (g : Numbered) (taken : List (ℕ × ℕ)) (keep : List Bool) → AreKeptSoFar all [] g taken keep → AreKeptBy all g keep
+kept_by_all all g taken keep so_far v t tag = (
+  λ marked. (so_far v t tag).1 (inl marked),
+  λ k. elim ((so_far v t tag).0 k) [ inl marked ↦ marked | inr (free, none) ↦ absurd none ],
+)
+
+-- the variants one after the other
+module _ (g : Numbered) (vs : List Tree) (i : ℕ) (taken : List (ℕ × ℕ)) (keep : List Bool) (so_far : AreKeptSoFar (graphs_of vs) (graphs_of (drop i vs)) g taken keep) where
+  pub kept_variant : (v : Tree) (taken' : List (ℕ × ℕ)) (keep' : List Bool) → i < length vs → v ≡ get_or vs i v → AreKeptMore g (graph_of v).vertex taken keep keep'
+      → AreTakenMore g (graph_of v).vertex taken taken' → AreKeptSoFar (graphs_of vs) (graphs_of (drop (i + 1) vs)) g taken' keep'
+  kept_variant v taken' keep' l is kept more =
+      kept_graph (graphs_of vs) (graphs_of (drop (i + 1) vs)) (graph_of v) g taken taken' keep keep'
+      (subst (λ (ws : List Tree). AreKeptSoFar (graphs_of vs) (graphs_of ws) g taken keep) (next_to_come vs i v l is) so_far) kept more
+
+  pub kept_variants : length vs ≤ i → AreKeptBy (graphs_of vs) g keep
+  kept_variants l =
+      kept_by_all (graphs_of vs) g taken keep
+      (subst (λ (ws : List Tree). AreKeptSoFar (graphs_of vs) (graphs_of ws) g taken keep) (none_to_come vs i l) so_far)
 
 pub no_vertex_marked : (g : Numbered) (n : ℕ) (v : Vertex) → ¬ IsMarkedVertex g (replicate n false) v
 no_vertex_marked g n v (at, there, mark) = no_marks n at mark
-
--- the same of other names for the parts and the tags
-pub kept_alike : (g : Numbered) (vs ws : List Vertex) (taken taken' next : List (ℕ × ℕ)) (keep keep' : List Bool) → vs ≡ ws → taken ≡ taken' → AreKept g (Contains vs) taken next keep keep' → AreKept g (Contains ws) taken' next keep keep'
-kept_alike g vs ws taken taken' next keep keep' same alike are =
-    subst (λ (ts : List (ℕ × ℕ)). AreKept g (Contains ws) ts next keep keep') alike
-    (subst (λ (us : List Vertex). AreKept g (Contains us) taken next keep keep') same are)
 
 pub listed_content : (p : Tree) (vs : List Vertex) → IsProgram p → vs ≡ parts_of p → HasOneContent (Contains vs)
 listed_content p vs is same = subst (λ (us : List Vertex). HasOneContent (Contains us)) (sym same) (parts_content p (says_once p is))

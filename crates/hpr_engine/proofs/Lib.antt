@@ -1,14 +1,15 @@
 pub mod OneSide
 pub mod OneList
 mod SameConflicts
-mod Merge
+pub mod Merge
 mod Raised
+pub mod InTurn
 mod Premises
 mod SplitParts
 mod SplitNumbers
-pub mod Searched
+pub mod SearchedFor
 mod KeptParts
-mod SplitOff
+pub mod SplitOff
 mod OneSideWhole
 mod FirstInRank
 pub mod OneSideAnswer

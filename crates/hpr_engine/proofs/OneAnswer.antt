@@ -14,7 +14,7 @@ use Rattle.hpr_graph.proofs.Lists.{in_here, in_later, no_longer}
 use Rattle.hpr_engine.specs.Budget.{AreTried, AreTriedOf, Agree}
 use Rattle.hpr_engine.proofs.OneList.{all_conflicts_one}
 use Rattle.hpr_engine.proofs.OneRank.{one_tried}
-use Rattle.hpr_engine.proofs.Searched.{IsFoundWith, found_with}
+use Rattle.hpr_engine.proofs.SearchedFor.{IsFoundWith, found_with}
 
 later_none : (g : Graph) (p : Tree) (ps : List Tree) → NoneFits g (p ∷ ps) → NoneFits g ps
 later_none g p ps none q there = none q (in_later p q ps there)

@@ -19,7 +19,7 @@ use Rattle.hpr_order.proofs.Ranks.{rank_once}
 use Rattle.hpr_engine.specs.Budget.{AreTriedOf}
 use Rattle.hpr_rebuild.proofs.First.{at_middle}
 use Rattle.hpr_engine.proofs.FirstInRank.{moved, never_both, never_itself}
-use Rattle.hpr_engine.proofs.Searched.{searched_once}
+use Rattle.hpr_engine.proofs.SearchedFor.{searched_once}
 
 module _ {X : Type 0} where
   -- what is there without an item is there once too

@@ -24,7 +24,7 @@ use Rattle.hpr_engine.proofs.OneList.{all_conflicts_one}
 use Rattle.hpr_engine.proofs.OneSide.{a_alone, b_alone, free_when_kept, only_keeps}
 use Rattle.hpr_engine.proofs.OneSideWhole.{only_whole}
 use Rattle.hpr_engine.proofs.Premises.{proper_issued, parts_issued}
-use Rattle.hpr_engine.proofs.Searched.{fitting_content, found_whole}
+use Rattle.hpr_engine.proofs.SearchedFor.{fitting_content, found_whole}
 
 first_taken : (q : Tree) (qs : List Tree) (tries : ℕ) → 1 ≤ tries → Contains (take tries (q ∷ qs)) q
 first_taken q qs zero l = absurd (omega (arith, l))

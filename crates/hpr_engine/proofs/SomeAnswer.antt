@@ -23,7 +23,7 @@ use Rattle.hpr_rebuild.proofs.SomeArrangements.{some_arrangements}
 use Rattle.hpr_merge.proofs.SomeConflicts.{IsTellingOnce, some_conflicts_by, told_once}
 use Rattle.hpr_graph.proofs.PutInOrder.{ascending, once_ascending}
 use Rattle.hpr_order.proofs.SomeRank.{some_rank}
-use Rattle.hpr_engine.proofs.Searched.{searched_proper, searched_ranking, searched_serials, some_split_off, vertices_bounded}
+use Rattle.hpr_engine.proofs.SearchedFor.{searched_proper, searched_ranking, searched_serials, some_split_off, vertices_bounded}
 use Rattle.hpr_engine.proofs.SplitParts.{split_bounded}
 
 -- where some program of a list fits, one is the first

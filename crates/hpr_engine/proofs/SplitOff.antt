@@ -11,15 +11,14 @@ use Rattle.hpr_syntax.specs.Parts.{same_tag}
 use Rattle.hpr_syntax.specs.Proper.{IsProperPair}
 use Rattle.hpr_syntax.specs.Tree.{Tree}
 use Rattle.hpr_syntax.proofs.TagLemmas.{same_tag_is, same_tag_itself}
-use Rattle.hpr_graph.specs.declared.conflict.Conflict.{Conflict}
 use Rattle.hpr_graph.specs.declared.vertex.Vertex.{Vertex}
 use Rattle.hpr_graph.specs.declared.vertex.Vertex.TheVariants.{Entry, Init, Part, Final}
-use Rattle.hpr_graph.specs.Answer.{Answer, IsFound, IsFoundFor, issued_of, merged_of, searched_graph_of}
+use Rattle.hpr_graph.specs.Answer.{AnswerBy, spent, IsFound, IsFoundFor, HasSpentLeavesOf, graphs_of, issued_of_all, merged_of_all, searched_graph_of}
 use Rattle.hpr_graph.specs.Fits.{IsPart}
 use Rattle.hpr_graph.specs.Graphs.{Graph, Same}
 use Rattle.hpr_graph.specs.Numbered.{Numbered, HasVertex, IsMarkedVertex, graph_in}
 use Rattle.hpr_graph.specs.ProgramGraph.{graph_of}
-use Rattle.hpr_graph.specs.Rank.{IsRank}
+use Rattle.hpr_graph.specs.Rank.{IsRankOf}
 use Rattle.hpr_graph.specs.Split.{AreIssuedAmong, AreRenamed, AreRenamedWithin, AreSplitParts, HasTag, IsSplitOff, KeepsTag, PassSerials, max_serial, split_graph, split_issued, split_rank}
 use Rattle.hpr_graph.proofs.Laws.{part_tag, same_turned}
 use Rattle.hpr_closure.proofs.Decided.{vertex_decided}
@@ -30,9 +29,9 @@ use Rattle.hpr_order.specs.Arranging.{AreIssued}
 use Rattle.hpr_rebuild.proofs.Sames.{found_same}
 use Rattle.hpr_engine.specs.declared.search.Searched.{Searched}
 use Rattle.hpr_engine.specs.Kept.{AreKeptBelow, AreKeptBy}
-use Rattle.hpr_engine.specs.Searched.{IsSearched, IsSplitFrom}
+use Rattle.hpr_engine.specs.Searched.{IsSearchedOf, IsSplitFrom}
 use Rattle.hpr_rename.proofs.MappedAlike as graphs
-use Rattle.hpr_engine.proofs.Searched.{rank_itself}
+use Rattle.hpr_engine.proofs.SearchedFor.{in_variant, rank_itself}
 
 -- the new tags of the same graph make the same graph
 split_graph_same : (rs : List (Vertex × Tag)) (f g h : Graph) → Same f (split_graph rs g) → Same g h → Same f (split_graph rs h)
@@ -125,45 +124,49 @@ other_part (x ∷ vs) t v = elim (other_part vs t v) [
   ]
 ]
 
--- the unmarked parts are split off, where each part is one of A's or of B's
-module _ (g : Numbered) (a b : Graph) (keep : List Bool) (kept : AreKeptBy (a ∷ b ∷ []) g keep) (of : (v : Vertex) → HasVertex g v → IsPart v → a.vertex v ⊎ b.vertex v) where
-  -- the only part with a tag keeps it
-  only_kept : (t : Tag) (v : Vertex) → HasTag (graph_in g) t v → OnlyPart g.vertices t v → ¬ (¬ KeepsTag (a ∷ b ∷ []) (graph_in g) t v)
-  only_kept t v (c, is, has) only lacks = elim (of v has (t, c, is)) [
-    | inl in_a ↦ lacks (inl ((c, is, has), in_a))
-    | inr in_b ↦ lacks (inr (
-      λ (w, (d, w_is, there), in_a). lacks (inl ((c, is, has), subst a.vertex (only w there (d, w_is)) in_a)),
-      inl ((c, is, has), in_b),
-    ))
-  ]
+-- the only part with a tag keeps it, where it is one of some variant's
+only_kept : (g : Numbered) (vs : List Tree) (t : Tag) (v : Vertex) → HasTag (graph_in g) t v → OnlyPart g.vertices t v → (p : Tree) → Contains vs p → (graph_of p).vertex v
+    → ¬ (¬ KeepsTag (graphs_of vs) (graph_in g) t v)
+only_kept g [] t v tag only p there has lacks = absurd (in_none p there)
+only_kept g (q ∷ vs) t v tag only p there has lacks =
+    let not_first : ¬ (graph_of q).vertex v = λ h. lacks (inl (tag, h)) in
+    let none : ¬ ((w : Vertex) × HasTag (graph_in g) t w × (graph_of q).vertex w) =
+    λ (w, (d, w_is, stands), h). not_first (subst (graph_of q).vertex (only w stands (d, w_is)) h) in
+    elim (in_cons q p vs there) [
+      | inl e ↦ not_first (subst (λ (r : Tree). (graph_of r).vertex v) (sym e) has)
+      | inr later ↦ only_kept g vs t v tag only p later has (λ k. lacks (inr (none, k)))
+    ]
 
-  unmarked_off : (v : Vertex) → (HasVertex g v × IsPart v × IsUnmarked g keep v) ↔ (HasVertex g v × IsPart v × IsSplitOff (a ∷ b ∷ []) (graph_in g) v)
+-- the unmarked parts are split off, where each part is one of some variant's
+module _ (g : Numbered) (vs : List Tree) (keep : List Bool) (kept : AreKeptBy (graphs_of vs) g keep)
+    (of : (v : Vertex) → HasVertex g v → IsPart v → (p : Tree) × Contains vs p × (graph_of p).vertex v) where
+  unmarked_off : (v : Vertex) → (HasVertex g v × IsPart v × IsUnmarked g keep v) ↔ (HasVertex g v × IsPart v × IsSplitOff (graphs_of vs) (graph_in g) v)
   unmarked_off v = (
     λ (has, (t, c, is), unmarked).
-        (let lacks : ¬ KeepsTag (a ∷ b ∷ []) (graph_in g) t v = λ k. unmarked ((kept v t (c, is, has)).1 k) in (
+        (let lacks : ¬ KeepsTag (graphs_of vs) (graph_in g) t v = λ k. unmarked ((kept v t (c, is, has)).1 k) in (
           has,
           (t, c, is),
           elim (other_part g.vertices t v) [
             | inl (w, there, (d, w_is), other) ↦ (t, (c, is, has), (w, (d, w_is, there), other), lacks)
-            | inr only ↦ absurd (only_kept t v (c, is, has) only lacks)
+            | inr only ↦ (let (p, among, stands) = of v has (t, c, is) in absurd (only_kept g vs t v (c, is, has) only p among stands lacks))
           ],
         )),
     λ (has, part, (t, tag, others, lacks)). (has, part, λ m. lacks ((kept v t tag).0 m)),
   )
 
--- each vertex of the merged graph is one of A's or of B's
-of_either : (base a b : Tree) (v : Vertex) → (merged_of base a b).vertex v → (graph_of a).vertex v ⊎ (graph_of b).vertex v
-of_either base a b v (inl changes) = elim changes [ inl by_a ↦ inl by_a.0 | inr by_b ↦ inr by_b.0 ]
-of_either base a b v (inr (has, (s, es, (other, stands, shared), leads))) = inl ((shared.0.1.0 v).0 (has, (s, es, refl, leads))).0
+-- each vertex of the merged graph is one of some variant's
+of_some_variant : (base : Tree) (vs : List Tree) → 1 ≤ length vs → (v : Vertex) → (merged_of_all base vs).vertex v → (p : Tree) × Contains vs p × (graph_of p).vertex v
+of_some_variant base [] some v h = absurd (omega (arith, some))
+of_some_variant base (a ∷ vs) some v h = in_variant base a vs v h
 
 -- what is made of the merged graph is what is searched
-pub searched_from : (base a b : Tree) (keep : List Bool) (m s : Searched) → Same (graph_in m.graph) (merged_of base a b) → IsRank a b base m.rank.items → m.issued ≡ issued_of base a b
-    → AreKeptBy (graph_of a ∷ graph_of b ∷ []) m.graph keep → IsSplitFrom m (IsUnmarked m.graph keep) s → IsSearched base a b s
-searched_from base a b keep m s same ranked numbers kept (rs, within, graph, rank, issued) =
-    let hs : List Graph = graph_of a ∷ graph_of b ∷ [] in
-    let M : Graph = merged_of base a b in
+pub searched_from : (base : Tree) (vs : List Tree) → 1 ≤ length vs → (keep : List Bool) (m s : Searched) → Same (graph_in m.graph) (merged_of_all base vs) → IsRankOf base vs m.rank.items → m.issued ≡ issued_of_all base vs
+    → AreKeptBy (graphs_of vs) m.graph keep → IsSplitFrom m (IsUnmarked m.graph keep) s → IsSearchedOf base vs s
+searched_from base vs some keep m s same ranked numbers kept (rs, within, graph, rank, issued) =
+    let hs : List Graph = graphs_of vs in
+    let M : Graph = merged_of_all base vs in
     let alike : (v : Vertex) → (HasVertex m.graph v × IsPart v × IsUnmarked m.graph keep v) ↔ (M.vertex v × IsPart v × IsSplitOff hs M v) =
-    λ v. (let off = unmarked_off m.graph (graph_of a) (graph_of b) keep kept (λ w has part. of_either base a b w ((same.0 w).0 has)) v in
+    λ v. (let off = unmarked_off m.graph vs keep kept (λ w has part. of_some_variant base vs some w ((same.0 w).0 has)) v in
     let split = split_off_same (graph_in m.graph) M same hs v in (
       λ x. (let y = off.0 x in ((same.0 v).0 y.0, y.1, split.0 y.2)),
       λ x. off.1 ((same.0 v).1 x.0, x.1, split.1 x.2),
@@ -176,20 +179,23 @@ searched_from base a b keep m s same ranked numbers kept (rs, within, graph, ran
       subst (λ (i : Issued). s.issued ≡ split_issued (length rs) i) numbers issued,
     )
 
--- what is found for what is searched is found for the programs
-pub found_for : (base a b : Tree) (s : Searched) (tries : ℕ) (r : Answer) → IsSearched base a b s → IsFound {X = Conflict} (graph_in s.graph) s.rank.items s.issued tries r
-    → IsFoundFor {X = Conflict} base (a ∷ b ∷ []) tries r
-found_for base a b s tries r (rs, off, same, ranked, numbers) found =
-    let vs : List Tree = a ∷ b ∷ [] in (
+-- what is found for what is searched, by the rank that the search was given, is found for the programs
+pub found_for : (X : Type 0) (base : Tree) (vs : List Tree) (s : Searched) (rank : List Vertex) → rank ≡ s.rank.items → (tries : ℕ) (r : AnswerBy X) → IsSearchedOf base vs s
+    → IsFound {X = X} (graph_in s.graph) rank s.issued tries r → IsFoundFor {X = X} base vs tries r
+found_for X base vs s rank is tries r (rs, off, same, ranked, numbers) found =
+    let by_rank : IsFound {X = X} (graph_in s.graph) s.rank.items s.issued tries r = subst (λ (l : List Vertex). IsFound {X = X} (graph_in s.graph) l s.issued tries r) is found in (
       rs,
       off,
       (
         s.rank.items,
         ranked,
-        subst (λ (i : Issued). IsFound {X = Conflict} (searched_graph_of rs base vs) s.rank.items i tries r) numbers
-            (found_same {X = Conflict} (graph_in s.graph) (searched_graph_of rs base vs) same s.rank.items s.issued tries r found),
+        subst (λ (i : Issued). IsFound {X = X} (searched_graph_of rs base vs) s.rank.items i tries r) numbers
+            (found_same {X = X} (graph_in s.graph) (searched_graph_of rs base vs) same s.rank.items s.issued tries r by_rank),
       ),
     )
+
+pub leaves_of : (X : Type 0) (base : Tree) (vs : List Tree) (tries : ℕ) → IsFoundFor {X = X} base vs tries spent → HasSpentLeavesOf base vs tries
+leaves_of X base vs tries (rs, off, (rank, is, (ps, are, more, none, leaves))) = (rs, off, (rank, is, leaves))
 
 -- issued numbers are serials
 issued_within : (a : ℕ) (issued : Issued) → AllByRecursion IsProperPair issued → issued_to a issued ≤ max_serial

@@ -1,8 +1,9 @@
 -- What the search for a program is given.
 --
 -- IsSplitFrom m P s     == s is m with new tags for the parts of its graph that have P; s is m where the serials don't suffice
--- IsSearched base a b s == s is what is searched for a base and two variants: the merged graph, the rank and the issued numbers, with the
+-- IsSearchedOf base vs s == s is what is searched for a base and its variants: the merged graph, the rank and the issued numbers, with the
 --                          parts that are split off under their new tags
+-- IsSearched base a b s == the same of two variants
 use Rattle.std.specs.Prelude.{◌≡◌, List, [], ◌∷◌, length}
 use Rattle.hpr_terms.specs.declared.tag.Tag.{Tag}
 use Rattle.hpr_syntax.specs.Issued.{issued_to}
@@ -21,9 +22,12 @@ IsSplitFrom m P s =
     × (s.rank.items ≡ split_rank rs m.rank.items)
     × (s.issued ≡ split_issued (length rs) m.issued)
 
+abbrev pub IsSearchedOf : Tree → List Tree → Searched → Type 0
+IsSearchedOf base vs s =
+    (rs : List (Vertex × Tag)) × AreSplitOff base vs rs
+    × Same (graph_in s.graph) (searched_graph_of rs base vs)
+    × IsSearchedRankOf rs base vs s.rank.items
+    × (s.issued ≡ searched_issued_of rs base vs)
+
 abbrev pub IsSearched : Tree → Tree → Tree → Searched → Type 0
-IsSearched base a b s =
-    (rs : List (Vertex × Tag)) × AreSplitOff base (a ∷ b ∷ []) rs
-    × Same (graph_in s.graph) (searched_graph_of rs base (a ∷ b ∷ []))
-    × IsSearchedRankOf rs base (a ∷ b ∷ []) s.rank.items
-    × (s.issued ≡ searched_issued_of rs base (a ∷ b ∷ []))
+IsSearched base a b s = IsSearchedOf base (a ∷ b ∷ []) s

@@ -1,8 +1,9 @@
-//! The issued numbers of three programs.
+//! The issued numbers of a base and its variants.
 ghost use Rattle.std.specs.Prelude.{◌≡◌, IfOk, OnOk};
+ghost use Rattle.std.specs.List.{AllByRecursion};
 ghost use Rattle.hpr_syntax.specs.Issued.{raised_by};
 ghost use Rattle.hpr_syntax.specs.Shape.{IsProgram};
-ghost use Rattle.hpr_graph.specs.Answer.{issued_of};
+ghost use Rattle.hpr_graph.specs.Answer.{issued_of, issued_of_all};
 
 use hpr_syntax::{Issued, NoMemory, Program};
 use std::alloc::Global;
@@ -23,6 +24,31 @@ pub fn issued_numbers(
     raise_all(&mut issued, a.issued())?;
     raise_all(&mut issued, b.issued())?;
     Ok(issued)
+}
+
+/// Each author's greatest issued number of a base and its variants.
+pub fn issued_numbers_of_all(
+    alloc: Global,
+    base: &Program,
+    variants: &[Program],
+) -> Result<Issued, NoMemory>
+    ensures numbers { IfOk result (λ i. i ≡ issued_of_all base.now variants.now) }
+    ensures base { IfOk result (λ _. IsProgram base.now) }
+    ensures variants { IfOk result (λ _. AllByRecursion IsProgram variants.now) }
+{
+    let mut issued = base.issued().copy(alloc)?;
+    for variant in variants {
+        raise_by(&mut issued, variant)?;
+    }
+    Ok(issued)
+}
+
+/// Raises each author's number to that of a program.
+fn raise_by(issued: &mut Issued, program: &Program) -> Result<(), NoMemory>
+    ensures numbers { OnOk result (issued.new ≡ raised_by program.now.issued issued.old) }
+    ensures program { OnOk result (IsProgram program.now) }
+{
+    raise_all(issued, program.issued())
 }
 
 /// Raises each author's number to that of other issued numbers.

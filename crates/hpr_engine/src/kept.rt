@@ -1,6 +1,7 @@
 //! Which parts of a graph keep their tags.
 ghost use Rattle.std.specs.Prelude.{◌≡◌, ◌↔◌, ◌⊎◌, ◌∷◌, [], false, length, replicate, Contains, IsTrue, IfOk, OnOk};
 ghost use Rattle.hpr_terms.specs.declared.tag.Tag.{Tag};
+ghost use Rattle.hpr_graph.specs.Answer.{graphs_of};
 ghost use Rattle.hpr_graph.specs.Numbered.{graph_in};
 ghost use Rattle.hpr_graph.specs.ProgramGraph.{graph_of};
 ghost use Rattle.hpr_graph.specs.Split.{HasOneContent};
@@ -24,15 +25,28 @@ pub(crate) fn kept(
     ensures count { IfOk result (λ keep. length keep.items ≡ length graph.now.vertices) }
     ensures kept { IfOk result (λ keep. AreKeptBy (graph_of a.now ∷ graph_of b.now ∷ []) graph.now keep.items) }
 {
-    // each tag of a program has one content
-    let _body_of_a = a.body();
-    let _body_of_b = b.body();
-    let of_a = parts(alloc, a)?;
-    let of_b = parts(alloc, b)?;
     let mut taken = IndexSet::new(alloc);
     let mut keep = unmarked(alloc, graph.vertex_count())?;
-    keep_free(graph, &of_a, &mut taken, &mut keep)?;
-    keep_free(graph, &of_b, &mut taken, &mut keep)?;
+    keep_program(alloc, graph, a, &mut taken, &mut keep)?;
+    keep_program(alloc, graph, b, &mut taken, &mut keep)?;
+    Ok(keep)
+}
+
+/// The same of any number of variants: of the parts with one tag that of the first variant keeps it which
+/// has one of them.
+pub(crate) fn kept_of_all(
+    alloc: Global,
+    graph: &Graph,
+    variants: &[Program],
+) -> Result<Vec<bool>, NoMemory>
+    ensures count { IfOk result (λ keep. length keep.items ≡ length graph.now.vertices) }
+    ensures kept { IfOk result (λ keep. AreKeptBy (graphs_of variants.now) graph.now keep.items) }
+{
+    let mut taken = IndexSet::new(alloc);
+    let mut keep = unmarked(alloc, graph.vertex_count())?;
+    for variant in variants {
+        keep_program(alloc, graph, variant, &mut taken, &mut keep)?;
+    }
     Ok(keep)
 }
 
@@ -41,6 +55,27 @@ fn unmarked(alloc: Global, count: usize) -> Result<Vec<bool>, NoMemory>
     ensures { IfOk result (λ marks. marks.items ≡ replicate count false) }
 {
     Ok(vec![in alloc; false; count]?)
+}
+
+/// Marks those of the program's parts that the graph has and whose tags aren't taken, and takes the tags.
+fn keep_program(
+    alloc: Global,
+    graph: &Graph,
+    program: &Program,
+    taken: &mut IndexSet<(u32, u32)>,
+    keep: &mut Vec<bool>,
+) -> Result<(), NoMemory>
+    requires marks { length keep.old.items ≡ length graph.now.vertices }
+    ensures marks { length keep.new.items ≡ length keep.old.items }
+    ensures kept { OnOk result (AreKeptMore graph.now (graph_of program.now).vertex taken.old.keys
+        keep.old.items keep.new.items) }
+    ensures taken { OnOk result (AreTakenMore graph.now (graph_of program.now).vertex taken.old.keys
+        taken.new.keys) }
+{
+    // each tag of a program has one content
+    let _body = program.body();
+    let listed = parts(alloc, program)?;
+    keep_free(graph, &listed, taken, keep)
 }
 
 /// Marks those of the parts that the graph has and whose tags aren't taken, and takes the tags.
@@ -53,7 +88,8 @@ fn keep_free(
     requires marks { length keep.old.items ≡ length graph.now.vertices }
     requires contents { HasOneContent (Contains parts.now) }
     ensures marks { length keep.new.items ≡ length keep.old.items }
-    ensures kept { OnOk result (AreKeptMore graph.now (Contains parts.now) taken.old.keys keep.old.items keep.new.items) }
+    ensures kept { OnOk result (AreKeptMore graph.now (Contains parts.now) taken.old.keys keep.old.items
+        keep.new.items) }
     ensures taken { OnOk result (AreTakenMore graph.now (Contains parts.now) taken.old.keys taken.new.keys) }
 {
     for part in parts {
@@ -71,7 +107,8 @@ fn keep_if_free(
 ) -> Result<(), NoMemory>
     requires marks { length keep.old.items ≡ length graph.now.vertices }
     ensures marks { length keep.new.items ≡ length keep.old.items }
-    ensures kept { OnOk result (AreKeptMore graph.now (λ v. v ≡ vertex.now) taken.old.keys keep.old.items keep.new.items) }
+    ensures kept { OnOk result (AreKeptMore graph.now (λ v. v ≡ vertex.now) taken.old.keys keep.old.items
+        keep.new.items) }
     ensures taken { OnOk result (AreTakenMore graph.now (λ v. v ≡ vertex.now) taken.old.keys taken.new.keys) }
 {
     let Vertex::Part(tag, _) = vertex else {

@@ -121,13 +121,21 @@ pub fn one_answer()
 {}
 
 /// Where there is no conflict, each program with the merged graph keeps the meaning of all variants,
-/// whoever made it (Horwitz, Prins and Reps 1989; Reps and Yang 1988).
+/// whoever made it (Horwitz, Prins and Reps 1989; Reps and Yang 1988). So does each program whose graph is
+/// what is searched, the merged graph with the parts that are split off under their new tags; they have no
+/// tags.
 pub fn merged_keeps()
     ensures all { (base m : Tree) (vs : List Tree) → IsProgram base → AllByRecursion IsProgram vs → IsProgram m
         → HasNoConflict (graph_of base) (graphs_of vs) → Fits (merged_of_all base vs) m → KeepsAll base vs m }
     ensures two { (base a b m : Tree) → IsProgram base → IsProgram a → IsProgram b → IsProgram m
         → IsWithoutConflict base a b → Fits (merged_of base a b) m
         → Keeps base a b m }
+    ensures split { (base m : Tree) (vs : List Tree) (rs : List (Vertex × Tag)) → IsProgram base
+        → AllByRecursion IsProgram vs → IsProgram m → HasNoConflict (graph_of base) (graphs_of vs)
+        → AreSplitOff base vs rs → Fits (searched_graph_of rs base vs) m → KeepsAll base vs m }
+    ensures split_two { (base a b m : Tree) (rs : List (Vertex × Tag)) → IsProgram base → IsProgram a
+        → IsProgram b → IsProgram m → IsWithoutConflict base a b → AreSplitOff base (a ∷ b ∷ []) rs
+        → Fits (searched_graph_of rs base (a ∷ b ∷ [])) m → Keeps base a b m }
 {}
 
 /// What is printed is a program, and its graph is the merged graph with split tags: the parts that are split

@@ -1,7 +1,8 @@
 //! What is searched for a program: the merged graph, with new tags for the parts that are split off.
-ghost use Rattle.std.specs.Prelude.{◌≡◌, true, length, Contains, IsTrue, IfOk};
+ghost use Rattle.std.specs.Prelude.{◌≡◌, ◌≤◌, true, length, Contains, IsTrue, IfOk};
+ghost use Rattle.std.specs.List.{AllByRecursion};
 ghost use Rattle.hpr_syntax.specs.Shape.{IsProgram};
-ghost use Rattle.hpr_graph.specs.Answer.{merged_of};
+ghost use Rattle.hpr_graph.specs.Answer.{merged_of, merged_of_all};
 ghost use Rattle.hpr_graph.specs.Fits.{IsPart};
 ghost use Rattle.hpr_graph.specs.Graphs.{Same};
 ghost use Rattle.hpr_graph.specs.Numbered.{graph_in};
@@ -9,33 +10,34 @@ ghost use Rattle.hpr_graph.specs.Split.{AreIssuedAmong};
 ghost use Rattle.hpr_split.specs.Marks.{IsUnmarked};
 ghost use Rattle.hpr_order.specs.Arranging.{AreIssued, IsRanking};
 ghost use Rattle.hpr_engine.specs.Kept.{AreKeptBelow};
-ghost use Rattle.hpr_engine.specs.Searched.{IsSearched, IsSplitFrom};
+ghost use Rattle.hpr_engine.specs.Searched.{IsSearched, IsSearchedOf, IsSplitFrom};
 
-use crate::issued::issued_numbers;
-use crate::kept::kept;
+use crate::issued::{issued_numbers, issued_numbers_of_all};
+use crate::kept::{kept, kept_of_all};
 use hpr_graph::{Graph, NoMemory, Vertex};
-use hpr_order::rank;
+use hpr_order::{rank, rank_of_all};
 use hpr_split::{SplitTags, split};
 use hpr_syntax::proper::read_issued;
 use hpr_syntax::{Issued, Program};
 use std::alloc::Global;
 
-/// What the search for a program is given.
+/// What the search for a program is given. Horwitz, Prins and Reps 1989, who search for a program that has
+/// the merged graph, give their search no order and no tags.
 #[derive(Drop)]
-pub(crate) struct Searched {
+pub struct Searched {
     /// The graph that the program shall have.
-    pub(crate) graph: Graph,
-    /// The rank of its parts.
-    pub(crate) rank: Vec<Vertex>,
+    pub graph: Graph,
+    /// The rank of its parts: each once, in the order in which arrangements are tried.
+    pub rank: Vec<Vertex>,
     /// The issued numbers that the program gets.
-    pub(crate) issued: Issued,
+    pub issued: Issued,
 }
 
 /// What is searched for two variants and their base, of which this is the merged graph: of two parts of it
 /// with one tag the one that A lacks gets a new tag of author 0, in the graph and in the rank, and author
 /// 0's issued number is raised. No part gets one where the serials don't suffice. An error is want of memory.
 /// Horwitz, Prins and Reps 1989 have no tags.
-pub(crate) fn searched_for(
+pub fn searched_for(
     alloc: Global,
     graph: Graph,
     base: &Program,
@@ -53,6 +55,36 @@ pub(crate) fn searched_for(
     let rank = rank(alloc, a, b, base)?;
     let issued = issued_numbers(alloc, base, a, b)?;
     let keep = kept(alloc, &graph, a, b)?;
+    let merged = Searched {
+        graph,
+        rank,
+        issued,
+    };
+    split_off(alloc, merged, &keep)
+}
+
+/// What is searched for any number of variants and their base, of which this is the merged graph: of the
+/// parts of it with one tag that of the first variant that has one of them keeps it, and each other one
+/// gets a new tag of author 0, in the graph and in the rank, and author 0's issued number is raised. No
+/// part gets one where the serials don't suffice. An error is want of memory. Looks each part of each
+/// variant up by hash a fixed number of times. Horwitz, Prins and Reps 1989 have two variants, and no tags.
+pub fn searched_for_all(
+    alloc: Global,
+    graph: Graph,
+    base: &Program,
+    variants: &[Program],
+) -> Result<Searched, NoMemory>
+    requires least { 1 ≤ length variants.now }
+    requires graph { Same (graph_in graph) (merged_of_all base.now variants.now) }
+    ensures searched { IfOk result (λ s. IsSearchedOf base.now variants.now s) }
+    ensures ranking { IfOk result (λ s. IsRanking (graph_in s.graph) s.rank.items) }
+    ensures issued { IfOk result (λ s. AreIssued (graph_in s.graph) s.issued) }
+    ensures base { IfOk result (λ _. IsProgram base.now) }
+    ensures variants { IfOk result (λ _. AllByRecursion IsProgram variants.now) }
+{
+    let rank = rank_of_all(alloc, base, variants)?;
+    let issued = issued_numbers_of_all(alloc, base, variants)?;
+    let keep = kept_of_all(alloc, &graph, variants)?;
     let merged = Searched {
         graph,
         rank,

@@ -1,50 +1,36 @@
-use Rattle.std.proofs.Common.{◌≡◌, ℕ, List, [], ◌∷◌, Err, ap, subst}
-use Rattle.hpr_syntax.specs.Tree.{Tree}
+use Rattle.std.proofs.Common.{[], ◌∷◌, Err, ap}
 use Rattle.hpr_graph.specs.declared.conflict.Conflict.{Conflict}
-use Rattle.hpr_graph.specs.declared.vertex.Vertex.{Vertex}
-use Rattle.hpr_graph.specs.Answer.{no_program, printed, spent, Answer, HasSpentLeaves, IsFound, IsFoundFor}
-use Rattle.hpr_graph.specs.Numbered.{graph_in}
+use Rattle.hpr_graph.specs.Answer.{no_program, printed, spent}
 use Rattle.hpr_rebuild.specs.declared.error.RebuildError.{RebuildError}
-use Rattle.hpr_engine.specs.declared.search.Searched.{Searched}
-use Rattle.hpr_engine.specs.Searched.{IsSearched}
 use Rattle.hpr_engine.proofs.PrintedKeeps.{printed_keeps}
-use Rattle.hpr_engine.proofs.SplitOff.{found_for}
+use Rattle.hpr_engine.proofs.SplitOff.{found_for, leaves_of}
 use Rattle.hpr_engine.proofs.integration.integrate.Goals as goal
-
--- what is found by the rank that the search was given
-found : (base a b : Tree) (s : Searched) (rank : List Vertex) → rank ≡ s.rank.items → (tries : ℕ) (r : Answer) → IsSearched base a b s
-    → IsFound {X = Conflict} (graph_in s.graph) rank s.issued tries r → IsFoundFor {X = Conflict} base (a ∷ b ∷ []) tries r
-found base a b s rank same tries r is by_rank =
-    found_for base a b s tries r is (subst (λ (l : List Vertex). IsFound {X = Conflict} (graph_in s.graph) l s.issued tries r) same by_rank)
-
-leaves_answered : (base a b : Tree) (tries : ℕ) → IsFoundFor {X = Conflict} base (a ∷ b ∷ []) tries spent → HasSpentLeaves base a b tries
-leaves_answered base a b tries (rs, off, (rank, is, (ps, are, more, none, leaves))) = (rs, off, (rank, is, leaves))
 
 pub returns-in-Ok-clause-printed : goal.returns-in-Ok-clause-printed
 returns-in-Ok-clause-printed c = (
   c.in_ok-graph.ensures.no_conflict,
-  found c.args.base.now c.args.a.now c.args.b.now c.in_ok-graph-2.field-0 c.deref.result.now c.deref.ensures.value c.args.tries (printed c.in-Ok.program)
+  found_for Conflict c.args.base.now (c.args.a.now ∷ c.args.b.now ∷ []) c.in_ok-graph-2.field-0 c.deref.result.now c.deref.ensures.value c.args.tries (printed c.in-Ok.program)
       c.in_ok-graph-2.ensures.searched c.in-Ok.ensures.found,
 )
 
 pub returns-in-Err-NoProgram-clause-no_program : goal.returns-in-Err-NoProgram-clause-no_program
 returns-in-Err-NoProgram-clause-no_program c = (
   c.in_ok-graph.ensures.no_conflict,
-  found c.args.base.now c.args.a.now c.args.b.now c.in_ok-graph-2.field-0 c.deref.result.now c.deref.ensures.value c.args.tries (no_program c.part_count.result)
+  found_for Conflict c.args.base.now (c.args.a.now ∷ c.args.b.now ∷ []) c.in_ok-graph-2.field-0 c.deref.result.now c.deref.ensures.value c.args.tries (no_program c.part_count.result)
       c.in_ok-graph-2.ensures.searched (c.in-Err-NoProgram.ensures.no_program (ap (λ (e : RebuildError). Err e) c.in-Err-NoProgram.field-0-is), c.part_count.ensures),
 )
 
 pub returns-in-Err-Spent-clause-spent : goal.returns-in-Err-Spent-clause-spent
 returns-in-Err-Spent-clause-spent c = λ _. (
   c.in_ok-graph.ensures.no_conflict,
-  found c.args.base.now c.args.a.now c.args.b.now c.in_ok-graph-2.field-0 c.deref.result.now c.deref.ensures.value c.args.tries spent
+  found_for Conflict c.args.base.now (c.args.a.now ∷ c.args.b.now ∷ []) c.in_ok-graph-2.field-0 c.deref.result.now c.deref.ensures.value c.args.tries spent
       c.in_ok-graph-2.ensures.searched (c.in-Err-Spent.ensures.spent (ap (λ (e : RebuildError). Err e) c.in-Err-Spent.field-0-is)),
 )
 
 pub returns-in-Err-Spent-clause-leaves : goal.returns-in-Err-Spent-clause-leaves
 returns-in-Err-Spent-clause-leaves c = λ _.
-    leaves_answered c.args.base.now c.args.a.now c.args.b.now c.args.tries
-    (found c.args.base.now c.args.a.now c.args.b.now c.in_ok-graph-2.field-0 c.deref.result.now c.deref.ensures.value c.args.tries spent
+    leaves_of Conflict c.args.base.now (c.args.a.now ∷ c.args.b.now ∷ []) c.args.tries
+    (found_for Conflict c.args.base.now (c.args.a.now ∷ c.args.b.now ∷ []) c.in_ok-graph-2.field-0 c.deref.result.now c.deref.ensures.value c.args.tries spent
     c.in_ok-graph-2.ensures.searched (c.in-Err-Spent.ensures.spent (ap (λ (e : RebuildError). Err e) c.in-Err-Spent.field-0-is)))
 
 pub returns-in-Ok-clause-keeps : goal.returns-in-Ok-clause-keeps
@@ -54,4 +40,4 @@ returns-in-Ok-clause-keeps c =
     let b = c.args.b.now in
     let were = c.in_ok-graph-2.ensures in
     printed_keeps base a b c.args.tries c.in-Ok.program were.base were.a were.b
-    (c.in_ok-graph.ensures.no_conflict, found base a b c.in_ok-graph-2.field-0 c.deref.result.now c.deref.ensures.value c.args.tries (printed c.in-Ok.program) were.searched c.in-Ok.ensures.found)
+    (c.in_ok-graph.ensures.no_conflict, found_for Conflict base (a ∷ b ∷ []) c.in_ok-graph-2.field-0 c.deref.result.now c.deref.ensures.value c.args.tries (printed c.in-Ok.program) were.searched c.in-Ok.ensures.found)

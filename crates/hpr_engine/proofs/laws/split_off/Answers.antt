@@ -1,6 +1,6 @@
 use Rattle.hpr_graph.specs.Answer.{merged_of_all}
 use Rattle.hpr_engine.proofs.OneSideWhole.{only_whole}
-use Rattle.hpr_engine.proofs.Searched.{fitting_content, none_split_off, of_b, of_later, one_content, one_split_off, some_split_off}
+use Rattle.hpr_engine.proofs.SearchedFor.{fitting_content, none_split_off, of_b, of_later, one_content, one_split_off, some_split_off}
 use Rattle.hpr_engine.proofs.laws.split_off.Goals as goal
 
 pub returns-clause-one : goal.returns-clause-one

@@ -1,4 +1,4 @@
-use Rattle.std.proofs.Common.{List, [], ◌∷◌, Bool, Contains, subst, sym}
+use Rattle.std.proofs.Common.{List, [], ◌∷◌, Bool, Contains, arith, subst, sym}
 use Rattle.std.proofs.lemmas.Result.{IfOk-weaker}
 use Rattle.hpr_syntax.specs.Issued.{Issued}
 use Rattle.hpr_graph.specs.Answer.{merged_of}
@@ -10,7 +10,7 @@ use Rattle.hpr_engine.specs.declared.search.Searched.{Searched}
 use Rattle.hpr_engine.specs.Kept.{AreKeptBy}
 use Rattle.hpr_engine.specs.Searched.{IsSearched, IsSplitFrom}
 use Rattle.hpr_engine.proofs.Premises.{ranking, ranking_same}
-use Rattle.hpr_engine.proofs.Searched.{rank_serials}
+use Rattle.hpr_engine.proofs.SearchedFor.{rank_serials}
 use Rattle.hpr_engine.proofs.SplitOff.{searched_from}
 use Rattle.hpr_engine.proofs.search.searched_for.Goals as goal
 
@@ -37,6 +37,6 @@ returns-clause-searched c =
     let merged : Searched = record { graph = c.args.graph; rank = c.in_ok-rank.rank; issued = c.in_ok-issued.issued } in
     IfOk-weaker c.split_off.result (λ s. IsSplitFrom merged (IsUnmarked c.args.graph keep) s) (λ s. IsSearched base a b s)
     (λ s made.
-    searched_from base a b keep merged s c.requires c.in_ok-rank.ensures c.in_ok-issued.ensures.numbers
+    searched_from base (a ∷ b ∷ []) (omega arith) keep merged s c.requires c.in_ok-rank.ensures c.in_ok-issued.ensures.numbers
     (subst (λ (ms : List Bool). AreKeptBy (graph_of a ∷ graph_of b ∷ []) c.args.graph ms) (sym c.deref.ensures.value) c.in_ok-keep.ensures.kept) made)
     c.split_off.ensures.split

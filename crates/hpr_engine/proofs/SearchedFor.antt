@@ -52,7 +52,7 @@ first_shares : (base a : Tree) (vs : List Tree) (s : Vertex) → AllShare (graph
 first_shares base a [] s share = share
 first_shares base a (b ∷ vs) s share = share.0
 
-in_variant : (base a : Tree) (vs : List Tree) (v : Vertex) → (merged_of_all base (a ∷ vs)).vertex v → (p : Tree) × Contains (a ∷ vs) p × (graph_of p).vertex v
+pub in_variant : (base a : Tree) (vs : List Tree) (v : Vertex) → (merged_of_all base (a ∷ vs)).vertex v → (p : Tree) × Contains (a ∷ vs) p × (graph_of p).vertex v
 in_variant base a vs v (inl h) = of_variant (graph_of base) (a ∷ vs) v h
 in_variant base a vs v (inr (has, (s, es, (other, stands, shared), leads))) =
     (a, in_here a vs, (((first_shares base a vs s shared).1.0 v).0 (has, (s, es, refl, leads))).0)
