@@ -1,0 +1,5 @@
+mod ManyParts
+mod ManyPoints
+mod ManyConflicts
+mod InLimit
+mod Refused

@@ -1,0 +1,37 @@
+use Rattle.std.proofs.Common.{arith}
+use Rattle.std.proofs.lemmas.Result.{IfOk-weaker}
+use Rattle.hpr_graph.specs.Graphs.{Same, union_of}
+use Rattle.hpr_graph.specs.Numbered.{graph_in, graphs_in}
+use Rattle.hpr_graph.specs.Points.{IsAffected, IsPreservedBy, changed, merged_all}
+use Rattle.hpr_graph.specs.Slices.{slice_of}
+use Rattle.hpr_graph.proofs.Laws.{same_then, union_same}
+use Rattle.hpr_merge.proofs.MergedParts.{points_slice}
+use Rattle.hpr_many.proofs.ManyParts.{united_all, united_more}
+use Rattle.hpr_many.proofs.ManyPoints.{own_points}
+use Rattle.hpr_many.proofs.versions.merged_graph.Goals as goal
+
+pub loop-at-preserved : goal.loop-at-preserved
+loop-at-preserved c =
+    let base = c.args.base.now in
+    let gs = c.args.variants.now in
+    let g = c.index-variants-at.result in
+    let row = c.index.result.now in
+    let l = c.loop-at-test.true in
+    let own = own_points base gs c.args.points.now.affected.items c.requires.affected c.loop-at.at l g row c.index-variants-at.is c.index.ensures in
+    united_more (graph_in base) gs c.loop-at.at g (graph_in c.loop-at.merged) (graph_in c.in_ok-part.part) (graph_in c.in_ok-merged-2.merged) l c.index-variants-at.is c.loop-at.invariant
+    (points_slice g (IsAffected (graph_in g) (graph_in base)) row.items own c.deref.result.now (graph_in c.in_ok-part.part) c.deref.ensures.value c.in_ok-part.ensures) c.in_ok-merged-2.ensures
+
+pub returns : goal.returns
+returns c =
+    let base = c.args.base.now in
+    let gs = c.args.variants.now in
+    let merged = graph_in c.loop-at.merged in
+    let shared = graph_in c.in_ok-shared.shared in
+    let all = changed (graph_in base) (graphs_in gs) in
+    let kept = slice_of (graph_in base) (IsPreservedBy (graph_in base) (graphs_in gs)) in
+    IfOk-weaker c.union-2.result (λ g. Same (graph_in g) (union_of merged shared)) (λ g. Same (graph_in g) (merged_all (graph_in base) (graphs_in gs)))
+    (λ g same.
+    same_then (graph_in g) (union_of merged shared) (union_of all kept) same
+    (union_same merged all shared kept (united_all (graph_in base) gs c.loop-at.at merged (omega (arith, c.loop-at-test.false, c.loop-at.auto.at-end)) c.loop-at.invariant)
+    (points_slice base (IsPreservedBy (graph_in base) (graphs_in gs)) c.args.points.now.preserved.items c.requires.preserved c.deref-2.result.now shared c.deref-2.ensures.value c.in_ok-shared.ensures)))
+    c.union-2.ensures

@@ -1,0 +1,4 @@
+pub mod Answers
+pub mod Conflicts
+pub mod Made
+pub mod ManyPoints

@@ -1,0 +1,16 @@
+//! Integration of any number of a program's variants: the merged graph of the variants and their base, the
+//! conflicts of the variants, and the program that has the merged graph. Horwitz, Prins and Reps (1989) have
+//! all of it of two variants, and name no edge for a conflict.
+#![tactic(auto)]
+
+mod conflicts;
+mod integration;
+mod programs;
+mod stop;
+mod versions;
+
+pub use hpr_graph::{Edge, Graph, ManyConflict, NoMemory, Vertex};
+pub use hpr_syntax::Program;
+pub use integration::integrate_many;
+pub use stop::ManyStop;
+pub use versions::{ManyMerged, merge_many};
