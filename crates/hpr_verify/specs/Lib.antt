@@ -1,0 +1,4 @@
+pub mod Difference
+pub mod First
+pub mod Verdict
+pub mod Refusals
