@@ -13,6 +13,8 @@ pub mod AskingLemmas
 pub mod PlainLemmas
 pub mod RangeLemmas
 pub mod PlaceLemmas
+pub mod IntegratePlaceLemmas
+pub mod OtherVariants
 pub mod RunPlaceLemmas
 pub mod TrialPlaceLemmas
 pub mod SamplePlaceLemmas

@@ -2,31 +2,13 @@
 use Rattle.std.proofs.Common.{◌≡◌, ◌∙◌, ℕ, suc, Bool, true, false, List, [], ◌∷◌, ◌++◌, map, Option, Some, None, cond, option_and_then, append-nil, refl, sym, ap, ap₂, codes}
 use Rattle.std.specs.Prelude.{◌&&◌, not}
 use Rattle.std.specs.List.{list_all}
-use Rattle.hpr_terms.specs.declared.limits.TheConstants.{DEFAULT_TRIES, MAX_TRIES}
 use Rattle.clap.proofs.SimpleLemmas.{is_false}
 use Rattle.clap.proofs.WalkLemmas.{both}
 use Rattle.hpr_words.specs.Commands.{Form, asked_with, form_named, slice_form}
-use Rattle.hpr_words.specs.Plain.{Piece, begun, fits_list, flag, flags_of, given, goes_on, is_among, is_name, is_unbroken, is_used, name, names, number, options_of, pieces, plain, plainly_asked, uses, values}
-use Rattle.hpr_words.specs.Request.{Request, Text, integrate, slice}
+use Rattle.hpr_words.specs.Plain.{Piece, begun, fits_list, flag, flags_of, given, goes_on, is_among, is_name, is_unbroken, is_used, name, names, options_of, pieces, plain, plainly_asked, uses, values}
+use Rattle.hpr_words.specs.Request.{Request, Text, slice}
 use Rattle.hpr_words.specs.Taken.{all_some}
 use Rattle.hpr_words.proofs.PieceLemmas.{spelling}
-
-module _ (base a b : Text) (p : is_name base ≡ true) (q : is_name a ≡ true) (r : is_name b ≡ true) where
-  pub integrate-alone : plain (codes "integrate" ∷ base ∷ a ∷ b ∷ []) ≡ Some (integrate base a b DEFAULT_TRIES)
-  integrate-alone = rw (p, q, r) refl
-
-  module _ (n : Text) (tries : ℕ) (spelled : number MAX_TRIES n ≡ Some tries) where
-    pub integrate-first : plain (codes "integrate" ∷ codes "--tries" ∷ n ∷ base ∷ a ∷ b ∷ []) ≡ Some (integrate base a b tries)
-    integrate-first = rw (p, q, r, spelled) refl
-
-    pub integrate-second : plain (codes "integrate" ∷ base ∷ codes "--tries" ∷ n ∷ a ∷ b ∷ []) ≡ Some (integrate base a b tries)
-    integrate-second = rw (p, q, r, spelled) refl
-
-    pub integrate-third : plain (codes "integrate" ∷ base ∷ a ∷ codes "--tries" ∷ n ∷ b ∷ []) ≡ Some (integrate base a b tries)
-    integrate-third = rw (p, q, r, spelled) refl
-
-    pub integrate-last : plain (codes "integrate" ∷ base ∷ a ∷ b ∷ codes "--tries" ∷ n ∷ []) ≡ Some (integrate base a b tries)
-    integrate-last = rw (p, q, r, spelled) refl
 
 -- ---- the words that pieces spell are cut into them
 

@@ -240,6 +240,23 @@ module _ (form : Form) (is : IsSound form) where
             (all_some (map (number_at ps) form.numbers)) (all_some (map (flag_at ps) form.flags))
         names_taken = taken_is is_command command read (asked_in form) ∙ (λ i. asked_with form (words_are i) (list_are i) (numbers_are i) (flags_are i))
 
+  -- ---- what words ask for, whose pieces give each argument its values
+
+  module _ (command : Text) (words : List Text) (ps : List Piece) (cut : IsCut (options_of form) (flags_of form) words ps) (first : List Text) (numbers : List ℕ) (flags : List Bool) where
+    pub pieces_asked : first_names form.words (names ps) ≡ Some first → fits_list form.list (names_left form.words (names ps)) ≡ true → all_some (map (number_at ps) form.numbers) ≡ Some numbers
+        → all_some (map (flag_at ps) form.flags) ≡ Some flags → taken_by form (command ∷ words) ≡ form.asks first (names_left form.words (names ps)) numbers flags
+    pieces_asked enough fits told used =
+        let are = are_for form.words form.list (names ps) first enough fits in
+        names_taken cut are
+        (each_both (λ (option : NumberOption). is_fine_number form option ≡ true) (λ (option : NumberOption). (n : ℕ) × (number_at ps option ≡ Some n)) (IsGiven form ps)
+        (number_given cut are) form.numbers (list_each (is_fine_number form) (λ option. is_fine_number form option ≡ true) (λ option e. e) form.numbers is.fine_numbers)
+        (all_some-each (number_at ps) form.numbers numbers told))
+        (each_both (λ (id : Text). is_fine_flag form id ≡ true) (λ (id : Text). (b : Bool) × (flag_at ps id ≡ Some b)) (IsFlagged form ps)
+        (flag_given cut are) form.flags (list_each (is_fine_flag form) (λ id. is_fine_flag form id ≡ true) (λ id e. e) form.flags is.fine_flags)
+        (all_some-each (flag_at ps) form.flags flags used))
+        command
+        ∙ (λ i. asked_with form (enough i) (names_left form.words (names ps)) (told i) (used i))
+
   -- ---- so plain words are taken
 
   by_names : (command : Text) (words : List Text) (ps : List Piece) → IsCut (options_of form) (flags_of form) words ps → (r : Request) → plainly_asked form ps ≡ Some r
@@ -254,17 +271,7 @@ module _ (form : Form) (is : IsSound form) where
           → (numbers : Option (List ℕ)) → all_some (map (number_at ps) form.numbers) ≡ numbers
           → (flags : Option (List Bool)) → all_some (map (flag_at ps) form.flags) ≡ flags
           → fits_list form.list (names_left form.words (names ps)) ≡ true → asked_with form first (names_left form.words (names ps)) numbers flags ≡ Some r → taken_by form (command ∷ words) ≡ Some r
-      go (Some first) enough (Some numbers) told (Some flags) used fits f =
-          let are = are_for form.words form.list (names ps) first enough fits in
-          names_taken cut are
-          (each_both (λ (option : NumberOption). is_fine_number form option ≡ true) (λ (option : NumberOption). (n : ℕ) × (number_at ps option ≡ Some n)) (IsGiven form ps)
-          (number_given cut are) form.numbers (list_each (is_fine_number form) (λ option. is_fine_number form option ≡ true) (λ option e. e) form.numbers is.fine_numbers)
-          (all_some-each (number_at ps) form.numbers numbers told))
-          (each_both (λ (id : Text). is_fine_flag form id ≡ true) (λ (id : Text). (b : Bool) × (flag_at ps id ≡ Some b)) (IsFlagged form ps)
-          (flag_given cut are) form.flags (list_each (is_fine_flag form) (λ id. is_fine_flag form id ≡ true) (λ id e. e) form.flags is.fine_flags)
-          (all_some-each (flag_at ps) form.flags flags used))
-          command
-          ∙ ((λ i. asked_with form (enough i) (names_left form.words (names ps)) (told i) (used i)) ∙ f)
+      go (Some first) enough (Some numbers) told (Some flags) used fits f = pieces_asked command words ps cut first numbers flags enough fits told used ∙ f
       go first enough numbers told flags used fits f = absurd (none_some r f)
 
   form_taken : (command : Text) (words : List Text) (r : Request) → option_and_then (plainly_asked form) (pieces (options_of form) (flags_of form) words) ≡ Some r → taken_by form (command ∷ words) ≡ Some r
@@ -272,7 +279,7 @@ module _ (form : Form) (is : IsSound form) where
       by_pieces (options_of form) (flags_of form) words (plainly_asked form) (taken_by form (command ∷ words)) r (λ ps cut. by_names command words ps cut r)
 
 -- each command is one of these
-sound : list_all is_sound commands ≡ true
+pub sound : list_all is_sound commands ≡ true
 unfolding clap_on_literals
 sound = refl
 

@@ -1,5 +1,5 @@
 -- The numbers of what is taken are in their range.
-use Rattle.std.proofs.Common.{◌≡◌, ◌≤◌, ℕ, ◌-◌, Bool, true, false, cond, find, List, [], ◌∷◌, map, Option, Some, None, Result, Ok, Err, IfOk, refl, ap, subst, bytes_eq, arith, option_and_then, option_map, unwrap_or}
+use Rattle.std.proofs.Common.{◌≡◌, ◌≤◌, ℕ, ◌-◌, Bool, true, false, cond, find, List, [], ◌∷◌, length, map, Option, Some, None, Result, Ok, Err, IfOk, refl, ap, subst, bytes_eq, arith, option_and_then, option_map, unwrap_or}
 use Rattle.std.specs.Prelude.{◌&&◌, nat_le}
 use Rattle.std.specs.List.{list_all}
 use Rattle.std.specs.Option.{option_map_or}
@@ -11,10 +11,11 @@ use Rattle.clap.specs.ValueTests.{accepts}
 use Rattle.clap.specs.Walk.{is_empty}
 use Rattle.clap.specs.Words.{Row, fault_of, first_of, matches_of}
 use Rattle.clap.specs.declared.builder.value_parser.ValueParser.TheVariants.{Unsigned}
-use Rattle.hpr_terms.specs.declared.limits.TheConstants.{MAX_PARTS}
-use Rattle.hpr_words.specs.Commands.{Form, NumberOption, affected_form, asked_with, commands, edit_form, form_app, form_named, graph_form, integrate_form, number_within, run_form, sample_form, slice_form, tag_form, trial_form}
+use Rattle.hpr_terms.specs.declared.limits.TheConstants.{MAX_PARTS, MAX_VARIANTS}
+use Rattle.hpr_words.specs.Commands.{Form, NumberOption, affected_form, asked_with, commands, edit_form, form_app, form_named, graph_form, integrate_form, number_within, run_form, sample_form, slice_form, tag_form, trial_form, verify_form}
 use Rattle.hpr_words.specs.Request.{IsInRange, Request, Text, sample}
 use Rattle.hpr_words.specs.Taken.{all_some, asked_in, flag_in, listed_in, number_in, number_or, taken_by}
+use Rattle.hpr_words.proofs.CommandLemmas.{if_so}
 use Rattle.hpr_words.proofs.PieceLemmas.{Each, none_some}
 use Rattle.hpr_words.proofs.UseLemmas.{found_passes}
 
@@ -72,7 +73,10 @@ in_range : (q r : Request) → IsInRange q → Some q ≡ Some r → IsInRange r
 in_range q r range e = subst IsInRange (ap (λ o. unwrap_or o r) e) range
 
 integrate-range : AsksInRange integrate_form
-integrate-range (base ∷ a ∷ b ∷ []) list (n ∷ []) flags r range e = in_range _ r range.0 e
+integrate-range (base ∷ []) (a ∷ b ∷ []) (n ∷ []) flags r range e = in_range _ r range.0 e
+integrate-range (base ∷ []) (a ∷ b ∷ c ∷ more) (n ∷ []) flags r range e =
+    let few = if_so (nat_le (length (a ∷ b ∷ c ∷ more)) MAX_VARIANTS) _ r e in
+    in_range _ r (omega arith, leb-true _ _ few.0, range.0.0, range.0.1) few.1
 integrate-range _ _ _ _ r range e = absurd (none_some r e)
 
 run-range : AsksInRange run_form
@@ -116,8 +120,12 @@ sample-range (seed ∷ parts ∷ []) list ns flags r range e = go (number_within
         in_range (sample s n) r (omega (arith, small.1), few.0, omega (arith, few.1)) f
 sample-range _ _ _ _ r range e = absurd (none_some r e)
 
+verify-range : AsksInRange verify_form
+verify-range (base ∷ a ∷ b ∷ offered ∷ []) list ns flags r range e = in_range _ r tt e
+verify-range _ _ _ _ r range e = absurd (none_some r e)
+
 each_in_range : Each AsksInRange commands
-each_in_range = (integrate-range, (run-range, (graph-range, (slice-range, (affected-range, (trial-range, (edit-range, (tag-range, (sample-range, tt)))))))))
+each_in_range = (integrate-range, (run-range, (graph-range, (slice-range, (affected-range, (trial-range, (edit-range, (tag-range, (sample-range, (verify-range, tt))))))))))
 
 -- what is so of each is so of the one that is found
 found_each : {X : Type 0} (P : X → Type 0) (p : X → Bool) (xs : List X) (x : X) → Each P xs → find p xs ≡ Some x → P x

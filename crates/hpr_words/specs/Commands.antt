@@ -5,7 +5,7 @@
 --                            a word of it must be given; its options; its flags; and what it asks for, by the words, the list, the numbers and whether
 --                            each flag is given
 -- tries, steps, author    == the options
--- integrate_of ws l ns fs == the request of three names and a number
+-- integrate_of ws l ns fs == the request of a base, its variants, two or more up to their limit, and a number
 -- run_of ws l ns fs       == the request of a file, states, a number and a flag
 -- graph_of ws l ns fs     == the request of a file and a flag
 -- slice_of ws l ns fs     == the request of a file, one point or more and a flag
@@ -15,7 +15,8 @@
 -- tag_of ws l ns fs       == the request of a file and a number
 -- number_within least most text == the number from least to most that `clap` reads in a text
 -- sample_of ws l ns fs    == the request of two words that are numbers
--- integrate_form          == `integrate BASE A B [--tries N]`
+-- verify_of ws l ns fs    == the request of four names
+-- integrate_form          == `integrate BASE V1 V2.. [--tries N]`
 -- run_form                == `run FILE [STATE..] [--steps N] [--trace]`
 -- graph_form              == `graph FILE [--json]`
 -- slice_form              == `slice FILE POINT.. [--program]`
@@ -24,6 +25,7 @@
 -- edit_form               == `edit FILE SCRIPT --author N`
 -- tag_form                == `tag FILE --author N`
 -- sample_form             == `sample SEED PARTS`
+-- verify_form             == `verify BASE A B M`
 -- commands                == all of them
 -- form_named name         == the command of this name, if there is one
 -- asked_with form ws l ns fs == what the command asks for, where it is given all of these
@@ -33,16 +35,16 @@
 -- flag_rule id            == the flag `--id`
 -- form_rules form         == what the command takes, as `clap` has it
 -- form_app form           == the command, as `clap` has it
-use Rattle.std.specs.Prelude.{ℕ, ◌-◌, Bool, true, false, not, List, [], ◌∷◌, ◌++◌, map, find, Option, Some, None, is_some, option_to_list, option_and_then, option_map, if◌then◌else◌, codes}
+use Rattle.std.specs.Prelude.{ℕ, ◌-◌, Bool, true, false, not, List, [], ◌∷◌, ◌++◌, map, find, Option, Some, None, is_some, length, nat_le, option_to_list, option_and_then, option_map, if◌then◌else◌, codes}
 use Rattle.std.specs.Str.{bytes_eq}
 use Rattle.std.specs.Str.Parse.{digits_value, without_leading_plus}
-use Rattle.hpr_terms.specs.declared.limits.TheConstants.{DEFAULT_STEPS, DEFAULT_TRIES, MAX_PARTS, MAX_STEPS, MAX_TRIES}
+use Rattle.hpr_terms.specs.declared.limits.TheConstants.{DEFAULT_STEPS, DEFAULT_TRIES, MAX_PARTS, MAX_STEPS, MAX_TRIES, MAX_VARIANTS}
 use Rattle.clap.specs.Simple.{on_top}
 use Rattle.clap.specs.ValueTests.{accepts}
 use Rattle.clap.specs.Words.{App, Rule, new_app, new_rule}
 use Rattle.clap.specs.declared.builder.action.ArgAction.TheVariants.{Append, SetTrue}
 use Rattle.clap.specs.declared.builder.value_parser.ValueParser.TheVariants.{Unsigned}
-use Rattle.hpr_words.specs.Request.{Request, Text, affected, edit, graph, integrate, run, sample, slice, tag, trial}
+use Rattle.hpr_words.specs.Request.{Request, Text, affected, edit, graph, integrate, integrate_many, run, sample, slice, tag, trial, verify}
 
 pub record NumberOption : Type 0 where
   pub id : Text
@@ -72,7 +74,9 @@ author = record { id = codes "author"; most = 4294967295; default = None }
 -- ---- what each command asks for
 
 abbrev pub integrate_of : (words list : List Text) (numbers : List ℕ) (flags : List Bool) → Option Request
-integrate_of (base ∷ a ∷ b ∷ []) list (n ∷ []) flags = Some (integrate base a b n)
+integrate_of (base ∷ []) (a ∷ b ∷ []) (n ∷ []) flags = Some (integrate base a b n)
+integrate_of (base ∷ []) (a ∷ b ∷ c ∷ more) (n ∷ []) flags =
+    if nat_le (length (a ∷ b ∷ c ∷ more)) MAX_VARIANTS then Some (integrate_many base (a ∷ b ∷ c ∷ more) n) else None
 integrate_of _ _ _ _ = None
 
 abbrev pub run_of : (words list : List Text) (numbers : List ℕ) (flags : List Bool) → Option Request
@@ -111,14 +115,18 @@ sample_of (seed ∷ parts ∷ []) list numbers flags =
     option_and_then (λ s. option_map (λ n. sample s n) (number_within 1 (MAX_PARTS - 2) parts)) (number_within 0 18446744073709551615 seed)
 sample_of _ _ _ _ = None
 
+abbrev pub verify_of : (words list : List Text) (numbers : List ℕ) (flags : List Bool) → Option Request
+verify_of (base ∷ a ∷ b ∷ offered ∷ []) list numbers flags = Some (verify base a b offered)
+verify_of _ _ _ _ = None
+
 -- ---- the commands
 
 abbrev pub integrate_form : Form
 integrate_form = record {
   name = codes "integrate";
-  words = codes "base" ∷ codes "a" ∷ codes "b" ∷ [];
+  words = codes "base" ∷ [];
   are_numbers = false;
-  list = None;
+  list = Some (codes "variant", true);
   numbers = tries ∷ [];
   flags = [];
   asks = integrate_of;
@@ -212,8 +220,19 @@ sample_form = record {
   asks = sample_of;
 }
 
+abbrev pub verify_form : Form
+verify_form = record {
+  name = codes "verify";
+  words = codes "base" ∷ codes "a" ∷ codes "b" ∷ codes "offered" ∷ [];
+  are_numbers = false;
+  list = None;
+  numbers = [];
+  flags = [];
+  asks = verify_of;
+}
+
 abbrev pub commands : List Form
-commands = integrate_form ∷ run_form ∷ graph_form ∷ slice_form ∷ affected_form ∷ trial_form ∷ edit_form ∷ tag_form ∷ sample_form ∷ []
+commands = integrate_form ∷ run_form ∷ graph_form ∷ slice_form ∷ affected_form ∷ trial_form ∷ edit_form ∷ tag_form ∷ sample_form ∷ verify_form ∷ []
 
 abbrev pub form_named : Text → Option Form
 form_named name = find (λ form. bytes_eq name form.name) commands

@@ -12,12 +12,21 @@ use std::alloc::{AllocError, Global};
 /// What the words of a command line ask for.
 #[derive(Drop)]
 pub enum Asked<'a> {
-    /// `integrate BASE A B [--tries N]`: integrate two variants with their base, within a number of
-    /// tries from 1 to 1,000,000,000, by default 10,000. The names are those of files.
+    /// `integrate BASE V1 V2 [--tries N]`: integrate two variants with their base, as Horwitz, Prins
+    /// and Reps (1989) do, within a number of tries from 1 to 1,000,000,000, by default 10,000. The
+    /// names are those of files.
     Integrate {
         base: &'a str,
         a: &'a str,
         b: &'a str,
+        tries: u64,
+    },
+    /// `integrate BASE V1 V2 V3.. [--tries N]`: integrate three to sixteen variants with their base,
+    /// within as many tries. The variants stand in the order of their words. Horwitz, Prins and Reps
+    /// (1989) have no more than two.
+    IntegrateMany {
+        base: &'a str,
+        variants: Vec<&'a str>,
         tries: u64,
     },
     /// `run FILE [STATE..] [--steps N] [--trace]`: run the program of a file from the state that the
@@ -75,6 +84,14 @@ pub enum Asked<'a> {
     Sample {
         seed: u64,
         parts: usize,
+    },
+    /// `verify BASE A B M`: judge the merged program of a file that was made elsewhere, by base and
+    /// its two variants.
+    Verify {
+        base: &'a str,
+        a: &'a str,
+        b: &'a str,
+        offered: &'a str,
     },
 }
 

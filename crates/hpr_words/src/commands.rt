@@ -1,6 +1,6 @@
 //! The commands: what each is called, which arguments it has, and what it asks for.
-ghost use Rattle.std.specs.Prelude.{◌≡◌, option_map};
-ghost use Rattle.hpr_words.specs.Commands.{affected_form, edit_form, form_app, form_named, graph_form, integrate_form, run_form, sample_form, slice_form, tag_form, trial_form};
+ghost use Rattle.std.specs.Prelude.{◌≡◌, [], ◌∷◌, map, option_map};
+ghost use Rattle.hpr_words.specs.Commands.{affected_form, edit_form, form_app, form_named, graph_form, integrate_form, integrate_of, run_form, sample_form, slice_form, tag_form, trial_form, verify_form};
 ghost use Rattle.hpr_words.specs.Private.Commands.{Reads, app_with, form_of};
 ghost use Rattle.hpr_words.specs.Taken.{asked_in};
 ghost use Rattle.clap.specs.Words.{found_of, rows_of};
@@ -12,7 +12,7 @@ use crate::found::{
     word_number_from,
 };
 use clap::ArgMatches;
-use hpr_terms::limits::{DEFAULT_TRIES, MAX_PARTS, MAX_STEPS, MAX_TRIES};
+use hpr_terms::limits::{DEFAULT_TRIES, MAX_PARTS, MAX_STEPS, MAX_TRIES, MAX_VARIANTS};
 use std::alloc::Global;
 
 const BASE: Argument = Argument::Word("base");
@@ -20,6 +20,8 @@ const BASE: Argument = Argument::Word("base");
 const A: Argument = Argument::Word("a");
 
 const B: Argument = Argument::Word("b");
+
+const OFFERED: Argument = Argument::Word("offered");
 
 const FILE: Argument = Argument::Word("file");
 
@@ -36,6 +38,11 @@ const STATES: Argument = Argument::List {
 
 const POINTS: Argument = Argument::List {
     name: "point",
+    is_needed: true,
+};
+
+const VARIANTS: Argument = Argument::List {
+    name: "variant",
     is_needed: true,
 };
 
@@ -75,6 +82,7 @@ pub enum CommandName {
     Edit,
     Tag,
     Sample,
+    Verify,
 }
 
 impl CommandName {
@@ -92,6 +100,7 @@ impl CommandName {
             "edit" => Some(CommandName::Edit),
             "tag" => Some(CommandName::Tag),
             "sample" => Some(CommandName::Sample),
+            "verify" => Some(CommandName::Verify),
             _ => None,
         }
     }
@@ -101,7 +110,7 @@ impl CommandName {
         ensures { app_with (form_of self).name result.now ≡ form_app (form_of self) }
     {
         match self {
-            CommandName::Integrate => &[BASE, A, B, TRIES],
+            CommandName::Integrate => &[BASE, VARIANTS, TRIES],
             CommandName::Run => &[FILE, STATES, STEPS, TRACE],
             CommandName::Graph => &[FILE, JSON],
             CommandName::Slice => &[FILE, POINTS, PROGRAM],
@@ -110,6 +119,7 @@ impl CommandName {
             CommandName::Edit => &[FILE, SCRIPT, AUTHOR],
             CommandName::Tag => &[FILE, AUTHOR],
             CommandName::Sample => &[SEED, PARTS],
+            CommandName::Verify => &[BASE, A, B, OFFERED],
         }
     }
 
@@ -118,7 +128,7 @@ impl CommandName {
         ensures { Reads (asked_in (form_of self) (rows_of (found_of matches.now))) result }
     {
         match self {
-            CommandName::Integrate => integrate_from(matches),
+            CommandName::Integrate => integrate_from(alloc, matches),
             CommandName::Run => run_from(alloc, matches),
             CommandName::Graph => graph_from(matches),
             CommandName::Slice => slice_from(alloc, matches),
@@ -127,19 +137,39 @@ impl CommandName {
             CommandName::Edit => edit_from(matches),
             CommandName::Tag => tag_from(matches),
             CommandName::Sample => sample_from(matches),
+            CommandName::Verify => verify_from(matches),
         }
     }
 }
 
-fn integrate_from<'a>(matches: &ArgMatches<'a>) -> Result<Asked<'a>, WordsError>
+fn integrate_from<'a>(alloc: Global, matches: &ArgMatches<'a>) -> Result<Asked<'a>, WordsError>
     ensures { Reads (asked_in integrate_form (rows_of (found_of matches.now))) result }
 {
-    Ok(Asked::Integrate {
-        base: name_from(matches, "base")?,
-        a: name_from(matches, "a")?,
-        b: name_from(matches, "b")?,
-        tries: number_from(matches, "tries", MAX_TRIES, DEFAULT_TRIES)?,
-    })
+    let base = name_from(matches, "base")?;
+    let tries = number_from(matches, "tries", MAX_TRIES, DEFAULT_TRIES)?;
+    integration_of(base, list_from(alloc, matches, "variant")?, tries)
+}
+
+/// The integration of the variants, of which there must be 2 to 16.
+fn integration_of<'a>(
+    base: &'a str,
+    variants: Vec<&'a str>,
+    tries: u64,
+) -> Result<Asked<'a>, WordsError>
+    ensures { Reads (integrate_of (base.entry.now ∷ []) (map (λ s. s.now) variants.entry.items) (tries ∷ []) [])
+        result }
+{
+    match variants.as_slice() {
+        [a, b] => Ok(Asked::Integrate { base, a, b, tries }),
+        [_, _, _, ..] if variants.len() <= MAX_VARIANTS => {
+            Ok(Asked::IntegrateMany {
+                base,
+                variants,
+                tries,
+            })
+        }
+        _ => Err(WordsError::Refused),
+    }
 }
 
 fn run_from<'a>(alloc: Global, matches: &ArgMatches<'a>) -> Result<Asked<'a>, WordsError>
@@ -225,5 +255,16 @@ fn sample_from<'a>(matches: &ArgMatches<'a>) -> Result<Asked<'a>, WordsError>
     Ok(Asked::Sample {
         seed,
         parts: parts as usize,
+    })
+}
+
+fn verify_from<'a>(matches: &ArgMatches<'a>) -> Result<Asked<'a>, WordsError>
+    ensures { Reads (asked_in verify_form (rows_of (found_of matches.now))) result }
+{
+    Ok(Asked::Verify {
+        base: name_from(matches, "base")?,
+        a: name_from(matches, "a")?,
+        b: name_from(matches, "b")?,
+        offered: name_from(matches, "offered")?,
     })
 }

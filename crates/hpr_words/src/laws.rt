@@ -1,8 +1,8 @@
 //! Laws of the words: each function's contract is the law, for all words.
-ghost use Rattle.std.specs.Prelude.{◌≡◌, ℕ, ◌-◌, true, false, List, [], ◌∷◌, ◌++◌, Some, codes};
+ghost use Rattle.std.specs.Prelude.{◌≡◌, ◌≤◌, ◌<◌, ℕ, ◌-◌, length, true, false, List, [], ◌∷◌, ◌++◌, Some, None, codes};
 ghost use Rattle.std.specs.List.{list_all};
-ghost use Rattle.hpr_terms.specs.declared.limits.TheConstants.{DEFAULT_STEPS, DEFAULT_TRIES, MAX_PARTS, MAX_STEPS, MAX_TRIES};
-ghost use Rattle.hpr_words.specs.Request.{Request, Text, affected, edit, graph, integrate, run, sample, slice, tag, trial};
+ghost use Rattle.hpr_terms.specs.declared.limits.TheConstants.{DEFAULT_STEPS, DEFAULT_TRIES, MAX_PARTS, MAX_STEPS, MAX_TRIES, MAX_VARIANTS};
+ghost use Rattle.hpr_words.specs.Request.{Request, Text, affected, edit, graph, integrate, integrate_many, run, sample, slice, tag, trial, verify};
 ghost use Rattle.hpr_words.specs.Taken.{taken};
 ghost use Rattle.hpr_words.specs.Commands.{number_within};
 ghost use Rattle.hpr_words.specs.Plain.{is_numeral, is_name, number, plain};
@@ -13,7 +13,8 @@ pub fn plain_words_are_taken()
     ensures { (words : List Text) (asked : Request) → plain words ≡ Some asked → taken words ≡ Some asked }
 {}
 
-/// The words of `integrate` are plain, with the option in each of its places or with none.
+/// The words of `integrate` with two variants are plain, with the option before the base, behind it or
+/// at the end, or with none.
 pub fn integrate_words_are_plain()
     ensures alone { (base a b : Text) → is_name base ≡ true → is_name a ≡ true → is_name b ≡ true
         → plain (codes "integrate" ∷ base ∷ a ∷ b ∷ []) ≡ Some (integrate base a b DEFAULT_TRIES) }
@@ -23,12 +24,41 @@ pub fn integrate_words_are_plain()
     ensures second { (base a b n : Text) (tries : ℕ) → is_name base ≡ true → is_name a ≡ true → is_name b ≡ true
         → number MAX_TRIES n ≡ Some tries
         → plain (codes "integrate" ∷ base ∷ codes "--tries" ∷ n ∷ a ∷ b ∷ []) ≡ Some (integrate base a b tries) }
-    ensures third { (base a b n : Text) (tries : ℕ) → is_name base ≡ true → is_name a ≡ true → is_name b ≡ true
-        → number MAX_TRIES n ≡ Some tries
-        → plain (codes "integrate" ∷ base ∷ a ∷ codes "--tries" ∷ n ∷ b ∷ []) ≡ Some (integrate base a b tries) }
     ensures last { (base a b n : Text) (tries : ℕ) → is_name base ≡ true → is_name a ≡ true → is_name b ≡ true
         → number MAX_TRIES n ≡ Some tries
         → plain (codes "integrate" ∷ base ∷ a ∷ b ∷ codes "--tries" ∷ n ∷ []) ≡ Some (integrate base a b tries) }
+{}
+
+/// The words of `integrate` with three to sixteen variants are plain, with the option before the base,
+/// behind it or at the end, or with none.
+pub fn integrate_many_words_are_plain()
+    ensures alone { (base : Text) (variants : List Text) → is_name base ≡ true → list_all is_name variants ≡ true
+        → 3 ≤ length variants → length variants ≤ MAX_VARIANTS
+        → plain (codes "integrate" ∷ base ∷ variants) ≡ Some (integrate_many base variants DEFAULT_TRIES) }
+    ensures first { (base n : Text) (variants : List Text) (tries : ℕ) → is_name base ≡ true
+        → list_all is_name variants ≡ true → 3 ≤ length variants → length variants ≤ MAX_VARIANTS
+        → number MAX_TRIES n ≡ Some tries
+        → plain (codes "integrate" ∷ codes "--tries" ∷ n ∷ base ∷ variants)
+        ≡ Some (integrate_many base variants tries) }
+    ensures second { (base n : Text) (variants : List Text) (tries : ℕ) → is_name base ≡ true
+        → list_all is_name variants ≡ true → 3 ≤ length variants → length variants ≤ MAX_VARIANTS
+        → number MAX_TRIES n ≡ Some tries
+        → plain (codes "integrate" ∷ base ∷ codes "--tries" ∷ n ∷ variants)
+        ≡ Some (integrate_many base variants tries) }
+    ensures last { (base n : Text) (variants : List Text) (tries : ℕ) → is_name base ≡ true
+        → list_all is_name variants ≡ true → 3 ≤ length variants → length variants ≤ MAX_VARIANTS
+        → number MAX_TRIES n ≡ Some tries
+        → plain (codes "integrate" ∷ base ∷ (variants ++ codes "--tries" ∷ n ∷ []))
+        ≡ Some (integrate_many base variants tries) }
+{}
+
+/// The words of `integrate` with more than sixteen variants, with one or with none are not taken.
+pub fn other_numbers_of_variants_are_not_taken()
+    ensures more { (base : Text) (variants : List Text) → is_name base ≡ true → list_all is_name variants ≡ true
+        → MAX_VARIANTS < length variants → taken (codes "integrate" ∷ base ∷ variants) ≡ None }
+    ensures one { (base a : Text) → is_name base ≡ true → is_name a ≡ true
+        → taken (codes "integrate" ∷ base ∷ a ∷ []) ≡ None }
+    ensures none { (base : Text) → is_name base ≡ true → taken (codes "integrate" ∷ base ∷ []) ≡ None }
 {}
 
 /// The words of `run` are plain, with each option in each of its places or with none, and with both.
@@ -142,6 +172,14 @@ pub fn tag_words_are_plain()
 
 /// A seed and a number of parts behind `sample` are plain: decimal digits without leading zeros, in range.
 pub fn sample_words_are_plain()
-    ensures { (seed parts : Text) (s n : ℕ) → is_numeral seed ≡ true → number_within 0 18446744073709551615 seed ≡ Some s
+    ensures { (seed parts : Text) (s n : ℕ) → is_numeral seed ≡ true
+        → number_within 0 18446744073709551615 seed ≡ Some s
         → number (MAX_PARTS - 2) parts ≡ Some n → plain (codes "sample" ∷ seed ∷ parts ∷ []) ≡ Some (sample s n) }
+{}
+
+/// Four names behind `verify` are plain.
+pub fn verify_words_are_plain()
+    ensures { (base a b offered : Text) → is_name base ≡ true → is_name a ≡ true → is_name b ≡ true
+        → is_name offered ≡ true → plain (codes "verify" ∷ base ∷ a ∷ b ∷ offered ∷ [])
+        ≡ Some (verify base a b offered) }
 {}

@@ -1,9 +1,9 @@
 //! The words of a command line: each command's own words are read by `clap`.
 //!
-//! The commands are `integrate BASE A B [--tries N]`, `run FILE [STATE..] [--steps N] [--trace]`,
+//! The commands are `integrate BASE V1 V2.. [--tries N]`, `run FILE [STATE..] [--steps N] [--trace]`,
 //! `graph FILE [--json]`, `slice FILE POINT.. [--program]`, `affected BASE A`,
-//! `trial BASE A B [STATE..] [--steps N]`, `edit FILE SCRIPT --author N`, `tag FILE --author N` and
-//! `sample SEED PARTS`.
+//! `trial BASE A B [STATE..] [--steps N]`, `edit FILE SCRIPT --author N`, `tag FILE --author N`,
+//! `sample SEED PARTS` and `verify BASE A B M`.
 #![tactic(auto)]
 
 mod arguments;

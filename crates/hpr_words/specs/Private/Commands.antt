@@ -8,7 +8,7 @@ use Rattle.std.specs.Prelude.{◌≡◌, List, Option, Some, None, Result, Match
 use Rattle.std.specs.List.{fold}
 use Rattle.clap.specs.Words.{App, Rule, Text, new_app, with_rule}
 use Rattle.hpr_words.specs.Asked.{request}
-use Rattle.hpr_words.specs.Commands.{Form, affected_form, edit_form, flag_rule, graph_form, integrate_form, list_rule, number_rule, run_form, sample_form, slice_form, tag_form, trial_form, word_rule}
+use Rattle.hpr_words.specs.Commands.{Form, affected_form, edit_form, flag_rule, graph_form, integrate_form, list_rule, number_rule, run_form, sample_form, slice_form, tag_form, trial_form, verify_form, word_rule}
 use Rattle.hpr_words.specs.Request.{Request}
 use Rattle.hpr_words.specs.declared.arguments.Argument.{Argument}
 use Rattle.hpr_words.specs.declared.arguments.Argument.TheVariants as argument
@@ -16,7 +16,7 @@ use Rattle.hpr_words.specs.declared.asked.Asked.{Asked}
 use Rattle.hpr_words.specs.declared.asked.WordsError.{WordsError}
 use Rattle.hpr_words.specs.declared.asked.WordsError.TheVariants.{Refused}
 use Rattle.hpr_words.specs.declared.commands.CommandName.{CommandName}
-use Rattle.hpr_words.specs.declared.commands.CommandName.TheVariants.{Affected, Edit, Graph, Integrate, Run, Sample, Slice, Tag, Trial}
+use Rattle.hpr_words.specs.declared.commands.CommandName.TheVariants.{Affected, Edit, Graph, Integrate, Run, Sample, Slice, Tag, Trial, Verify}
 
 abbrev pub rule_of_argument : Argument → Rule
 rule_of_argument (argument.Word id) = word_rule id.now
@@ -37,6 +37,7 @@ form_of Trial = trial_form
 form_of Edit = edit_form
 form_of Tag = tag_form
 form_of Sample = sample_form
+form_of Verify = verify_form
 
 abbrev pub Reads : Option Request → Result Asked WordsError → Type 0
 Reads asked result = MatchResult result (λ read. asked ≡ Some (request read)) (λ error. error ≡ Refused → asked ≡ None)
