@@ -1,6 +1,7 @@
 pub mod FileLemmas
 pub mod ReadLemmas
 pub mod VersionLemmas
+pub mod AllFiles
 pub mod ValueLemmas
 pub mod StateLemmas
 pub mod PointLemmas

@@ -1,7 +1,7 @@
 -- What is read leaves no case without a decision.
 --
 -- HasOne P == that there is a decision with P can't be refuted
-use Rattle.std.proofs.Common.{◌⊎◌, ℕ, List, [], ◌∷◌, Result, Ok, Err, inl, inr, refl}
+use Rattle.std.proofs.Common.{◌≡◌, ◌⊎◌, ℕ, suc, length, ap, List, [], ◌∷◌, Result, Ok, Err, inl, inr, refl}
 use Rattle.std.specs.List.{AllByRecursion}
 use Rattle.std.proofs.lemmas.List.Elements.{All-from_recursion}
 use Rattle.hpr_terms.proofs.Facts.{by_both}
@@ -17,7 +17,7 @@ use Rattle.hpr_refusals.specs.Refusals.{IsFileIn, IsRefusedIn}
 use Rattle.hpr_refusals.proofs.SomeReading.{IsRead, reads_file}
 use Rattle.hpr_inputs.specs.Decision.{Decision, OnRead, Prints, prints, refuses}
 use Rattle.hpr_inputs.specs.declared.answer.Kind.TheVariants.{Done}
-use Rattle.hpr_inputs.specs.Files.{OnFile, OnFiles}
+use Rattle.hpr_inputs.specs.Files.{OnAllFiles, OnFile, OnFiles}
 use Rattle.hpr_inputs.specs.Points.{IsFirstStranger, IsNamed, OnPoints, no_such_point}
 use Rattle.hpr_inputs.specs.States.{OnState, RefusedWord, refused_word_text}
 
@@ -47,6 +47,14 @@ module _ (fs : Files) where
       on_file base (λ p r. OnFile fs a (λ q. OnFile fs b (λ s. next p q s r) r) r) (λ p is_p.
       on_file a (λ q r. OnFile fs b (λ s. next p q s r) r) (λ q is_q.
       on_file b (λ s r. next p q s r) (λ s is_s. decides p q s is_p is_q is_s)))
+
+  -- any number of files, read in order
+  pub on_all_files : (named : List (List ℕ)) (next : List Tree → Decision → Type 0) → ((ps : List Tree) → length ps ≡ length named → AllByRecursion IsProgram ps → HasOne (next ps))
+      → HasOne (λ r. OnAllFiles fs named (λ ps. next ps r) r)
+  on_all_files [] next decides = decides [] refl tt
+  on_all_files (file ∷ named) next decides =
+      on_file file (λ p r. OnAllFiles fs named (λ ps. next (p ∷ ps) r) r) (λ p is_p.
+      on_all_files named (λ ps. next (p ∷ ps)) (λ ps same are. decides (p ∷ ps) (ap suc same) (is_p, are)))
 
 -- the state that words tell
 pub on_state : (told : Result Values RefusedWord) (next : Values → Decision → Type 0) → ((state : Values) → HasOne (next state)) → HasOne (λ r. OnState told (λ state. next state r) r)

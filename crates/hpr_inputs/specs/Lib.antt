@@ -6,5 +6,6 @@ pub mod Points
 pub mod Answer
 pub mod ReadsFile
 pub mod ReadsFiles
+pub mod ReadsAll
 pub mod ReadsState
 pub mod ReadsPoints

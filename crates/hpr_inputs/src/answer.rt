@@ -15,6 +15,8 @@ pub enum Kind {
     Spent,
     /// A run did not end normally.
     NotEnded,
+    /// A merged program that was made elsewhere hasn't the merged graph, or the variants interfere.
+    Rejected,
 }
 
 /// A decided answer with a text for `out`.

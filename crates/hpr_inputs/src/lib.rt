@@ -5,11 +5,13 @@
 mod answer;
 mod files;
 mod points;
+mod programs;
 mod states;
 mod versions;
 
 pub use answer::{Kind, Report, Stop};
 pub use files::{read_commands, read_program, read_text};
 pub use points::read_points;
+pub use programs::read_programs;
 pub use states::read_state;
 pub use versions::{Versions, read_versions};

@@ -52,8 +52,8 @@ pub(crate) fn put_behind(
     put_vertex(alloc, text, vertex)
 }
 
-/// What a vertex is, without the brackets.
-pub(crate) fn vertex_words(alloc: Global, vertex: &Vertex) -> Result<String, NoMemory>
+/// What a vertex is, as [`vertex_text`] has it between the brackets. It fails only for want of memory.
+pub fn vertex_words(alloc: Global, vertex: &Vertex) -> Result<String, NoMemory>
     ensures { IfOk result (λ text. string_bytes text ≡ vertex_words vertex.now) }
 {
     match vertex {
@@ -91,8 +91,8 @@ pub fn edge_text(alloc: Global, edge: &Edge) -> Result<Vec<u8>, NoMemory>
     Ok(edge_words(alloc, edge)?.into_bytes())
 }
 
-/// An edge from its source to its target.
-fn edge_words(alloc: Global, edge: &Edge) -> Result<String, NoMemory>
+/// The same text of an edge as a string. It fails only for want of memory.
+pub fn edge_words(alloc: Global, edge: &Edge) -> Result<String, NoMemory>
     ensures { IfOk result (λ text. string_bytes text ≡ edge_text edge.now) }
 {
     let mut text = String::new(alloc);

@@ -10,8 +10,8 @@ mod points;
 mod table;
 mod values;
 
-pub use conflicts::conflicts_text;
-pub use graphs::{edge_text, graph_text, vertex_text};
+pub use conflicts::{conflicts_text, many_conflicts_text};
+pub use graphs::{edge_text, edge_words, graph_text, vertex_text, vertex_words};
 pub use objects::graph_json;
 pub use outcome::{outcome_line, outcome_text};
 pub use points::affected_text;

@@ -1,5 +1,4 @@
-use Rattle.std.proofs.Common.{rules, ◌≡◌, ◌++◌, SFits, w64, flat_map, string_bytes, get_or, pos, refl, ap, ◌∙◌}
-use Rattle.std.proofs.lemmas.Int.{to_z-of_z}
+use Rattle.std.proofs.Common.{rules, ◌≡◌, ◌++◌, flat_map, string_bytes, get_or, pos, refl}
 use Rattle.std.proofs.lemmas.List.{get_or_default}
 use Rattle.hpr_report.specs.Texts.{comma_number}
 use Rattle.hpr_report.proofs.Lines.{put_next}
