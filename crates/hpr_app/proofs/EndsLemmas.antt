@@ -33,6 +33,8 @@ module _ (P : Decision → Type 0) (reads : List ℕ → Type 0) (before now : �
       at_status s status.Spent w.status_is (record { r = prints kind.Spent text; outcome = p; status_is = refl; shelf = same; count = w.count; took = w.took; says = w.silent })
   all_put kind.NotEnded text s p same w =
       at_status s status.NotEnded w.status_is (record { r = prints kind.NotEnded text; outcome = p; status_is = refl; shelf = same; count = w.count; took = w.took; says = w.silent })
+  all_put kind.Rejected text s p same w =
+      at_status s status.Rejected w.status_is (record { r = prints kind.Rejected text; outcome = p; status_is = refl; shelf = same; count = w.count; took = w.took; says = w.silent })
 
   front_put : (k : Kind) (text : List ℕ) (s : Status) → P (prints k text) → now ≡ before → PutsPrefix text s out err → Ends s P reads before now out err
   front_put k text s p same w =

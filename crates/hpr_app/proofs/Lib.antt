@@ -6,3 +6,6 @@ pub mod TraceLemmas
 pub mod SliceLemmas
 pub mod AffectedLemmas
 pub mod EditLemmas
+pub mod ManyLemmas
+pub mod VerifyLemmas
+pub mod ManyFiles

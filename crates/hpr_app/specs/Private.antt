@@ -4,3 +4,5 @@ pub mod MakesGraph
 pub mod SlicedIn
 pub mod Stopped
 pub mod ItemLine
+pub mod ManyStopped
+pub mod VerifiedOf

@@ -9,7 +9,7 @@ use hpr_io::{Sink, put_all};
 
 /// The text for words that are no call.
 pub const USAGE: &[u8] =
-    b"usage: hpr integrate BASE A B [--tries N]\n       hpr run FILE [STATE..] [--steps N] [--trace]\n       hpr graph FILE [--json]\n       hpr slice FILE POINT.. [--program]\n       hpr affected BASE A\n       hpr trial BASE A B [STATE..] [--steps N]\n       hpr edit FILE SCRIPT --author N\n       hpr tag FILE --author N\n       hpr sample SEED PARTS\n";
+    b"usage: hpr integrate BASE V1 V2.. [--tries N]\n       hpr run FILE [STATE..] [--steps N] [--trace]\n       hpr graph FILE [--json]\n       hpr slice FILE POINT.. [--program]\n       hpr affected BASE A\n       hpr trial BASE A B [STATE..] [--steps N]\n       hpr edit FILE SCRIPT --author N\n       hpr tag FILE --author N\n       hpr sample SEED PARTS\n       hpr verify BASE A B M\n";
 
 /// Puts the text of an answer to `out`, or its message to `err`.
 pub fn write_answer<O: Sink, E: Sink>(
@@ -63,6 +63,7 @@ fn status_of_kind(kind: Kind) -> Status
         Kind::NoProgram => Status::NoProgram,
         Kind::Spent => Status::Spent,
         Kind::NotEnded => Status::NotEnded,
+        Kind::Rejected => Status::Rejected,
     }
 }
 

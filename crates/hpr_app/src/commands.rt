@@ -9,11 +9,13 @@ use crate::affected::affected_files;
 use crate::edit::edit_file;
 use crate::graph::graph_file;
 use crate::integrate::integrate_files;
+use crate::integrate_many::integrate_many_files;
 use crate::run::run_file;
 use crate::sample::sample_seed;
 use crate::slice::slice_file;
 use crate::tag::tag_file;
 use crate::trial::trial_files;
+use crate::verify::verify_files;
 use hpr_inputs::{Report, Stop};
 use hpr_io::Shelf;
 use hpr_words::Asked;
@@ -30,6 +32,11 @@ pub fn decide<S: Shelf>(alloc: Global, asked: Asked<'_>, shelf: &mut S) -> Resul
         Asked::Integrate { base, a, b, tries } => {
             integrate_files(alloc, base, a, b, tries, shelf)
         }
+        Asked::IntegrateMany {
+            base,
+            variants,
+            tries,
+        } => integrate_many_files(alloc, base, variants.as_slice(), tries, shelf),
         Asked::Run {
             file,
             states,
@@ -57,5 +64,11 @@ pub fn decide<S: Shelf>(alloc: Global, asked: Asked<'_>, shelf: &mut S) -> Resul
         } => edit_file(alloc, file, script, author, shelf),
         Asked::Tag { file, author } => tag_file(alloc, file, author, shelf),
         Asked::Sample { seed, parts } => sample_seed(alloc, seed, parts),
+        Asked::Verify {
+            base,
+            a,
+            b,
+            offered,
+        } => verify_files(alloc, base, a, b, offered, shelf),
     }
 }

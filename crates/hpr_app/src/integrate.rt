@@ -105,7 +105,7 @@ fn interference(alloc: Global, conflicts: &[Conflict]) -> Result<Report, Stop>
 }
 
 /// The report where no program has the merged graph, which has so many parts.
-fn no_program(alloc: Global, parts: usize) -> Result<Report, Stop>
+pub(crate) fn no_program(alloc: Global, parts: usize) -> Result<Report, Stop>
     ensures { Merges (λ r. r ≡ prints Kind.NoProgram (no_program_text parts)) result }
 {
     let line = no_program_line(alloc, MAX_PARTS, parts)?;
@@ -125,7 +125,7 @@ fn no_program_line(alloc: Global, most: usize, parts: usize) -> Result<String, A
 }
 
 /// The report where the budget of tries is spent.
-fn spent(alloc: Global, tries: u64) -> Result<Report, Stop>
+pub(crate) fn spent(alloc: Global, tries: u64) -> Result<Report, Stop>
     ensures { Merges (λ r. r ≡ prints Kind.Spent (spent_text tries)) result }
 {
     let line = format!(in alloc;

@@ -4,11 +4,13 @@
 
 mod affected;
 mod answer;
+mod certificate;
 mod commands;
 mod edit;
 mod graph;
 mod graphs;
 mod integrate;
+mod integrate_many;
 mod programs;
 mod run;
 mod sample;
@@ -16,11 +18,11 @@ mod slice;
 mod tag;
 mod trace_text;
 mod trial;
+mod verify;
 
 ghost use Rattle.std.specs.Prelude.{◌≡◌, ◌≢◌, ℕ, List, ◌<◌, ◌⊎◌, ◌↔◌, All, None, IsTrue, map, string_bytes};
 ghost use Rattle.hpr_io.specs.Counts.{Rose};
 ghost use Rattle.hpr_io.specs.Taken.{taken_then};
-ghost use Rattle.hpr_graph.specs.declared.conflict.Conflict.{Conflict};
 ghost use Rattle.hpr_graph.specs.Answer.{interference, no_program, spent};
 ghost use Rattle.hpr_words.specs.Asked.{request};
 ghost use Rattle.hpr_words.specs.Plain.{plain};
@@ -31,14 +33,16 @@ ghost use Rattle.hpr_decisions.specs.Outcome.{RequestOutcome, OutcomeIfTold};
 ghost use Rattle.hpr_inputs.specs.Decision.{refuses};
 ghost use Rattle.hpr_decisions.specs.Integrate.{no_program_text, spent_text};
 ghost use Rattle.hpr_decisions.specs.Complete.{RequestCompletes, PrintsOther, UnlessFailed, IsRefusedCall};
-ghost use Rattle.hpr_decisions.specs.Reports.{HasAnswer, HasConflict, HasSpentLeaves, IsInterference, tries_of};
-ghost use Rattle.hpr_decisions.specs.Theorem.{KeepsMeaning};
+ghost use Rattle.hpr_decisions.specs.Reports.{ConflictOf, HasAnswer, HasConflict, HasSpentLeaves, IsInterference, tries_of};
+ghost use Rattle.hpr_decisions.specs.Theorem.{KeepsAllMeaning, KeepsMeaning};
 ghost use Rattle.hpr_decisions.specs.MergedText.{PrintsMerged};
 ghost use Rattle.hpr_decisions.specs.LeftText.{PrintsLeft};
 ghost use Rattle.hpr_decisions.specs.SliceTheorem.{DoesSlice};
 ghost use Rattle.hpr_decisions.specs.TrialKeeps.{EndsTrial, KeepsTrial};
+ghost use Rattle.hpr_decisions.specs.VerifyKeeps.{HasVerified, IsRejected};
 ghost use Rattle.hpr_decisions.specs.Ends.{Ends};
 
+pub use certificate::certificate_json;
 pub use hpr_decisions::Status;
 use hpr_inputs::Stop;
 use hpr_io::{Shelf, Sink};
@@ -57,8 +61,8 @@ use std::alloc::Global;
 /// the budget of tries is spent. A trial runs
 /// where a program would be printed. A script is read after the program that it edits; its first
 /// command that is refused is named with its number, and nothing is printed then. A sample is made of a
-/// seed, and no file is read for it. All text of `out`
-/// is made before its first byte is put. Faults of `err` change no status.
+/// seed, and no file is read for it. An offered program is verified, or rejected with what shows it. All
+/// text of `out` is made before its first byte is put. Faults of `err` change no status.
 pub fn hpr<S: Shelf, O: Sink, E: Sink>(
     alloc: Global,
     words: &[String],
@@ -89,7 +93,7 @@ pub fn hpr<S: Shelf, O: Sink, E: Sink>(
         UnlessFailed (S.faults shelf.old) (S.faults shelf.new) (O.faults out.old) (O.faults out.new) result
         (RequestCompletes asked files (O.taken out.old) (O.taken out.new) result)) }
 
-    // Where one variant is the base, the other one is printed.
+    // Where one variant is the base, the other one is printed; so is the only program that many variants became.
     ensures one_side { WhereAsked words.now (S.files shelf.old) (λ asked files.
         UnlessFailed (S.faults shelf.old) (S.faults shelf.new) (O.faults out.old) (O.faults out.new) result
         (PrintsOther asked files (O.taken out.old) (O.taken out.new) result)) }
@@ -99,13 +103,13 @@ pub fn hpr<S: Shelf, O: Sink, E: Sink>(
     ensures conflict { WhereAsked words.now (S.files shelf.old) (λ asked files. HasConflict asked files
         → UnlessFailed (S.faults shelf.old) (S.faults shelf.new) (O.faults out.old) (O.faults out.new) result
         (result ≡ Status.Interference)) }
-    ensures interferes { (cs : List Conflict) → WhereAsked words.now (S.files shelf.old) (λ asked files.
-        HasAnswer asked files (interference cs)
+    ensures interferes { WhereAsked words.now (S.files shelf.old) (λ asked files. (cs : List (ConflictOf asked))
+        → HasAnswer asked files (interference cs)
         → UnlessFailed (S.faults shelf.old) (S.faults shelf.new) (O.faults out.old) (O.faults out.new) result
-        (IsInterference cs (O.taken out.old) (O.taken out.new) result)) }
+        (IsInterference asked cs (O.taken out.old) (O.taken out.new) result)) }
     ensures interference { WhereAsked words.now (S.files shelf.old) (λ asked files. result ≡ Status.Interference
-        → (cs : List Conflict) × HasAnswer asked files (interference cs)
-        × IsInterference cs (O.taken out.old) (O.taken out.new) result) }
+        → (cs : List (ConflictOf asked)) × HasAnswer asked files (interference cs)
+        × IsInterference asked cs (O.taken out.old) (O.taken out.new) result) }
 
     // NoProgram comes only where no program has the merged graph, in which of two contents of one tag the one that A
     // lacks has a tag of author 0, and Spent only where none of the arrangements that may be tried has it and there are
@@ -133,6 +137,10 @@ pub fn hpr<S: Shelf, O: Sink, E: Sink>(
     ensures keeps { WhereAsked words.now (S.files shelf.old) (λ asked files. result ≡ Status.Done
         → Took (O.taken out.old) (O.taken out.new) (KeepsMeaning asked files)) }
 
+    // The same theorem of three variants or more: they spell a program that keeps the meaning of all of them.
+    ensures keeps_all { WhereAsked words.now (S.files shelf.old) (λ asked files. result ≡ Status.Done
+        → Took (O.taken out.old) (O.taken out.new) (KeepsAllMeaning asked files)) }
+
     // Its graph is the merged graph, in which the parts that are split off are under their new tags.
     ensures merged { WhereAsked words.now (S.files shelf.old) (λ asked files. result ≡ Status.Done
         → Took (O.taken out.old) (O.taken out.new) (PrintsMerged asked files)) }
@@ -151,6 +159,13 @@ pub fn hpr<S: Shelf, O: Sink, E: Sink>(
     ensures trial_ends { WhereAsked words.now (S.files shelf.old) (λ asked files. EndsTrial asked files result) }
     ensures trial { WhereAsked words.now (S.files shelf.old) (λ asked files. result ≡ Status.Done
         → Took (O.taken out.old) (O.taken out.new) (KeepsTrial asked files)) }
+
+    // A merge made elsewhere: a program is verified exactly where there is no conflict and its graph is the merged graph,
+    // and then it keeps the meaning of both variants; else the call is rejected with the text of the verdict.
+    ensures verified { WhereAsked words.now (S.files shelf.old) (λ asked files. result ≡ Status.Done
+        → HasVerified asked files) }
+    ensures rejected { WhereAsked words.now (S.files shelf.old) (λ asked files. result ≡ Status.Rejected
+        → Took (O.taken out.old) (O.taken out.new) (IsRejected asked files)) }
 {
     match read_words(alloc, words) {
         Ok(asked) => run_asked(alloc, asked, shelf, out, err),

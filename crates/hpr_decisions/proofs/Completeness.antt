@@ -1,5 +1,7 @@
 -- Where nothing failed and each file spells a program, the outcome is the one that those programs have.
-use Rattle.std.proofs.Common.{◌≡◌, ◌≤◌, ℕ, Bool, All, List, refl, ap, sym, ◌∙◌, subst, inl, inr, ◌⊎◌, Option, Some, Ok, codes}
+use Rattle.std.proofs.Common.{◌≡◌, ◌≤◌, ℕ, Bool, All, List, [], ◌∷◌, refl, ap, sym, ◌∙◌, subst, inl, inr, ◌⊎◌, Option, Some, Ok, codes}
+use Rattle.std.specs.List.{AllByRecursion}
+use Rattle.std.proofs.lemmas.List.Elements.{All-contains, All-from_recursion}
 use Rattle.hpr_io.specs.Counts.{Rose}
 use Rattle.hpr_io.specs.Files.{Files, bytes_of}
 use Rattle.hpr_io.specs.Taken.{taken_then}
@@ -8,24 +10,33 @@ use Rattle.hpr_syntax.specs.Print.{text}
 use Rattle.hpr_syntax.specs.Shape.{IsProgram}
 use Rattle.hpr_syntax.specs.Tree.{Tree}
 use Rattle.hpr_syntax.specs.Values.{Values}
-use Rattle.hpr_graph.specs.Answer.{Answer, interference, printed, no_program, spent, IsAnswer, issued_of}
+use Rattle.hpr_graph.specs.declared.edge.Edge.{Edge}
+use Rattle.hpr_graph.specs.declared.vertex.Vertex.{Vertex}
+use Rattle.hpr_graph.specs.Answer.{Answer, AnswerBy, interference, printed, no_program, spent, IsAnswer, IsAnswerBy}
+use Rattle.hpr_graph.specs.Conflicts.{told_as}
 use Rattle.hpr_graph.specs.Points.{IsAffected}
 use Rattle.hpr_graph.specs.ProgramGraph.{graph_of}
 use Rattle.hpr_graph.specs.Slices.{slice_of}
 use Rattle.hpr_report.specs.AffectedText.{IsAffectedText}
-use Rattle.hpr_words.specs.Request.{Request, Text, IsInRange, integrate, run, graph, slice, affected, trial, edit, tag, sample}
-use Rattle.hpr_decisions.specs.Complete.{DonePrinting, Completes, IsOtherText, PrintsOther, RequestCompletes, Runs, Tries}
+use Rattle.hpr_words.specs.Request.{Request, Text, IsInRange, integrate, integrate_many, run, graph, slice, affected, trial, edit, tag, sample, verify}
+use Rattle.hpr_decisions.specs.Complete.{DonePrinting, Completes, CompletesBy, CompletesMany, IsOnlyText, IsOtherText, PrintsOther, RequestCompletes, Runs, Tries}
 use Rattle.hpr_inputs.specs.Decision.{Decision, Prints, prints}
 use Rattle.hpr_decisions.specs.AffectedFiles.{AffectedPoints, AffectedOutcome}
 use Rattle.hpr_decisions.specs.EditFiles.{EditOutcome, OnScript, TagOutcome, edit_decision}
 use Rattle.hpr_decisions.specs.GraphFile.{IsShown, Graphed, GraphOutcome}
-use Rattle.hpr_engine.specs.Limit.{AreInLimit, HasTooManyEdges}
-use Rattle.hpr_engine.proofs.OneAnswer.{fit_is_printed, enough}
-use Rattle.hpr_engine.proofs.OneSideAnswer.{a_unchanged, b_unchanged}
-use Rattle.hpr_rebuild.specs.Settled.{IsSettled}
+use Rattle.hpr_engine.specs.Limit.{AreAllInLimit, AreInLimit, HasTooManyEdges}
+use Rattle.hpr_engine.specs.OneSide.{IsOnlyChange}
+use Rattle.hpr_engine.proofs.OneAnswer.{fit_is_printed_by, enough_by}
+use Rattle.hpr_engine.proofs.OneSide.{a_alone, b_alone}
+use Rattle.hpr_engine.proofs.OneSideAnswer.{only_answer}
+use Rattle.hpr_report.specs.ConflictsText.{conflicts_text}
 use Rattle.hpr_decisions.specs.Graphs.{OnGraph}
 use Rattle.hpr_inputs.specs.Files.{OnFile, OnFiles}
-use Rattle.hpr_decisions.specs.Integrate.{OnGraphs, report, IsReported, Integrated, IntegrateOutcome}
+use Rattle.hpr_inputs.specs.ReadsAll.{AreAllFilesOf}
+use Rattle.hpr_inputs.proofs.AllFiles.{are_programs}
+use Rattle.hpr_decisions.specs.Integrate.{OnGraphs, report, report_by, IsReported, Integrated, IntegrateOutcome}
+use Rattle.hpr_decisions.specs.IntegrateMany.{IsAnswerOfMany, IntegrateManyOutcome, Told, report_many, told_text}
+use Rattle.hpr_decisions.proofs.ManyDecided.{of_many, of_verified}
 use Rattle.hpr_decisions.specs.Outcome.{RequestOutcome, OutcomeIfTold}
 use Rattle.hpr_inputs.specs.Points.{IsNamed, IsPoint, OnPoints}
 use Rattle.hpr_edit.specs.declared.command.Command.{Command}
@@ -59,39 +70,34 @@ pub of_program_graphs : (base : List ℕ) (p : Tree) (a : List ℕ) (q : Tree) (
 of_program_graphs base p a q b r next d few o =
     of_program_graph b r next d few.1.1 (of_program_graph a q (OnGraph b r next d) d few.1.0 (of_program_graph base p (OnGraph a q (OnGraph b r next d) d) d few.0 o))
 
--- what is known of the decision that reports an answer of three programs
+-- what is known of the decision that reports an answer of base and its variants
+module _ {X : Type 0} (at : X → ℕ × Vertex × Edge) (say : List X → List ℕ) (p : Tree) (vs : List Tree) (tries : ℕ) (old new : Option (List ℕ)) (s : Status)
+    (x : AnswerBy X) (answer : IsAnswerBy at p vs tries x) (is : s ≡ status_of (report_by say tries x)) (took : new ≡ taken_then old (text_of (report_by say tries x))) where
+  printed_so : (m : Tree) (P : List ℕ → Type 0) → P (text m) → x ≡ printed m → DonePrinting P old new s
+  printed_so m P shown e =
+      (is ∙ ap (λ y. status_of (report_by say tries y)) e, text m, shown, took ∙ ap (λ y. taken_then old (text_of (report_by say tries y))) e)
+
+  spent_status : (y : AnswerBy X) → status.Spent ≡ status_of (report_by say tries y) → y ≡ spent
+  spent_status (interference cs) e = absurd cc
+  spent_status (printed m) e = absurd cc
+  spent_status (no_program n) e = absurd cc
+  spent_status spent e = refl
+
+  answer_completes : IsProgram p → AllByRecursion IsProgram vs → CompletesBy at say p vs tries old new s
+  answer_completes is_p all = record {
+    answered = (x, answer, is, took);
+    first = λ free rs ps m split tried fits.
+        printed_so m (λ bytes. bytes ≡ text m) refl (fit_is_printed_by at p vs is_p all tries rs split ps free tried m x fits answer);
+    enough = λ free rs ps split tried few e. enough_by at p vs is_p all tries rs split ps free tried x few answer (spent_status x (sym e ∙ is));
+  }
+
+  -- where one change is the only one
+  only_printed : (v : Tree) → IsProgram p → IsProgram v → 1 ≤ tries → IsOnlyChange p vs v → DonePrinting (IsOnlyText p vs v) old new s
+  only_printed v is_p is_v one only =
+      let (m, shown, settled) = only_answer at p v vs tries x is_p is_v only one answer in
+      printed_so m (IsOnlyText p vs v) (m, settled, refl) shown
+
 module _ (p q r : Tree) (tries : ℕ) (old new : Option (List ℕ)) (s : Status) where
-  printing : (m : Tree) (P : List ℕ → Type 0) → P (text m) → s ≡ status.Done → new ≡ taken_then old (text m) → DonePrinting P old new s
-  printing m P shown is took = (is, text m, shown, took)
-
-  module _ (x : Answer) (answer : IsAnswer p q r tries x) (is : s ≡ status_of (report tries x)) (took : new ≡ taken_then old (text_of (report tries x))) where
-    printed_so : (m : Tree) (P : List ℕ → Type 0) → P (text m) → x ≡ printed m → DonePrinting P old new s
-    printed_so m P shown e = printing m P shown (is ∙ ap (λ y. status_of (report tries y)) e) (took ∙ ap (λ y. taken_then old (text_of (report tries y))) e)
-
-    spent_status : (y : Answer) → status.Spent ≡ status_of (report tries y) → y ≡ spent
-    spent_status (interference cs) e = absurd cc
-    spent_status (printed m) e = absurd cc
-    spent_status (no_program n) e = absurd cc
-    spent_status spent e = refl
-
-    answer_completes : IsProgram p → IsProgram q → IsProgram r → Completes p q r tries old new s
-    answer_completes is_p is_q is_r = record {
-      answered = (x, answer, is, took);
-      first = λ free rs ps m split tried fits.
-          printed_so m (λ bytes. bytes ≡ text m) refl (fit_is_printed p q r is_p is_q is_r tries rs split ps free tried m x fits answer);
-      enough = λ free rs ps split tried few e. enough p q r is_p is_q is_r tries rs split ps free tried x few answer (spent_status x (sym e ∙ is));
-    }
-
-    other_b : IsProgram p → IsProgram r → 1 ≤ tries → q ≡ p → DonePrinting (IsOtherText p q r r) old new s
-    other_b is_p is_r one e =
-        let (m, shown, settled) = a_unchanged p r tries x is_p is_r one (subst (λ (t : Tree). IsAnswer p t r tries x) e answer) in
-        printed_so m (IsOtherText p q r r) (m, subst (λ (t : Tree). IsSettled (issued_of p t r) r m) (sym e) settled, refl) shown
-
-    other_a : IsProgram p → IsProgram q → 1 ≤ tries → r ≡ p → DonePrinting (IsOtherText p q r q) old new s
-    other_a is_p is_q one e =
-        let (m, shown, settled) = b_unchanged p q tries x is_p is_q one (subst (λ (t : Tree). IsAnswer p q t tries x) e answer) in
-        printed_so m (IsOtherText p q r q) (m, subst (λ (t : Tree). IsSettled (issued_of p q t) q m) (sym e) settled, refl) shown
-
   module _ (fs : Files) (base a b : List ℕ) (d : Decision) (o : IntegrateOutcome fs base a b tries d) (hp : IsFileOf (bytes_of fs base) p) (hq : IsFileOf (bytes_of fs a) q)
       (hr : IsFileOf (bytes_of fs b) r) (few : AreInLimit p q r) where
     abbrev BehindGraphs : Type 0
@@ -111,12 +117,40 @@ module _ (p q r : Tree) (tries : ℕ) (old new : Option (List ℕ)) (s : Status)
           (x, answer, is ∙ ap status_of shown, took ∙ ap (λ y. taken_then old (text_of y)) shown)
 
       of_three : Completes p q r tries old new s
-      of_three = let (x, answer, is_x, took_x) = answered in answer_completes x answer is_x took_x hp.program hq.program hr.program
+      of_three =
+          let (x, answer, is_x, took_x) = answered in
+          answer_completes told_as conflicts_text p (q ∷ r ∷ []) tries old new s x answer is_x took_x hp.program (hq.program, (hr.program, tt))
 
       other_printed : 1 ≤ tries → (q ≡ p → DonePrinting (IsOtherText p q r r) old new s) × (r ≡ p → DonePrinting (IsOtherText p q r q) old new s)
       other_printed one =
           let (x, answer, is_x, took_x) = answered in
-          (other_b x answer is_x took_x hp.program hr.program one, other_a x answer is_x took_x hp.program hq.program one)
+          let only = only_printed told_as conflicts_text p (q ∷ r ∷ []) tries old new s x answer is_x took_x in (
+            λ e. only r hp.program hr.program one (subst (λ (t : Tree). IsOnlyChange p (t ∷ r ∷ []) r) (sym e) (b_alone p r)),
+            λ e. only q hp.program hq.program one (subst (λ (t : Tree). IsOnlyChange p (q ∷ t ∷ []) q) (sym e) (a_alone p q)),
+          )
+
+-- the same of three variants or more
+module _ (p : Tree) (ps : List Tree) (tries : ℕ) (old new : Option (List ℕ)) (s : Status) (fs : Files) (base : Text) (names : List Text) (d : Decision)
+    (o : IntegrateManyOutcome fs base names tries d) (hp : IsFileOf (bytes_of fs base) p) (hps : AreAllFilesOf fs names ps) (few : AreAllInLimit (p ∷ ps))
+    (is : s ≡ status_of d) (took : new ≡ taken_then old (text_of d)) where
+  abbrev AnsweredMany : Type 0
+  AnsweredMany = (x : AnswerBy Told) × IsAnswerOfMany p ps tries x × (s ≡ status_of (report_many tries x)) × (new ≡ taken_then old (text_of (report_many tries x)))
+
+  answered_many : AnsweredMany
+  answered_many =
+      let (x, answer, shown) = of_many fs base names tries d p ps o hp hps few in
+      (x, answer, is ∙ ap status_of shown, took ∙ ap (λ y. taken_then old (text_of y)) shown)
+
+  of_variants : CompletesMany p ps tries old new s
+  of_variants =
+      let (x, answer, is_x, took_x) = answered_many in
+      answer_completes {X = Told} (λ t. t) told_text p ps tries old new s x answer is_x took_x hp.program (are_programs fs names ps hps)
+
+  only_of_variants : 1 ≤ tries → (v : Tree) → IsOnlyChange p ps v → DonePrinting (IsOnlyText p ps v) old new s
+  only_of_variants one v only =
+      let (x, answer, is_x, took_x) = answered_many in
+      let is_v = All-contains IsProgram ps v (All-from_recursion IsProgram ps (are_programs fs names ps hps)) only.1 in
+      only_printed {X = Told} (λ t. t) told_text p ps tries old new s x answer is_x took_x v hp.program is_v one only
 
 module _ (state : Values) (p : Tree) (old new : Option (List ℕ)) (s : Status) where
   of_run : (fs : Files) (file : List ℕ) (words : List Text) (steps : ℕ) (trace : Bool) (d : Decision) → s ≡ status_of d → new ≡ taken_then old (text_of d)
@@ -179,6 +213,7 @@ module _ (old new : Option (List ℕ)) (s : Status) (fs : Files) (d : Decision) 
 request_completes : (request : Request) (fs : Files) (old new : Option (List ℕ)) (s : Status) (d : Decision) → s ≡ status_of d → new ≡ taken_then old (text_of d)
     → RequestOutcome request fs d → RequestCompletes request fs old new s
 request_completes (integrate base a b tries) fs old new s d is took o = λ p q r hp hq hr few. of_three p q r tries old new s fs base a b d o hp hq hr few is took
+request_completes (integrate_many base variants tries) fs old new s d is took o = λ p ps hp hps few. of_variants p ps tries old new s fs base variants d o hp hps few is took
 request_completes (run file words steps trace) fs old new s d is took o = λ state p told hp. of_run state p old new s fs file words steps trace d is took o told hp
 request_completes (graph file json) fs old new s d is took o = λ p hp few. of_graph old new s fs d is took file json p o hp few
 request_completes (slice file points program) fs old new s d is took o = λ p hp few named. of_slice old new s fs d is took file points program p o hp few named
@@ -189,20 +224,23 @@ request_completes (tag file author) fs old new s d is took o = λ p hp. of_tag o
 request_completes (sample seed parts) fs old new s d is took o = λ few.
     (let three = made.sample seed parts in
     (d, of_program_graphs (codes "base") three.base (codes "A") three.a (codes "B") three.b (IsSampled seed parts three.base three.a three.b d) d few o.1, is, took))
+request_completes (verify base a b m) fs old new s d is took o = λ p q r t hp hq hr ht few. (d, of_verified fs base a b m d p q r t o hp hq hr ht few, is, took)
 
 -- where one variant is the base, the other one is printed
 request_prints_other : (request : Request) (fs : Files) (old new : Option (List ℕ)) (s : Status) (d : Decision) → s ≡ status_of d → new ≡ taken_then old (text_of d)
     → IsInRange request → RequestOutcome request fs d → PrintsOther request fs old new s
 request_prints_other (integrate base a b tries) fs old new s d is took range o = λ p q r hp hq hr few. other_printed p q r tries old new s fs base a b d o hp hq hr few is took range.0
+request_prints_other (integrate_many base variants tries) fs old new s d is took range o = λ p v ps hp hps few only.
+    only_of_variants p ps tries old new s fs base variants d o hp hps few is took range.2 v only
 request_prints_other _ fs old new s d is took range o = tt
 
 module _ (request : Request) (fs : Files) (reads : List ℕ → Type 0) (before now : ℕ) (out err : Change)
     (read : Rose before now → ⊥) (written : Rose out.before out.now → ⊥) where
-  abbrev Told : Decision → Type 0
-  Told = OutcomeIfTold (Some request) (Some fs)
+  abbrev Outcomes : Decision → Type 0
+  Outcomes = OutcomeIfTold (Some request) (Some fs)
 
   -- where nothing failed, the call was decided, unless memory ran out
-  pub settled : (Q : Status → Type 0) → ((s : Status) → Decided s Told before now out err → Q s) → (s : Status) → Ends s Told reads before now out err → (s ≡ status.Memory) ⊎ Q s
+  pub settled : (Q : Status → Type 0) → ((s : Status) → Decided s Outcomes before now out err → Q s) → (s : Status) → Ends s Outcomes reads before now out err → (s ≡ status.Memory) ⊎ Q s
   settled Q f status.ReadFault h = absurd (read h.count)
   settled Q f status.WriteFault h = absurd (written h.count)
   settled Q f status.Memory h = inl refl
@@ -213,11 +251,12 @@ module _ (request : Request) (fs : Files) (reads : List ℕ → Type 0) (before 
   settled Q f status.Refused h = inr (f status.Refused h)
   settled Q f status.Words h = inr (f status.Words h)
   settled Q f status.NotEnded h = inr (f status.NotEnded h)
+  settled Q f status.Rejected h = inr (f status.Rejected h)
 
-  pub completes : (s : Status) → Ends s Told reads before now out err → (s ≡ status.Memory) ⊎ RequestCompletes request fs out.old out.new s
+  pub completes : (s : Status) → Ends s Outcomes reads before now out err → (s ≡ status.Memory) ⊎ RequestCompletes request fs out.old out.new s
   completes = settled (λ s. RequestCompletes request fs out.old out.new s) (λ s d. request_completes request fs out.old out.new s d.r d.status_is d.took (d.outcome fs refl))
 
-  pub prints_other : IsInRange request → (s : Status) → Ends s Told reads before now out err → (s ≡ status.Memory) ⊎ PrintsOther request fs out.old out.new s
+  pub prints_other : IsInRange request → (s : Status) → Ends s Outcomes reads before now out err → (s ≡ status.Memory) ⊎ PrintsOther request fs out.old out.new s
   prints_other range = settled (λ s. PrintsOther request fs out.old out.new s) (λ s d. request_prints_other request fs out.old out.new s d.r d.status_is d.took range (d.outcome fs refl))
 
 -- the same, for a request and files that are known by other names

@@ -1,5 +1,7 @@
 pub mod EndsLemmas
 pub mod GraphLemmas
+pub mod Unrefused
+mod ManyDecided
 pub mod TrialLemmas
 pub mod Completeness
 pub mod Once

@@ -1,5 +1,6 @@
 -- The words and the files make one decision.
-use Rattle.std.proofs.Common.{◌≡◌, ℕ, List, refl, sym, ap, ◌∙◌, subst, inl, inr, Option, Some, None, Result, Ok, Err, codes}
+use Rattle.std.proofs.Common.{◌≡◌, ℕ, List, [], ◌∷◌, refl, sym, ap, ◌∙◌, subst, inl, inr, Option, Some, None, Result, Ok, Err, codes}
+use Rattle.std.specs.List.{AllByRecursion}
 use Rattle.hpr_terms.specs.declared.limits.TheConstants.{DEFAULT_TRIES}
 use Rattle.hpr_io.specs.Counts.{Rose}
 use Rattle.hpr_io.specs.Files.{Files, bytes_of}
@@ -20,13 +21,15 @@ use Rattle.hpr_decisions.specs.Ends.{Change, Ends, Decided, SaysIfAny, has_text,
 use Rattle.hpr_decisions.specs.GraphFile.{IsShown}
 use Rattle.hpr_decisions.specs.SliceFile.{IsSliceShown}
 use Rattle.hpr_decisions.specs.Graphs.{OnGraph}
-use Rattle.hpr_graph.specs.declared.conflict.Conflict.{Conflict}
-use Rattle.hpr_graph.specs.Answer.{Answer, interference, printed, no_program, spent}
+use Rattle.hpr_graph.specs.Answer.{Answer, AnswerBy, interference, printed, no_program, spent}
 use Rattle.hpr_engine.specs.Budget as budget
-use Rattle.hpr_engine.proofs.OneAnswer.{one_answer}
+use Rattle.hpr_engine.proofs.OneAnswer.{one_answer, one_answer_by}
 use Rattle.hpr_report.specs.ConflictsText.{conflicts_text}
-use Rattle.hpr_inputs.specs.Files.{OnFile, OnFiles}
-use Rattle.hpr_decisions.specs.Integrate.{OnGraphs, report, spent_text, no_program_text, IsReported, Integrated}
+use Rattle.hpr_inputs.specs.Files.{OnFile, OnFiles, OnAllFiles}
+use Rattle.hpr_decisions.specs.Integrate.{OnGraphs, report_by, spent_text, no_program_text, IsReported, Integrated}
+use Rattle.hpr_decisions.specs.IntegrateMany.{OnAllGraphs, IntegratedMany, IntegrateManyOutcome, IsReportedOfMany, Told, told_text}
+use Rattle.hpr_verify.proofs.Verdicts.{one_verdict}
+use Rattle.hpr_decisions.specs.VerifyFiles.{IsVerified, report_verdict}
 use Rattle.hpr_decisions.specs.Outcome.{RequestOutcome, Outcome, OutcomeIfTold, HasSearched, AgreeButForBudget}
 use Rattle.hpr_inputs.specs.Points.{IsNamed, IsPoint, OnPoints, no_such_point}
 use Rattle.hpr_edit.specs.declared.command.Command.{Command}
@@ -39,7 +42,7 @@ use Rattle.hpr_decisions.specs.TrialFiles.{IsTried, Tried}
 use Rattle.hpr_sample.specs.Sample as made
 use Rattle.hpr_sample.proofs.SamplePrograms.{is_sample}
 use Rattle.hpr_decisions.specs.Sampled.{IsSampled, sample_line, sample_report}
-use Rattle.hpr_words.specs.Request.{Request, Text, integrate, run, graph, slice, affected, trial, edit, tag, sample}
+use Rattle.hpr_words.specs.Request.{Request, Text, integrate, integrate_many, run, graph, slice, affected, trial, edit, tag, sample, verify}
 use Rattle.hpr_inputs.specs.declared.answer.Kind.TheVariants.{Done, Interference}
 use Rattle.hpr_decisions.specs.declared.status.Status.{Status}
 use Rattle.hpr_decisions.specs.declared.status.Status.TheVariants as status
@@ -53,20 +56,26 @@ one_printed : (P : List ℕ → Type 0) → ((x y : List ℕ) → P x → P y �
 one_printed P one r s (x, h, is) (y, k, so) = is ∙ ap (prints Done) (one x y h k) ∙ sym so
 
 -- answers that agree are reported so
-searched : (tries : ℕ) (x : Answer) (r : Decision) → budget.HasSearched x → r ≡ report tries x → HasSearched r
-searched tries (interference cs) r h is = absurd h
-searched tries (printed m) r h is = (text m, inl is)
-searched tries (no_program n) r h is = (no_program_text n, inr (inl is))
-searched tries spent r h is = absurd h
+module _ {X : Type 0} (say : List X → List ℕ) (tries : ℕ) where
+  searched : (x : AnswerBy X) (r : Decision) → budget.HasSearched x → r ≡ report_by say tries x → HasSearched r
+  searched (interference cs) r h is = absurd h
+  searched (printed m) r h is = (text m, inl is)
+  searched (no_program n) r h is = (no_program_text n, inr (inl is))
+  searched spent r h is = absurd h
 
-agree_reported : (tries : ℕ) (x y : Answer) (r s : Decision) → budget.Agree x y → r ≡ report tries x → s ≡ report tries y → AgreeButForBudget r s
-agree_reported tries x y r s (inl e) is so = inl (is ∙ ap (report tries) e ∙ sym so)
-agree_reported tries x y r s (inr (inl (e, h))) is so = inr (inl ((spent_text tries, is ∙ ap (report tries) e), searched tries y s h so))
-agree_reported tries x y r s (inr (inr (h, e))) is so = inr (inr (searched tries x r h is, (spent_text tries, so ∙ ap (report tries) e)))
+  agree_reported : (x y : AnswerBy X) (r s : Decision) → budget.Agree x y → r ≡ report_by say tries x → s ≡ report_by say tries y → AgreeButForBudget r s
+  agree_reported x y r s (inl e) is so = inl (is ∙ ap (report_by say tries) e ∙ sym so)
+  agree_reported x y r s (inr (inl (e, h))) is so = inr (inl ((spent_text tries, is ∙ ap (report_by say tries) e), searched y s h so))
+  agree_reported x y r s (inr (inr (h, e))) is so = inr (inr (searched x r h is, (spent_text tries, so ∙ ap (report_by say tries) e)))
 
 one_reported : (r s : Decision) (p q o : Tree) (tries : ℕ) → IsProgram p → IsProgram q → IsProgram o → IsReported p q o tries r → IsReported p q o tries s → AgreeButForBudget r s
 one_reported r s p q o tries is_p is_q is_o (x, answer, is) (y, answer_too, so) =
-    agree_reported tries x y r s (one_answer p q o is_p is_q is_o tries x y answer answer_too) is so
+    agree_reported conflicts_text tries x y r s (one_answer p q o is_p is_q is_o tries x y answer answer_too) is so
+
+one_reported_many : (r s : Decision) (p : Tree) (ps : List Tree) (tries : ℕ) → IsProgram p → AllByRecursion IsProgram ps → IsReportedOfMany p ps tries r → IsReportedOfMany p ps tries s
+    → AgreeButForBudget r s
+one_reported_many r s p ps tries is_p all (x, answer, is) (y, answer_too, so) =
+    agree_reported told_text tries x y r s (one_answer_by {X = Told} (λ t. t) p ps is_p all tries x y answer answer_too) is so
 
 -- so are they in a sample
 agree_sampled : (seed parts : ℕ) (p q o : Tree) (x y : Answer) (r s : Decision) → budget.Agree x y → r ≡ sample_report seed parts p q o x → s ≡ sample_report seed parts p q o y
@@ -88,6 +97,9 @@ one_sampled : (seed parts : ℕ) (r s : Decision) (p q o : Tree) → IsProgram p
 one_sampled seed parts r s p q o is_p is_q is_o (x, answer, is) (y, answer_too, so) =
     agree_sampled seed parts p q o x y r s (one_answer p q o is_p is_q is_o DEFAULT_TRIES x y answer answer_too) is so
 
+one_verified : (r s : Decision) (p q o m : Tree) → IsVerified p q o m r → IsVerified p q o m s → AgreeButForBudget r s
+one_verified r s p q o m (v, judged, is) (w, judged_too, so) = inl (is ∙ ap report_verdict (one_verdict p q o m v w judged judged_too) ∙ sym so)
+
 one_on_graph : (r s : Decision) (file : Text) (p : Tree) (next also : Type 0) → (next → also → AgreeButForBudget r s) → OnGraph file p next r → OnGraph file p also s → AgreeButForBudget r s
 one_on_graph r s file p next also rest (inl (_, is)) (inl (_, so)) = inl (is ∙ sym so)
 one_on_graph r s file p next also rest (inl (many, _)) (inr (few, _)) = absurd (few many)
@@ -98,6 +110,12 @@ one_on_graphs : (r s : Decision) (base : Text) (p : Tree) (a : Text) (q : Tree) 
     → OnGraphs base p a q b o next r → OnGraphs base p a q b o also s → AgreeButForBudget r s
 one_on_graphs r s base p a q b o next also rest h k =
     one_on_graph r s base p _ _ (λ h k. one_on_graph r s a q _ _ (λ h k. one_on_graph r s b o next also rest h k) h k) h k
+
+one_on_all_graphs : (r s : Decision) (names : List Text) (ps : List Tree) (next also : Type 0) → (next → also → AgreeButForBudget r s) → OnAllGraphs names ps next r → OnAllGraphs names ps also s
+    → AgreeButForBudget r s
+one_on_all_graphs r s [] ps next also rest h k = rest h k
+one_on_all_graphs r s (name ∷ names) [] next also rest h k = rest h k
+one_on_all_graphs r s (name ∷ names) (p ∷ ps) next also rest h k = one_on_graph r s name p _ _ (λ h k. one_on_all_graphs r s names ps next also rest h k) h k
 
 one_integrated : (r s : Decision) (base : Text) (p : Tree) (a : Text) (q : Tree) (b : Text) (o : Tree) (tries : ℕ) → IsProgram p → IsProgram q → IsProgram o
     → Integrated base p a q b o tries r → Integrated base p a q b o tries s → AgreeButForBudget r s
@@ -145,10 +163,24 @@ module _ (fs : Files) (r s : Decision) where
   one_on_files base a b next also rest h k =
       one_on_file base _ _ (λ p hp h k. one_on_file a _ _ (λ q hq h k. one_on_file b _ _ (λ o ho h k. rest p q o hp.program hq.program ho.program h k) h k) h k) h k
 
+  one_on_all_files : (names : List Text) (next also : List Tree → Type 0) → ((ps : List Tree) → AllByRecursion IsProgram ps → next ps → also ps → AgreeButForBudget r s)
+      → OnAllFiles fs names next r → OnAllFiles fs names also s → AgreeButForBudget r s
+  one_on_all_files [] next also rest h k = rest [] tt h k
+  one_on_all_files (n ∷ ns) next also rest h k =
+      one_on_file n _ _ (λ p hp h k. one_on_all_files ns (λ ps. next (p ∷ ps)) (λ ps. also (p ∷ ps)) (λ ps all h k. rest (p ∷ ps) (hp.program, all) h k) h k) h k
+
+  one_of_many : (base : Text) (names : List Text) (tries : ℕ) → IntegrateManyOutcome fs base names tries r → IntegrateManyOutcome fs base names tries s → AgreeButForBudget r s
+  one_of_many base names tries h k =
+      one_on_file base (λ p. OnAllFiles fs names (λ ps. IntegratedMany base p names ps tries r) r) (λ p. OnAllFiles fs names (λ ps. IntegratedMany base p names ps tries s) s)
+      (λ p hp h k. one_on_all_files names (λ ps. IntegratedMany base p names ps tries r) (λ ps. IntegratedMany base p names ps tries s)
+      (λ ps all h k. one_on_all_graphs r s (base ∷ names) (p ∷ ps) (IsReportedOfMany p ps tries r) (IsReportedOfMany p ps tries s)
+      (λ h k. one_reported_many r s p ps tries hp.program all h k) h k) h k) h k
+
   one_outcome : (request : Request) → RequestOutcome request fs r → RequestOutcome request fs s → AgreeButForBudget r s
   one_outcome (integrate base a b tries) h k =
       one_on_files base a b (λ p q o. Integrated base p a q b o tries r) (λ p q o. Integrated base p a q b o tries s)
       (λ p q o is_p is_q is_o h k. one_integrated r s base p a q b o tries is_p is_q is_o h k) h k
+  one_outcome (integrate_many base variants tries) h k = one_of_many base variants tries h k
   one_outcome (run file words steps trace) h k = one_on_state (states_of words) _ _ (λ state h k. one_on_file file _ _ (λ p hp h k. inl (h ∙ sym k)) h k) h k
   one_outcome (graph file json) h k =
       one_on_file file _ _ (λ p hp h k. one_on_graph r s file p _ _ (λ h k. inl (one_printed (IsShown json (graph_of p)) (one_shown json (graph_of p)) r s h k)) h k) h k
@@ -180,6 +212,14 @@ module _ (fs : Files) (r s : Decision) where
       one_on_graphs r s (codes "base") three.base (codes "A") three.a (codes "B") three.b
       (IsSampled seed parts three.base three.a three.b r) (IsSampled seed parts three.base three.a three.b s)
       (λ h k. one_sampled seed parts r s three.base three.a three.b is.base is.a is.b h k) h k
+  one_outcome (verify base a b m) h k =
+      one_on_files base a b (λ p q o. OnFile fs m (λ t. Judges p q o t r) r) (λ p q o. OnFile fs m (λ t. Judges p q o t s) s)
+      (λ p q o is_p is_q is_o h k. one_on_file m (λ t. Judges p q o t r) (λ t. Judges p q o t s)
+      (λ t ht h k. one_on_all_graphs r s (base ∷ a ∷ b ∷ m ∷ []) (p ∷ q ∷ o ∷ t ∷ []) (IsVerified p q o t r) (IsVerified p q o t s)
+      (λ h k. one_verified r s p q o t h k) h k) h k) h k
+    where
+      Judges : Tree → Tree → Tree → Tree → Decision → Type 0
+      Judges p q o t d = OnAllGraphs (base ∷ a ∷ b ∷ m ∷ []) (p ∷ q ∷ o ∷ t ∷ []) (IsVerified p q o t d) d
 
 pub one_decision : (request : Option Request) (fs : Files) (r s : Decision) → Outcome request fs r → Outcome request fs s → AgreeButForBudget r s
 one_decision None fs r s h k = inl (h ∙ sym k)
@@ -200,24 +240,24 @@ agree_interference r bytes (inr (inl (spent_is, (text, inr (inl e))))) = absurd 
 agree_interference r bytes (inr (inl (spent_is, (text, inr (inr e))))) = absurd cc
 agree_interference r bytes (inr (inr (searched_is, (text, e)))) = absurd cc
 
-pub one_interference : (request : Request) (fs : Files) (r : Decision) (cs : List Conflict) → RequestOutcome request fs r
-    → RequestOutcome request fs (prints Interference (conflicts_text cs)) → r ≡ prints Interference (conflicts_text cs)
-one_interference request fs r cs h k = agree_interference r (conflicts_text cs) (one_decision (Some request) fs r (prints Interference (conflicts_text cs)) h k)
+pub one_interference : (request : Request) (fs : Files) (r : Decision) (bytes : List ℕ) → RequestOutcome request fs r
+    → RequestOutcome request fs (prints Interference bytes) → r ≡ prints Interference bytes
+one_interference request fs r bytes h k = agree_interference r bytes (one_decision (Some request) fs r (prints Interference bytes) h k)
 
 module _ (request : Request) (fs : Files) (reads : List ℕ → Type 0) (before now : ℕ) (out err : Change) (m : List ℕ)
     (refused : RequestOutcome request fs (refuses m)) (read : Rose before now → ⊥) where
-  abbrev Told : Decision → Type 0
-  Told = OutcomeIfTold (Some request) (Some fs)
+  abbrev Outcomes : Decision → Type 0
+  Outcomes = OutcomeIfTold (Some request) (Some fs)
 
-  is_refused : (r : Decision) → Told r → r ≡ refuses m
+  is_refused : (r : Decision) → Outcomes r → r ≡ refuses m
   is_refused r o = agree_refused r m (one_decision (Some request) fs r (refuses m) (o fs refl) refused)
 
-  decided : (s : Status) → Decided s Told before now out err → IsRefusedCall m s err
+  decided : (s : Status) → Decided s Outcomes before now out err → IsRefusedCall m s err
   decided s d =
       let is : d.r ≡ refuses m = is_refused d.r d.outcome in
       inr (d.status_is ∙ ap status_of is, subst (λ r. SaysIfAny (message_of r) err) is d.says)
 
-  pub refused_ends : (s : Status) → Ends s Told reads before now out err → IsRefusedCall m s err
+  pub refused_ends : (s : Status) → Ends s Outcomes reads before now out err → IsRefusedCall m s err
   refused_ends status.ReadFault h = absurd (read h.count)
   refused_ends status.WriteFault h = absurd (subst has_text (is_refused h.r h.outcome) h.text)
   refused_ends status.Memory h = inl refl
@@ -228,6 +268,7 @@ module _ (request : Request) (fs : Files) (reads : List ℕ → Type 0) (before 
   refused_ends status.Refused h = decided status.Refused h
   refused_ends status.Words h = decided status.Words h
   refused_ends status.NotEnded h = decided status.NotEnded h
+  refused_ends status.Rejected h = decided status.Rejected h
 
 -- the same, for a request and files that are known by other names
 pub asked_refused : (known request : Request) (taken : Option Request) (files : Option Files) (fs : Files) (reads : List ℕ → Type 0) (m : List ℕ) (s : Status) (before now : ℕ) (out err : Change)

@@ -1,18 +1,24 @@
 -- For each request and all files there is a decision.
-use Rattle.std.proofs.Common.{◌≡◌, ℕ, Option, Some, None, IfSome, refl, arith, codes}
+use Rattle.std.proofs.Common.{◌≡◌, ◌≢◌, ◌≤◌, ℕ, List, [], ◌∷◌, length, Option, Some, None, IfSome, refl, ap, arith, codes}
+use Rattle.std.specs.List.{AllByRecursion}
 use Rattle.hpr_terms.specs.declared.limits.TheConstants.{DEFAULT_TRIES}
 use Rattle.hpr_io.specs.Files.{Files}
 use Rattle.hpr_syntax.specs.Print.{text}
+use Rattle.hpr_syntax.specs.Shape.{IsProgram}
 use Rattle.hpr_syntax.specs.Tree.{Tree}
 use Rattle.hpr_graph.specs.Answer.{Answer, IsAnswer}
 use Rattle.hpr_edit.specs.Applied.{applied}
-use Rattle.hpr_words.specs.Request.{Request, integrate, run, graph, slice, affected, trial, edit, tag, sample, IsInRange}
+use Rattle.hpr_order.proofs.SomeRank.{some_rank}
+use Rattle.hpr_words.specs.Request.{Request, Text, integrate, integrate_many, run, graph, slice, affected, trial, edit, tag, sample, verify, IsInRange}
 use Rattle.hpr_decisions.specs.AffectedFiles.{AffectedPoints}
 use Rattle.hpr_inputs.specs.Decision.{Decision, prints, usage}
 use Rattle.hpr_decisions.specs.GraphFile.{Graphed}
 use Rattle.hpr_decisions.specs.EditFiles.{OnScript, edit_decision}
-use Rattle.hpr_inputs.specs.Files.{OnFile, OnFiles}
+use Rattle.hpr_inputs.specs.Files.{OnFile, OnFiles, OnAllFiles}
 use Rattle.hpr_decisions.specs.Integrate.{IsReported, Integrated, report}
+use Rattle.hpr_decisions.specs.IntegrateMany.{IntegratedMany, IntegrateManyOutcome, IsReportedOfMany, OnAllGraphs, Told, report_many}
+use Rattle.hpr_decisions.specs.VerifyFiles.{IsVerified, report_verdict}
+use Rattle.hpr_verify.proofs.SomeVerdict.{some_verdict}
 use Rattle.hpr_decisions.specs.Outcome.{RequestOutcome, Outcome}
 use Rattle.hpr_decisions.specs.RunFile.{Ran}
 use Rattle.hpr_decisions.specs.SliceFile.{Sliced}
@@ -23,11 +29,11 @@ use Rattle.hpr_sample.specs.Sample.{IsSampleSize}
 use Rattle.hpr_sample.proofs.SamplePrograms.{is_sample}
 use Rattle.hpr_decisions.specs.Sampled.{IsSampled, SampleOutcome, sample_report}
 use Rattle.hpr_inputs.specs.declared.answer.Kind.TheVariants.{Done}
-use Rattle.hpr_engine.proofs.SomeAnswer.{some_answer}
+use Rattle.hpr_engine.proofs.SomeAnswer.{some_answer, some_answer_by}
 use Rattle.hpr_decisions.proofs.TotalFiles.{on_script, on_untagged}
-use Rattle.hpr_decisions.proofs.TotalGraphs.{on_graphs, graphed, sliced, affected_points}
+use Rattle.hpr_decisions.proofs.TotalGraphs.{on_all_graphs, on_graphs, graphed, sliced, affected_points}
 use Rattle.hpr_decisions.proofs.TotalTables.{tried}
-use Rattle.hpr_inputs.proofs.SomeDecision.{HasOne, on_file, on_files, on_state}
+use Rattle.hpr_inputs.proofs.SomeDecision.{HasOne, on_all_files, on_file, on_files, on_state}
 
 reported : (p q s : Tree) (tries : ℕ) → ¬ (¬ ((x : Answer) × IsAnswer p q s tries x)) → HasOne (IsReported p q s tries)
 reported p q s tries some n = some (λ x. n (report tries x.0, (x.0, x.1, refl)))
@@ -43,11 +49,23 @@ sample_decided seed parts size n =
     (sampled seed parts three.base three.a three.b (some_answer three.base three.a three.b is.base is.a is.b DEFAULT_TRIES))
     (λ found. n (found.0, (size, found.1)))
 
+reported_many : (p : Tree) (ps : List Tree) (tries : ℕ) → IsProgram p → AllByRecursion IsProgram ps → ps ≢ [] → HasOne (IsReportedOfMany p ps tries)
+reported_many p ps tries is all some n =
+    some_answer_by {X = Told} (λ t. t) (λ x y e. e) p ps is all (some_rank p ps some) tries (λ x. n (report_many tries x.0, (x.0, x.1, refl)))
+
 module _ (fs : Files) where
+  many_decided : (base : Text) (names : List Text) (tries : ℕ) → 1 ≤ length names → HasOne (IntegrateManyOutcome fs base names tries)
+  many_decided base names tries some =
+      on_file fs base (λ p r. OnAllFiles fs names (λ ps. IntegratedMany base p names ps tries r) r) (λ p is.
+      on_all_files fs names (λ ps r. IntegratedMany base p names ps tries r) (λ ps count all.
+      on_all_graphs (base ∷ names) (p ∷ ps) (IsReportedOfMany p ps tries)
+      (reported_many p ps tries is all (λ none. (let e = ap (λ (qs : List Tree). length qs) none in omega (arith, some, count, e))))))
+
   request_decided : (request : Request) → IsInRange request → HasOne (RequestOutcome request fs)
   request_decided (integrate base a b tries) range =
       on_files fs base a b (λ p q s r. Integrated base p a q b s tries r) (λ p q s is_p is_q is_s.
       on_graphs base p a q b s (IsReported p q s tries) (reported p q s tries (some_answer p q s is_p is_q is_s tries)))
+  request_decided (integrate_many base variants tries) range = many_decided base variants tries (omega (arith, range.0))
   request_decided (run file words steps trace) range =
       on_state (states_of words) (λ state r. OnFile fs file (λ p. Ran p state steps trace r) r) (λ state.
       on_file fs file (λ p r. Ran p state steps trace r) (λ p _ n. n (_, refl)))
@@ -66,6 +84,11 @@ module _ (fs : Files) where
   request_decided (tag file author) range =
       on_untagged fs file author (λ p r. r ≡ prints Done (text p)) (omega (arith, range.1)) (λ p _ n. n (prints Done (text p), refl))
   request_decided (sample seed parts) range = sample_decided seed parts (range.1, range.2)
+  request_decided (verify base a b m) range =
+      on_files fs base a b (λ p q s r. OnFile fs m (λ o. OnAllGraphs (base ∷ a ∷ b ∷ m ∷ []) (p ∷ q ∷ s ∷ o ∷ []) (IsVerified p q s o r) r) r) (λ p q s is_p is_q is_s.
+      on_file fs m (λ o r. OnAllGraphs (base ∷ a ∷ b ∷ m ∷ []) (p ∷ q ∷ s ∷ o ∷ []) (IsVerified p q s o r) r) (λ o is_o.
+      on_all_graphs (base ∷ a ∷ b ∷ m ∷ []) (p ∷ q ∷ s ∷ o ∷ []) (IsVerified p q s o) (λ n.
+      some_verdict p q s o (λ v. n (report_verdict v.0, (v.0, v.1, refl))))))
 
 pub has_decision : (request : Option Request) (fs : Files) → IfSome request IsInRange → ¬ (¬ ((r : Decision) × Outcome request fs r))
 has_decision None fs range n = n (usage, refl)

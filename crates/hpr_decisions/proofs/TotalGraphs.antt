@@ -1,5 +1,5 @@
 -- Each graph has its texts; so a decision on the graph of a program is there.
-use Rattle.std.proofs.Common.{Bool, true, false, ℕ, List, inl, inr, refl}
+use Rattle.std.proofs.Common.{Bool, true, false, ℕ, List, [], ◌∷◌, inl, inr, refl}
 use Rattle.hpr_terms.proofs.Facts.{by_both}
 use Rattle.hpr_syntax.specs.Print.{text}
 use Rattle.hpr_syntax.specs.Tree.{Tree}
@@ -15,6 +15,7 @@ use Rattle.hpr_inputs.specs.Decision.{Decision, Prints, refuses}
 use Rattle.hpr_decisions.specs.GraphFile.{IsShown, Graphed}
 use Rattle.hpr_decisions.specs.Graphs.{OnGraph, too_many_edges}
 use Rattle.hpr_decisions.specs.Integrate.{OnGraphs}
+use Rattle.hpr_decisions.specs.IntegrateMany.{OnAllGraphs}
 use Rattle.hpr_inputs.specs.Points.{IsPoint, OnPoints}
 use Rattle.hpr_decisions.specs.SliceFile.{IsSliceShown, Sliced}
 use Rattle.hpr_prune.proofs.OneProgram.{some_pruned}
@@ -34,6 +35,11 @@ on_graphs base p a q b s next decides =
     on_graph base p (λ r. OnGraph a q (OnGraph b s (next r) r) r)
     (on_graph a q (λ r. OnGraph b s (next r) r)
     (on_graph b s next decides))
+
+pub on_all_graphs : (names : List Text) (ps : List Tree) (next : Decision → Type 0) → HasOne next → HasOne (λ r. OnAllGraphs names ps (next r) r)
+on_all_graphs [] ps next decides = decides
+on_all_graphs (name ∷ names) [] next decides = decides
+on_all_graphs (name ∷ names) (p ∷ ps) next decides = on_graph name p (λ r. OnAllGraphs names ps (next r) r) (on_all_graphs names ps next decides)
 
 -- what is shown of a program's graph, of a slice of it and of its affected points
 shown : (json : Bool) (p : Tree) → ¬ (¬ ((text : List ℕ) × IsShown json (graph_of p) text))

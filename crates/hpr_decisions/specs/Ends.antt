@@ -21,7 +21,7 @@ use Rattle.hpr_inputs.specs.Decision.{Decision, prints, refuses, usage}
 use Rattle.hpr_inputs.specs.Files.{cannot_read}
 
 abbrev pub usage_text : List ℕ
-usage_text = codes "usage: hpr integrate BASE A B [--tries N]\n       hpr run FILE [STATE..] [--steps N] [--trace]\n       hpr graph FILE [--json]\n       hpr slice FILE POINT.. [--program]\n       hpr affected BASE A\n       hpr trial BASE A B [STATE..] [--steps N]\n       hpr edit FILE SCRIPT --author N\n       hpr tag FILE --author N\n       hpr sample SEED PARTS\n"
+usage_text = codes "usage: hpr integrate BASE V1 V2.. [--tries N]\n       hpr run FILE [STATE..] [--steps N] [--trace]\n       hpr graph FILE [--json]\n       hpr slice FILE POINT.. [--program]\n       hpr affected BASE A\n       hpr trial BASE A B [STATE..] [--steps N]\n       hpr edit FILE SCRIPT --author N\n       hpr tag FILE --author N\n       hpr sample SEED PARTS\n       hpr verify BASE A B M\n"
 
 abbrev pub cannot_write : List ℕ
 cannot_write = codes "hpr: cannot write output\n"
@@ -44,6 +44,7 @@ status_of_kind kind.Interference = status.Interference
 status_of_kind kind.NoProgram = status.NoProgram
 status_of_kind kind.Spent = status.Spent
 status_of_kind kind.NotEnded = status.NotEnded
+status_of_kind kind.Rejected = status.Rejected
 
 abbrev pub status_of : Decision → Status
 status_of (prints k text) = status_of_kind k

@@ -1,5 +1,6 @@
 pub mod Reads
 pub mod Integrate
+pub mod IntegrateMany
 pub mod TraceText
 pub mod RunFile
 pub mod Graphs
@@ -9,6 +10,7 @@ pub mod AffectedFiles
 pub mod EditFiles
 pub mod TrialFiles
 pub mod Sampled
+pub mod VerifyFiles
 pub mod Outcome
 pub mod Answered
 pub mod Ends
@@ -21,3 +23,4 @@ pub mod MergedText
 pub mod LeftText
 pub mod SliceTheorem
 pub mod TrialKeeps
+pub mod VerifyKeeps

@@ -2,6 +2,8 @@
 --
 -- HasMergedGraph base a b bytes   == the bytes base, a and b are accepted files that spell three programs, and the bytes spell a program whose graph is
 --                                    their merged graph, in which the parts that are split off are under their new tags
+-- HasManyMergedGraph files base names bytes == base's file and the variants' are accepted and spell programs, and the bytes spell a program whose graph is
+--                                    so made of theirs
 -- PrintsMerged request files bytes == for `integrate`: the bytes are such a text, of the files that it names
 use Rattle.std.specs.Prelude.{ℕ, List, [], ◌∷◌}
 use Rattle.hpr_io.specs.Files.{Files, bytes_of}
@@ -13,7 +15,8 @@ use Rattle.hpr_syntax.specs.Spelling.{Spells}
 use Rattle.hpr_graph.specs.declared.vertex.Vertex.{Vertex}
 use Rattle.hpr_graph.specs.Answer.{Fits, AreSplitOff, searched_graph_of}
 use Rattle.hpr_refusals.specs.Refusals.{IsFileOf}
-use Rattle.hpr_words.specs.Request.{Request, integrate}
+use Rattle.hpr_inputs.specs.ReadsAll.{AreAllFilesOf}
+use Rattle.hpr_words.specs.Request.{Request, Text, integrate, integrate_many}
 
 pub record HasMergedGraph (base a b bytes : List ℕ) : Type 0 where
   pub base_program : Tree
@@ -29,6 +32,19 @@ pub record HasMergedGraph (base a b bytes : List ℕ) : Type 0 where
   pub split_off : AreSplitOff base_program (a_program ∷ b_program ∷ []) renamed
   pub fits : Fits (searched_graph_of renamed base_program (a_program ∷ b_program ∷ [])) printed
 
+pub record HasManyMergedGraph (files : Files) (base : Text) (names : List Text) (bytes : List ℕ) : Type 0 where
+  pub base_program : Tree
+  pub variant_programs : List Tree
+  pub base_is : IsFileOf (bytes_of files base) base_program
+  pub variants_are : AreAllFilesOf files names variant_programs
+  pub printed : Tree
+  pub program : IsProgram printed
+  pub spelled : Spells tagged bytes printed
+  pub renamed : List (Vertex × Tag)
+  pub split_off : AreSplitOff base_program variant_programs renamed
+  pub fits : Fits (searched_graph_of renamed base_program variant_programs) printed
+
 abbrev pub PrintsMerged : Request → Files → List ℕ → Type 0
 PrintsMerged (integrate base a b tries) files bytes = HasMergedGraph (bytes_of files base) (bytes_of files a) (bytes_of files b) bytes
+PrintsMerged (integrate_many base variants tries) files bytes = HasManyMergedGraph files base variants bytes
 PrintsMerged _ files bytes = Unit {0}

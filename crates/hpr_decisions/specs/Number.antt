@@ -16,3 +16,4 @@ number_of status.WriteFault = 6
 number_of status.Words = 7
 number_of status.Memory = 8
 number_of status.NotEnded = 9
+number_of status.Rejected = 10

@@ -9,9 +9,10 @@
 -- HasDecision                    == it can't be refuted that the words and the files make a decision, where a request is in range
 use Rattle.std.specs.Prelude.{◌≡◌, ◌⊎◌, ℕ, List, Option, Some, None, IfSome}
 use Rattle.hpr_io.specs.Files.{Files}
-use Rattle.hpr_words.specs.Request.{Request, integrate, run, graph, slice, affected, trial, edit, tag, sample, IsInRange}
+use Rattle.hpr_words.specs.Request.{Request, integrate, integrate_many, run, graph, slice, affected, trial, edit, tag, sample, verify, IsInRange}
 use Rattle.hpr_inputs.specs.Decision.{Decision, prints, usage}
 use Rattle.hpr_decisions.specs.Integrate.{IntegrateOutcome}
+use Rattle.hpr_decisions.specs.IntegrateMany.{IntegrateManyOutcome}
 use Rattle.hpr_decisions.specs.RunFile.{RunOutcome}
 use Rattle.hpr_decisions.specs.GraphFile.{GraphOutcome}
 use Rattle.hpr_decisions.specs.SliceFile.{SliceOutcome}
@@ -19,10 +20,12 @@ use Rattle.hpr_decisions.specs.AffectedFiles.{AffectedOutcome}
 use Rattle.hpr_decisions.specs.TrialFiles.{TrialOutcome}
 use Rattle.hpr_decisions.specs.EditFiles.{EditOutcome, TagOutcome}
 use Rattle.hpr_decisions.specs.Sampled.{SampleOutcome}
+use Rattle.hpr_decisions.specs.VerifyFiles.{VerifyOutcome}
 use Rattle.hpr_inputs.specs.declared.answer.Kind.TheVariants.{Done, NoProgram, Spent, NotEnded}
 
 abbrev pub RequestOutcome : Request → Files → Decision → Type 0
 RequestOutcome (integrate base a b tries) files r = IntegrateOutcome files base a b tries r
+RequestOutcome (integrate_many base variants tries) files r = IntegrateManyOutcome files base variants tries r
 RequestOutcome (run file states steps trace) files r = RunOutcome files file states steps trace r
 RequestOutcome (graph file json) files r = GraphOutcome files file json r
 RequestOutcome (slice file points program) files r = SliceOutcome files file points program r
@@ -31,6 +34,7 @@ RequestOutcome (trial base a b states steps) files r = TrialOutcome files base a
 RequestOutcome (edit file script author) files r = EditOutcome files file script author r
 RequestOutcome (tag file author) files r = TagOutcome files file author r
 RequestOutcome (sample seed parts) files r = SampleOutcome seed parts r
+RequestOutcome (verify base a b offered) files r = VerifyOutcome files base a b offered r
 
 abbrev pub Outcome : Option Request → Files → Decision → Type 0
 Outcome None files r = r ≡ usage

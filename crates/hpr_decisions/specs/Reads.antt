@@ -6,12 +6,13 @@
 --                             words is refused
 use Rattle.std.specs.Prelude.{◌≡◌, List, [], ◌∷◌, Option, Some, None, IsOk}
 use Rattle.hpr_io.specs.Files.{Files}
-use Rattle.hpr_words.specs.Request.{Request, Text, integrate, run, graph, slice, affected, trial, edit, tag, sample}
+use Rattle.hpr_words.specs.Request.{Request, Text, integrate, integrate_many, run, graph, slice, affected, trial, edit, tag, sample, verify}
 use Rattle.hpr_inputs.specs.Reads.{IsReached}
 use Rattle.hpr_inputs.specs.States.{states_of}
 
 abbrev pub files_of : Request → List Text
 files_of (integrate base a b tries) = base ∷ a ∷ b ∷ []
+files_of (integrate_many base variants tries) = base ∷ variants
 files_of (run file states steps trace) = file ∷ []
 files_of (graph file json) = file ∷ []
 files_of (slice file points program) = file ∷ []
@@ -20,6 +21,7 @@ files_of (trial base a b states steps) = base ∷ a ∷ b ∷ []
 files_of (edit file script author) = file ∷ script ∷ []
 files_of (tag file author) = file ∷ []
 files_of (sample seed parts) = []
+files_of (verify base a b offered) = base ∷ a ∷ b ∷ offered ∷ []
 
 abbrev pub files_of_taken : Option Request → List Text
 files_of_taken None = []
@@ -27,6 +29,7 @@ files_of_taken (Some request) = files_of request
 
 abbrev pub MayRead : Request → Option Files → Text → Type 0
 MayRead (integrate base a b tries) told file = IsReached told (base ∷ a ∷ b ∷ []) file
+MayRead (integrate_many base variants tries) told file = IsReached told (base ∷ variants) file
 MayRead (run named states steps trace) told file = (file ≡ named) × IsOk (states_of states)
 MayRead (graph named json) told file = file ≡ named
 MayRead (slice named points program) told file = file ≡ named
@@ -35,6 +38,7 @@ MayRead (trial base a b states steps) told file = IsReached told (base ∷ a ∷
 MayRead (edit named script author) told file = IsReached told (named ∷ script ∷ []) file
 MayRead (tag named author) told file = file ≡ named
 MayRead (sample seed parts) told file = ⊥
+MayRead (verify base a b offered) told file = IsReached told (base ∷ a ∷ b ∷ offered ∷ []) file
 
 abbrev pub MayReadIfTaken : Option Request → Option Files → Text → Type 0
 MayReadIfTaken None told file = ⊥

@@ -23,13 +23,15 @@ pub enum Status {
     Memory,
     /// A run did not end normally.
     NotEnded,
+    /// A merged program that was made elsewhere hasn't the merged graph, or the variants interfere.
+    Rejected,
 }
 
 impl Status {
     ghost use Rattle.std.specs.Prelude.{◌≡◌};
     ghost use Rattle.hpr_decisions.specs.Number.{number_of};
 
-    /// The exit status of the program: 0 to 9 in the declared order.
+    /// The exit status of the program: 0 to 10 in the declared order.
     pub fn number(&self) -> u8
         ensures { result ≡ number_of self.now }
     {
@@ -44,6 +46,7 @@ impl Status {
             Status::Words => 7,
             Status::Memory => 8,
             Status::NotEnded => 9,
+            Status::Rejected => 10,
         }
     }
 }

@@ -1,15 +1,16 @@
 use Rattle.std.proofs.Common.{All, IsTrue, ap, map, string_bytes, subst, sym, Err}
 use Rattle.hpr_decisions.specs.Reads.{files_of_taken}
 use Rattle.hpr_decisions.proofs.Completeness.{asked_completes, asked_prints_other}
-use Rattle.hpr_decisions.specs.Theorem.{KeepsMeaning}
+use Rattle.hpr_decisions.specs.Theorem.{KeepsAllMeaning, KeepsMeaning}
 use Rattle.hpr_decisions.specs.MergedText.{PrintsMerged}
 use Rattle.hpr_decisions.specs.LeftText.{PrintsLeft}
 use Rattle.hpr_decisions.specs.SliceTheorem.{DoesSlice}
 use Rattle.hpr_decisions.specs.TrialKeeps.{KeepsTrial}
+use Rattle.hpr_decisions.specs.VerifyKeeps.{HasVerified}
 use Rattle.hpr_decisions.proofs.EndsLemmas.{Ends-for, asked_ends, done_took}
-use Rattle.hpr_decisions.proofs.Reported.{conflict_ends, interference_ends, interferes_ends, leaves_ends, no_program_ends, spent_ends}
+use Rattle.hpr_decisions.proofs.Reported.{conflict_ends, interference_ends, interferes_ends, leaves_ends, no_program_ends, rejected_ends, spent_ends}
 use Rattle.hpr_decisions.proofs.Once.{asked_refused}
-use Rattle.hpr_decisions.proofs.Theorem.{request_keeps, request_fits, request_left}
+use Rattle.hpr_decisions.proofs.Theorem.{request_keeps, request_keeps_all, request_fits, request_left, request_verified}
 use Rattle.hpr_decisions.proofs.SliceTheorem.{request_does}
 use Rattle.hpr_decisions.proofs.TrialTheorem.{trial_keeps, ends_trial}
 use Rattle.hpr_words.proofs.WordLemmas.{plain_is_taken}
@@ -24,6 +25,11 @@ returns-in-Ok-clause-ends g c = Ends-for _ _ _ _ _ _ _ _ (sym c.in-Ok.ensures.ta
 pub returns-in-Ok-clause-keeps : goal.returns-in-Ok-clause-keeps
 returns-in-Ok-clause-keeps g c asked fs is told done =
     done_took KeepsMeaning request_keeps asked fs _ _ _ _ _ _ done
+    (asked_ends _ asked _ (g.S.Shelf.files c.args.shelf.now) fs _ _ _ _ _ _ (sym c.in-Ok.ensures.taken) is told c.run_asked.ensures.ends)
+
+pub returns-in-Ok-clause-keeps_all : goal.returns-in-Ok-clause-keeps_all
+returns-in-Ok-clause-keeps_all g c asked fs is told done =
+    done_took KeepsAllMeaning request_keeps_all asked fs _ _ _ _ _ _ done
     (asked_ends _ asked _ (g.S.Shelf.files c.args.shelf.now) fs _ _ _ _ _ _ (sym c.in-Ok.ensures.taken) is told c.run_asked.ensures.ends)
 
 pub returns-in-Ok-clause-merged : goal.returns-in-Ok-clause-merged
@@ -55,7 +61,7 @@ returns-in-Ok-clause-interference g c asked fs is told interfered =
     (asked_ends _ asked _ (g.S.Shelf.files c.args.shelf.now) fs _ _ _ _ _ _ (sym c.in-Ok.ensures.taken) is told c.run_asked.ensures.ends)
 
 pub returns-in-Ok-clause-interferes : goal.returns-in-Ok-clause-interferes
-returns-in-Ok-clause-interferes g c cs asked fs is told interferes read written =
+returns-in-Ok-clause-interferes g c asked fs is told cs interferes read written =
     interferes_ends asked fs _ _ _ _ _ cs interferes read written _
     (asked_ends _ asked _ (g.S.Shelf.files c.args.shelf.now) fs _ _ _ _ _ _ (sym c.in-Ok.ensures.taken) is told c.run_asked.ensures.ends)
 
@@ -87,6 +93,16 @@ returns-in-Ok-clause-trial g c asked fs is told done =
 pub returns-in-Ok-clause-trial_ends : goal.returns-in-Ok-clause-trial_ends
 returns-in-Ok-clause-trial_ends g c asked fs is told =
     ends_trial asked fs _ _ _ _ _ _
+    (asked_ends _ asked _ (g.S.Shelf.files c.args.shelf.now) fs _ _ _ _ _ _ (sym c.in-Ok.ensures.taken) is told c.run_asked.ensures.ends)
+
+pub returns-in-Ok-clause-verified : goal.returns-in-Ok-clause-verified
+returns-in-Ok-clause-verified g c asked fs is told done =
+    (done_took (λ request files bytes. HasVerified request files) request_verified asked fs _ _ _ _ _ _ done
+    (asked_ends _ asked _ (g.S.Shelf.files c.args.shelf.now) fs _ _ _ _ _ _ (sym c.in-Ok.ensures.taken) is told c.run_asked.ensures.ends)).2
+
+pub returns-in-Ok-clause-rejected : goal.returns-in-Ok-clause-rejected
+returns-in-Ok-clause-rejected g c asked fs is told rejected =
+    rejected_ends asked fs _ _ _ _ _ _ rejected
     (asked_ends _ asked _ (g.S.Shelf.files c.args.shelf.now) fs _ _ _ _ _ _ (sym c.in-Ok.ensures.taken) is told c.run_asked.ensures.ends)
 
 pub returns-in-Ok-clause-refused : goal.returns-in-Ok-clause-refused

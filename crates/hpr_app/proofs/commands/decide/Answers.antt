@@ -1,3 +1,7 @@
+use Rattle.std.proofs.Common.{All, IsTrue, suc, arith, subst}
+use Rattle.hpr_words.specs.Asked.{request}
+use Rattle.hpr_words.specs.declared.asked.Asked.{Asked}
+use Rattle.hpr_decisions.specs.Reads.{files_of}
 use Rattle.hpr_decisions.specs.Sampled.{SampleOutcome}
 use Rattle.hpr_app.proofs.SampleLemmas.{unread}
 use Rattle.hpr_app.proofs.commands.decide.Goals as goal
@@ -5,8 +9,11 @@ use Rattle.hpr_app.proofs.commands.decide.Goals as goal
 pub returns-in-Integrate : goal.returns-in-Integrate
 returns-in-Integrate g c = rw c.in-Integrate.is c.integrate_files.ensures
 
+pub returns-in-IntegrateMany : goal.returns-in-IntegrateMany
+returns-in-IntegrateMany g c = rw c.in-IntegrateMany.is (rw c.as_slice.ensures.value at c.integrate_many_files.ensures)
+
 pub returns-in-Run : goal.returns-in-Run
-returns-in-Run g c = rw c.in-Run.is (rw c.as_slice.ensures.value at c.run_file.ensures)
+returns-in-Run g c = rw c.in-Run.is (rw c.as_slice-in-Run.ensures.value at c.run_file.ensures)
 
 pub returns-in-Graph : goal.returns-in-Graph
 returns-in-Graph g c = rw c.in-Graph.is c.graph_file.ensures
@@ -31,3 +38,12 @@ returns-in-Sample g c =
     rw c.in-Sample.is
     (unread (g.S.Shelf.files c.args.shelf.now) (SampleOutcome c.in-Sample.seed c.in-Sample.parts) (λ file. ⊥) (g.S.Shelf.faults c.args.shelf.now)
     c.sample_seed.result c.sample_seed.ensures)
+
+pub returns-in-Verify : goal.returns-in-Verify
+returns-in-Verify g c = rw c.in-Verify.is c.verify_files.ensures
+
+-- what a shelf serves of all words, it serves of those behind the first
+pub integrate_many_files-requires-clause-variants : goal.integrate_many_files-requires-clause-variants
+integrate_many_files-requires-clause-variants g c =
+    let all = subst (λ (a : Asked). All (λ name. IsTrue (g.S.Shelf.serves c.args.shelf.now name)) (files_of (request a))) c.in-IntegrateMany.is c.requires.serves in
+    rw c.as_slice.ensures.value (λ k d low. all (suc k) d (omega (arith, low)))
