@@ -22,6 +22,12 @@ fn put_integrate(out: &mut Out, files: &[&str], tries: u64) {
     put_count(out, ", tries ", tries);
 }
 
+fn put_many(out: &mut Out, base: &str, variants: &[&str], tries: u64) {
+    put_files(out, "integrate", &[base]);
+    put_files(out, ", variants", variants);
+    put_count(out, ", tries ", tries);
+}
+
 fn put_affected(out: &mut Out, files: &[&str]) {
     put_files(out, "affected", files);
     out.put_piece("\n");
@@ -37,6 +43,11 @@ fn put_trial(out: &mut Out, files: &[&str], states: &[&str], steps: u64) {
 fn put_variants(out: &mut Out, asked: &Asked<'_>) {
     match asked {
         Asked::Integrate { base, a, b, tries } => put_integrate(out, &[base, a, b], *tries),
+        Asked::IntegrateMany {
+            base,
+            variants,
+            tries,
+        } => put_many(out, base, variants, *tries),
         Asked::Affected { base, a } => put_affected(out, &[base, a]),
         Asked::Trial {
             base,

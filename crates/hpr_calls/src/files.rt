@@ -17,7 +17,7 @@ fn push_number(numbers: &mut Vec<u64>, word: &str) -> Option<()> {
 }
 
 // Adds the numbers of the calls that fail: `-`, or numbers with commas between them.
-fn add_failing(failing: &mut Vec<u64>, word: &str) -> Option<()> {
+pub(crate) fn add_failing(failing: &mut Vec<u64>, word: &str) -> Option<()> {
     if word == "-" {
         return Some(());
     }

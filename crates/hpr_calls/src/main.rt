@@ -3,9 +3,11 @@
 #![tactic(auto)]
 
 mod asking;
+mod conflicts;
 mod edits;
 mod expression;
 mod files;
+mod inputs;
 mod point;
 mod running;
 mod samples;
@@ -30,8 +32,10 @@ impl Calls for ProgramCalls {
             "point" => point::call(row, out),
             "edit" => edits::call(row, out),
             "file" => files::call(row, out),
+            "input" => inputs::call(row, out),
             "words" => asking::call(row, out),
             "sample" => samples::call(row, out),
+            "conflict" => conflicts::call(row, out),
             _ => None,
         }
     }

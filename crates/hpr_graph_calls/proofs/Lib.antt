@@ -1,2 +1,3 @@
+mod ManyGraphs
 mod ForestExample
 mod WalkExample

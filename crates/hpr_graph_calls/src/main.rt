@@ -5,6 +5,8 @@
 mod engine;
 mod forest;
 mod graph;
+mod judged;
+mod many;
 mod orders;
 mod region;
 mod search;
@@ -24,7 +26,9 @@ impl Calls for GraphCalls {
             "graph" => graph::call(row, out),
             "slice" => slices::call(row, out),
             "order" => orders::call(row, out),
+            "many" => many::call(row, out),
             "integrate" => engine::call(row, out),
+            "verify" => judged::call(row, out),
             "region" => region::call(row, out),
             "search" => search::call(row, out),
             "walk" => walk::call(row, out),

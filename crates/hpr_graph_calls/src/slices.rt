@@ -47,8 +47,8 @@ fn are_below(points: &[usize], count: usize) -> bool
     points.iter().all(|point| *point < count)
 }
 
-// Puts the title and the numbers that were found.
-fn put_found(out: &mut Out, title: &str, found: Result<Vec<usize>, NoMemory>) {
+/// Puts the title and the numbers that were found.
+pub(crate) fn put_found(out: &mut Out, title: &str, found: Result<Vec<usize>, NoMemory>) {
     match found {
         Ok(numbers) => put_numbers(out, title, &numbers),
         Err(_) => out.cut(),

@@ -1,7 +1,7 @@
 //! Graphs that texts spell.
 ghost use Rattle.std.specs.Prelude.{IfOk, IfSome};
-ghost use Rattle.hpr_graph.specs.Numbered.{graph_in};
-ghost use Rattle.hpr_graph.specs.Whole.{IsWhole};
+ghost use Rattle.hpr_graph.specs.Numbered.{graph_in, graphs_in};
+ghost use Rattle.hpr_graph.specs.Whole.{AreAll, IsWhole};
 
 use hpr_build::{BuildError, graph_of};
 use hpr_graph::{Draft, Graph, Link, LinkKind, Vertex};
@@ -108,6 +108,18 @@ pub(crate) fn program_graph(row: Row<'_>, at: usize) -> Option<Graph>
         Ok(graph) => Some(graph),
         Err(_) => None,
     }
+}
+
+/// The graphs of the programs that the texts spell whose names stand from this place on.
+#[tactic(auto, using(crate::proofs::ManyGraphs::whole_push))]
+pub(crate) fn program_graphs(row: Row<'_>, from: usize) -> Option<Vec<Graph>>
+    ensures { IfSome result (λ gs. AreAll IsWhole (graphs_in gs.items)) }
+{
+    let mut graphs = Vec::new(row.alloc);
+    for at in from..row.words.len() {
+        graphs.push(program_graph(row, at)?).ok()?;
+    }
+    Some(graphs)
 }
 
 /// The graph of the text that the word at this place names: that of the program that it spells, or else
