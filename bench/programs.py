@@ -104,6 +104,14 @@ def variants(program):
     return program.text(NAMES), a, b
 
 
+def many(program, count):
+    """The texts of so many variants, each of which adds a part that defines a name of its own."""
+    draw = random.Random(count).randrange
+    for author in range(2, count + 2):
+        part = f"w{author} := {NAMES[draw(8)]} + {NAMES[draw(8)]};"
+        yield program.with_part(draw(len(program.tops) + 1), f"{author}.1", part, [f"w{author}"] + NAMES)
+
+
 def flat(parts):
     """Assignments alone, each of which reads two of the eight variables."""
     draw = random.Random(parts).randrange

@@ -5,6 +5,7 @@ comment that says it in words. Programs are trees of parts; contents, expression
 """
 import collections
 import itertools
+import json
 import re
 
 LEAST, GREATEST = -2**63, 2**63 - 1
@@ -359,13 +360,13 @@ def table_text(outcomes):
     return lines_text(f"{name}: {cells(name)}" for name in sorted(set().union(*columns)))
 
 
-# Kept meaning: the merged program has each variant's value where that is another than the base's, and the value on which all
-# three agree.
-def keeps(base, a, b, merged):
-    base, a, b, merged = (dict(outcome.finals) for outcome in (base, a, b, merged))
+# Kept meaning: the merged program has each variant's value where that is another than the base's, and the value on which base
+# and all variants agree.
+def keeps(base, *others):
+    base, *variants, merged = (dict(outcome.finals) for outcome in (base, *others))
     has = lambda name, value: name in merged and merged[name] == value
-    changed = all(has(name, side[name]) for side in (a, b) for name in side if name not in base or base[name] != side[name])
-    return changed and all(has(name, base[name]) for name in base if name in a and name in b and base[name] == a[name] == b[name])
+    changed = all(has(name, side[name]) for side in variants for name in side if name not in base or base[name] != side[name])
+    return changed and all(has(name, base[name]) for name in base if all(side.get(name) == base[name] for side in variants))
 
 
 # ---- the graph of a program
@@ -526,43 +527,42 @@ def affected(variant, base):
     return sorted(at for at in variant.graph.vertices if at not in base.graph.vertices or variant.at(at) != base.at(at))
 
 
-# A point is preserved where all three have it, with one slice; the points of initial values are not.
-def preserved(base, a, b):
-    shared = base.graph.vertices & a.graph.vertices & b.graph.vertices
-    return [at for at in shared if at[0] != INIT and base.at(at) == a.at(at) == b.at(at)]
+# A point is preserved where base and all variants have it, with one slice; the points of initial values are not.
+def preserved(base, variants):
+    shared = base.graph.vertices.intersection(*(one.graph.vertices for one in variants))
+    return [at for at in shared if at[0] != INIT and all(base.at(at) == one.at(at) for one in variants)]
 
 
-# The merged graph: what each variant changed and what all three share, each with all on which it depends.
-def merged_graph(base, a, b, of_a, of_b):
-    slices = [a.of(of_a), b.of(of_b), base.of(preserved(base, a, b))]
+# The merged graph: what each variant changed and what all share, each with all on which it depends.
+def merged_graph(base, variants, changed):
+    slices = [*(one.of(points) for one, points in zip(variants, changed)), base.of(preserved(base, variants))]
     return Graph(frozenset().union(*(one.vertices for one in slices)), frozenset().union(*(one.edges for one in slices)))
 
 
 # A conflict is an affected point whose slice is another in the merged graph, with the least edge that this one adds and that ends
 # in a vertex of the variant's.
 def conflicts(merged, sides):
-    for letter, variant, points in sides:
+    for name, variant, points in sides:
         for at in points:
             mine, theirs = variant.at(at), merged.at(at)
             if mine != theirs:
-                yield letter, at, min(edge for edge in theirs.edges - mine.edges if edge[0] in mine.vertices)
+                yield name, at, min(edge for edge in theirs.edges - mine.edges if edge[0] in mine.vertices)
 
 
-# The rank: A's parts, and those of B and then of the base, from their last on, each before the one that follows it there; a
-# variant that is as the base is comes second.
-def rank(base, a, b):
-    orders = [[part.vertex() for part in preorder(program.body)] for program in (a, b, base)]
-    if program_text(a) == program_text(base):
-        orders[:2] = orders[1::-1]
-    ranked = list(orders[0])
-    for order in orders[1:]:
+# The rank: the parts of the first variant that isn't as the base is, and those of each variant and then of the base, from their
+# last on, each before the one that follows it there.
+def rank(base, variants):
+    changed = [one for one in variants if program_text(one) != program_text(base)]
+    first, *orders = ([part.vertex() for part in preorder(one.body)] for one in ((changed or variants)[0], *variants, base))
+    ranked = list(first)
+    for order in orders:
         for at, follows in reversed(list(zip(order, [*order[1:], None]))):
             if at not in ranked:
                 ranked.insert(len(ranked) if follows is None else ranked.index(follows), at)
     return ranked
 
 
-# The merged program's issued numbers: of each author the greatest that one of the three has.
+# The merged program's issued numbers: of each author the greatest that base or a variant has.
 def greatest_issued(*programs):
     authors = set().union(*(program.issued for program in programs))
     return {author: max(program.issued.get(author, 0) for program in programs) for author in authors}
@@ -705,21 +705,39 @@ class Arrangements:
 
 
 class Integration:
-    """What the definitions say of a base and its two variants."""
+    """What the definitions say of a base and its variants."""
 
-    def __init__(self, base, a, b):
-        self.graphs = [Slices(graph_of(program)) for program in (base, a, b)]
-        of_base, of_a, of_b = self.graphs
-        self.affected = [affected(of_a, of_base), affected(of_b, of_base)]
-        self.merged = merged_graph(of_base, of_a, of_b, *self.affected)
-        sides = [("A", of_a, self.affected[0]), ("B", of_b, self.affected[1])]
-        self.conflicts = list(conflicts(Slices(self.merged), sides))
-        searched = split(self.merged, rank(base, a, b), greatest_issued(base, a, b), [of_a.graph, of_b.graph])
+    def __init__(self, base, *variants):
+        self.graphs = [Slices(graph_of(program)) for program in (base, *variants)]
+        of_base, *of_variants = self.graphs
+        self.affected = [affected(one, of_base) for one in of_variants]
+        self.merged = merged_graph(of_base, of_variants, self.affected)
+        names = "AB" if len(variants) == 2 else [f"V{number}" for number in range(1, len(variants) + 1)]
+        self.conflicts = list(conflicts(Slices(self.merged), zip(names, of_variants, self.affected)))
+        graphs = [one.graph for one in of_variants]
+        searched = split(self.merged, rank(base, variants), greatest_issued(base, *variants), graphs)
         self.searched, self.arrangements = searched[0], Arrangements(*searched)
 
     def conflicts_text(self):
         lines = (f"{side} {vertex_text(at)}: {edge_text(edge)}" for side, at, edge in self.conflicts)
         return lines_text([f"interference {len(self.conflicts)}", *lines])
+
+    # The verdict on a program that was made elsewhere: the first conflict; else the least vertex, or else the least edge, that its
+    # graph or the one that is searched has alone.
+    def verdict(self, offered):
+        """The status and the text of `verify`."""
+        told = lambda **members: (10, json.dumps(members, sort_keys=True, separators=(",", ":"), ensure_ascii=False) + "\n")
+        words = lambda at: vertex_text(at)[1:-1]
+        for side, at, edge in self.conflicts[:1]:
+            return told(kind="conflict", side=side, point=words(at), edge=edge_text(edge))
+        graph = graph_of(offered)
+        for kind, ours, others, text in (("vertex", graph.vertices, self.searched.vertices, words),
+                                         ("edge", graph.edges, self.searched.edges, edge_text)):
+            apart = ours ^ others
+            if apart:
+                least = min(apart)
+                return told(kind=kind, holder="offered" if least in ours else "merged", **{kind: text(least)})
+        return 0, "verified\n"
 
     def no_program_text(self):
         count = sum(at[0] == PART for at in self.searched.vertices)
