@@ -2,6 +2,7 @@
 //! Its rows are those of hpr_rows.
 #![tactic(auto)]
 
+mod arrays;
 mod asking;
 mod conflicts;
 mod edits;
@@ -24,6 +25,7 @@ struct ProgramCalls;
 impl Calls for ProgramCalls {
     fn answer(row: Row<'_>, out: &mut Out) -> Option<()> {
         match row.word(0)? {
+            "array" => arrays::call(row, out),
             "text" => text::call(row, out),
             "expression" => expression::call(row, out),
             "tree" => tree::call(row, out),
