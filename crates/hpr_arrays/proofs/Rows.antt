@@ -1,9 +1,8 @@
 -- The numbers of rows.
-use Rattle.std.proofs.Common.{Result, Ok, Err, IfOk, OnOk, OnErr, Vec, Global, slice_get, Some, None, unwrap_or, ◌≡◌, ℕ, zero, suc, ◌+◌, ◌-◌, ◌*◌, ◌<◌, ◌≤◌, ℤ, pos, ◌⊎◌, inl, inr, List, [], ◌∷◌, ◌++◌, length, set, take, replicate, get_or, refl, sym, ap, subst, ◌∙◌, arith}
+use Rattle.std.proofs.Common.{Result, Ok, Err, IfOk, OnOk, OnErr, Vec, Global, ◌≡◌, ℕ, zero, suc, ◌+◌, ◌-◌, ◌*◌, ◌<◌, ◌≤◌, ℤ, pos, ◌⊎◌, inl, inr, List, [], ◌∷◌, ◌++◌, length, set, take, replicate, get_or, refl, sym, ap, subst, ◌∙◌, arith}
 use Rattle.std.proofs.lemmas.Bool.{cases_eq, cases_lt}
 use Rattle.std.proofs.lemmas.List.{get_or-set_same, get_or-set_other, get_or_append_left, get_or-append_right, get_or-replicate, get_or_past, length-append, length-replicate, length-set, length_push, set-append_left, set-append_right, set_past, append-nil, append_assoc, take_more, map_push, map-set, length-map, set-get_or, take-map, take_all, get_or-take, length-take, length-take-le}
 use Rattle.std.specs.Prelude.{cond}
-use Rattle.std.specs.Prelude.{Option}
 use Rattle.std.specs.Ordering.{int_eq, nat_cmp}
 use Rattle.std.specs.FinMap.{entries, len, len-empty}
 use Rattle.hpr_arrays.specs.Elements.{Elements, element, with_element}
@@ -128,15 +127,6 @@ pub blank_kept : IsKept [] 0
 blank_kept = (record { count = omega arith; size = λ k. inl refl }, sym (len-empty nat_cmp ℤ))
 
 -- what the code reads of a row
-pub row_some : (pages : List (Vec ℤ Global)) (i : ℕ) (row : Vec ℤ Global) → slice_get pages i ≡ Some row → get_or (rows_of pages) i [] ≡ row.items
-row_some [] i row e = absurd cc
-row_some (page ∷ pages) zero row e = ap (λ (o : Option (Vec ℤ Global)). (unwrap_or o page).items) e
-row_some (page ∷ pages) (suc i) row e = row_some pages i row e
-
-pub row_none : (pages : List (Vec ℤ Global)) (i : ℕ) → slice_get pages i ≡ None → get_or (rows_of pages) i [] ≡ []
-row_none [] i e = refl
-row_none (page ∷ pages) zero e = absurd cc
-row_none (page ∷ pages) (suc i) e = row_none pages i e
 
 pub element_at : (rows : List (List ℤ)) (i j at : ℕ) → IsLaidOut rows → j < 256 → at ≡ 256 * i + j → element (elements_of rows) at ≡ get_or (get_or rows i []) j (pos 0)
 element_at rows i j at h l e = element-all_of (numbers_of rows) at ∙ get_or-numbers_of rows i j at h.size l e

@@ -5,7 +5,7 @@ ghost use Rattle.hpr_arrays.specs.Elements.{element, with_element};
 ghost use Rattle.hpr_arrays.specs.Pages.{rows_of, elements_of, IsLaidOut};
 
 use crate::memory::NoMemory;
-use crate::pages::{PAGE, number_at, push_listed, put};
+use crate::pages::{PAGE, copy_of, number_at, push_listed, put};
 use std::alloc::Global;
 use std::marker::Model;
 
@@ -78,6 +78,17 @@ impl Cells {
             self.count -= 1;
         }
         Ok(())
+    }
+
+    /// A copy.
+    pub fn copy(&self) -> Result<Cells, NoMemory>
+        ensures { IfOk result (λ copy. copy ≡ self.now) }
+    {
+        Ok(Cells {
+            pages: copy_of(self.alloc, &self.pages)?,
+            count: self.count,
+            alloc: self.alloc,
+        })
     }
 
     /// The elements that aren't 0 with their indices, ascending.

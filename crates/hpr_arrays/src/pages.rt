@@ -103,6 +103,17 @@ fn make_rows(alloc: Global, pages: &mut Vec<Vec<i64>>, count: usize) -> Result<(
     Ok(())
 }
 
+/// A copy of the rows.
+pub(crate) fn copy_of(alloc: Global, pages: &[Vec<i64>]) -> Result<Vec<Vec<i64>>, NoMemory>
+    ensures { IfOk result (λ copy. rows_of copy.items ≡ rows_of pages.now) }
+{
+    let mut copy = Vec::with_capacity(alloc, pages.len())?;
+    for row in pages {
+        copy.push(Vec::from_slice(alloc, row)?)?;
+    }
+    Ok(copy)
+}
+
 /// Puts the numbers of a row that aren't 0 behind the others, with their indices, which begin with the first.
 pub(crate) fn push_listed(
     entries: &mut Vec<(u16, i64)>,
