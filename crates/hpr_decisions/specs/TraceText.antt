@@ -11,7 +11,6 @@ use Rattle.hpr_terms.specs.declared.tag.Tag.{Tag}
 use Rattle.hpr_terms.specs.Texts.{tag_text}
 use Rattle.hpr_syntax.specs.Run.{run}
 use Rattle.hpr_syntax.specs.Tree.{Tree}
-use Rattle.hpr_syntax.specs.Contents.{shown_of}
 use Rattle.hpr_syntax.specs.Values.{Values}
 use Rattle.hpr_meaning.specs.Instances.{Instance, instances}
 use Rattle.hpr_report.specs.Texts.{outcome_text}
@@ -27,7 +26,7 @@ abbrev pub step_line : Tag → List ℕ → ℤ → List ℕ
 step_line tag turns v = tag_text tag ++ codes " [" ++ turns_text turns ++ codes "] " ++ signed_decimal v ++ codes "\n"
 
 abbrev pub instance_line : Instance → List ℕ
-instance_line i = step_line i.0.0 i.0.1 (shown_of i.1.gave)
+instance_line i = step_line i.0.0 i.0.1 i.1.number
 
 abbrev pub trace_text : List Instance → List ℕ
 trace_text is = flat_map instance_line is

@@ -9,7 +9,7 @@ use Rattle.hpr_syntax.specs.declared.tree.Stmt.{Stmt}
 use Rattle.hpr_syntax.specs.declared.tree.Stmt.TheVariants as stmt
 use Rattle.hpr_syntax.specs.declared.rows.Row.{Row}
 use Rattle.hpr_syntax.specs.declared.rows.Content.{Content}
-use Rattle.hpr_syntax.specs.declared.rows.Content.TheVariants.{Assign, If, While, Write}
+use Rattle.hpr_syntax.specs.declared.rows.Content.TheVariants.{Assign, If, While, Write, Store}
 use Rattle.hpr_syntax.specs.Rows.{content_by, Parent, rows_of, content_of, made}
 use Rattle.hpr_syntax.specs.Body.{Body, done, action, branch, loop}
 use Rattle.hpr_syntax.specs.BodyOf.{before}
@@ -172,6 +172,7 @@ same_said (If e) (stmt.If t f a b) rest h after = alone t (If e) (listed a (list
 same_said (While e) (stmt.While t f b) rest h after = alone t (While e) (listed b (listed rest after)) ∙ sym (alone t (While f) (listed b (listed rest after)))
 same_said (Assign x e) (stmt.Assign t y f) rest h after = alone t (Assign x e) (listed rest after) ∙ sym (alone t (Assign y f) (listed rest after))
 same_said (Write x e) (stmt.Write t y f) rest h after = alone t (Write x e) (listed rest after) ∙ sym (alone t (Write y f) (listed rest after))
+same_said (Store x i e) (stmt.Store t y j f) rest h after = alone t (Store x i e) (listed rest after) ∙ sym (alone t (Store y j f) (listed rest after))
 same_said c s rest h after = absurd cc
 
 same_wrapped : (t : Tag) (c : Content) (s : Stmt) (rest : Body) → is_action c ≡ false → Same (t ∷ []) (wrapped t c s rest) (before s rest)

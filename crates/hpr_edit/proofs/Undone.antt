@@ -3,7 +3,7 @@ use Rattle.std.proofs.Common.{◌≡◌, ℕ, ◌+◌, ◌≤◌, Bool, true, fa
 use Rattle.hpr_terms.specs.declared.tag.Tag.{Tag}
 use Rattle.hpr_terms.proofs.Facts.{not_is}
 use Rattle.hpr_syntax.specs.declared.tree.Stmt.{Stmt}
-use Rattle.hpr_syntax.specs.declared.tree.Stmt.TheVariants.{Assign, If, While, Write}
+use Rattle.hpr_syntax.specs.declared.tree.Stmt.TheVariants.{Assign, If, While, Write, Store}
 use Rattle.hpr_syntax.specs.declared.rows.Content.{Content}
 use Rattle.hpr_syntax.specs.declared.rows.Content.TheVariants as content
 use Rattle.hpr_syntax.specs.Body.{Body, done, action, branch, loop}
@@ -152,6 +152,7 @@ said (content.If e) (If t f a b) h = record { stmt = If t e a b; is = λ r. refl
 said (content.While e) (While t f b) h = record { stmt = While t e b; is = λ r. refl; tag = refl; same = λ u r. refl; back = λ r. refl }
 said (content.Assign x e) (Assign t y f) h = record { stmt = Assign t x e; is = λ r. refl; tag = refl; same = λ u r. refl; back = λ r. refl }
 said (content.Write x e) (Write t y f) h = record { stmt = Write t x e; is = λ r. refl; tag = refl; same = λ u r. refl; back = λ r. refl }
+said (content.Store x i e) (Store t y j f) h = record { stmt = Store t x i e; is = λ r. refl; tag = refl; same = λ u r. refl; back = λ r. refl }
 said c s h = absurd cc
 
 set_back : (t : Tag) (body : Body) (s : Stmt) (old : Place) (c : Content) → Known t body s old → same_kind c (content_of s) ≡ true → at_part t (saying (content_of s)) (at_part t (saying c) body) ≡ body

@@ -6,7 +6,7 @@
 -- settled tree inverse    == this tree and inverse; refused where the tree is no program
 -- stands_in parent part   == a place with this parent is in the part
 -- is_action c             == the content is neither a conditional's nor a loop's
--- same_kind c d           == both contents are assignments, or writes, or conditionals', or loops'
+-- same_kind c d           == both contents are assignments, or writes, or stores, or conditionals', or loops'
 -- next_tag author issued  == the tag of the author's next part
 -- is_spent author issued  == the author has no next serial
 -- new_tag author issued   == the tag of the author's next part, if it has a next serial
@@ -15,7 +15,7 @@ use Rattle.std.specs.Prelude.{ℕ, ◌+◌, Bool, true, false, not, nat_le, Opti
 use Rattle.hpr_terms.specs.declared.tag.Tag.{Tag}
 use Rattle.hpr_syntax.specs.declared.tree.Stmt.{Stmt}
 use Rattle.hpr_syntax.specs.declared.rows.Content.{Content}
-use Rattle.hpr_syntax.specs.declared.rows.Content.TheVariants.{Assign, If, While, Write}
+use Rattle.hpr_syntax.specs.declared.rows.Content.TheVariants.{Assign, If, While, Write, Store}
 use Rattle.hpr_syntax.specs.declared.shape.ShapeError.{ShapeError}
 use Rattle.hpr_syntax.specs.Body.{Body, done}
 use Rattle.hpr_syntax.specs.BodyOf.{before}
@@ -70,6 +70,7 @@ same_kind (Assign x e) (Assign y f) = true
 same_kind (If e) (If f) = true
 same_kind (While e) (While f) = true
 same_kind (Write x e) (Write y f) = true
+same_kind (Store x i e) (Store y j f) = true
 same_kind _ _ = false
 
 abbrev pub max_serial : ℕ

@@ -269,6 +269,7 @@ fn same_kind(content: &Content, part: &Stmt) -> bool
         (Content::If(_), Stmt::If(_, _, _, _)) => true,
         (Content::While(_), Stmt::While(_, _, _)) => true,
         (Content::Write(_, _), Stmt::Write(_, _, _)) => true,
+        (Content::Store(_, _, _), Stmt::Store(_, _, _, _)) => true,
         _ => false,
     }
 }

@@ -1,3 +1,5 @@
 pub mod SoundExpression
 pub mod WholeExpression
 pub mod Spelled
+pub mod Innermost
+pub mod Named

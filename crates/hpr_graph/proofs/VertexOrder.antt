@@ -12,7 +12,7 @@ use Rattle.hpr_terms.specs.TermOrder.{code_of}
 use Rattle.hpr_terms.specs.TermOf.{term_of}
 use Rattle.hpr_terms.specs.Private.ExprCode.{expr_inj}
 use Rattle.hpr_syntax.specs.declared.rows.Content.{Content}
-use Rattle.hpr_syntax.specs.declared.rows.Content.TheVariants.{Assign, If, While, Write}
+use Rattle.hpr_syntax.specs.declared.rows.Content.TheVariants.{Assign, If, While, Write, Store}
 use Rattle.hpr_graph.specs.declared.vertex.Vertex.{Vertex}
 use Rattle.hpr_graph.specs.declared.vertex.Vertex.TheVariants.{Entry, Init, Part, Final}
 use Rattle.hpr_graph.specs.declared.edge.Kind.{Kind}
@@ -104,6 +104,13 @@ content_tied (While e) (While f) h = ap (λ (g : Expr). While g) (expr_tied e f 
 content_tied (Write x e) (Write y f) h =
     let (name, expr) = then_equal (name_cmp x y) (expr_cmp e f) h in
     ap₂ (λ (z : List ℕ) (g : Expr). Write z g) (name_tied x y name) (expr_tied e f expr)
+content_tied (Store x i e) (Store y j f) h =
+    let (name, rest) = then_equal (name_cmp x y) (ordering_then (expr_cmp i j) (expr_cmp e f)) h in
+    let (index, value) = then_equal (expr_cmp i j) (expr_cmp e f) rest in
+    let x_y : x ≡ y = name_tied x y name in
+    let i_j : i ≡ j = expr_tied i j index in
+    let e_f : e ≡ f = expr_tied e f value in
+    (λ k. Store (x_y k) (i_j k) (e_f k))
 content_tied _ _ h = absurd cc
 
 pub vertex_tied : (v w : Vertex) → vertex_cmp v w ≡ Equal → v ≡ w

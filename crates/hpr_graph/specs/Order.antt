@@ -2,9 +2,10 @@
 --
 -- name_cmp x y    == by bytes, the shorter first where it begins the longer
 -- tag_cmp s t     == by author, then by serial
--- expr_cmp e f    == by the numbers that the expressions are in preorder: literals, names, then operators by the declared order and their operands
--- content_rank c  == Assign, If, While, Write
--- content_cmp c d == by variant; then assignments and writes by name and expression, predicates by expression
+-- expr_cmp e f    == by the numbers that the expressions are in preorder: literals, names, operators by the declared order and their operands, then
+--                    elements by their array's name and their index
+-- content_rank c  == Assign, If, While, Write, Store
+-- content_cmp c d == by variant; then assignments and writes by name and expression, predicates by expression, stores by array, index and number
 -- vertex_rank v   == Entry, Init, Part, Final
 -- vertex_cmp v w  == by variant; then Init and Final by name, Part by tag and content
 -- kind_rank k     == Control, Independent, Carried, Order
@@ -19,7 +20,7 @@ use Rattle.hpr_terms.specs.declared.expr.Expr.{Expr}
 use Rattle.hpr_terms.specs.TermOrder.{code_of}
 use Rattle.hpr_terms.specs.TermOf.{term_of}
 use Rattle.hpr_syntax.specs.declared.rows.Content.{Content}
-use Rattle.hpr_syntax.specs.declared.rows.Content.TheVariants.{Assign, If, While, Write}
+use Rattle.hpr_syntax.specs.declared.rows.Content.TheVariants.{Assign, If, While, Write, Store}
 use Rattle.hpr_graph.specs.declared.vertex.Vertex.{Vertex}
 use Rattle.hpr_graph.specs.declared.vertex.Vertex.TheVariants.{Entry, Init, Part, Final}
 use Rattle.hpr_graph.specs.declared.edge.Kind.{Kind}
@@ -40,12 +41,14 @@ content_rank (Assign x e) = 0
 content_rank (If e) = 1
 content_rank (While e) = 2
 content_rank (Write x e) = 3
+content_rank (Store x i e) = 4
 
 abbrev pub content_cmp : Content → Content → Ordering
 content_cmp (Assign x e) (Assign y f) = ordering_then (name_cmp x y) (expr_cmp e f)
 content_cmp (If e) (If f) = expr_cmp e f
 content_cmp (While e) (While f) = expr_cmp e f
 content_cmp (Write x e) (Write y f) = ordering_then (name_cmp x y) (expr_cmp e f)
+content_cmp (Store x i e) (Store y j f) = ordering_then (name_cmp x y) (ordering_then (expr_cmp i j) (expr_cmp e f))
 content_cmp c d = nat_cmp (content_rank c) (content_rank d)
 
 abbrev pub vertex_rank : Vertex → ℕ

@@ -17,7 +17,7 @@ pub enum Vertex {
     Entry,
     /// The value that a name has before the program.
     Init(Name),
-    /// An assignment, a write, or the predicate of a conditional or a loop.
+    /// An assignment, a write, a store, or the predicate of a conditional or a loop.
     Part(Tag, Content),
     /// The value of a name after the program.
     Final(Name),

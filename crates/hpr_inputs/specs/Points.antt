@@ -1,6 +1,6 @@
 -- The vertices that words name.
 --
--- point_text v                 == the word for a vertex: `entry`, `init:x`, `final:x`, and for a part its tag
+-- point_text v                 == the word for a vertex: `entry`, `init:x`, `final:x` (of an array `init:a[]`), and for a part its tag
 -- IsNamed g word               == the word is that for a vertex of g
 -- IsPoint words v              == the word for v is one of these
 -- IsFirstStranger P words word == of these words it is the first of which P doesn't hold

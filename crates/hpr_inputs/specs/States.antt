@@ -1,7 +1,7 @@
 -- The state that words tell.
 --
 -- value_of text         == the number that an optional `-` and at least one digit spell, where it lies within i64
--- assignment word       == the name and the number that the word `name=value` gives it
+-- assignment word       == the plain name and the number that the word `name=value` gives it
 -- entry word            == the same, the number as a value
 -- told words            == the state in which each name has the number that a word gives it
 -- RefusedWord           == a word that is refused, and why

@@ -9,8 +9,9 @@ use hpr_refusals::about;
 use hpr_syntax::NoMemory;
 use std::alloc::{AllocError, Global};
 
-/// The numbers of the vertices of a graph that the words name: `entry`, `init:x`, `final:x`, and a
-/// part by its tag. The first word that names none, from the left, is what the message names.
+/// The numbers of the vertices of a graph that the words name: `entry`, `init:x` and `final:x`, where an array has
+/// its `[]` as at `end`, and a part by its tag. The first word that names none, from the left, is what the message
+/// names.
 pub fn read_points(alloc: Global, graph: &Graph, words: &[&str]) -> Result<Vec<usize>, Stop>
     ensures { ReadsPoints graph.now (map (λ w. w.now) words.now) result }
 {

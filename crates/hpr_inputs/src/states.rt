@@ -12,7 +12,7 @@ use std::alloc::{AllocError, Global};
 /// Why a state word is refused.
 #[derive(Clone, Copy)]
 pub enum WordRefusal {
-    /// It is no name with `=` and a number behind it.
+    /// It is no plain name with `=` and a number behind it.
     Malformed,
     /// An earlier word gives its variable a number.
     GivenTwice,
@@ -69,7 +69,7 @@ fn take_word(alloc: Global, state: &mut State, word: &str) -> Result<(), Stop>
     }
 }
 
-/// The name and the number of a word `name=value`.
+/// The plain name and the number of a word `name=value`.
 fn read_assignment(alloc: Global, word: &str) -> Result<Option<(Name, i64)>, NoMemory>
     ensures { IfOk result (λ given. given ≡ spec.assignment word.now) }
 {

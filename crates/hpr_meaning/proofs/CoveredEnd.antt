@@ -166,7 +166,7 @@ module _ (m : Tree) (s : Values) (versions : List Version) (im : IsProgram m) (a
   all = items_in s versions all_end
 
   none : Instance
-  none = ((record { author = 0; serial = 0 }, []), record { content = If (Num 0); reads = []; gave = Number (pos 0) })
+  none = ((record { author = 0; serial = 0 }, []), record { content = If (Num 0); reads = []; gave = Number (pos 0); number = pos 0 })
 
   IsDone : ℕ → Type 0
   IsDone k = (y : ℕ) × (y < length all) × (spot_of (item_at all none y) ≡ spot_of (nth_step m s N dm k))

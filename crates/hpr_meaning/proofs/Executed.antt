@@ -5,7 +5,7 @@ use Rattle.hpr_terms.specs.declared.tag.Tag.{Tag}
 use Rattle.hpr_terms.specs.declared.expr.Expr.{Expr}
 use Rattle.hpr_syntax.specs.declared.rows.Content.{Content}
 use Rattle.hpr_syntax.specs.declared.rows.Content.TheVariants.{If, While}
-use Rattle.hpr_syntax.specs.Contents.{Given, answer_of, holds}
+use Rattle.hpr_syntax.specs.Contents.{Given, answer_of, holds, shown_of}
 use Rattle.hpr_syntax.specs.Body.{Body, done, action, branch, loop}
 use Rattle.hpr_syntax.specs.Value.{Fault}
 use Rattle.hpr_syntax.specs.declared.value.Value.{Value}
@@ -21,7 +21,7 @@ use Rattle.hpr_paths.proofs.Listed.{where_stopped}
 module _ (p : Body) (s : Values) where
   -- what a part does after a log
   abbrev pub Does : Tag → List Instance → Did → Type 0
-  Does t g d = Says p t d.content × (d.reads ≡ reads_of d.content s g) × (answer_of d.content (state_after s g) ≡ Ok d.gave)
+  Does t g d = Says p t d.content × (d.reads ≡ reads_of d.content s g) × (answer_of d.content (state_after s g) ≡ Ok d.gave) × (d.number ≡ shown_of d.content (state_after s g))
 
   abbrev pub Runs : Skeleton → ℕ → List ℕ → List Instance → List Place → Bool → List Instance → Type 0
   Runs B j T g ss e h = Execution Did truth Does B j T g ss e h
@@ -113,8 +113,8 @@ module _ (p : Body) (s : Values) where
 
   -- what a step did
   given : (t : Tag) (c : Content) (g : List Instance) (v : Value) → Says p t c → answer_of c (state_after s g) ≡ Ok v
-      → Does t g (record { content = c; reads = reads_of c s g; gave = v })
-  given t c g v h e = (h, refl, e)
+      → Does t g (record { content = c; reads = reads_of c s g; gave = v; number = shown_of c (state_after s g) })
+  given t c g v h e = (h, refl, e, refl)
 
   assign_step : (t : Tag) (c : Content) (k : Skeleton) (T : List ℕ) (g : List Instance) (a : Given) (left : ℕ) → Says p t c → answer_of c (state_after s g) ≡ a
       → (go : Value → ℕ → Course) → ((v : Value) (l : ℕ) → HasRun k 0 T (logged (t, T) c v s g) l (go v l)) → HasRun (act t k) 0 T g left (step_at (t, T) a g left go)
@@ -137,7 +137,7 @@ module _ (p : Body) (s : Values) where
   unfolding where_stopped
   branch_step t e b c k T g a zero h q y n fy fn go f = ((t, T) ∷ [], runs.fork_stops, refl, refl, omega arith)
   branch_step t e b c k T g (Ok v) (suc l) h q y n fy fn go f =
-      branch_if t b c k T g (record { content = If e; reads = reads_of (If e) s g; gave = v }) l (suc l) (given t (If e) g v h q) refl (holds v) refl _ _ (fy _ l) (fn _ l) go f
+      branch_if t b c k T g (record { content = If e; reads = reads_of (If e) s g; gave = v; number = shown_of (If e) (state_after s g) }) l (suc l) (given t (If e) g v h q) refl (holds v) refl _ _ (fy _ l) (fn _ l) go f
   branch_step t e b c k T g (Err x) (suc l) h q y n fy fn go f = ((t, T) ∷ [], runs.fork_stops, refl, (If e, h, q), omega arith)
 
   loop_if : (t : Tag) (b k : Skeleton) (j : ℕ) (T : List ℕ) (g : List Instance) (d : Did) (l left n : ℕ) → Does t g d → suc l ≡ left → l < n
@@ -159,7 +159,7 @@ module _ (p : Body) (s : Values) where
   unfolding where_stopped
   loop_step t e b k j T g a zero n h q lt body r go go' f f' = ((t, T ++ (j ∷ [])) ∷ [], runs.round_stops, refl, refl, omega arith)
   loop_step t e b k j T g (Ok v) (suc l) n h q lt body r go go' f f' =
-      loop_if t b k j T g (record { content = While e; reads = reads_of (While e) s g; gave = v }) l (suc l) n (given t (While e) g v h q) refl (omega (arith, lt)) (holds v) refl _ (r _ l) go go' f f'
+      loop_if t b k j T g (record { content = While e; reads = reads_of (While e) s g; gave = v; number = shown_of (While e) (state_after s g) }) l (suc l) n (given t (While e) g v h q) refl (omega (arith, lt)) (holds v) refl _ (r _ l) go go' f f'
   loop_step t e b k j T g (Err x) (suc l) n h q lt body r go go' f f' = ((t, T ++ (j ∷ [])) ∷ [], runs.round_stops, refl, (While e, h, q), omega arith)
 
   loop_has_run : (t : Tag) (e : Expr) (b : Body) (rest : Body) → Says p t (While e)

@@ -1,14 +1,18 @@
 -- Kept meaning: a program with the merged graph ends with what each variant changed, and with what base and all variants agree on.
-use Rattle.std.proofs.Common.{◌≡◌, ℕ, ℤ, zero, suc, ◌+◌, Bool, true, false, List, [], ◌∷◌, ◌⊎◌, Contains, refl, ap, sym, subst, ◌∙◌, inl, inr, arith}
+use Rattle.std.proofs.Common.{◌≡◌, ℕ, zero, suc, ◌+◌, List, [], ◌∷◌, ◌⊎◌, Contains, refl, ap, sym, subst, ◌∙◌, inl, inr, arith}
 use Rattle.std.specs.List.{AllByRecursion}
-use Rattle.std.specs.Ordering.{int_eq}
-use Rattle.std.specs.Cmp.{signed_Decides}
+use Rattle.std.specs.FinMap.{entries, same_entries_map}
+use Rattle.std.proofs.Math.IntN.{ℤ_discrete}
+use native.Mathlib.Decide.{ℕ_discrete}
+use mathlib.Core.HLevel.{×_discrete}
+use mathlib.Core.Sum.{discrete}
+use Rattle.hpr_arrays.specs.Elements.{Elements}
+use Rattle.hpr_syntax.specs.Private.ValueCode.{value_parts, value_back, value_same}
 use Rattle.hpr_syntax.specs.Meaning.{Ends, Keeps}
 use Rattle.hpr_syntax.specs.Run.{FinalValues}
 use Rattle.hpr_syntax.specs.Shape.{IsProgram}
 use Rattle.hpr_syntax.specs.Tree.{Tree}
 use Rattle.hpr_syntax.specs.declared.value.Value.{Value}
-use Rattle.hpr_syntax.specs.declared.value.Value.TheVariants as value
 use Rattle.hpr_syntax.specs.Values.{Values}
 use Rattle.hpr_graph.specs.declared.vertex.Vertex.TheVariants.{Init, Final}
 use Rattle.hpr_graph.specs.Answer.{Fits, graphs_of, merged_of_all}
@@ -26,26 +30,19 @@ use Rattle.hpr_meaning.proofs.MergedEnd.{in_program, merged_ends}
 use Rattle.hpr_meaning.proofs.SharedSlices.{same_finals, final_name}
 use Rattle.hpr_meaning.proofs.Unions.{keeps_preserved}
 
-int? : (v w : ℤ) → Dec (v ≡ w)
-int? v w = go (int_eq v w) refl
+elements? : (es fs : Elements) → Dec (es ≡ fs)
+elements? es fs = go (lists_discrete (×_discrete ℕ_discrete ℤ_discrete) (entries es) (entries fs))
   where
-    go : (b : Bool) → int_eq v w ≡ b → Dec (v ≡ w)
-    go true e = yes ((signed_Decides v w).0 e)
-    go false e = no (λ q. let t = (signed_Decides v w).1 q in let c : true ≡ false = sym t ∙ e in absurd cc)
+    go : Dec (entries es ≡ entries fs) → Dec (es ≡ fs)
+    go (yes e) = yes (same_entries_map es fs e)
+    go (no n) = no (λ e. n (ap entries e))
 
 value? : (v w : Value) → Dec (v ≡ w)
-value? (value.Number y) (value.Number z) = go (int? y z)
+value? v w = go (discrete ℤ_discrete (discrete (lists_discrete ℤ_discrete) elements?) (value_parts v) (value_parts w))
   where
-    go : Dec (y ≡ z) → Dec (value.Number y ≡ value.Number z)
-    go (yes e) = yes (ap value.Number e)
-    go (no n) = no (λ e. let f : y ≡ z = cc in n f)
-value? (value.List ys) (value.List zs) = go (lists_discrete int? ys zs)
-  where
-    go : Dec (ys ≡ zs) → Dec (value.List ys ≡ value.List zs)
-    go (yes e) = yes (ap value.List e)
-    go (no n) = no (λ e. let f : ys ≡ zs = cc in n f)
-value? (value.Number y) (value.List zs) = no (λ e. absurd cc)
-value? (value.List ys) (value.Number z) = no (λ e. absurd cc)
+    go : Dec (value_parts v ≡ value_parts w) → Dec (v ≡ w)
+    go (yes e) = yes (sym (value_same v) ∙ ap value_back e ∙ value_same w)
+    go (no n) = no (λ e. n (ap value_parts e))
 
 pair? : (y x : List ℕ) (w v : Value) → Dec (y ≡ x) → Dec (w ≡ v) → Dec (◌≡◌ {A = List ℕ × Value} (y, w) (x, v))
 pair? y x w v (yes p) (yes q) = yes (λ i. (p i, q i))

@@ -88,7 +88,7 @@ module _ (p : Tree) (s : Values) (n : ℕ) (di : Distinct (skeleton p.body)) whe
   known = facts p.body s n di
 
   abbrev pub nothing_done : Did
-  nothing_done = record { content = If (Num 0); reads = []; gave = Number (pos 0) }
+  nothing_done = record { content = If (Num 0); reads = []; gave = Number (pos 0); number = pos 0 }
 
   -- what stands where the run stopped
   pub stop_says : known.over ≡ false → (c : Content) × Says p.body known.stop.0 c
@@ -102,7 +102,7 @@ module _ (p : Tree) (s : Values) (n : ℕ) (di : Distinct (skeleton p.body)) whe
   stop_did false e = let g = stop_says e in (g.0, λ x. g.1)
 
   abbrev pub stop_item : Instance
-  stop_item = (known.stop, record { content = (stop_did known.over refl).0; reads = []; gave = Number (pos 0) })
+  stop_item = (known.stop, record { content = (stop_did known.over refl).0; reads = []; gave = Number (pos 0); number = pos 0 })
 
   abbrev pub nth_step : ℕ → Instance
   nth_step k = item_at known.is stop_item k

@@ -1,5 +1,5 @@
 -- The law of shared slices: what one program does in a slice, the other does too.
-use Rattle.hpr_syntax.specs.Contents.{UsesIn, Given, answer_of}
+use Rattle.hpr_syntax.specs.Contents.{UsesIn, Given, answer_of, shown_of}
 use Rattle.std.proofs.Common.{◌≡◌, ◌↔◌, ℕ, ◌<◌, ◌≤◌, true, false, List, [], ◌∷◌, ◌⊎◌, Option, Some, None, length, Contains, refl, ap, sym, subst, ◌∙◌, inl, inr, arith, Ok, Err, map}
 use Rattle.hpr_terms.specs.declared.tag.Tag.{Tag}
 use Rattle.hpr_syntax.specs.declared.rows.Content.{Content}
@@ -26,6 +26,7 @@ use Rattle.hpr_meaning.specs.OrderLaw.{vertex_of}
 use Rattle.hpr_meaning.specs.SliceLaw.{SharesSlice}
 use Rattle.hpr_paths.proofs.Among.{Among, here, there, among_cons, among_none, among_contains, contains_among, no_both}
 use Rattle.hpr_paths.proofs.Says.{says_one}
+use Rattle.hpr_syntax.proofs.ActByUses.{shown_by_uses}
 use Rattle.hpr_meaning.proofs.FlowWays.{assigns_at}
 use Rattle.hpr_meaning.proofs.Executed.{Does, StopsFor}
 use Rattle.hpr_meaning.proofs.Timely.{run_of_course, ends_over}
@@ -94,8 +95,14 @@ module _ (p q : Tree) (s : Values) (n m : ℕ) (dp : Distinct (skeleton p.body))
           (λ x v. (sym (same_value x h.0 k (omega (arith, h.1)) (omega (arith, a)) (h.3 x v)), sym (same_definer x h.0 k (omega (arith, h.1)) (omega (arith, a)) (h.3 x v))))
           ∙ sym gq.1))
 
+      number : (nth_step p s n dp h.0).1.number ≡ (nth_step q s m dq k).1.number
+      number = gp.3 ∙ (ap (λ c. shown_of c (state_after s (log_before (known p s n dp).is [] h.0))) content
+          ∙ (shown_by_uses (nth_step q s m dq k).1.content (state_after s (log_before (known p s n dp).is [] h.0)) (state_after s (log_before (known q s m dq).is [] k))
+          (λ x v. sym (same_value x h.0 k (omega (arith, h.1)) (omega (arith, a)) (h.3 x v)))
+          ∙ sym gq.3))
+
       whole : nth_step p s n dp h.0 ≡ nth_step q s m dq k
-      whole = λ j. ((h.2 j).0, record { content = content j; reads = reads j; gave = gave j })
+      whole = λ j. ((h.2 j).0, record { content = content j; reads = reads j; gave = gave j; number = number j })
 
   pub found_in_first : (i : Instance) → Contains (instances q s m) i → (slice_of (graph_of p) S).vertex (vertex_of i) → Contains (instances p s n) i
   found_in_first i c v =

@@ -72,8 +72,8 @@ all_reads s log (x ∷ names) =
     ∙ ap (λ (l : List Read). read_after log (read_of s log x) ∷ l) (all_reads s log names)
 
 one_item : (s : Values) (a : Place) (c : Content) (v : Value) (log : List Instance)
-    → item_at a c (shown_of v) (state_after s log) (notes_of log) ≡ item_after log (a, record { content = c; reads = reads_of c s log; gave = v })
-one_item s a c v log = ap (λ (l : List Read). record { tag = a.0; turns = a.1; reads = l; value = shown_of v }) (all_reads s log (names_of c))
+    → item_at a c (shown_of c (state_after s log)) (state_after s log) (notes_of log) ≡ item_after log (a, record { content = c; reads = reads_of c s log; gave = v; number = shown_of c (state_after s log) })
+one_item s a c v log = ap (λ (l : List Read). record { tag = a.0; turns = a.1; reads = l; value = shown_of c (state_after s log) }) (all_reads s log (names_of c))
 
 -- the items, one by one
 items_split : (log xs ys : List Instance) → items_after log (xs ++ ys) ≡ items_after log xs ++ items_after (reverse_aux xs log) ys
@@ -94,9 +94,9 @@ items_count : (log : List Instance) → length (items_of (reverse log)) ≡ leng
 items_count log = items_length [] (reverse log) ∙ length-reverse log
 
 logged_items : (s : Values) (a : Place) (c : Content) (v : Value) (log : List Instance)
-    → items_of (reverse (logged a c v s log)) ≡ items_of (reverse log) ++ item_at a c (shown_of v) (state_after s log) (notes_of log) ∷ []
+    → items_of (reverse (logged a c v s log)) ≡ items_of (reverse log) ++ item_at a c (shown_of c (state_after s log)) (state_after s log) (notes_of log) ∷ []
 logged_items s a c v log =
-    items_more log (a, record { content = c; reads = reads_of c s log; gave = v })
+    items_more log (a, record { content = c; reads = reads_of c s log; gave = v; number = shown_of c (state_after s log) })
     ∙ ap (λ (i : Item). items_of (reverse log) ++ i ∷ []) (sym (one_item s a c v log))
 
 -- one step
@@ -106,10 +106,10 @@ defined_last None ns items n e = refl
 defined_last (Some x) ns items n e = ap (λ (k : ℕ). record { definers = insert ns x k; items = items }) e
 
 logged_noted : (s : Values) (t : Tag) (around : List ℕ) (c : Content) (v : Value) (log : List Instance)
-    → notes_of (logged (t, around) c v s log) ≡ after_action tracing (assigned c) (noted around t c (shown_of v) (state_after s log) (notes_of log))
+    → notes_of (logged (t, around) c v s log) ≡ after_action tracing (assigned c) (noted around t c (shown_of c (state_after s log)) (state_after s log) (notes_of log))
 logged_noted s t around c v log =
     let before = items_of (reverse log) in
-    let new = item_at (t, around) c (shown_of v) (state_after s log) (notes_of log) in
+    let new = item_at (t, around) c (shown_of c (state_after s log)) (state_after s log) (notes_of log) in
     let count : length log ≡ length (before ++ new ∷ []) - 1 = omega (arith, items_count log, length-append before (new ∷ [])) in
     ap (λ (l : List Item). record { definers = with_insert (assigned c) (length log) (numbers_of log); items = l }) (logged_items s (t, around) c v log)
     ∙ defined_last (assigned c) (numbers_of log) (before ++ new ∷ []) (length log) count

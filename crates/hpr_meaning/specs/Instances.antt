@@ -3,7 +3,8 @@
 --
 -- Read                  == a name that a step reads, the value, and the step that last defined the name: its place and what it says; none
 --                          where the value is the initial one
--- Did                   == what was done at a place: the content, the reads, and what it gave
+-- Did                   == what was done at a place: the content, the reads, what it gave, and the number that the step assigned, stored,
+--                          wrote or decided by
 -- Instance              == a place, and what was done there
 -- truth d               == whether what was given is true
 -- state_after s log     == the state from s on after the log
@@ -26,13 +27,13 @@
 -- course_of p s n       == the whole run of the program p from the state s with n steps to spend
 -- instances p s n       == its finished steps, in their order
 -- IsStopOf p s n a      == the run stops at the place a, for a fault or for want of steps
-use Rattle.std.specs.Prelude.{◌≡◌, ℕ, zero, suc, ◌+◌, Bool, if◌then◌else◌, List, [], ◌∷◌, ◌++◌, map, reverse, Option, Some, None, Ok, Err}
+use Rattle.std.specs.Prelude.{◌≡◌, ℕ, ℤ, zero, suc, ◌+◌, Bool, if◌then◌else◌, List, [], ◌∷◌, ◌++◌, map, reverse, Option, Some, None, Ok, Err}
 use Rattle.std.specs.Ordering.{is_lt, is_eq}
 use Rattle.hpr_terms.specs.declared.tag.Tag.{Tag}
 use Rattle.hpr_terms.specs.declared.expr.Expr.{Expr}
 use Rattle.hpr_syntax.specs.declared.rows.Content.{Content}
 use Rattle.hpr_syntax.specs.declared.rows.Content.TheVariants.{If, While}
-use Rattle.hpr_syntax.specs.Contents.{Given, used_names, answer_of, next_state, holds}
+use Rattle.hpr_syntax.specs.Contents.{Given, used_names, answer_of, next_state, holds, shown_of}
 use Rattle.hpr_syntax.specs.Body.{Body, done, action, branch, loop}
 use Rattle.hpr_syntax.specs.Tree.{Tree}
 use Rattle.hpr_syntax.specs.Rows.{content_by, assigned}
@@ -53,6 +54,7 @@ pub record Did : Type 0 where
   pub content : Content
   pub reads : List Read
   pub gave : Value
+  pub number : ℤ
 
 abbrev pub Instance : Type 0
 Instance = Place × Did
@@ -92,7 +94,7 @@ abbrev pub reads_of : Content → Values → List Instance → List Read
 reads_of c s log = map (read_of s log) (names_of c)
 
 abbrev pub logged : Place → Content → Value → Values → List Instance → List Instance
-logged a c v s log = (a, record { content = c; reads = reads_of c s log; gave = v }) ∷ log
+logged a c v s log = (a, record { content = c; reads = reads_of c s log; gave = v; number = shown_of c (state_after s log) }) ∷ log
 
 pub data Course : Type 0 where
   goes : (log : List Instance) → (left : ℕ) → Course

@@ -1,21 +1,21 @@
 -- The items of a trace: the instances of a run, with numbers in place of the steps that last defined names.
 --
--- Item              == a tag, the turns, the reads and the number that was assigned, written or decided by
+-- Item              == a tag, the turns, the reads and the number that was assigned, stored, written or decided by
 -- item_in i         == an item of the code as this
 -- origin_in x log   == the number of the step of the log, newest first, that last defined the name x
 -- IsOriginOf is o d == the origin o is Initial where d is none, and else the number, among the instances, of the step d
--- reading_of v      == a value as a read shows it: a number, or how many numbers were written
+-- reading_of v      == a value as a read shows it: a number, how many numbers were written, or how many elements of an array aren't 0
 -- read_after log r  == a read after the log
 -- item_after log i  == an instance after the log
 -- items_after log is == instances after the log
 -- items_of is       == the items of these instances
 use Rattle.std.specs.Prelude.{◌≡◌, slice_get, ℕ, ℤ, if◌then◌else◌, List, [], ◌∷◌, map, length, Option, Some, None}
 use Rattle.std.specs.Ordering.{is_eq}
+use Rattle.std.specs.FinMap.{len}
 use Rattle.hpr_syntax.specs.declared.value.Value.{Value}
 use Rattle.hpr_terms.specs.declared.tag.Tag.{Tag}
 use Rattle.hpr_syntax.specs.declared.rows.Content.{Content}
 use Rattle.hpr_syntax.specs.declared.value.Value.TheVariants as value
-use Rattle.hpr_syntax.specs.Contents.{shown_of}
 use Rattle.hpr_syntax.specs.Rows.{assigned}
 use Rattle.hpr_graph.specs.Order.{name_cmp}
 use Rattle.hpr_paths.specs.Times.{Place}
@@ -53,12 +53,13 @@ IsOriginOf is (origin.Instance n) d = (i : Instance) × (slice_get is n ≡ Some
 abbrev pub reading_of : Value → Reading
 reading_of (value.Number z) = reading.Number z
 reading_of (value.List zs) = reading.Size (length zs)
+reading_of (value.Array es) = reading.Size (len es)
 
 abbrev pub read_after : List Instance → means.Read → Read
 read_after log r = record { name = r.name; value = reading_of r.value; origin = origin_in r.name log }
 
 abbrev pub item_after : List Instance → Instance → Item
-item_after log i = record { tag = i.0.0; turns = i.0.1; reads = map (read_after log) i.1.reads; value = shown_of i.1.gave }
+item_after log i = record { tag = i.0.0; turns = i.0.1; reads = map (read_after log) i.1.reads; value = i.1.number }
 
 abbrev pub items_after : List Instance → List Instance → List Item
 items_after log [] = []

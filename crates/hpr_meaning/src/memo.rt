@@ -117,12 +117,13 @@ impl Observer for Memo {
 }
 
 /// What a read of the name in the state shows.
+#[tactic(auto, using(hpr_arrays::proofs::NoElements::none_counted))]
 fn reading(state: &State, name: &Name) -> Reading
     ensures { result ≡ reading_of (value_at state.now name.now) }
 {
     match state.listed(name) {
         Some(value) => shown(value),
-        None if name.is_stream() => Reading::Size(0),
+        None if name.is_stream() || name.is_array() => Reading::Size(0),
         None => Reading::Number(0),
     }
 }
@@ -134,5 +135,6 @@ fn shown(value: &Value) -> Reading
     match value {
         Value::Number(number) => Reading::Number(*number),
         Value::List(written) => Reading::Size(written.len()),
+        Value::Array(cells) => Reading::Size(cells.count()),
     }
 }

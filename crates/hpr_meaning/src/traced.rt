@@ -16,7 +16,7 @@ pub enum Origin {
 pub enum Reading {
     /// The number.
     Number(i64),
-    /// How many numbers were written to the stream.
+    /// How many numbers were written to the stream, or how many elements of the array aren't 0.
     Size(usize),
 }
 
@@ -28,7 +28,7 @@ pub struct Read {
     pub origin: Origin,
 }
 
-/// A finished step of a run: an assignment, a write, or an evaluation of a predicate (Reps and Yang 1988).
+/// A finished step of a run: an assignment, a store, a write, or an evaluation of a predicate (Reps and Yang 1988).
 #[derive(Drop)]
 pub struct Instance {
     /// The part.
@@ -38,7 +38,7 @@ pub struct Instance {
     pub turns: Vec<u64>,
     /// The names that the part uses, ascending, each once.
     pub reads: Vec<Read>,
-    /// The number that was assigned, written or decided by.
+    /// The number that was assigned, stored, written or decided by.
     pub value: i64,
 }
 

@@ -7,7 +7,7 @@ ghost use Rattle.hpr_order.specs.Building.{IsSlot};
 
 use crate::item::Item;
 use hpr_graph::NoMemory;
-use hpr_syntax::{Content, has_wrong_name, is_large};
+use hpr_syntax::{Content, has_wrong_name, is_large_content};
 use hpr_terms::limits::{MAX_LEVELS, MAX_PARTS};
 use std::alloc::Global;
 
@@ -35,11 +35,11 @@ pub(crate) fn levels_of(alloc: Global, items: &[Item]) -> Result<Option<Vec<usiz
     Ok(Some(levels))
 }
 
-/// Whether no part of a program says this: its expression is too large, or it has a wrong name.
+/// Whether no part of a program says this: its expressions are too large, or it has a wrong name.
 fn is_unfit(content: &Content) -> bool
     ensures { result ≡ is_unfit content.now }
 {
-    is_large(content.expr()) || has_wrong_name(content)
+    is_large_content(content) || has_wrong_name(content)
 }
 
 /// How many items stand around the slot, if there are at most so many.

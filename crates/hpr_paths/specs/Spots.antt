@@ -16,7 +16,8 @@
 -- tag_at spots p    == the tag of the part p
 -- defined_at spots p == the name that the point p defines
 -- UsesAt spots p x  == the point p uses x
--- used_at spots p   == the names that the point p uses, from left to right, each as often as it stands there, and behind them a write's stream
+-- used_at spots p   == the names that the point p uses, from left to right, each as often as it stands there, and behind them a write's stream or
+--                      a store's array
 -- IsLoopAt spots p  == the point p is the predicate of a loop
 use Rattle.std.specs.Prelude.{◌≡◌, ℕ, Option, Some, None, List, [], Contains}
 use Rattle.std.specs.List.{slice_get}

@@ -116,7 +116,8 @@ impl Succ {
     }
 
     /// The names that the point, which is below `points`, uses, from left to right, each as often as
-    /// it stands there, and behind them the stream where the point is a write. Its one error is want of memory.
+    /// it stands there, and behind them the stream where the point is a write, or the array where it is a
+    /// store. Its one error is want of memory.
     pub fn used_names(&self, point: usize) -> Result<Vec<Name>, NoMemory>
         requires { point < length self.now }
         ensures names { IfOk result (λ names. names.items ≡ used_at self.now point) }

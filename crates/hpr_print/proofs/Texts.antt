@@ -52,7 +52,7 @@ some_parts (s ∷ rest) h = refl
 pub else_shown : (n : ℕ) (stmts : List Stmt) (shown : List ℕ) → (length stmts == 0) ≡ false → else_text n (body_of stmts) shown ≡ line n (codes "else") ++ shown
 else_shown n stmts shown h = let e : is_done (body_of stmts) ≡ false = some_parts stmts h in rw e refl
 
--- an assignment's line, of its three pieces
+-- the line of an assignment or a store, of its three pieces
 pub assignment_line : (n : ℕ) (out one two all tag name value : List ℕ) → one ≡ out ++ indent n ++ tag → two ≡ one ++ codes ": " ++ name ++ codes " := "
     → all ≡ two ++ value ++ codes ";" ++ codes "\n" → all ≡ out ++ line n (tag ++ codes ": " ++ name ++ codes " := " ++ value ++ codes ";")
 assignment_line n out one two all tag name value e f g = rw (g, f, e) (simp append_assoc)

@@ -7,8 +7,9 @@ use Rattle.hpr_terms.specs.declared.expr.Unary.{Unary}
 use Rattle.hpr_terms.specs.declared.expr.Unary.TheVariants.{Neg, Not}
 use Rattle.hpr_terms.specs.declared.expr.Binary.{Binary}
 use Rattle.hpr_terms.specs.declared.expr.Binary.TheVariants.{Or, And, Equal, Differ, Less, LessEqual, Greater, GreaterEqual, Add, Sub, Mul, Div, Rem}
-use Rattle.hpr_terms.specs.Term.{Term, num, prefix, infix'}
-use Rattle.hpr_syntax.specs.Print.{sign, level_of_sign, level_of, prefix_sign, bracketed, term_text}
+use Rattle.hpr_terms.specs.Term.{Term, num, prefix, infix', element}
+use Rattle.hpr_terms.specs.Names.{base_of}
+use Rattle.hpr_syntax.specs.Print.{sign, level_of_sign, level_of, prefix_sign, bracketed, term_text, element_text}
 
 pub number_utf8 : (n : ℕ) → n < 2 ^ 64 → IsUtf8 (decimal n)
 number_utf8 n h = IsUtf8-from_ascii (decimal n) (IsAscii-decimal n h)
@@ -72,6 +73,18 @@ infix_utf8 term op a b left right is left_is right_is l r =
     subst (λ t. IsUtf8 (term_text t)) (sym is)
     (joined_utf8 (bracketed (nat_lt (level_of a) (level_of_sign op) || ((level_of_sign op == 3) && (level_of a == 3))) (term_text a)) op
     (bracketed (nat_le (level_of b) (level_of_sign op)) (term_text b)) l' r')
+
+pub element_utf8 : (x index : List ℕ) → IsUtf8 (base_of x) → IsUtf8 index → IsUtf8 (element_text x index)
+unfolding encode
+element_utf8 x index b i =
+    let open_utf8 : IsUtf8 (codes "[") = (codes "[", (refl, refl)) in
+    let close_utf8 : IsUtf8 (codes "]") = (codes "]", (refl, refl)) in
+    let front = IsUtf8-append (base_of x) (codes "[") b open_utf8 in
+    IsUtf8-append (base_of x ++ codes "[" ++ index) (codes "]") (IsUtf8-append (base_of x ++ codes "[") index front i) close_utf8
+
+pub elem_utf8 : (term : Term) (x : List ℕ) (i : Term) → term ≡ element x i → IsUtf8 (element_text x (term_text i)) → IsUtf8 (term_text term)
+unfolding term_text
+elem_utf8 term x i is h = subst (λ t. IsUtf8 (term_text t)) (sym is) h
 
 -- and so is what a part says
 pub assignment_utf8 : (name text : List ℕ) → IsUtf8 name → IsUtf8 text → IsUtf8 (name ++ codes " := " ++ text)

@@ -4,9 +4,9 @@ ghost use Rattle.hpr_terms.specs.TermOf.{term_of};
 ghost use Rattle.hpr_terms.specs.Texts.{tag_text};
 ghost use Rattle.hpr_syntax.specs.Body.{done, depth};
 ghost use Rattle.hpr_syntax.specs.BodyOf.{before};
-ghost use Rattle.hpr_syntax.specs.Print.{body_text, else_text, term_text, indent, line};
+ghost use Rattle.hpr_syntax.specs.Print.{body_text, else_text, term_text, element_text, indent, line};
 
-use crate::expressions::put_expr;
+use crate::expressions::{put_element, put_expr};
 use crate::put::put;
 use hpr_syntax::{Block, Expr, Name, NoMemory, Stmt, Tag};
 use std::alloc::Global;
@@ -83,6 +83,35 @@ fn put_assignment(
     put_end(alloc, out, value, b";")
 }
 
+/// Puts the element into which a store stores.
+fn put_stored(alloc: Global, out: &mut Vec<u8>, array: &Name, index: &Expr) -> Result<(), NoMemory>
+    ensures { OnOk result (out.new.items ≡ out.old.items ++ codes ": "
+        ++ element_text array.now (term_text (term_of index.now)) ++ codes " := ") }
+{
+    put(out, b": ")?;
+    put_element(alloc, out, array, index)?;
+    put(out, b" := ")
+}
+
+/// Puts a store.
+fn put_store(
+    alloc: Global,
+    out: &mut Vec<u8>,
+    level: usize,
+    tag: Tag,
+    array: &Name,
+    index: &Expr,
+    value: &Expr,
+) -> Result<(), NoMemory>
+    ensures { OnOk result (out.new.items ≡ out.old.items ++ line level
+        (tag_text tag ++ codes ": " ++ element_text array.now (term_text (term_of index.now))
+        ++ codes " := " ++ term_text (term_of value.now) ++ codes ";")) }
+{
+    put_start(alloc, out, level, tag)?;
+    put_stored(alloc, out, array, index)?;
+    put_end(alloc, out, value, b";")
+}
+
 fn put_line(out: &mut Vec<u8>, level: usize, text: &[u8]) -> Result<(), NoMemory>
     ensures { OnOk result (out.new.items ≡ out.old.items ++ line level text.now) }
 {
@@ -129,6 +158,9 @@ fn put_stmt(alloc: Global, out: &mut Vec<u8>, stmt: &Stmt, level: usize) -> Resu
         }
         Stmt::Write(tag, _, value) => {
             put_first_line(alloc, out, level, *tag, b": write ", value, b";")
+        }
+        Stmt::Store(tag, array, index, value) => {
+            put_store(alloc, out, level, *tag, array, index, value)
         }
     }
 }

@@ -2,7 +2,7 @@
 ghost use Rattle.std.specs.Prelude.{◌≡◌, IfOk, IsUtf8};
 ghost use Rattle.hpr_syntax.specs.Print as print;
 
-use crate::expressions::put_expr;
+use crate::expressions::{put_element, put_expr};
 use crate::put::put;
 use hpr_syntax::{Content, Expr, NoMemory};
 use std::alloc::Global;
@@ -18,7 +18,7 @@ pub fn expr_text(alloc: Global, expr: &Expr) -> Result<Vec<u8>, NoMemory>
 }
 
 /// The canonical text of what a part says, without its tag and its blocks: `NAME := EXPR`,
-/// `write EXPR`, `if EXPR` or `while EXPR`. It is UTF-8. It fails only for want of memory.
+/// `NAME[EXPR] := EXPR`, `write EXPR`, `if EXPR` or `while EXPR`. It is UTF-8. It fails only for want of memory.
 pub fn content_text(alloc: Global, content: &Content) -> Result<Vec<u8>, NoMemory>
     ensures text { IfOk result (λ v. v.items ≡ print.content_text content.now) }
     ensures utf8 { IfOk result (λ v. IsUtf8 v.items) }
@@ -40,6 +40,11 @@ pub fn content_text(alloc: Global, content: &Content) -> Result<Vec<u8>, NoMemor
         }
         Content::Write(_, value) => {
             put(&mut out, b"write ")?;
+            put_expr(alloc, &mut out, value)?;
+        }
+        Content::Store(array, index, value) => {
+            put_element(alloc, &mut out, array, index)?;
+            put(&mut out, b" := ")?;
             put_expr(alloc, &mut out, value)?;
         }
     }

@@ -1,10 +1,10 @@
 //! The text of an expression.
 ghost use Rattle.std.specs.Prelude.{◌≡◌, ◌++◌, OnOk, IsUtf8};
 ghost use Rattle.hpr_terms.specs.TermOf.{term_of};
-ghost use Rattle.hpr_syntax.specs.Print.{term_text, bracketed, sign, level_of_sign, level_of, prefix_sign};
+ghost use Rattle.hpr_syntax.specs.Print.{term_text, element_text, bracketed, sign, level_of_sign, level_of, prefix_sign};
 
 use crate::put::{put, put_number};
-use hpr_syntax::{Binary, Expr, NoMemory, Unary};
+use hpr_syntax::{Binary, Expr, Name, NoMemory, Unary};
 use std::alloc::Global;
 
 fn sign(op: Binary) -> &'static [u8]
@@ -44,7 +44,7 @@ fn level(expr: &Expr) -> u8
     ensures { result ≡ level_of (term_of expr.now) }
 {
     match expr {
-        Expr::Num(_) | Expr::Var(_) => 7,
+        Expr::Num(_) | Expr::Var(_) | Expr::Elem(_, _) => 7,
         Expr::Prefix(_, _) => 6,
         Expr::Infix(op, _, _) => level_of_sign(*op),
     }
@@ -85,7 +85,26 @@ pub fn put_expr(alloc: Global, out: &mut Vec<u8>, expr: &Expr) -> Result<(), NoM
             let second = right.expr();
             put_operand(alloc, out, second, level(second) <= binds)
         }
+        Expr::Elem(array, index) => put_element(alloc, out, array, index.expr()),
     }
+}
+
+/// Puts the element of an array with this index.
+#[cycle(put_expr)]
+pub fn put_element(
+    alloc: Global,
+    out: &mut Vec<u8>,
+    array: &Name,
+    index: &Expr,
+) -> Result<(), NoMemory>
+    ensures text { OnOk result (out.new.items ≡ out.old.items
+        ++ element_text array.now (term_text (term_of index.now))) }
+    ensures utf8 { OnOk result (IsUtf8 (element_text array.now (term_text (term_of index.now)))) }
+{
+    put(out, array.base().as_bytes())?;
+    put(out, b"[")?;
+    put_expr(alloc, out, index)?;
+    put(out, b"]")
 }
 
 #[cycle(put_expr)]

@@ -6,7 +6,7 @@ use Rattle.std.proofs.Math.Seq.{drop-cons}
 use Rattle.hpr_terms.specs.declared.tag.Tag.{Tag}
 use Rattle.hpr_terms.specs.declared.expr.Expr.{Expr}
 use Rattle.hpr_syntax.specs.declared.tree.Stmt.{Stmt}
-use Rattle.hpr_syntax.specs.declared.tree.Stmt.TheVariants.{Assign, If, While, Write}
+use Rattle.hpr_syntax.specs.declared.tree.Stmt.TheVariants.{Assign, If, While, Write, Store}
 use Rattle.hpr_syntax.specs.Body.{Body, done}
 use Rattle.hpr_syntax.specs.BodyOf.{before, body_of}
 use Rattle.hpr_syntax.specs.Parts.{tag_of}
@@ -58,6 +58,7 @@ module _ (V : Vertex → Type 0) where
   other_stays (While t e b) other has = absurd (other.1 t e b refl)
   other_stays (Assign t x e) other has = λ k k' r. action_kept has r
   other_stays (Write t x e) other has = λ k k' r. action_kept has r
+  other_stays (Store t x i e) other has = λ k k' r. action_kept has r
 
   -- a part whose vertex isn't
   pub part_goes : (s : Stmt) → ¬ Has s → (k k' : Body) → BlockLeft V k k' → BlockLeft V (before s k) k'
@@ -65,6 +66,7 @@ module _ (V : Vertex → Type 0) where
   part_goes (While t e b) not k k' r = loop_out not r
   part_goes (Assign t x e) not k k' r = action_out not r
   part_goes (Write t x e) not k k' r = action_out not r
+  part_goes (Store t x i e) not k k' r = action_out not r
 
   -- of a block, these parts are left of those before the place i
   abbrev pub IsLeftTo : Body → List Stmt → ℕ → List Stmt → Type 0

@@ -9,7 +9,7 @@ use Rattle.hpr_terms.specs.declared.limits.TheConstants.{MAX_LEVELS, MAX_PARTS}
 use Rattle.hpr_terms.specs.Names.{IsVariable}
 use Rattle.hpr_terms.proofs.Facts.{if_none}
 use Rattle.hpr_syntax.specs.declared.rows.Content.{Content}
-use Rattle.hpr_syntax.specs.Action.{assigns, writes}
+use Rattle.hpr_syntax.specs.Action.{assigns, writes, stores}
 use Rattle.hpr_syntax.specs.Body.{Body, done, action, branch, loop, part_count}
 use Rattle.hpr_syntax.specs.Parts.{same_tag, tags_of}
 use Rattle.hpr_syntax.specs.Issued.{Issued, IsIssued}
@@ -140,8 +140,10 @@ module _ (V : Vertex → Type 0) where
   proper_left ended h = h
   proper_left (action_kept {d = assigns x e} v r) h = (h.0, h.1, h.2, proper_left r h.3)
   proper_left (action_kept {d = writes x e} v r) h = (h.0, h.1, h.2, proper_left r h.3)
+  proper_left (action_kept {d = stores x i e} v r) h = (h.0, h.1, h.2, h.3, proper_left r h.4)
   proper_left (action_out {d = assigns x e} v r) h = proper_left r h.3
   proper_left (action_out {d = writes x e} v r) h = proper_left r h.3
+  proper_left (action_out {d = stores x i e} v r) h = proper_left r h.4
   proper_left (branch_kept v r q l) h = (h.0, h.1, proper_left r h.2, proper_left q h.3, proper_left l h.4)
   proper_left (branch_out v l) h = proper_left l h.4
   proper_left (loop_kept v r l) h = (h.0, h.1, proper_left r h.2, proper_left l h.3)

@@ -8,7 +8,7 @@ use Rattle.hpr_syntax.specs.declared.rows.Content.{Content}
 use Rattle.hpr_syntax.specs.declared.rows.Content.TheVariants.{If, While}
 use Rattle.hpr_syntax.specs.declared.value.Value.{Value}
 use Rattle.hpr_syntax.specs.Body.{Body, done, action, branch, loop}
-use Rattle.hpr_syntax.specs.Contents.{Given, answer_of, next_state, holds}
+use Rattle.hpr_syntax.specs.Contents.{Given, answer_of, next_state, holds, shown_of}
 use Rattle.hpr_syntax.specs.Issued.{Issued}
 use Rattle.hpr_syntax.specs.Rows.{content_by, assigned}
 use Rattle.hpr_syntax.specs.Run.{After, outcome, run, run_body}
@@ -65,7 +65,9 @@ module _ (f : Tag → Tag) where
 
   logged_with : (a : Place) (c : Content) (v : Value) (s : Values) (log : List Instance) → log_with (logged a c v s log) ≡ logged (place_with f a) c v s (log_with log)
   logged_with a c v s log =
-      ap (λ (reads : List Read). (place_with f a, record { content = c; reads = reads; gave = v }) ∷ log_with log) (sym (all_reads s log (names_of c)))
+      let reads = all_reads s log (names_of c) in
+      let state = state_with s log in
+      (λ k. (place_with f a, record { content = c; reads = sym reads k; gave = v; number = shown_of c (sym state k) }) ∷ log_with log)
 
   -- step by step
   one_step : (a : Place) (answer : Given) (log : List Instance) (left : ℕ) (go go' : Value → ℕ → Course)

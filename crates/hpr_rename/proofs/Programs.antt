@@ -9,7 +9,7 @@ use Rattle.hpr_terms.specs.declared.tag.Tag.{Tag}
 use Rattle.hpr_terms.proofs.Facts.{unless}
 use Rattle.hpr_syntax.specs.declared.rows.Content.{Content}
 use Rattle.hpr_syntax.specs.declared.rows.Content.TheVariants.{If, While}
-use Rattle.hpr_syntax.specs.Action.{assigns, writes}
+use Rattle.hpr_syntax.specs.Action.{assigns, writes, stores}
 use Rattle.hpr_syntax.specs.Body.{Body, done, action, branch, loop, part_count}
 use Rattle.hpr_syntax.specs.Issued.{Issued, issued_to}
 use Rattle.hpr_syntax.specs.Parts.{same_tag, tags_of}
@@ -119,6 +119,7 @@ module _ (f : Tag → Tag) where
   proper_with done all h = h
   proper_with (action t (assigns x e) rest) all h = (all t (inl refl), h.1, h.2, proper_with rest (λ u g. all u (inr g)) h.3)
   proper_with (action t (writes x e) rest) all h = (all t (inl refl), h.1, h.2, proper_with rest (λ u g. all u (inr g)) h.3)
+  proper_with (action t (stores x i e) rest) all h = (all t (inl refl), h.1, h.2, h.3, proper_with rest (λ u g. all u (inr g)) h.4)
   proper_with (branch t e a b rest) all h = (
     all t (inl refl),
     h.1,

@@ -29,4 +29,4 @@ read_with f r = record { name = r.name; value = r.value; origin = origin_with f 
 
 abbrev pub instance_with : (Tag → Tag) → Instance → Instance
 instance_with f i =
-    (place_with f i.0, record { content = i.1.content; reads = map (read_with f) i.1.reads; gave = i.1.gave })
+    (place_with f i.0, record { content = i.1.content; reads = map (read_with f) i.1.reads; gave = i.1.gave; number = i.1.number })

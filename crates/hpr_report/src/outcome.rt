@@ -54,6 +54,7 @@ fn fault_word(fault: Fault) -> &'static str
         Fault::Overflow => "overflow",
         Fault::ZeroDivide => "zero-divide",
         Fault::OutputFull => "output-full",
+        Fault::IndexRange => "index-range",
     }
 }
 

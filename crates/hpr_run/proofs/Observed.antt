@@ -1,20 +1,18 @@
 -- Laws of observed runs: an observer changes nothing, and what the code does with a block and a loop, part by part and turn by turn.
-use Rattle.std.proofs.Common.{subst, sym, ◌≡◌, ℕ, ℤ, zero, suc, ◌+◌, ◌-◌, ◌<◌, [], ◌∷◌, ◌++◌, List, length, get_or, drop, drop-cons, Bool, true, false, refl, ap, ◌∙◌, arith, add-one, if◌then◌else◌, Result, Ok, Err}
+use Rattle.std.proofs.Common.{subst, sym, ◌≡◌, ℕ, ℤ, zero, suc, ◌+◌, ◌-◌, ◌<◌, ◌∷◌, List, length, get_or, drop, drop-cons, Bool, true, false, refl, ap, ◌∙◌, arith, add-one, if◌then◌else◌, Result, Ok, Err}
 use Rattle.hpr_terms.specs.declared.tag.Tag.{Tag}
 use Rattle.hpr_terms.specs.declared.expr.Expr.{Expr}
 use Rattle.hpr_syntax.specs.declared.tree.Stmt.{Stmt}
-use Rattle.hpr_syntax.specs.declared.tree.Stmt.TheVariants.{Assign, If, While, Write}
-use Rattle.hpr_syntax.specs.declared.rows.Content.{Content}
+use Rattle.hpr_syntax.specs.declared.tree.Stmt.TheVariants.{Assign, If, While, Write, Store}
 use Rattle.hpr_syntax.specs.declared.rows.Content.TheVariants as content
 use Rattle.hpr_syntax.specs.BodyOf.{before, body_of}
 use Rattle.hpr_syntax.specs.Parts.{tag_of}
-use Rattle.hpr_syntax.specs.Rows.{content_by, content_of, stmt_by, assigned}
-use Rattle.hpr_syntax.specs.Contents.{Given, answer_of, next_state, holds, shown_of, last_of}
-use Rattle.hpr_syntax.specs.Action.{Action, assigns, writes}
+use Rattle.hpr_syntax.specs.Rows.{content_by, content_of, assigned}
+use Rattle.hpr_syntax.specs.Contents.{Given, answer_of, next_state, holds, shown_of}
 use Rattle.hpr_syntax.specs.Body.{Body, done, action, branch, loop}
 use Rattle.hpr_syntax.specs.Tree.{Tree}
 use Rattle.hpr_syntax.specs.declared.value.Value.{Value}
-use Rattle.hpr_syntax.specs.Values.{Values, put, value_at, written_in}
+use Rattle.hpr_syntax.specs.Values.{Values, put}
 use Rattle.hpr_syntax.specs.Value.{is_true}
 use Rattle.hpr_syntax.specs.Run.{After, step, then_go, turns, run_body, faults, more, outcome, run}
 use Rattle.hpr_run.specs.declared.values.Fault.{Fault}
@@ -48,7 +46,7 @@ module _ {O A : Type 0} (w : Observing O A) where
       → (a : A) (o : O) (s : Values) (left : ℕ) → after_in (walk_turns w k n t e body a o s left) ≡ turns n t e body' s left
   turns_after k zero t e body body' h a o s left = refl
   turns_after k (suc n) t e body body' h a o s left = step_after t (answer_of (content.While e) s) o left _ _ (λ v l.
-      let told = w.told (w.in_turn a k) t (content.While e) (shown_of v) s o in
+      let told = w.told (w.in_turn a k) t (content.While e) (shown_of (content.While e) s) s o in
       if_after (holds v) _ _ _ _
       (then_after (body (w.in_turn a k) told s l) _ _ _ (h (w.in_turn a k) told s l) (λ o' s' l'. turns_after (suc k) n t e body body' h a o' s' l'))
       refl)
@@ -56,9 +54,9 @@ module _ {O A : Type 0} (w : Observing O A) where
   pub walk_after : (b : Body) (a : A) (o : O) (s : Values) (left : ℕ) → after_in (walk w b a o s left) ≡ run_body b s left
   walk_after done a o s left = refl
   walk_after (action t d rest) a o s left = let says = content_by d in step_after t (answer_of says s) o left _ _ (λ v l.
-      walk_after rest a (after_action w (assigned says) (w.told a t says (shown_of v) s o)) (next_state says v s) l)
+      walk_after rest a (after_action w (assigned says) (w.told a t says (shown_of says s) s o)) (next_state says v s) l)
   walk_after (branch t e b c rest) a o s left = step_after t (answer_of (content.If e) s) o left _ _ (λ v l.
-      let told = w.told a t (content.If e) (shown_of v) s o in
+      let told = w.told a t (content.If e) (shown_of (content.If e) s) s o in
       then_after (if holds v then walk w b a told s l else walk w c a told s l) _ _ _
       (if_after (holds v) _ _ _ _ (walk_after b a told s l) (walk_after c a told s l))
       (λ o' s' l'. walk_after rest a o' s' l'))
@@ -103,18 +101,20 @@ then_then (spent o) f g = refl
 
 -- r is what a step of the part x gave
 abbrev pub Takes : {O A : Type 0} → Observing O A → Result ℤ Stop → Stmt → A → O → Values → ℕ → O → ℕ → Type 0
-Takes w r x a o s l o' l' = Stepped r (tag_of x) (answer_of (content_of x) s) (given (content_of x) s) (λ z. w.told a (tag_of x) (content_of x) z s o) o l o' l'
+Takes w r x a o s l o' l' = Stepped r (tag_of x) (answer_of (content_of x) s) (given (content_of x) s) (w.told a (tag_of x) (content_of x) (shown_of (content_of x) s) s o) o l o' l'
 
 module _ {O A : Type 0} (w : Observing O A) where
   walk_before : (x : Stmt) (rest : Body) (a : A) (o : O) (s : Values) (left : ℕ)
       → walk w (before x rest) a o s left ≡ then_way (walk w (before x done) a o s left) (walk w rest a)
   walk_before (Assign t x e) rest a o s left = step_ends t (answer_of (content.Assign x e) s) o left
-      (λ v l. goes (w.assigned x (w.told a t (content.Assign x e) (shown_of v) s o)) (put s x v) l) (walk w rest a)
+      (λ v l. goes (w.assigned x (w.told a t (content.Assign x e) (shown_of (content.Assign x e) s) s o)) (put s x v) l) (walk w rest a)
   walk_before (Write t x e) rest a o s left = step_ends t (answer_of (content.Write x e) s) o left
-      (λ v l. goes (w.assigned x (w.told a t (content.Write x e) (shown_of v) s o)) (put s x v) l) (walk w rest a)
+      (λ v l. goes (w.assigned x (w.told a t (content.Write x e) (shown_of (content.Write x e) s) s o)) (put s x v) l) (walk w rest a)
+  walk_before (Store t x i e) rest a o s left = step_ends t (answer_of (content.Store x i e) s) o left
+      (λ v l. goes (w.assigned x (w.told a t (content.Store x i e) (shown_of (content.Store x i e) s) s o)) (put s x v) l) (walk w rest a)
   walk_before (If t e b c) rest a o s left =
-      let told : Value → O = λ v. w.told a t (content.If e) (shown_of v) s o in
-      let chosen : Value → ℕ → Way O = λ v l. if holds v then walk w b a (told v) s l else walk w c a (told v) s l in
+      let told : O = w.told a t (content.If e) (shown_of (content.If e) s) s o in
+      let chosen : Value → ℕ → Way O = λ v l. if holds v then walk w b a told s l else walk w c a told s l in
       step_same t (answer_of (content.If e) s) o left _ _ (λ v l. then_then (chosen v l) goes (walk w rest a))
       ∙ step_ends t (answer_of (content.If e) s) o left (λ v l. then_way (chosen v l) goes) (walk w rest a)
   walk_before (While t e b) rest a o s left = then_then (walk_turns w 0 (left + 1) t e (walk w b) a o s left) goes (walk w rest a)
@@ -149,15 +149,15 @@ module _ {O A : Type 0} (w : Observing O A) where
       here : Takes w (Ok z) (While t e b) inside o s l o' l'
       here = subst (λ y. Takes w (Ok z) y inside o s l o' l') shape stepped
 
-      seen : o' ≡ w.told (w.in_turn a k) t (content.While e) z s o
-      seen = here.2 ∙ ap (λ (y : A). w.told y t (content.While e) z s o) at
+      seen : o' ≡ w.told (w.in_turn a k) t (content.While e) (shown_of (content.While e) s) s o
+      seen = here.2 ∙ ap (λ (y : A). w.told y t (content.While e) (shown_of (content.While e) s) s o) at
 
       turn : is_true z ≡ true → whole ≡ then_way (walk w b inside o' s l') (walk_turns w (k + 1) (most - (k + 1)) t e (walk w b) a)
       turn holds =
           let m = most - (k + 1) in
           let next : k + 1 ≡ suc k = omega arith in
           let first : walk_turns w k (suc m) t e (walk w b) a o s l
-          ≡ then_way (walk w b (w.in_turn a k) (w.told (w.in_turn a k) t (content.While e) z s o) s l') (walk_turns w (suc k) m t e (walk w b) a) = rw (here.0, here.1, holds) refl in
+          ≡ then_way (walk w b (w.in_turn a k) (w.told (w.in_turn a k) t (content.While e) (shown_of (content.While e) s) s o) s l') (walk_turns w (suc k) m t e (walk w b) a) = rw (here.0, here.1, holds) refl in
           one_more
           ∙ first
           ∙ ap (λ (y : O). then_way (walk w b (w.in_turn a k) y s l') (walk_turns w (suc k) m t e (walk w b) a)) (sym seen)
@@ -178,7 +178,7 @@ module _ {O A : Type 0} (w : Observing O A) where
       -- the loop ends where its predicate is false
       pub turn_last : is_true z ≡ false → whole ≡ goes o' s l'
       turn_last off =
-          let last : walk_turns w k (suc (most - (k + 1))) t e (walk w b) a o s l ≡ goes (w.told (w.in_turn a k) t (content.While e) z s o) s l' = rw (here.0, here.1, off) refl in
+          let last : walk_turns w k (suc (most - (k + 1))) t e (walk w b) a o s l ≡ goes (w.told (w.in_turn a k) t (content.While e) (shown_of (content.While e) s) s o) s l' = rw (here.0, here.1, off) refl in
           one_more ∙ last ∙ ap (λ (y : O). goes y s l') (sym seen)
 
     -- it stops where its predicate has no value
@@ -209,11 +209,11 @@ module _ {O A : Type 0} (w : Observing O A) (t : Tag) (e : Expr) (b c : Body) (a
   module _ (z : ℤ) (o' : O) (l' : ℕ) (stepped : Takes w (Ok z) (If t e b c) a o s l o' l') where
     if_goes : (k : Bool) → is_true z ≡ k → walk w (branch t e b c done) a o s l ≡ (if k then walk w b a o' s l' else walk w c a o' s l')
     if_goes true holds =
-        let first : walk w (branch t e b c done) a o s l ≡ then_way (walk w b a (w.told a t (content.If e) z s o) s l') goes = rw (stepped.0, stepped.1, holds) refl in
-        first ∙ then_goes (walk w b a (w.told a t (content.If e) z s o) s l') ∙ ap (λ (y : O). walk w b a y s l') (sym stepped.2)
+        let first : walk w (branch t e b c done) a o s l ≡ then_way (walk w b a (w.told a t (content.If e) (shown_of (content.If e) s) s o) s l') goes = rw (stepped.0, stepped.1, holds) refl in
+        first ∙ then_goes (walk w b a (w.told a t (content.If e) (shown_of (content.If e) s) s o) s l') ∙ ap (λ (y : O). walk w b a y s l') (sym stepped.2)
     if_goes false off =
-        let first : walk w (branch t e b c done) a o s l ≡ then_way (walk w c a (w.told a t (content.If e) z s o) s l') goes = rw (stepped.0, stepped.1, off) refl in
-        first ∙ then_goes (walk w c a (w.told a t (content.If e) z s o) s l') ∙ ap (λ (y : O). walk w c a y s l') (sym stepped.2)
+        let first : walk w (branch t e b c done) a o s l ≡ then_way (walk w c a (w.told a t (content.If e) (shown_of (content.If e) s) s o) s l') goes = rw (stepped.0, stepped.1, off) refl in
+        first ∙ then_goes (walk w c a (w.told a t (content.If e) (shown_of (content.If e) s) s o) s l') ∙ ap (λ (y : O). walk w c a y s l') (sym stepped.2)
 
 module _ {O A : Type 0} (w : Observing O A) (x : Stmt) (t : Tag) (e : Expr) (b c : Body) (shape : x ≡ If t e b c) (a : A) (o : O) (s : Values) (l : ℕ) where
   pub branch_stopped : (stop : Stop) (o' : O) (l' : ℕ) → Takes w (Err stop) x a o s l o' l' → Did (Err stop) (walk w (before x done) a o s l) o' s l'
@@ -227,65 +227,3 @@ module _ {O A : Type 0} (w : Observing O A) (x : Stmt) (t : Tag) (e : Expr) (b c
   branch_goes z o' l' stepped k is r o'' s'' l'' did =
       let same = if_goes w t e b c a o s l z o' l' (subst (λ y. Takes w (Ok z) y a o s l o' l') shape stepped) k is in
       subst (λ (y : Way O). Did r y o'' s'' l'') (sym (ap (λ (y : Stmt). walk w (before y done) a o s l) shape ∙ same)) did
-
--- the number that shows a step is the one of its expression
-last_behind : (zs : List ℤ) (z : ℤ) → last_of (zs ++ z ∷ []) ≡ z
-last_behind [] z = refl
-last_behind (y ∷ []) z = refl
-last_behind (y ∷ x ∷ zs) z = last_behind (x ∷ zs) z
-
-pub shown_given : (c : Content) (s : Values) (z : ℤ) → shown_of (given c s z) ≡ z
-shown_given (content.Assign y e) s z = refl
-shown_given (content.If e) s z = refl
-shown_given (content.While e) s z = refl
-shown_given (content.Write y e) s z = last_behind (written_in (value_at s y)) z
-
--- an action by itself
-module _ {O A : Type 0} (w : Observing O A) (t : Tag) (a : A) (o : O) (s : Values) (l : ℕ) where
-  same_step : (d : Action) (r : Result ℤ Stop) (o' : O) (l' : ℕ) → Takes w r (stmt_by t d) a o s l o' l'
-      → Stepped r t (answer_of (content_by d) s) (given (content_by d) s) (λ z. w.told a t (content_by d) z s o) o l o' l'
-  same_step (assigns x e) r o' l' h = h
-  same_step (writes x e) r o' l' h = h
-
-  same_walk : (d : Action) → walk w (before (stmt_by t d) done) a o s l ≡ walk w (action t d done) a o s l
-  same_walk (assigns x e) = refl
-  same_walk (writes x e) = refl
-
-  module _ (d : Action) where
-    stopped_at : (stop : Stop) (told : ℤ → O) (o' : O) (l' : ℕ) → Stepped (Err stop) t (answer_of (content_by d) s) (given (content_by d) s) told o l o' l'
-        → Did (Err stop) (walk w (action t d done) a o s l) o' s l'
-    stopped_at Memory told o' l' h = tt
-    stopped_at Spent told o' l' (none, known) = ap (λ (n : ℕ). walk w (action t d done) a o s n) none ∙ ap (λ (y : O). spent y) (sym known)
-    stopped_at (Faulty u f) told o' l' (one, tag, is, known) =
-        let stop : walk w (action t d done) a o s l ≡ stops t (fault_of f) o l' = rw (one, is) refl in
-        stop ∙ ap (λ (y : Tag). stops y (fault_of f) o l') tag ∙ ap (λ (y : O). stops u (fault_of f) y l') (sym known)
-
-    done_at : (z : ℤ) (o' : O) (l' : ℕ) → Stepped (Ok z) t (answer_of (content_by d) s) (given (content_by d) s) (λ y. w.told a t (content_by d) y s o) o l o' l'
-        → walk w (action t d done) a o s l ≡ goes (after_action w (assigned (content_by d)) o') (next_state (content_by d) (given (content_by d) s z) s) l'
-    done_at z o' l' (one, is, known) =
-        let says = content_by d in
-        let v = given says s z in
-        let first : walk w (action t d done) a o s l ≡ goes (after_action w (assigned says) (w.told a t says (shown_of v) s o)) (next_state says v s) l' = rw (one, is) refl in
-        first
-        ∙ ap (λ (y : ℤ). goes (after_action w (assigned says) (w.told a t says y s o)) (next_state says v s) l') (shown_given says s z)
-        ∙ ap (λ (y : O). goes (after_action w (assigned says) y) (next_state says v s) l') (sym known)
-
-module _ {O A : Type 0} (w : Observing O A) (x : Stmt) (t : Tag) (d : Action) (shape : x ≡ stmt_by t d) (a : A) (o : O) (s : Values) (l : ℕ) where
-  whole_is : walk w (before x done) a o s l ≡ walk w (action t d done) a o s l
-  whole_is = ap (λ (y : Stmt). walk w (before y done) a o s l) shape ∙ same_walk w t a o s l d
-
-  step_is : (r : Result ℤ Stop) (o' : O) (l' : ℕ) → Takes w r x a o s l o' l'
-      → Stepped r t (answer_of (content_by d) s) (given (content_by d) s) (λ z. w.told a t (content_by d) z s o) o l o' l'
-  step_is r o' l' h = same_step w t a o s l d r o' l' (subst (λ (y : Stmt). Takes w r y a o s l o' l') shape h)
-
-  pub action_stopped : (stop : Stop) (o' : O) (l' : ℕ) → Takes w (Err stop) x a o s l o' l' → Did (Err stop) (walk w (before x done) a o s l) o' s l'
-  action_stopped stop o' l' h = subst (λ (y : Way O). Did (Err stop) y o' s l') (sym whole_is) (stopped_at w t a o s l d stop _ o' l' (step_is (Err stop) o' l' h))
-
-  pub action_done : (z : ℤ) (o' : O) (l' : ℕ) → Takes w (Ok z) x a o s l o' l'
-      → (o'' : O) (s'' : Values) → o'' ≡ after_action w (assigned (content_by d)) o' → s'' ≡ next_state (content_by d) (given (content_by d) s z) s
-      → walk w (before x done) a o s l ≡ goes o'' s'' l'
-  action_done z o' l' h o'' s'' known put =
-      whole_is
-      ∙ done_at w t a o s l d z o' l' (step_is (Ok z) o' l' h)
-      ∙ ap (λ (y : O). goes y (next_state (content_by d) (given (content_by d) s z) s) l') (sym known)
-      ∙ ap (λ (y : Values). goes o'' y l') (sym put)

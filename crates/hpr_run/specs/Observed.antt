@@ -54,8 +54,8 @@ walk_turns w k zero t e body a o s left = spent o
 walk_turns w k (suc n) t e body a o s left =
     step_way t (answer_of (While e) s) o left (λ v left'.
     if holds v
-    then then_way (body (w.in_turn a k) (w.told (w.in_turn a k) t (While e) (shown_of v) s o) s left') (walk_turns w (suc k) n t e body a)
-    else goes (w.told (w.in_turn a k) t (While e) (shown_of v) s o) s left')
+    then then_way (body (w.in_turn a k) (w.told (w.in_turn a k) t (While e) (shown_of (While e) s) s o) s left') (walk_turns w (suc k) n t e body a)
+    else goes (w.told (w.in_turn a k) t (While e) (shown_of (While e) s) s o) s left')
 
 -- what the observer knows after an action, where it is told of the name that was assigned, if one was
 abbrev pub after_action : {O A : Type 0} → Observing O A → Option (List ℕ) → O → O
@@ -68,10 +68,10 @@ walk w done a o s left = goes o s left
 walk w (action t d rest) a o s left =
     let c = content_by d in
     step_way t (answer_of c s) o left (λ v left'.
-    walk w rest a (after_action w (assigned c) (w.told a t c (shown_of v) s o)) (next_state c v s) left')
+    walk w rest a (after_action w (assigned c) (w.told a t c (shown_of c s) s o)) (next_state c v s) left')
 walk w (branch t e b c rest) a o s left =
     step_way t (answer_of (If e) s) o left (λ v left'.
-    then_way (if holds v then walk w b a (w.told a t (If e) (shown_of v) s o) s left' else walk w c a (w.told a t (If e) (shown_of v) s o) s left') (walk w rest a))
+    then_way (if holds v then walk w b a (w.told a t (If e) (shown_of (If e) s) s o) s left' else walk w c a (w.told a t (If e) (shown_of (If e) s) s o) s left') (walk w rest a))
 walk w (loop t e b rest) a o s left = then_way (walk_turns w 0 (left + 1) t e (walk w b) a o s left) (walk w rest a)
 
 abbrev pub known_in : {O : Type 0} → Way O → O

@@ -3,7 +3,7 @@
 -- outcome_of o             == the outcome
 -- Stepped r t a gives told o n o' left == r is the number of the expression of the part t, which gave a in one step of n to spend, where the
 --                             observer knew o; left of them are left, and o' is known then; gives says what the part gives by that number, and
---                             told what is known after the step
+--                             told is what is known where the step is done
 -- Did r way o s left       == r is what statements gave that go this way, with what the observer knows, the state and the steps that they left;
 --                             want of memory may come anywhere
 use Rattle.std.specs.Prelude.{◌≡◌, ℕ, ℤ, suc, Result, Ok, Err}
@@ -25,8 +25,8 @@ outcome_of (Ends finals steps) = ends finals steps
 outcome_of (Faults tag fault steps) = faults tag (fault_of fault) steps
 outcome_of (More steps) = more steps
 
-abbrev pub Stepped : {O : Type 0} → Result ℤ Stop → Tag → Given → (ℤ → Value) → (ℤ → O) → O → ℕ → O → ℕ → Type 0
-Stepped (Ok z) t a gives told o n o' left = (n ≡ suc left) × (a ≡ Ok (gives z)) × (o' ≡ told z)
+abbrev pub Stepped : {O : Type 0} → Result ℤ Stop → Tag → Given → (ℤ → Value) → O → O → ℕ → O → ℕ → Type 0
+Stepped (Ok z) t a gives told o n o' left = (n ≡ suc left) × (a ≡ Ok (gives z)) × (o' ≡ told)
 Stepped (Err Spent) t a gives told o n o' left = (n ≡ 0) × (o' ≡ o)
 Stepped (Err (Faulty u f)) t a gives told o n o' left = (n ≡ suc left) × (t ≡ u) × (a ≡ Err (fault_of f)) × (o' ≡ o)
 Stepped (Err Memory) t a gives told o n o' left = Unit {0}

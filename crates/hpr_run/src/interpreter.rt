@@ -1,20 +1,21 @@
 //! Runs of programs.
-ghost use Rattle.std.specs.Prelude.{◌≡◌, ◌≤◌, ◌+◌, IfOk, OnOk};
+ghost use Rattle.std.specs.Prelude.{◌≡◌, ◌≤◌, ◌+◌, None, IfOk, OnOk};
 ghost use Rattle.hpr_syntax.specs.Body.{done};
 ghost use Rattle.hpr_syntax.specs.BodyOf.{before};
-ghost use Rattle.hpr_syntax.specs.Value.{is_true};
-ghost use Rattle.hpr_syntax.specs.Contents.{answer_of};
-ghost use Rattle.hpr_syntax.specs.Parts.{tag_of, expr_of};
+ghost use Rattle.hpr_arrays.specs.Elements.{Elements};
+ghost use Rattle.hpr_syntax.specs.Value.{is_true, value};
+ghost use Rattle.hpr_syntax.specs.Contents.{answer_of, stored, number_or_zero, shown_of};
+ghost use Rattle.hpr_syntax.specs.Parts.{tag_of, expr_of, index_of};
 ghost use Rattle.hpr_syntax.specs.Rows.{content_of};
-ghost use Rattle.hpr_run.specs.Acts.{given, given_of};
+ghost use Rattle.hpr_run.specs.Acts.{given, given_of, stored_of};
 ghost use Rattle.hpr_syntax.specs.Run.{run, final_values};
 ghost use Rattle.hpr_run.specs.Observed.{observing, walk, walk_turns, known_in};
 ghost use Rattle.hpr_run.specs.Outcomes.{outcome_of, Stepped, Did};
 
 use crate::observer::{Nobody, Observer};
 use crate::state::State;
-use crate::values::{Fault, eval};
-use hpr_syntax::{Block, Name, NoMemory, Program, Stmt, Tag, Value, expr_of};
+use crate::values::{Fault, eval, index};
+use hpr_syntax::{Block, Expr, Name, NoMemory, Program, Stmt, Tag, Value, expr_of};
 use hpr_terms::limits::MAX_WRITTEN;
 use std::alloc::Global;
 use std::marker::Model;
@@ -32,6 +33,11 @@ impl Model for FinalValues {
 
     ghost Value = { Seen };
 
+    ghost use Rattle.std.specs.Coded.{codes};
+    ghost use Rattle.hpr_syntax.specs.Private.ValueCode.{value_coded};
+
+    ghost coded = { Prim.hlevel (codes, value_coded) };
+
     ghost view = { λ a. a.list.items };
 }
 
@@ -44,7 +50,7 @@ impl FinalValues {
     }
 }
 
-/// How a run goes. A step is one assignment, one write or one evaluation of a predicate.
+/// How a run goes. A step is one assignment, one store, one write or one evaluation of a predicate.
 #[derive(Drop)]
 pub enum Outcome {
     /// The program ended after so many steps, with these values of the names of `end`, in its order.
@@ -77,9 +83,9 @@ impl From<NoMemory> for Stop {
 /// Runs a program from a state with at most this many steps. The state stays as it is.
 ///
 /// The run is the usual one of a while program (Reps and Yang, 1988), bounded by steps and with
-/// faults, which are ours; so are writes. A step allocates only where it assigns to a name that is new to
-/// the state, or writes, and the recursion is as deep as the program's blocks and expressions. It fails only for want of
-/// memory.
+/// faults, which are ours; so are writes, and the arrays. A step allocates only where it assigns to a name that is new to
+/// the state, stores or writes, and the recursion is as deep as the program's blocks and expressions. It fails only for
+/// want of memory.
 pub fn run(alloc: Global, program: &Program, state: &State, most: u64) -> Result<Outcome, NoMemory>
     ensures { IfOk result (λ o. outcome_of o ≡ run program.now state.now most) }
 {
@@ -183,6 +189,9 @@ fn walk_stmt<O: Observer>(
         }
         Stmt::While(_, _, body) => walk_loop(alloc, stmt, body, around, state, left, observer),
         Stmt::Write(_, name, _) => walk_write(alloc, stmt, name, around, state, left, observer),
+        Stmt::Store(_, array, index, _) => {
+            walk_store(alloc, stmt, array, index, around, state, left, observer)
+        }
     }
 }
 
@@ -229,6 +238,38 @@ fn walk_write<O: Observer>(
     Ok(())
 }
 
+// A store has an index besides its number, so it takes its step by itself.
+#[inline(never)]
+fn walk_store<O: Observer>(
+    alloc: Global,
+    stmt: &Stmt,
+    array: &Name,
+    index: &Expr,
+    around: &O::Turns,
+    state: &mut State,
+    left: &mut u64,
+    observer: &mut O,
+) -> Result<(), Stop>
+    requires { stmt.now ≡ Stmt.Store (tag_of stmt.now) array.now index.now (expr_of stmt.now) }
+    ensures did { let w = observing O.in_turn O.told O.assigned in
+        Did result (walk w (before stmt.now done) around.now observer.old state.old left.old)
+        observer.new state.new left.new }
+    ensures fewer { left.new ≤ left.old }
+{
+    if *left == 0 {
+        return Err(Stop::Spent);
+    }
+    *left -= 1;
+    let (at, number) = match act_store(index, expr_of(stmt), state) {
+        Ok(acted) => acted,
+        Err(fault) => return Err(Stop::Faulty(stmt.tag(), fault)),
+    };
+    observer.tell(alloc, around, stmt, number, state)?;
+    observer.assign(alloc, array)?;
+    state.store(alloc, array, at, number)?;
+    Ok(())
+}
+
 // A loop makes no more turns than it has steps, and one to see that none is left.
 #[cycle(walk)]
 fn walk_loop<O: Observer>(
@@ -263,19 +304,36 @@ fn is_true(number: i64) -> bool
     number != 0
 }
 
-// What the part does in the state: the number of its expression, where it gives something.
+// What a store does in the state, by the expressions of its index and of its number: both. The fault of the index comes
+// before that of the number, and that before the range of the index.
+fn act_store(place: &Expr, expr: &Expr, state: &State) -> Result<(u16, i64), Fault>
+    ensures given { (es : Elements) → stored_of es result
+        ≡ stored (value place.now state.now) (value expr.now state.now) es }
+    ensures shown { IfOk result (λ r. r.1 ≡ number_or_zero (value expr.now state.now)) }
+{
+    let at = eval(place, state)?;
+    let number = eval(expr, state)?;
+    match index(at) {
+        Some(at) => Ok((at, number)),
+        None => Err(Fault::IndexRange),
+    }
+}
+
+// What any other part does in the state: the number of its expression, where it gives something.
 #[inline(always)]
 fn act(stmt: &Stmt, state: &State) -> Result<i64, Fault>
-    ensures { given_of (content_of stmt.now) state.now result ≡ answer_of (content_of stmt.now) state.now }
+    requires { index_of stmt.now ≡ None }
+    ensures given { given_of (content_of stmt.now) state.now result ≡ answer_of (content_of stmt.now) state.now }
+    ensures shown { IfOk result (λ z. z ≡ shown_of (content_of stmt.now) state.now) }
 {
     let number = eval(expr_of(stmt), state)?;
     match stmt {
-        Stmt::Write(_, name, _) if state.count(name) >= MAX_WRITTEN => Err(Fault::OutputFull),
+        Stmt::Write(_, name, _) if state.written(name) >= MAX_WRITTEN => Err(Fault::OutputFull),
         _ => Ok(number),
     }
 }
 
-// One step: the number of the part's expression, if a step is left.
+// One step of a part that isn't a store: the number of its expression, if a step is left.
 #[inline(always)]
 fn take_step<O: Observer>(
     alloc: Global,
@@ -285,9 +343,11 @@ fn take_step<O: Observer>(
     left: &mut u64,
     observer: &mut O,
 ) -> Result<i64, Stop>
+    requires { index_of stmt.now ≡ None }
     ensures stepped { let c = content_of stmt.now in
         Stepped result (tag_of stmt.now) (answer_of c state.now) (given c state.now)
-        (λ z. O.told around.now (tag_of stmt.now) c z state.now observer.old) observer.old left.old observer.new left.new }
+        (O.told around.now (tag_of stmt.now) c (shown_of c state.now) state.now observer.old)
+        observer.old left.old observer.new left.new }
     ensures fewer { left.new ≤ left.old }
 {
     if *left == 0 {

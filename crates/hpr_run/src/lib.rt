@@ -7,7 +7,7 @@ mod observer;
 mod state;
 mod values;
 
-pub use hpr_syntax::{Value, Written};
+pub use hpr_syntax::{Cells, Value, Written};
 pub use interpreter::{FinalValues, Outcome, final_values, run, run_observed};
 pub use observer::Observer;
 pub use state::State;

@@ -18,7 +18,8 @@ pub trait Observer {
     // the turns in a turn, which has this number, of a loop under these turns
     ghost in_turn: { Self.Turns → ℕ → Self.Turns };
 
-    // what is known after a step of a part under these turns: its expression gave the number in the state
+    // what is known after a step of a part under these turns, in the state: the number is the one that it assigned, stored,
+    // wrote or decided by
     ghost told: { Self.Turns → Tag → Content → ℤ → Values → Self → Self };
 
     // what is known after the last step defined the name
@@ -28,7 +29,7 @@ pub trait Observer {
     fn enter(&self, alloc: Global, around: &Self::Turns, turn: u64) -> Result<Self::Turns, NoMemory>
         ensures { IfOk result (λ turns. turns ≡ in_turn around.now turn) };
 
-    /// A step of the part is done: its expression gave the number in the state.
+    /// A step of the part is done, in the state: the number is the one that it assigned, stored, wrote or decided by.
     fn tell(
         &mut self,
         alloc: Global,

@@ -2,16 +2,17 @@
 ghost use Rattle.std.specs.Prelude.{◌≡◌, length, [], ◌∷◌, ◌++◌, IfOk, OnOk, OnErr};
 ghost use Rattle.std.specs.FinMap as map;
 ghost use Rattle.std.specs.Option.{option_copied};
-ghost use Rattle.hpr_syntax.specs.declared.value.Value.TheVariants.{Number, List};
-ghost use Rattle.hpr_syntax.specs.Values.{blank, number_in, written_in, value_at, put};
+ghost use Rattle.hpr_arrays.specs.Elements.{element, with_element};
+ghost use Rattle.hpr_syntax.specs.declared.value.Value.TheVariants.{Number, List, Array};
+ghost use Rattle.hpr_syntax.specs.Values.{blank, number_in, written_in, elements_in, value_at, put};
 
-use hpr_syntax::{Name, NoMemory, Value, Written};
+use hpr_syntax::{Cells, Name, NoMemory, Value, Written};
 use std::alloc::Global;
 use std::collections::BTreeMap;
 use std::marker::Model;
 
-/// A state: variables with their values. A plain name that it doesn't list has the value 0, and the stream the
-/// empty list.
+/// A state: variables with their values. A plain name that it doesn't list has the value 0, the stream the empty
+/// list, and an array no element but 0.
 ///
 /// A contract sees it as a finite map from names to values.
 #[derive(Drop)]
@@ -48,7 +49,7 @@ impl State {
         self.values.get(name)
     }
 
-    /// The name's number: 0 where the state doesn't list it, and of the stream.
+    /// The name's number: 0 where the state doesn't list it, and of the stream and of an array.
     #[tactic(auto, using(hpr_syntax::proofs::StateLaws::blank_number))]
     pub fn get(&self, name: &Name) -> i64
         ensures { result ≡ number_in (value_at self.now name.now) }
@@ -61,11 +62,33 @@ impl State {
 
     /// How many numbers were written under the name: none where the state doesn't list it.
     #[tactic(auto, using(hpr_syntax::proofs::StateLaws::blank_written))]
-    pub(crate) fn count(&self, name: &Name) -> usize
+    pub(crate) fn written(&self, name: &Name) -> usize
         ensures { result ≡ length (written_in (value_at self.now name.now)) }
     {
         match self.listed(name) {
             Some(value) => value.count(),
+            None => 0,
+        }
+    }
+
+    /// The element of the array with this index: 0 where the state doesn't list the array.
+    #[tactic(auto, using(hpr_syntax::proofs::StateLaws::blank_elements, hpr_arrays::proofs::NoElements::no_element))]
+    pub(crate) fn element(&self, array: &Name, at: u16) -> i64
+        ensures { result ≡ element (elements_in (value_at self.now array.now)) at }
+    {
+        match self.listed(array) {
+            Some(value) => value.element(at),
+            None => 0,
+        }
+    }
+
+    /// How many elements of the array aren't 0: none where the state doesn't list it. It takes no memory.
+    #[tactic(auto, using(hpr_syntax::proofs::StateLaws::blank_elements, hpr_arrays::proofs::NoElements::none_counted))]
+    pub fn count(&self, array: &Name) -> usize
+        ensures { result ≡ map.len (elements_in (value_at self.now array.now)) }
+    {
+        match self.listed(array) {
+            Some(value) => value.element_count(),
             None => 0,
         }
     }
@@ -133,6 +156,27 @@ impl State {
         self.put(name.copy(alloc)?, Value::List(written))
     }
 
+    /// Gives the element of the array with this index the number, and leaves the others theirs. The name is copied
+    /// only where the state doesn't list it yet. Want of memory leaves the state as it was.
+    pub fn store(
+        &mut self,
+        alloc: Global,
+        array: &Name,
+        at: u16,
+        number: i64,
+    ) -> Result<(), NoMemory>
+        ensures ok { OnOk result (self.new
+            ≡ put self.old array.now (Array (with_element (elements_in (value_at self.old array.now)) at number))) }
+        ensures err { OnErr result (self.new ≡ self.old) }
+    {
+        if let Some(place) = self.values.get_mut(array) {
+            return place.store(alloc, at, number);
+        }
+        let mut value = Value::Array(Cells::new(alloc));
+        value.store(alloc, at, number)?;
+        self.put(array.copy(alloc)?, value)
+    }
+
     /// A copy.
     #[tactic(auto, using(crate::proofs::States::onto_empty, crate::proofs::States::onto_last))]
     pub fn copy(&self, alloc: Global) -> Result<State, NoMemory>
@@ -152,6 +196,8 @@ fn blank(alloc: Global, name: &Name) -> Value
 {
     if name.is_stream() {
         Value::List(Written::new(alloc))
+    } else if name.is_array() {
+        Value::Array(Cells::new(alloc))
     } else {
         Value::Number(0)
     }

@@ -1,10 +1,11 @@
 //! Values of expressions.
 ghost use Rattle.std.specs.Prelude.{◌≡◌, Ok};
-ghost use Rattle.hpr_syntax.specs.Value.{value, term_value, apply_unary, apply_binary, truth};
+ghost use Rattle.hpr_syntax.specs.Values.{elements_in, value_at};
+ghost use Rattle.hpr_syntax.specs.Value.{value, term_value, apply_unary, apply_binary, truth, as_index, element_at};
 ghost use Rattle.hpr_run.specs.Faults.{answer_of};
 
 use crate::state::State;
-use hpr_syntax::{Binary, Expr, Operand, Unary};
+use hpr_syntax::{Binary, Expr, Name, Operand, Unary};
 
 /// Why a part gives nothing.
 #[derive(Clone, Copy, Debug, PartialEq, Eq)]
@@ -15,14 +16,16 @@ pub enum Fault {
     ZeroDivide,
     /// As many numbers were written as may be, [`MAX_WRITTEN`](hpr_terms::limits::MAX_WRITTEN).
     OutputFull,
+    /// An index isn't 0 to 65,535, the last one of [`ELEMENTS`](hpr_terms::limits::ELEMENTS).
+    IndexRange,
 }
 
 /// The number of an expression in a state, or its fault. It takes no memory.
 ///
 /// Both operands of an operator are evaluated, the left one first, so that a fault of the left
-/// comes before one of the right, and that before the operator's own. `/` truncates toward zero, and
-/// `%` has the sign of its left operand. A test gives 1 or 0; `and`, `or` and `not` take every
-/// number but 0 as true.
+/// comes before one of the right, and that before the operator's own. An element's index is evaluated first, and
+/// then its range is tested. `/` truncates toward zero, and `%` has the sign of its left operand. A test gives 1 or
+/// 0; `and`, `or` and `not` take every number but 0 as true.
 #[cycle(eval)]
 pub fn eval(expr: &Expr, state: &State) -> Result<i64, Fault>
     ensures { answer_of result ≡ value expr.now state.now }
@@ -36,6 +39,7 @@ pub fn eval(expr: &Expr, state: &State) -> Result<i64, Fault>
             let y = eval_operand(right, state)?;
             eval_binary(*op, x, y)
         }
+        Expr::Elem(array, operand) => eval_element(array, eval_operand(operand, state)?, state),
     }
 }
 
@@ -73,6 +77,23 @@ fn eval_binary(op: Binary, x: i64, y: i64) -> Result<i64, Fault>
         Binary::Div => divide(x, y),
         Binary::Rem => remainder(x, y),
     }
+}
+
+#[inline(never)]
+fn eval_element(array: &Name, number: i64, state: &State) -> Result<i64, Fault>
+    ensures { answer_of result ≡ element_at number (elements_in (value_at state.now array.now)) }
+{
+    match index(number) {
+        Some(at) => Ok(state.element(array, at)),
+        None => Err(Fault::IndexRange),
+    }
+}
+
+/// The index that the number is, if it is one.
+pub(crate) fn index(number: i64) -> Option<u16>
+    ensures { result ≡ as_index number }
+{
+    u16::try_from(number).ok()
 }
 
 fn truth(holds: bool) -> i64

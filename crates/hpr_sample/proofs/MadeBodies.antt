@@ -8,7 +8,7 @@ use Rattle.hpr_syntax.specs.Proper.{IsProperBody}
 use Rattle.hpr_syntax.specs.Shape.{first_deep, first_where, is_wrong, says_large}
 use Rattle.hpr_sample.specs.Draws.{Drawn, draw, variable}
 use Rattle.hpr_sample.specs.Sample.{assignment, assignments, by_kind, conditional, followed_by, groups, repetition, tag}
-use Rattle.hpr_sample.proofs.DrawnNames.{c_is_variable, draw_below, drawn_is_variable}
+use Rattle.hpr_sample.proofs.DrawnNames.{c_is_name, c_is_variable, draw_below, drawn_is_name, drawn_is_variable}
 
 -- so many tags of author 1 from this serial on, and then these
 abbrev pub tags_from : ℕ → ℕ → List Tag → List Tag
@@ -35,7 +35,7 @@ made_assignment n serial words rest made =
       count = omega (arith, r.count);
       levels = r.levels;
       expressions = r.expressions;
-      variables = r.variables;
+      variables = rw (drawn_is_name words, drawn_is_name (variable words).words) r.variables;
       proper = λ fits. ((omega arith, omega (arith, fits)), drawn_is_variable words, (drawn_is_variable (variable words).words, omega (arith, small)), r.proper (omega (arith, fits)));
     }
 
@@ -57,7 +57,7 @@ made_conditional n serial words rest made =
       count = omega (arith, r.count);
       levels = r.levels;
       expressions = r.expressions;
-      variables = r.variables;
+      variables = rw (drawn_is_name words, drawn_is_name k.words) r.variables;
       proper = λ fits. (
         (omega arith, omega (arith, fits)),
         (drawn_is_variable words, omega (arith, small)),
@@ -84,7 +84,7 @@ made_repetition n serial words rest made =
       count = omega (arith, r.count);
       levels = r.levels;
       expressions = r.expressions;
-      variables = r.variables;
+      variables = rw (c_is_name, drawn_is_name k.words, drawn_is_name target.words) r.variables;
       proper = λ fits. (
         (omega arith, omega (arith, fits)),
         c_is_variable,

@@ -7,7 +7,7 @@ use Rattle.hpr_terms.specs.Names.{IsVariable}
 use Rattle.hpr_terms.specs.TermOf.{term_of}
 use Rattle.hpr_syntax.specs.declared.rows.Content.{Content}
 use Rattle.hpr_syntax.specs.declared.rows.Content.TheVariants.{Assign, If, While}
-use Rattle.hpr_syntax.specs.Action.{Action, assigns, writes}
+use Rattle.hpr_syntax.specs.Action.{Action, assigns, writes, stores}
 use Rattle.hpr_syntax.specs.Body.{Body, done, action, branch, loop, part_count}
 use Rattle.hpr_syntax.specs.Parts.{same_tag}
 use Rattle.hpr_syntax.specs.Rows.{content_by}
@@ -22,6 +22,7 @@ use Rattle.hpr_sample.specs.Sample.{assign}
 with_rest : (t : Tag) (d : Action) (old new : Body) → IsProperBody (action t d old) → (IsProperBody old → IsProperBody new) → IsProperBody (action t d new)
 with_rest t (assigns x e) old new is more = (is.0, is.1, is.2, more is.3)
 with_rest t (writes x e) old new is more = (is.0, is.1, is.2, more is.3)
+with_rest t (stores x i e) old new is more = (is.0, is.1, is.2, is.3, more is.4)
 
 module _ (t : Tag) (x : List ℕ) (e : Expr) where
   abbrev pub more : ℕ → Body → Body

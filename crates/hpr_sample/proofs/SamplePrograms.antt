@@ -8,10 +8,9 @@ use Rattle.hpr_terms.specs.declared.tag.Tag.{Tag}
 use Rattle.hpr_terms.specs.declared.expr.Binary.{Binary}
 use Rattle.hpr_terms.specs.declared.expr.Binary.TheVariants.{Add, Mul}
 use Rattle.hpr_terms.specs.declared.expr.Expr.TheVariants.{Infix}
-use Rattle.hpr_terms.specs.Names.{IsVariable, is_stream}
+use Rattle.hpr_terms.specs.Names.{IsVariable}
 use Rattle.hpr_terms.specs.Term.{var}
-use Rattle.hpr_terms.proofs.Facts.{neither}
-use Rattle.hpr_terms.proofs.Plain.{name_is_variable, name_not_stream}
+use Rattle.hpr_terms.proofs.Plain.{name_is_variable}
 use Rattle.hpr_syntax.specs.declared.rows.Content.TheVariants as content
 use Rattle.hpr_syntax.specs.declared.shape.ShapeError.TheVariants.{TooManyParts}
 use Rattle.hpr_syntax.specs.declared.tree.Stmt.TheVariants.{Assign}
@@ -32,7 +31,7 @@ use Rattle.hpr_edit.proofs.Tags.{all_issued, count, counted, issued_bounds, issu
 use Rattle.hpr_sample.specs.Draws.{Drawn, draw, variable, variable_name}
 use Rattle.hpr_sample.specs.Private.Making.{CanHave}
 use Rattle.hpr_sample.specs.Sample.{IsSampleSize, assign, base_of, groups, sample, tag, variable_names, with_part}
-use Rattle.hpr_sample.proofs.DrawnNames.{a_is_name, b_is_name, draw_below, drawn_is_variable, variable_is_name}
+use Rattle.hpr_sample.proofs.DrawnNames.{a_is_name, b_is_name, draw_below, drawn_is_name, drawn_is_variable, variable_is_name}
 use Rattle.hpr_sample.proofs.MadeBodies.{IsMade, is_made, tags_from}
 use Rattle.hpr_sample.proofs.OnceEach.{from_counted, none_repeated, once_from}
 use Rattle.hpr_sample.proofs.OneMore.{HasMore, has_more}
@@ -147,9 +146,9 @@ module _ (base : Tree) (author : ℕ) (x : List ℕ) (op : Binary) (words : ℕ)
           let bounds = issued_bounds base.issued t (issued_in base can.program t (omega (arith, has.times t, ap one_if same, h))) in
           bounds_issued new.issued t bounds.0 (omega (arith, bounds.1, keeps_numbers t.author))
 
-  -- the new part neither assigns the stream nor names it
+  -- the new part assigns to a plain name, and its expression names plain ones
   names_none : is_wrong (content.Assign x (Infix op (var left.made) (var right.made))) ≡ false
-  names_none = neither (is_stream x) false (name_not_stream x can.name) refl
+  names_none = rw (can.name, drawn_is_name place.words, drawn_is_name left.words) refl
 
   pub variant_is_program : IsProgram new
   variant_is_program =

@@ -5,7 +5,7 @@ use Rattle.std.proofs.lemmas.List.Elements.{All-cons, All-nil}
 use Rattle.std.proofs.lemmas.Bool.{eqb-true}
 use Rattle.std.proofs.lemmas.Bool.Decides.{nat_tests}
 use Rattle.hpr_terms.specs.declared.token.Sign.{Sign}
-use Rattle.hpr_terms.specs.declared.token.Sign.TheVariants.{Colon, Becomes, Dot, Comma, Semicolon, Open, Close, Plus, Minus, Star, Slash, Percent, Equal, Differ, Less, LessEqual, Greater, GreaterEqual}
+use Rattle.hpr_terms.specs.declared.token.Sign.TheVariants.{Colon, Becomes, Dot, Comma, Semicolon, Open, Close, OpenSquare, CloseSquare, Plus, Minus, Star, Slash, Percent, Equal, Differ, Less, LessEqual, Greater, GreaterEqual}
 use Rattle.hpr_terms.specs.declared.token.Token.{Token}
 use Rattle.hpr_terms.specs.declared.token.Token.TheVariants.{Mark}
 use Rattle.hpr_terms.specs.Names.{is_name_byte}
@@ -165,9 +165,10 @@ sign_is : (b : ℕ) (sign : Sign) → sign_of b ≡ Some sign → sign_text sign
 unfolding sign_of
 sign_is b sign e =
     next_sign b 58 Colon sign _ refl e (λ e. next_sign b 46 Dot sign _ refl e (λ e. next_sign b 44 Comma sign _ refl e (λ e. next_sign b 59 Semicolon sign _ refl e
-    (λ e. next_sign b 40 Open sign _ refl e (λ e. next_sign b 41 Close sign _ refl e (λ e. next_sign b 43 Plus sign _ refl e (λ e. next_sign b 45 Minus sign _ refl e
+    (λ e. next_sign b 40 Open sign _ refl e (λ e. next_sign b 41 Close sign _ refl e (λ e. next_sign b 91 OpenSquare sign _ refl e (λ e. next_sign b 93 CloseSquare sign _ refl e
+    (λ e. next_sign b 43 Plus sign _ refl e (λ e. next_sign b 45 Minus sign _ refl e
     (λ e. next_sign b 42 Star sign _ refl e (λ e. next_sign b 47 Slash sign _ refl e (λ e. next_sign b 37 Percent sign _ refl e (λ e. next_sign b 61 Equal sign _ refl e
-    (λ e. next_sign b 60 Less sign _ refl e (λ e. next_sign b 62 Greater sign None refl e (λ e. absurd (none_some e)))))))))))))))
+    (λ e. next_sign b 60 Less sign _ refl e (λ e. next_sign b 62 Greater sign None refl e (λ e. absurd (none_some e)))))))))))))))))
 
 free : (w : Bool) → Apart w [] false
 free true = tt

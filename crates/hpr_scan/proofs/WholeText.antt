@@ -5,7 +5,7 @@ use Rattle.std.proofs.lemmas.Bool.{and_parts}
 use Rattle.std.proofs.lemmas.Bool.Decides.{nat_tests}
 use Rattle.std.proofs.lemmas.List.{append-nil}
 use Rattle.hpr_terms.specs.declared.token.Sign.{Sign}
-use Rattle.hpr_terms.specs.declared.token.Sign.TheVariants.{Colon, Becomes, Dot, Comma, Semicolon, Open, Close, Plus, Minus, Star, Slash, Percent, Equal, Differ, Less, LessEqual, Greater, GreaterEqual}
+use Rattle.hpr_terms.specs.declared.token.Sign.TheVariants.{Colon, Becomes, Dot, Comma, Semicolon, Open, Close, OpenSquare, CloseSquare, Plus, Minus, Star, Slash, Percent, Equal, Differ, Less, LessEqual, Greater, GreaterEqual}
 use Rattle.hpr_terms.specs.declared.token.Token.{Token}
 use Rattle.hpr_terms.specs.declared.token.Token.TheVariants.{Word, Name, Number, Mark}
 use Rattle.hpr_terms.specs.Names.{is_name_byte}
@@ -97,6 +97,8 @@ sign_no_word Comma rest = refl
 sign_no_word Semicolon rest = refl
 sign_no_word Open rest = refl
 sign_no_word Close rest = refl
+sign_no_word OpenSquare rest = refl
+sign_no_word CloseSquare rest = refl
 sign_no_word Plus rest = refl
 sign_no_word Minus rest = refl
 sign_no_word Star rest = refl
@@ -159,6 +161,8 @@ sign_follows next laws s n m sign Comma ts rest e q = other_follows sign 44 refl
 sign_follows next laws s n m sign Semicolon ts rest e q = other_follows sign 59 refl refl
 sign_follows next laws s n m sign Open ts rest e q = other_follows sign 40 refl refl
 sign_follows next laws s n m sign Close ts rest e q = other_follows sign 41 refl refl
+sign_follows next laws s n m sign OpenSquare ts rest e q = other_follows sign 91 refl refl
+sign_follows next laws s n m sign CloseSquare ts rest e q = other_follows sign 93 refl refl
 sign_follows next laws s n m sign Plus ts rest e q = other_follows sign 43 refl refl
 sign_follows next laws s n m sign Minus ts rest e q = other_follows sign 45 refl refl
 sign_follows next laws s n m sign Star ts rest e q = other_follows sign 42 refl refl
@@ -243,6 +247,8 @@ sign_scan next s n Comma rest e h = rw e refl
 sign_scan next s n Semicolon rest e h = rw e refl
 sign_scan next s n Open rest e h = rw e refl
 sign_scan next s n Close rest e h = rw e refl
+sign_scan next s n OpenSquare rest e h = rw e refl
+sign_scan next s n CloseSquare rest e h = rw e refl
 sign_scan next s n Plus rest e h = rw e refl
 sign_scan next s n Minus rest e h = rw e refl
 sign_scan next s n Star rest e h = rw e refl

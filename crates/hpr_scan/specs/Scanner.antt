@@ -25,7 +25,7 @@
 -- Scans next s bytes r    == r is the place after the bytes, or the number of bytes before the first that cannot stand; memory may run out
 use Rattle.std.specs.Prelude.{◌≡◌, ℕ, ◌<◌, Bool, not, ◌||◌, nat_eq, List, [], ◌∷◌, ◌++◌, length, take, slice_index, Option, Some, None, is_some, Result, Ok, Err, if◌then◌else◌}
 use Rattle.hpr_terms.specs.declared.token.Sign.{Sign}
-use Rattle.hpr_terms.specs.declared.token.Sign.TheVariants.{Colon, Becomes, Dot, Comma, Semicolon, Open, Close, Plus, Minus, Star, Slash, Percent, Equal, Differ, Less, LessEqual, Greater, GreaterEqual}
+use Rattle.hpr_terms.specs.declared.token.Sign.TheVariants.{Colon, Becomes, Dot, Comma, Semicolon, Open, Close, OpenSquare, CloseSquare, Plus, Minus, Star, Slash, Percent, Equal, Differ, Less, LessEqual, Greater, GreaterEqual}
 use Rattle.hpr_terms.specs.declared.token.Token.{Token}
 use Rattle.hpr_terms.specs.declared.token.Token.TheVariants.{Mark}
 use Rattle.hpr_terms.specs.Names.{is_name_byte}
@@ -46,9 +46,10 @@ at l s = record { lex = l; machine = s }
 unfoldable pub sign_of : ℕ → Option Sign
 sign_of b =
     if nat_eq b 58 then Some Colon else (if nat_eq b 46 then Some Dot else (if nat_eq b 44 then Some Comma else (if nat_eq b 59 then Some Semicolon
-    else (if nat_eq b 40 then Some Open else (if nat_eq b 41 then Some Close else (if nat_eq b 43 then Some Plus else (if nat_eq b 45 then Some Minus
+    else (if nat_eq b 40 then Some Open else (if nat_eq b 41 then Some Close else (if nat_eq b 91 then Some OpenSquare else (if nat_eq b 93 then Some CloseSquare
+    else (if nat_eq b 43 then Some Plus else (if nat_eq b 45 then Some Minus
     else (if nat_eq b 42 then Some Star else (if nat_eq b 47 then Some Slash else (if nat_eq b 37 then Some Percent else (if nat_eq b 61 then Some Equal
-    else (if nat_eq b 60 then Some Less else (if nat_eq b 62 then Some Greater else None)))))))))))))
+    else (if nat_eq b 60 then Some Less else (if nat_eq b 62 then Some Greater else None)))))))))))))))
 
 abbrev pub longer : Sign → ℕ → Option Sign
 longer Colon b = if nat_eq b 61 then Some Becomes else None

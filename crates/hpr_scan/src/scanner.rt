@@ -65,6 +65,8 @@ fn sign_of(byte: u8) -> Option<Sign>
         b';' => Some(Sign::Semicolon),
         b'(' => Some(Sign::Open),
         b')' => Some(Sign::Close),
+        b'[' => Some(Sign::OpenSquare),
+        b']' => Some(Sign::CloseSquare),
         b'+' => Some(Sign::Plus),
         b'-' => Some(Sign::Minus),
         b'*' => Some(Sign::Star),

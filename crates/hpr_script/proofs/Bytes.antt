@@ -9,7 +9,7 @@ use Rattle.std.proofs.lemmas.Fmt.{digits_decimal}
 use Rattle.hpr_terms.specs.declared.keyword.Keyword.{Keyword}
 use Rattle.hpr_terms.specs.declared.keyword.Keyword.TheVariants.{Out}
 use Rattle.hpr_terms.specs.declared.token.Sign.{Sign}
-use Rattle.hpr_terms.specs.declared.token.Sign.TheVariants.{Colon, Becomes, Dot, Comma, Semicolon, Open, Close, Plus, Minus, Star, Slash, Percent, Equal, Differ, Less, LessEqual, Greater, GreaterEqual}
+use Rattle.hpr_terms.specs.declared.token.Sign.TheVariants.{Colon, Becomes, Dot, Comma, Semicolon, Open, Close, OpenSquare, CloseSquare, Plus, Minus, Star, Slash, Percent, Equal, Differ, Less, LessEqual, Greater, GreaterEqual}
 use Rattle.hpr_terms.specs.declared.token.Token.{Token}
 use Rattle.hpr_terms.specs.declared.token.Token.TheVariants.{Word, Name, Number, Mark}
 use Rattle.hpr_terms.specs.Keywords.{keyword_text, keywords, keyword_of}
@@ -29,7 +29,7 @@ use Rattle.hpr_scan.proofs.WholeText.{run_parts}
 use Rattle.hpr_scan.proofs.SoundText.{guard_of, guard_is, scan_from}
 use Rattle.hpr_script.specs.declared.found.Found.{Found}
 use Rattle.hpr_script.specs.declared.stage.Stage.{Stage}
-use Rattle.hpr_script.specs.declared.stage.Stage.TheVariants.{AtCommand, AtTag, AfterAuthor, AfterDot, AtPlace, AfterAt, AfterParent, AtCount, AtNames, AfterOpen, AfterName, AfterComma, AtEnd}
+use Rattle.hpr_script.specs.declared.stage.Stage.TheVariants.{AtCommand, AtTag, AfterAuthor, AfterDot, AtPlace, AfterAt, AfterParent, AtCount, AtNames, AfterOpen, AfterName, AfterNameOpen, AfterFinal, AfterComma, AtEnd}
 use Rattle.hpr_script.specs.declared.stage.Turn.{Turn}
 use Rattle.hpr_script.specs.declared.stage.Turn.TheVariants as turn
 use Rattle.hpr_script.specs.declared.word.ScriptWord.{ScriptWord}
@@ -39,7 +39,7 @@ use Rattle.hpr_script.specs.declared.scanner.Begun.TheVariants.{Gap, Comment, In
 use Rattle.hpr_script.specs.declared.scanner.Reader.{Reader}
 use Rattle.hpr_script.specs.ScriptWords.{script_text, script_words, script_word}
 use Rattle.hpr_script.specs.Stages.{word_stage, wants_word, takes_name, number_turn}
-use Rattle.hpr_script.specs.Machine.{State, head, lost, turned, at_head, at_turn, turns_to, word_turn, any_name_turn, name_turn, keyword_turn, number_after, sign_after, with_name, or_lost, name_next, next, is_end}
+use Rattle.hpr_script.specs.Machine.{State, head, lost, turned, at_head, at_turn, turns_to, word_turn, variable_turn, name_turn, keyword_turn, number_after, sign_after, with_last, or_lost, name_next, next, is_end}
 use Rattle.hpr_script.specs.Reading.{reader, begins_word, begins_number, begins, grown, finished_by, finished, settled, signed, gap_next, inner, IsInner, lex_of, scanner_of, IsSound}
 use Rattle.hpr_script.proofs.MachineLaws.{lost_some, number_some, script_is_token_machine}
 
@@ -126,6 +126,8 @@ wants_some (AtCount p q) k e = absurd cc
 wants_some AtNames k e = absurd cc
 wants_some AfterOpen k e = absurd cc
 wants_some AfterName k e = absurd cc
+wants_some AfterNameOpen k e = absurd cc
+wants_some AfterFinal k e = absurd cc
 wants_some AfterComma k e = absurd cc
 wants_some (AtEnd p) k e = absurd cc
 
@@ -143,6 +145,8 @@ takes_only (AfterDot a n) e = absurd cc
 takes_only (AtCount p q) e = absurd cc
 takes_only AtNames e = absurd cc
 takes_only AfterName e = absurd cc
+takes_only AfterNameOpen e = absurd cc
+takes_only AfterFinal e = absurd cc
 takes_only (AtEnd p) e = absurd cc
 
 lenient_word : (f : Found) (s : Stage) (x : List ℕ) → wants_word s ≡ true → is_some (next (head f s) (Name x)) ≡ true
@@ -236,6 +240,8 @@ sign_fed f s Comma = refl
 sign_fed f s Semicolon = refl
 sign_fed f s Open = refl
 sign_fed f s Close = refl
+sign_fed f s OpenSquare = refl
+sign_fed f s CloseSquare = refl
 sign_fed f s Plus = refl
 sign_fed f s Minus = refl
 sign_fed f s Star = refl
@@ -426,14 +432,14 @@ variable_goes f s u b t g e k stop =
 name_goes : (f : Found) (s : Stage) (u : List ℕ) (b : ℕ) (x : List ℕ) (g : Found) (v : Bool) → wants_word s ≡ v → Goes f s u b (Name x) g → Stopped s (u ++ (b ∷ [])) → ⊥
 unfolding next name_turn
 name_goes f s u b x g true h k stop =
-    let step : or_lost (at_turn (word_turn f s x)) ≡ Some k.end = ap (λ (c : Bool). name_next c (at_turn (cond c (word_turn f s x) (any_name_turn f s x)))) (sym h) ∙ k.step in
+    let step : or_lost (at_turn (word_turn f s x)) ≡ Some k.end = ap (λ (c : Bool). name_next c (at_turn (cond c (word_turn f s x) (variable_turn f s x AfterName)))) (sym h) ∙ k.step in
     let q = lost_or f s x (and_then (script_word x) (word_stage s)) k.end k.others g step k.runs in
     script_goes s (u ++ (b ∷ [])) k.more x (script_word x) q.0 refl q.1 (sym k.is.0) stop
 name_goes f s u b x g false h k stop =
-    let step : at_turn (any_name_turn f s x) ≡ Some k.end = ap (λ (c : Bool). name_next c (at_turn (cond c (word_turn f s x) (any_name_turn f s x)))) (sym h) ∙ k.step in
+    let step : at_turn (variable_turn f s x AfterName) ≡ Some k.end = ap (λ (c : Bool). name_next c (at_turn (cond c (word_turn f s x) (variable_turn f s x AfterName)))) (sym h) ∙ k.step in
     at_test (takes_name s) refl step
   where
-    at_test : (c : Bool) → takes_name s ≡ c → at_turn (cond c (Some (with_name x f, turn.Head AfterName)) None) ≡ Some k.end → ⊥
+    at_test : (c : Bool) → takes_name s ≡ c → at_turn (cond c (Some (with_last x f, turn.Head AfterName)) None) ≡ Some k.end → ⊥
     at_test true e step = variable_goes f s u b (Name x) g e k stop
     at_test false e step = none_some step
 
@@ -451,7 +457,7 @@ keyword_takes : (f : Found) (s : Stage) (k : Keyword) (n : State) → at_turn (k
 unfolding keyword_turn
 keyword_takes f s Out n e = at_test (takes_name s) refl e
   where
-    at_test : (c : Bool) → takes_name s ≡ c → at_turn (cond c (Some (with_name stream f, turn.Head AfterName)) None) ≡ Some n → takes_name s ≡ true
+    at_test : (c : Bool) → takes_name s ≡ c → at_turn (cond c (Some (with_last stream f, turn.Head AfterFinal)) None) ≡ Some n → takes_name s ≡ true
     at_test true h e = h
     at_test false h e = absurd (none_some e)
 keyword_takes f s k n e = absurd cc

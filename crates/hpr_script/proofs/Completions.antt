@@ -6,7 +6,7 @@ use Rattle.std.proofs.lemmas.List.{append-nil}
 use Rattle.hpr_terms.specs.declared.expr.Expr.TheVariants.{Num}
 use Rattle.hpr_terms.specs.declared.tag.Tag.{Tag}
 use Rattle.hpr_terms.specs.declared.keyword.Keyword.{Keyword}
-use Rattle.hpr_terms.specs.declared.token.Sign.TheVariants.{Becomes, Dot, Semicolon, Open, Close}
+use Rattle.hpr_terms.specs.declared.token.Sign.TheVariants.{Becomes, Dot, Semicolon, Open, Close, CloseSquare}
 use Rattle.hpr_terms.specs.declared.token.Token.{Token}
 use Rattle.hpr_terms.specs.declared.token.Token.TheVariants.{Name, Number, Mark}
 use Rattle.hpr_terms.specs.Keywords.{keyword_text, keyword_of}
@@ -38,7 +38,7 @@ use Rattle.hpr_script.specs.declared.stage.Holder.{Holder}
 use Rattle.hpr_script.specs.declared.stage.Plain.{Plain}
 use Rattle.hpr_script.specs.declared.stage.Plain.TheVariants as plain
 use Rattle.hpr_script.specs.declared.stage.Stage.{Stage}
-use Rattle.hpr_script.specs.declared.stage.Stage.TheVariants.{AtCommand, AtTag, AfterAuthor, AfterDot, AtPlace, AfterAt, AfterParent, AtCount, AtNames, AfterOpen, AfterName, AfterComma, AtEnd}
+use Rattle.hpr_script.specs.declared.stage.Stage.TheVariants.{AtCommand, AtTag, AfterAuthor, AfterDot, AtPlace, AfterAt, AfterParent, AtCount, AtNames, AfterOpen, AfterName, AfterNameOpen, AfterFinal, AfterComma, AtEnd}
 use Rattle.hpr_script.specs.declared.stage.Turn.{Turn}
 use Rattle.hpr_script.specs.declared.stage.Turn.TheVariants as turn
 use Rattle.hpr_script.specs.declared.word.ScriptWord.{ScriptWord}
@@ -48,7 +48,7 @@ use Rattle.hpr_script.specs.declared.scanner.Begun.TheVariants.{Gap, Comment, In
 use Rattle.hpr_script.specs.ScriptGrammar.{word, place_at}
 use Rattle.hpr_script.specs.ScriptWords.{script_text, script_words, script_word}
 use Rattle.hpr_script.specs.Stages.{tagged, at_place, word_stage, wants_word, takes_name, number_turn}
-use Rattle.hpr_script.specs.Machine.{State, head, inside, lost, turned, at_turn, turns_at, with_name, with_plain, with_command, without_names, filled, name_turn, number_after, sign_after, next, is_end}
+use Rattle.hpr_script.specs.Machine.{State, head, inside, lost, turned, at_turn, turns_at, with_last, with_last_ended, with_plain, with_command, without_names, filled, name_turn, number_after, sign_after, next, is_end}
 use Rattle.hpr_script.specs.Answers.{Ends}
 use Rattle.hpr_script.specs.Reading.{begins_word, begins_number, begins, lex_of, IsSoundAt}
 use Rattle.hpr_script.proofs.MachineLaws.{script_is_token_machine}
@@ -119,11 +119,19 @@ live_tag f a = goes (Number 0) (head f (AfterAuthor a 0)) (lit< tt) refl (live_a
 
 live_name : (f : Found) → IsLive (head f AfterName)
 unfolding next sign_after
-live_name f = goes (Mark Close) (head f (AtEnd plain.Finals)) tt refl (live_end f plain.Finals)
+live_name f = goes (Mark Close) (head (with_last_ended f) (AtEnd plain.Finals)) tt refl (live_end (with_last_ended f) plain.Finals)
+
+live_final : (f : Found) → IsLive (head f AfterFinal)
+unfolding next sign_after
+live_final f = goes (Mark Close) (head (with_last_ended f) (AtEnd plain.Finals)) tt refl (live_end (with_last_ended f) plain.Finals)
+
+live_name_open : (f : Found) → IsLive (head f AfterNameOpen)
+unfolding next sign_after
+live_name_open f = goes (Mark CloseSquare) (head f AfterFinal) tt refl (live_final f)
 
 live_comma : (f : Found) → IsLive (head f AfterComma)
 unfolding next name_turn wants_word takes_name
-live_comma f = goes (Name x_text) (head (with_name x_text f) AfterName) x_is_name refl (live_name (with_name x_text f))
+live_comma f = goes (Name x_text) (head (with_last x_text f) AfterName) x_is_name refl (live_name (with_last x_text f))
 
 live_open : (f : Found) → IsLive (head f AfterOpen)
 unfolding next sign_after
@@ -145,6 +153,8 @@ live_head f (AtCount p parent) = live_count f p parent
 live_head f AtNames = live_names f
 live_head f AfterOpen = live_open f
 live_head f AfterName = live_name f
+live_head f AfterNameOpen = live_name_open f
+live_head f AfterFinal = live_final f
 live_head f AfterComma = live_comma f
 live_head f (AtEnd p) = live_end f p
 
@@ -166,6 +176,8 @@ end_is (head f (AtCount p parent)) e = absurd cc
 end_is (head f AtNames) e = absurd cc
 end_is (head f AfterOpen) e = absurd cc
 end_is (head f AfterName) e = absurd cc
+end_is (head f AfterNameOpen) e = absurd cc
+end_is (head f AfterFinal) e = absurd cc
 end_is (head f AfterComma) e = absurd cc
 end_is (head f (AtEnd p)) e = absurd cc
 end_is (inside f h c) e = absurd cc
@@ -195,19 +207,19 @@ record Completes (f : Found) (s : Stage) (w : List ℕ) : Type 0 where
   takes : next (head f s) token ≡ Some (turned found turn)
   letters : list_all is_name_byte more ≡ true
 
-takes_any : (f : Found) (s : Stage) (x : List ℕ) → takes_name s ≡ true → next (head f s) (Name x) ≡ Some (turned (with_name x f) (turn.Head AfterName))
+takes_any : (f : Found) (s : Stage) (x : List ℕ) → takes_name s ≡ true → next (head f s) (Name x) ≡ Some (turned (with_last x f) (turn.Head AfterName))
 unfolding next name_turn
 takes_any f s x e = rw (takes_only s e, e) refl
 
 name_completes : (f : Found) (s : Stage) (w : List ℕ) (o : Option Keyword) → keyword_of w ≡ o → takes_name s ≡ true → is_name_like w ≡ true → Completes f s w
 name_completes f s w None h e i =
-    record { more = []; token = Name w; found = with_name w f; turn = turn.Head AfterName; is = (append-nil w, name_of_like w h i); is_word = refl; takes = takes_any f s w e; letters = refl }
+    record { more = []; token = Name w; found = with_last w f; turn = turn.Head AfterName; is = (append-nil w, name_of_like w h i); is_word = refl; takes = takes_any f s w e; letters = refl }
 name_completes f s w (Some k) h e i =
     let x = keyword_text k ++ (95 ∷ []) in
     record {
       more = 95 ∷ [];
       token = Name x;
-      found = with_name x f;
+      found = with_last x f;
       turn = turn.Head AfterName;
       is = (ap (λ (y : List ℕ). y ++ (95 ∷ [])) (keyword_is w k h), name_behind k);
       is_word = refl;

@@ -10,7 +10,7 @@ use Rattle.hpr_syntax.specs.declared.rows.Content.{Content}
 use Rattle.hpr_scan.specs.Steps.{and_then, runs}
 use Rattle.hpr_scan.proofs.Words.{none_some, true_false}
 use Rattle.hpr_text.specs.declared.content.ContentState.{ContentState}
-use Rattle.hpr_text.specs.declared.content.ContentState.TheVariants.{Start, AfterTarget, InExpression, Ended}
+use Rattle.hpr_text.specs.declared.content.ContentState.TheVariants.{Start, AfterTarget, InIndex, AfterIndex, InExpression, Ended}
 use Rattle.hpr_text.specs.Contents.{SpellsContent, HasContent}
 use Rattle.hpr_text.specs.ContentMachine.{content_next, content_may_end}
 use Rattle.hpr_text.proofs.Contents.{content_is, content_runs, run_one}
@@ -41,12 +41,16 @@ lift_at f h None ts d e go = absurd (none_some e)
 lift_at f h (Some (Ended c)) ts d e go = let k = ended_runs c d ts e in rw (k.0, k.1) refl
 lift_at f h (Some Start) ts d e go = go Start refl e
 lift_at f h (Some (AfterTarget x)) ts d e go = go (AfterTarget x) refl e
+lift_at f h (Some (InIndex a r)) ts d e go = go (InIndex a r) refl e
+lift_at f h (Some (AfterIndex a i k)) ts d e go = go (AfterIndex a i k) refl e
 lift_at f h (Some (InExpression aim r)) ts d e go = go (InExpression aim r) refl e
 
 open_ends : (c : ContentState) (d : Content) → IsOpen c → Some c ≡ Some (Ended d) → ⊥
 open_ends (Ended c) d o e = absurd cc
 open_ends Start d o e = absurd cc
 open_ends (AfterTarget x) d o e = absurd cc
+open_ends (InIndex a r) d o e = absurd cc
+open_ends (AfterIndex a i k) d o e = absurd cc
 open_ends (InExpression aim r) d o e = absurd cc
 
 lift : (f : Found) (h : Holder) (c : ContentState) (ts : List Token) (d : Content) → IsOpen c → runs content_next c ts ≡ Some (Ended d) → runs next (inside f h c) ts ≡ Some (filled_in f h d)
@@ -76,6 +80,8 @@ splits_at f h c t ts g None e q go = absurd (none_some q)
 splits_at f h c t ts g (Some (Ended d)) e q go = record { before = t ∷ []; behind = ts; content = d; is = refl; run = run_one c (Ended d) t [] e }
 splits_at f h c t ts g (Some Start) e q go = longer c Start t ts e (go Start q)
 splits_at f h c t ts g (Some (AfterTarget x)) e q go = longer c (AfterTarget x) t ts e (go (AfterTarget x) q)
+splits_at f h c t ts g (Some (InIndex a r)) e q go = longer c (InIndex a r) t ts e (go (InIndex a r) q)
+splits_at f h c t ts g (Some (AfterIndex a i k)) e q go = longer c (AfterIndex a i k) t ts e (go (AfterIndex a i k) q)
 splits_at f h c t ts g (Some (InExpression aim r)) e q go = longer c (InExpression aim r) t ts e (go (InExpression aim r) q)
 
 inside_ends : (f g : Found) (h : Holder) (c : ContentState) → Some (inside f h c) ≡ Some (head g AtCommand) → ⊥

@@ -9,16 +9,16 @@ use Rattle.hpr_syntax.specs.declared.rows.Content.{Content}
 use Rattle.hpr_scan.specs.Machine.{IsTokenMachine}
 use Rattle.hpr_expressions.specs.Laws.{guarded, guards, unguarded, below}
 use Rattle.hpr_text.specs.declared.content.ContentState.{ContentState}
-use Rattle.hpr_text.specs.declared.content.ContentState.TheVariants.{Start, AfterTarget, InExpression, Ended}
+use Rattle.hpr_text.specs.declared.content.ContentState.TheVariants.{Start, AfterTarget, InIndex, AfterIndex, InExpression, Ended}
 use Rattle.hpr_text.specs.ContentMachine.{content_next}
 use Rattle.hpr_text.specs.ContentLaws.{content_is_token_machine}
 use Rattle.hpr_script.specs.declared.found.Found.{Found}
 use Rattle.hpr_script.specs.declared.stage.Holder.{Holder}
 use Rattle.hpr_script.specs.declared.stage.Stage.{Stage}
-use Rattle.hpr_script.specs.declared.stage.Stage.TheVariants.{AtCommand, AtTag, AfterAuthor, AfterDot, AtPlace, AfterAt, AfterParent, AtCount, AtNames, AfterOpen, AfterName, AfterComma, AtEnd}
+use Rattle.hpr_script.specs.declared.stage.Stage.TheVariants.{AtCommand, AtTag, AfterAuthor, AfterDot, AtPlace, AfterAt, AfterParent, AtCount, AtNames, AfterOpen, AfterName, AfterNameOpen, AfterFinal, AfterComma, AtEnd}
 use Rattle.hpr_script.specs.declared.stage.Turn.{Turn}
 use Rattle.hpr_script.specs.Stages.{is_count, is_serial, takes_name, wants_word, number_turn}
-use Rattle.hpr_script.specs.Machine.{State, head, inside, lost, at_turn, turns_at, any_name_turn, name_turn, number_after, sign_after, with_command, filled, or_lost, name_next, content_goes, next}
+use Rattle.hpr_script.specs.Machine.{State, head, inside, lost, at_turn, turns_at, variable_turn, name_turn, number_after, sign_after, with_command, filled, or_lost, name_next, content_goes, next}
 
 -- ---- numbers
 
@@ -41,6 +41,8 @@ large_number (AfterParent p t) n le = refl
 large_number AtNames n le = refl
 large_number AfterOpen n le = refl
 large_number AfterName n le = refl
+large_number AfterNameOpen n le = refl
+large_number AfterFinal n le = refl
 large_number AfterComma n le = refl
 large_number (AtEnd p) n le = refl
 
@@ -65,6 +67,8 @@ smaller_turn (AfterParent p t) m n one le e = absurd cc
 smaller_turn AtNames m n one le e = absurd cc
 smaller_turn AfterOpen m n one le e = absurd cc
 smaller_turn AfterName m n one le e = absurd cc
+smaller_turn AfterNameOpen m n one le e = absurd cc
+smaller_turn AfterFinal m n one le e = absurd cc
 smaller_turn AfterComma m n one le e = absurd cc
 smaller_turn (AtEnd p) m n one le e = absurd cc
 
@@ -82,7 +86,7 @@ pub lost_some : (o : Option State) → is_some (or_lost o) ≡ true
 lost_some None = refl
 lost_some (Some s) = refl
 
-any_alike : (f : Found) (s : Stage) (x y : List ℕ) (b : Bool) → takes_name s ≡ b → is_some (at_turn (any_name_turn f s x)) ≡ is_some (at_turn (any_name_turn f s y))
+any_alike : (f : Found) (s : Stage) (x y : List ℕ) (b : Bool) → takes_name s ≡ b → is_some (at_turn (variable_turn f s x AfterName)) ≡ is_some (at_turn (variable_turn f s y AfterName))
 any_alike f s x y true e = rw e refl
 any_alike f s x y false e = rw e refl
 
@@ -97,6 +101,8 @@ content_some : (f : Found) (h : Holder) (o : Option ContentState) → is_some (c
 content_some f h None = refl
 content_some f h (Some Start) = refl
 content_some f h (Some (AfterTarget x)) = refl
+content_some f h (Some (InIndex a r)) = refl
+content_some f h (Some (AfterIndex a i k)) = refl
 content_some f h (Some (InExpression aim r)) = refl
 content_some f h (Some (Ended c)) = refl
 
@@ -111,6 +117,8 @@ content_stops f h t None n e g k = absurd cc
 content_stops f h t (Some (Ended c)) n e g k = subst (Stops t) (some_inj _ _ e) (k c)
 content_stops f h t (Some Start) n e g k = subst (Stops t) (some_inj _ _ e) (ap (content_goes f h) (g Start refl))
 content_stops f h t (Some (AfterTarget x)) n e g k = subst (Stops t) (some_inj _ _ e) (ap (content_goes f h) (g (AfterTarget x) refl))
+content_stops f h t (Some (InIndex a r)) n e g k = subst (Stops t) (some_inj _ _ e) (ap (content_goes f h) (g (InIndex a r) refl))
+content_stops f h t (Some (AfterIndex a i c)) n e g k = subst (Stops t) (some_inj _ _ e) (ap (content_goes f h) (g (AfterIndex a i c) refl))
 content_stops f h t (Some (InExpression aim r)) n e g k = subst (Stops t) (some_inj _ _ e) (ap (content_goes f h) (g (InExpression aim r) refl))
 
 -- ---- the laws

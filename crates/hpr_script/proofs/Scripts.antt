@@ -30,7 +30,7 @@ use Rattle.hpr_script.specs.declared.stage.Asked.TheVariants as asked
 use Rattle.hpr_script.specs.declared.stage.Placed.{Placed}
 use Rattle.hpr_script.specs.declared.stage.Placed.TheVariants as placed
 use Rattle.hpr_script.specs.declared.stage.Stage.{Stage}
-use Rattle.hpr_script.specs.declared.stage.Stage.TheVariants.{AtCommand, AtTag, AfterDot, AtPlace, AfterAt, AfterParent, AtCount, AfterName}
+use Rattle.hpr_script.specs.declared.stage.Stage.TheVariants.{AtCommand, AtTag, AfterDot, AtPlace, AfterAt, AfterParent, AtCount, AfterName, AfterFinal}
 use Rattle.hpr_script.specs.declared.stage.Turn.{Turn}
 use Rattle.hpr_script.specs.declared.stage.Turn.TheVariants as turn
 use Rattle.hpr_script.specs.declared.word.ScriptWord.{ScriptWord}
@@ -38,7 +38,7 @@ use Rattle.hpr_script.specs.declared.word.ScriptWord.TheVariants as words
 use Rattle.hpr_script.specs.ScriptGrammar.{IsScript, HasScript, OneScript}
 use Rattle.hpr_script.specs.ScriptWords.{script_word}
 use Rattle.hpr_script.specs.Stages.{tagged, at_place, command_stage, block_stage, word_stage, wants_word, takes_name, number_turn, is_count, is_serial}
-use Rattle.hpr_script.specs.Machine.{head, lost, turned, at_turn, turns_at, turns_to, with_name, word_turn, any_name_turn, name_turn, keyword_turn, number_after, or_lost, name_next, next, start, is_end, ends_script, commands_of}
+use Rattle.hpr_script.specs.Machine.{head, lost, turned, at_turn, turns_at, turns_to, with_last, word_turn, variable_turn, name_turn, keyword_turn, number_after, or_lost, name_next, next, start, is_end, ends_script, commands_of}
 use Rattle.hpr_script.specs.Reading.{lex_of, scanner_of}
 use Rattle.hpr_script.specs.declared.reader.ScriptError.{ScriptError}
 use Rattle.hpr_script.specs.declared.reader.ScriptError.TheVariants.{Syntax, Memory}
@@ -50,7 +50,7 @@ use Rattle.hpr_script.proofs.Sound.{read_is_spelled}
 use Rattle.hpr_script.proofs.Whole.{spelled_is_read}
 
 abbrev read : List Command → Found
-read cs = record { commands = cs; names = [] }
+read cs = record { commands = cs; names = []; last = None }
 
 leads_script : (bytes : List ℕ) (f : Found) → scan next lex.Gap start bytes ≡ Some (head f AtCommand) → IsScript bytes f.commands
 leads_script bytes f e =
@@ -138,17 +138,17 @@ word_turn_ends f g s o None q e = true_false (ap is_end (some_inj lost (head g A
 word_turn_ends f g s None (Some p) q e = none_some q
 word_turn_ends f g s (Some k) (Some p) q e = turn_goes f g (turn.Head p) (word_goes s k p q) e
 
-any_name_ends : (f g : Found) (x : List ℕ) (b : Bool) → at_turn (cond b (Some (with_name x f, turn.Head AfterName)) None) ≡ Some (head g AtCommand) → ⊥
-any_name_ends f g x true e = turn_goes (with_name x f) g (turn.Head AfterName) refl e
-any_name_ends f g x false e = none_some e
+variable_ends : (f g : Found) (x : List ℕ) (q : Stage) (b : Bool) → ends_script q ≡ false → at_turn (cond b (Some (with_last x f, turn.Head q)) None) ≡ Some (head g AtCommand) → ⊥
+variable_ends f g x q true h e = turn_goes (with_last x f) g (turn.Head q) h e
+variable_ends f g x q false h e = none_some e
 
-name_ends : (f g : Found) (s : Stage) (x : List ℕ) (b : Bool) → name_next b (at_turn (cond b (word_turn f s x) (any_name_turn f s x))) ≡ Some (head g AtCommand) → ⊥
+name_ends : (f g : Found) (s : Stage) (x : List ℕ) (b : Bool) → name_next b (at_turn (cond b (word_turn f s x) (variable_turn f s x AfterName))) ≡ Some (head g AtCommand) → ⊥
 name_ends f g s x true e = word_turn_ends f g s (script_word x) (and_then (script_word x) (word_stage s)) refl e
-name_ends f g s x false e = any_name_ends f g x (takes_name s) e
+name_ends f g s x false e = variable_ends f g x AfterName (takes_name s) refl e
 
 keyword_ends : (f g : Found) (s : Stage) (k : Keyword) → at_turn (keyword_turn f s k) ≡ Some (head g AtCommand) → ⊥
 unfolding keyword_turn
-keyword_ends f g s Out e = any_name_ends f g stream (takes_name s) e
+keyword_ends f g s Out e = variable_ends f g stream AfterFinal (takes_name s) refl e
 keyword_ends f g s k e = none_some e
 
 token_ends : (f g : Found) (s : Stage) (t : Token) → is_word t ≡ true → next (head f s) t ≡ Some (head g AtCommand) → ⊥

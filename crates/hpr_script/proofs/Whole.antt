@@ -3,9 +3,11 @@ use Rattle.std.proofs.Common.{◌≡◌, ℕ, ◌<◌, ◌≤◌, ◌^◌, List,
 use Rattle.std.proofs.lemmas.Bool.{lt-ltb, le-leb, and_from}
 use Rattle.std.proofs.lemmas.List.{append-nil}
 use Rattle.hpr_terms.specs.declared.tag.Tag.{Tag}
-use Rattle.hpr_terms.specs.declared.token.Sign.TheVariants.{Dot, Comma, Semicolon, Open, Close}
+use Rattle.hpr_terms.specs.declared.token.Sign.TheVariants.{Dot, Comma, Semicolon, Open, Close, OpenSquare, CloseSquare}
 use Rattle.hpr_terms.specs.declared.token.Token.{Token}
-use Rattle.hpr_terms.specs.declared.token.Token.TheVariants.{Number, Mark}
+use Rattle.hpr_terms.specs.declared.token.Token.TheVariants.{Word, Name, Number, Mark}
+use Rattle.hpr_terms.specs.declared.keyword.Keyword.TheVariants.{Out}
+use Rattle.hpr_terms.specs.Names.{IsName, stream, is_name, array_of}
 use Rattle.hpr_terms.proofs.Facts.{some_inj}
 use Rattle.hpr_syntax.specs.declared.rows.Content.{Content}
 use Rattle.hpr_syntax.specs.Grammar.{IsTag, SpellsFinal, SpellsNames}
@@ -26,19 +28,19 @@ use Rattle.hpr_script.specs.declared.stage.Holder.TheVariants as holder
 use Rattle.hpr_script.specs.declared.stage.Plain.{Plain}
 use Rattle.hpr_script.specs.declared.stage.Plain.TheVariants as plain
 use Rattle.hpr_script.specs.declared.stage.Stage.{Stage}
-use Rattle.hpr_script.specs.declared.stage.Stage.TheVariants.{AtCommand, AtTag, AfterAuthor, AfterDot, AtPlace, AfterAt, AfterParent, AtCount, AtNames, AfterOpen, AfterName, AfterComma, AtEnd}
+use Rattle.hpr_script.specs.declared.stage.Stage.TheVariants.{AtCommand, AtTag, AfterAuthor, AfterDot, AtPlace, AfterAt, AfterParent, AtCount, AtNames, AfterOpen, AfterName, AfterNameOpen, AfterFinal, AfterComma, AtEnd}
 use Rattle.hpr_script.specs.declared.word.ScriptWord.{ScriptWord}
 use Rattle.hpr_script.specs.declared.word.ScriptWord.TheVariants as words
 use Rattle.hpr_script.specs.ScriptGrammar as script
 use Rattle.hpr_script.specs.ScriptGrammar.{word, tag_then, place_at, SpellsPlace, SpellsCommand, SpellsScript}
 use Rattle.hpr_script.specs.Stages.{is_count, is_serial, tagged, at_place, word_stage, wants_word, takes_name, number_turn}
-use Rattle.hpr_script.specs.Machine.{State, head, inside, turned, with_command, with_plain, filled, name_turn, keyword_turn, number_after, sign_after, next, start}
+use Rattle.hpr_script.specs.Machine.{State, head, inside, turned, with_command, with_plain, with_last, filled, name_turn, keyword_turn, number_after, sign_after, next, start}
 use Rattle.hpr_script.proofs.Bytes.{word_found}
 use Rattle.hpr_script.proofs.Contents.{content_makes}
 
 -- these commands and names were read
 abbrev with : List Command → List (List ℕ) → Found
-with cs xs = record { commands = cs; names = xs }
+with cs xs = record { commands = cs; names = xs; last = None }
 
 one : (s n : State) (t : Token) (ts : List Token) → next s t ≡ Some n → runs next s (t ∷ ts) ≡ runs next n ts
 one s n t ts e = ap (λ (o : Option State). and_then o (λ m. runs next m ts)) e
@@ -136,45 +138,77 @@ open_read : (cs : List Command) (xs : List (List ℕ)) → next (head (with cs x
 unfolding next sign_after
 open_read cs xs = refl
 
-close_read : (f : Found) → next (head f AfterName) (Mark Close) ≡ Some (head f (AtEnd plain.Finals))
-unfolding next sign_after
-close_read f = refl
-
 none_read : (f : Found) → next (head f AfterOpen) (Mark Close) ≡ Some (head f (AtEnd plain.Finals))
 unfolding next sign_after
 none_read f = refl
 
-comma_read : (f : Found) → next (head f AfterName) (Mark Comma) ≡ Some (head f AfterComma)
+-- the places at which a variable of `finals` may begin
+record IsAtNames (s : Stage) : Type 0 where
+  name : (f : Found) (x : List ℕ) → next (head f s) (Name x) ≡ Some (head (with_last x f) AfterName)
+  out : (f : Found) → next (head f s) (Word Out) ≡ Some (head (with_last stream f) AfterFinal)
+
+first_names : IsAtNames AfterOpen
+unfolding next name_turn keyword_turn wants_word takes_name
+first_names = record { name = λ f x. refl; out = λ f. refl }
+
+next_names : IsAtNames AfterComma
+unfolding next name_turn keyword_turn wants_word takes_name
+next_names = record { name = λ f x. refl; out = λ f. refl }
+
+array_read : (cs : List Command) (xs : List (List ℕ)) (x : List ℕ) → IsName x
+    → next (head (with_last x (with cs xs)) AfterName) (Mark OpenSquare) ≡ Some (head (with_last (array_of x) (with cs xs)) AfterNameOpen)
 unfolding next sign_after
-comma_read f = refl
+array_read cs xs x name = let plain : is_name x ≡ true = name in rw plain refl
 
-first_read : (cs : List Command) (xs : List (List ℕ)) (t : Token) (x : List ℕ) → SpellsFinal t x → next (head (with cs xs) AfterOpen) t ≡ Some (head (with cs (xs ++ (x ∷ []))) AfterName)
-unfolding next name_turn keyword_turn wants_word takes_name
-first_read cs xs t x grammar.plain = refl
-first_read cs xs t x grammar.out = refl
+array_ends : (f : Found) → next (head f AfterNameOpen) (Mark CloseSquare) ≡ Some (head f AfterFinal)
+unfolding next sign_after
+array_ends f = refl
 
-name_read : (cs : List Command) (xs : List (List ℕ)) (t : Token) (x : List ℕ) → SpellsFinal t x → next (head (with cs xs) AfterComma) t ≡ Some (head (with cs (xs ++ (x ∷ []))) AfterName)
-unfolding next name_turn keyword_turn wants_word takes_name
-name_read cs xs t x grammar.plain = refl
-name_read cs xs t x grammar.out = refl
+-- a sign that may stand behind a variable of `finals`, and the place to which it leads
+data Follows : Token → Stage → Type 0 where
+  a_comma : Follows (Mark Comma) AfterComma
+  a_close : Follows (Mark Close) (AtEnd plain.Finals)
 
-more_read : (cs : List Command) (xs : List (List ℕ)) (ts : List Token) (x : List ℕ) (ys : List (List ℕ)) (rest : List Token) → SpellsNames ts (x ∷ ys)
-    → runs next (head (with cs xs) AfterComma) (ts ++ (Mark Close ∷ rest)) ≡ runs next (head (with cs (xs ++ (x ∷ ys))) (AtEnd plain.Finals)) rest
-more_read cs xs _ x [] rest (grammar.one {t = t} is) = rw (name_read cs xs t x is, close_read (with cs (xs ++ (x ∷ [])))) refl
-more_read cs xs _ x (y ∷ ys) rest (grammar.more {t = t} {ts = ts} is k) =
-    one (head (with cs xs) AfterComma) (head (with cs (xs ++ (x ∷ []))) AfterName) t (Mark Comma ∷ (ts ++ (Mark Close ∷ rest))) (name_read cs xs t x is)
-    ∙ one (head (with cs (xs ++ (x ∷ []))) AfterName) (head (with cs (xs ++ (x ∷ []))) AfterComma) (Mark Comma) (ts ++ (Mark Close ∷ rest)) (comma_read (with cs (xs ++ (x ∷ []))))
-    ∙ more_read cs (xs ++ (x ∷ [])) ts y ys rest k
+name_ends : (cs : List Command) (xs : List (List ℕ)) (x : List ℕ) (t : Token) (q : Stage) → Follows t q → next (head (with_last x (with cs xs)) AfterName) t ≡ Some (head (with cs (xs ++ (x ∷ []))) q)
+unfolding next sign_after
+name_ends cs xs x t q a_comma = refl
+name_ends cs xs x t q a_close = refl
+
+final_ends : (cs : List Command) (xs : List (List ℕ)) (x : List ℕ) (t : Token) (q : Stage) → Follows t q → next (head (with_last x (with cs xs)) AfterFinal) t ≡ Some (head (with cs (xs ++ (x ∷ []))) q)
+unfolding next sign_after
+final_ends cs xs x t q a_comma = refl
+final_ends cs xs x t q a_close = refl
+
+-- a variable and the sign behind it
+final_read : {ts : List Token} {x : List ℕ} → SpellsFinal ts x → (s : Stage) → IsAtNames s → (cs : List Command) (xs : List (List ℕ)) (t : Token) (q : Stage) → Follows t q → (rest : List Token)
+    → runs next (head (with cs xs) s) (ts ++ (t ∷ rest)) ≡ runs next (head (with cs (xs ++ (x ∷ []))) q) rest
+final_read (grammar.plain {x = x}) s at cs xs t q is rest =
+    one (head (with cs xs) s) (head (with_last x (with cs xs)) AfterName) (Name x) (t ∷ rest) (at.name (with cs xs) x)
+    ∙ one (head (with_last x (with cs xs)) AfterName) (head (with cs (xs ++ (x ∷ []))) q) t rest (name_ends cs xs x t q is)
+final_read grammar.out s at cs xs t q is rest =
+    one (head (with cs xs) s) (head (with_last stream (with cs xs)) AfterFinal) (Word Out) (t ∷ rest) (at.out (with cs xs))
+    ∙ one (head (with_last stream (with cs xs)) AfterFinal) (head (with cs (xs ++ (stream ∷ []))) q) t rest (final_ends cs xs stream t q is)
+final_read (grammar.array {x = x} name) s at cs xs t q is rest =
+    let g : Found = with_last (array_of x) (with cs xs) in
+    one (head (with cs xs) s) (head (with_last x (with cs xs)) AfterName) (Name x) (Mark OpenSquare ∷ Mark CloseSquare ∷ t ∷ rest) (at.name (with cs xs) x)
+    ∙ one (head (with_last x (with cs xs)) AfterName) (head g AfterNameOpen) (Mark OpenSquare) (Mark CloseSquare ∷ t ∷ rest) (array_read cs xs x name)
+    ∙ one (head g AfterNameOpen) (head g AfterFinal) (Mark CloseSquare) (t ∷ rest) (array_ends g)
+    ∙ one (head g AfterFinal) (head (with cs (xs ++ (array_of x ∷ []))) q) t rest (final_ends cs xs (array_of x) t q is)
+
+names_from : {ts : List Token} {y : List ℕ} {ys : List (List ℕ)} → SpellsNames ts (y ∷ ys) → (s : Stage) → IsAtNames s → (cs : List Command) (xs : List (List ℕ)) (rest : List Token)
+    → runs next (head (with cs xs) s) (ts ++ (Mark Close ∷ rest)) ≡ runs next (head (with cs (xs ++ (y ∷ ys))) (AtEnd plain.Finals)) rest
+names_from (grammar.one is) s at cs xs rest = final_read is s at cs xs (Mark Close) (AtEnd plain.Finals) a_close rest
+names_from (grammar.more {first = first} {ts = ts} {x = x} {y = y} {xs = ys} is k) s at cs xs rest =
+    ap (runs next (head (with cs xs) s)) (append_assoc first (Mark Comma ∷ ts) (Mark Close ∷ rest))
+    ∙ final_read is s at cs xs (Mark Comma) AfterComma a_comma (ts ++ (Mark Close ∷ rest))
+    ∙ names_from k AfterComma next_names cs (xs ++ (x ∷ [])) rest
     ∙ ap (λ (zs : List (List ℕ)). runs next (head (with cs zs) (AtEnd plain.Finals)) rest) (append_assoc xs (x ∷ []) (y ∷ ys))
 
 names_read : (cs : List Command) (ts : List Token) (xs : List (List ℕ)) (rest : List Token) → SpellsNames ts xs
     → runs next (head (with cs []) AfterOpen) (ts ++ (Mark Close ∷ rest)) ≡ runs next (head (with cs xs) (AtEnd plain.Finals)) rest
 names_read cs _ _ rest grammar.none = rw (none_read (with cs [])) refl
-names_read cs _ _ rest (grammar.one {t = t} {x = x} is) = rw (first_read cs [] t x is, close_read (with cs (x ∷ []))) refl
-names_read cs _ _ rest (grammar.more {t = t} {x = x} {y = y} {ts = ts} {xs = xs} is k) =
-    one (head (with cs []) AfterOpen) (head (with cs (x ∷ [])) AfterName) t (Mark Comma ∷ (ts ++ (Mark Close ∷ rest))) (first_read cs [] t x is)
-    ∙ one (head (with cs (x ∷ [])) AfterName) (head (with cs (x ∷ [])) AfterComma) (Mark Comma) (ts ++ (Mark Close ∷ rest)) (comma_read (with cs (x ∷ [])))
-    ∙ more_read cs (x ∷ []) ts y xs rest k
+names_read cs _ _ rest (grammar.one is) = names_from (grammar.one is) AfterOpen first_names cs [] rest
+names_read cs _ _ rest (grammar.more is k) = names_from (grammar.more is k) AfterOpen first_names cs [] rest
 
 -- ---- commands
 

@@ -5,18 +5,25 @@
 -- with_command c f == one more command was read
 -- with_finals f    == a command `finals` with the names was read
 -- with_plain p f   == a command without a content was read
--- without_names f  == no name of `finals` was read
--- with_name x f    == one more name of `finals` was read
+-- without_names f  == no variable of `finals` has ended
+-- with_last x f    == the last variable of `finals` is x
+-- with_variable o f == one more variable of `finals` has ended, if o is one
+-- with_last_ended f == a sign that ends the last variable of `finals` was read
+-- with_array f     == the last variable of `finals` is the array of the name that it was, if that was a plain name
+-- with_array_of o f == the same, by the name o
 -- filled h c       == the command with the content c
 -- turned f turn    == at what comes next
 -- at_head o        == at the place of a head, if there is one
 -- at_turn o        == at what comes next, if something does
 -- found_at, turns_at, turns_to == what was found, with what comes next, if something does
--- word_turn, any_name_turn == the same behind a word of scripts, and behind a variable that may be any
+-- at_array o       == behind the name and `[` of the last variable of `finals`, if it has an array
+-- word_turn        == the same behind a word of scripts
+-- variable_turn f s x q == the same, the place q, behind the variable x, which may be any
 -- name_turn f s x  == what comes next behind the name x, if it can stand there
 -- keyword_turn f s k == what comes next behind the keyword k, if it can stand there: where a variable can, the stream's word
 -- number_after f s n == what comes next behind the number n, if it can stand there
--- dot_stage, comma_stage, close_stage, opened, ended == where one sign leads, if it can stand there
+-- last_ended f s   == at the place s behind the last variable of `finals`
+-- dot_stage, close_square_stage, comma_after, close_after, opened, square_opened, ended == where one sign leads, if it can stand there
 -- sign_after f sign s == the place of the head behind the sign, if it can stand there
 -- or_lost o        == lost, where no place is next
 -- name_next wants o == the state behind a name: where a word of scripts is wanted, it may be lost
@@ -31,10 +38,10 @@ use Rattle.std.specs.Prelude.{ℕ, Bool, true, false, if◌then◌else◌, List,
 use Rattle.hpr_terms.specs.declared.keyword.Keyword.{Keyword}
 use Rattle.hpr_terms.specs.declared.keyword.Keyword.TheVariants.{Out}
 use Rattle.hpr_terms.specs.declared.token.Sign.{Sign}
-use Rattle.hpr_terms.specs.declared.token.Sign.TheVariants.{Dot, Comma, Semicolon, Open, Close}
+use Rattle.hpr_terms.specs.declared.token.Sign.TheVariants.{Dot, Comma, Semicolon, Open, Close, OpenSquare, CloseSquare}
 use Rattle.hpr_terms.specs.declared.token.Token.{Token}
 use Rattle.hpr_terms.specs.declared.token.Token.TheVariants.{Word, Name, Number, Mark}
-use Rattle.hpr_terms.specs.Names.{stream}
+use Rattle.hpr_terms.specs.Names.{stream, is_name, array_of}
 use Rattle.hpr_syntax.specs.declared.rows.Content.{Content}
 use Rattle.hpr_scan.specs.Steps.{and_then}
 use Rattle.hpr_text.specs.declared.content.ContentState.{ContentState}
@@ -47,7 +54,7 @@ use Rattle.hpr_script.specs.declared.stage.Holder.TheVariants as holder
 use Rattle.hpr_script.specs.declared.stage.Plain.{Plain}
 use Rattle.hpr_script.specs.declared.stage.Plain.TheVariants as plain
 use Rattle.hpr_script.specs.declared.stage.Stage.{Stage}
-use Rattle.hpr_script.specs.declared.stage.Stage.TheVariants.{AtCommand, AfterAuthor, AfterDot, AtNames, AfterOpen, AfterName, AfterComma, AtEnd}
+use Rattle.hpr_script.specs.declared.stage.Stage.TheVariants.{AtCommand, AfterAuthor, AfterDot, AtNames, AfterOpen, AfterName, AfterNameOpen, AfterFinal, AfterComma, AtEnd}
 use Rattle.hpr_script.specs.declared.stage.Turn.{Turn}
 use Rattle.hpr_script.specs.declared.stage.Turn.TheVariants as turn
 use Rattle.hpr_script.specs.declared.found.Found.{Found}
@@ -60,13 +67,13 @@ pub data State : Type 0 where
   lost : State
 
 abbrev pub nothing_found : Found
-nothing_found = record { commands = []; names = [] }
+nothing_found = record { commands = []; names = []; last = None }
 
 abbrev pub with_command : Command → Found → Found
 with_command c f = record f { commands = f.commands ++ (c ∷ []) }
 
 abbrev pub with_finals : Found → Found
-with_finals f = record { commands = f.commands ++ (command.Finals f.names ∷ []); names = [] }
+with_finals f = record f { commands = f.commands ++ (command.Finals f.names ∷ []); names = [] }
 
 abbrev pub with_plain : Plain → Found → Found
 with_plain (plain.Delete t) f = with_command (command.Delete t) f
@@ -77,8 +84,22 @@ with_plain plain.Finals f = with_finals f
 abbrev pub without_names : Found → Found
 without_names f = record f { names = [] }
 
-abbrev pub with_name : List ℕ → Found → Found
-with_name x f = record f { names = f.names ++ (x ∷ []) }
+abbrev pub with_last : List ℕ → Found → Found
+with_last x f = record f { last = Some x }
+
+abbrev pub with_variable : Option (List ℕ) → Found → Found
+with_variable None f = f
+with_variable (Some x) f = record f { names = f.names ++ (x ∷ []); last = None }
+
+abbrev pub with_last_ended : Found → Found
+with_last_ended f = with_variable f.last f
+
+abbrev pub with_array_of : Option (List ℕ) → Found → Option Found
+with_array_of None f = None
+with_array_of (Some x) f = if is_name x then Some (with_last (array_of x) f) else None
+
+abbrev pub with_array : Found → Option Found
+with_array f = with_array_of f.last f
 
 abbrev pub filled : Holder → Content → Command
 filled (holder.Insert p) c = command.Insert p c
@@ -112,14 +133,14 @@ turns_to f (Some s) = Some (f, turn.Head s)
 abbrev pub word_turn : Found → Stage → List ℕ → Option (Found × Turn)
 word_turn f s x = turns_to f (and_then (script_word x) (word_stage s))
 
-abbrev pub any_name_turn : Found → Stage → List ℕ → Option (Found × Turn)
-any_name_turn f s x = if takes_name s then Some (with_name x f, turn.Head AfterName) else None
+abbrev pub variable_turn : Found → Stage → List ℕ → Stage → Option (Found × Turn)
+variable_turn f s x q = if takes_name s then Some (with_last x f, turn.Head q) else None
 
 unfoldable pub name_turn : Found → Stage → List ℕ → Option (Found × Turn)
-name_turn f s x = if wants_word s then word_turn f s x else any_name_turn f s x
+name_turn f s x = if wants_word s then word_turn f s x else variable_turn f s x AfterName
 
 unfoldable pub keyword_turn : Found → Stage → Keyword → Option (Found × Turn)
-keyword_turn f s Out = any_name_turn f s stream
+keyword_turn f s Out = variable_turn f s stream AfterFinal
 keyword_turn f s _ = None
 
 unfoldable pub number_after : Found → Stage → ℕ → Option (Found × Turn)
@@ -129,14 +150,31 @@ abbrev pub dot_stage : Stage → Option Stage
 dot_stage (AfterAuthor a n) = Some (AfterDot a n)
 dot_stage _ = None
 
-abbrev pub comma_stage : Stage → Option Stage
-comma_stage AfterName = Some AfterComma
-comma_stage _ = None
+abbrev pub close_square_stage : Stage → Option Stage
+close_square_stage AfterNameOpen = Some AfterFinal
+close_square_stage _ = None
 
-abbrev pub close_stage : Stage → Option Stage
-close_stage AfterOpen = Some (AtEnd plain.Finals)
-close_stage AfterName = Some (AtEnd plain.Finals)
-close_stage _ = None
+abbrev pub last_ended : Found → Stage → Option (Found × Stage)
+last_ended f s = Some (with_last_ended f, s)
+
+abbrev pub comma_after : Found → Stage → Option (Found × Stage)
+comma_after f AfterName = last_ended f AfterComma
+comma_after f AfterFinal = last_ended f AfterComma
+comma_after f _ = None
+
+abbrev pub close_after : Found → Stage → Option (Found × Stage)
+close_after f AfterOpen = Some (f, AtEnd plain.Finals)
+close_after f AfterName = last_ended f (AtEnd plain.Finals)
+close_after f AfterFinal = last_ended f (AtEnd plain.Finals)
+close_after f _ = None
+
+abbrev pub at_array : Option Found → Option (Found × Stage)
+at_array None = None
+at_array (Some f) = Some (f, AfterNameOpen)
+
+abbrev pub square_opened : Found → Stage → Option (Found × Stage)
+square_opened f AfterName = at_array (with_array f)
+square_opened f _ = None
 
 abbrev pub opened : Found → Stage → Option (Found × Stage)
 opened f AtNames = Some (without_names f, AfterOpen)
@@ -148,9 +186,11 @@ ended f _ = None
 
 unfoldable pub sign_after : Found → Sign → Stage → Option (Found × Stage)
 sign_after f Dot s = found_at f (dot_stage s)
-sign_after f Comma s = found_at f (comma_stage s)
+sign_after f Comma s = comma_after f s
 sign_after f Open s = opened f s
-sign_after f Close s = found_at f (close_stage s)
+sign_after f Close s = close_after f s
+sign_after f OpenSquare s = square_opened f s
+sign_after f CloseSquare s = found_at f (close_square_stage s)
 sign_after f Semicolon s = ended f s
 sign_after f _ s = None
 

@@ -1,9 +1,11 @@
 //! What was read so far.
 ghost use Rattle.std.specs.Prelude.{◌≡◌, [], ◌∷◌, ◌++◌, IfOk, OnOk};
+ghost use Rattle.hpr_scan.specs.Steps.{Steps};
 ghost use Rattle.hpr_script.specs.Machine as machine;
 
 use crate::stage::{Holder, Plain};
 use hpr_edit::{Command, FinalNames};
+use hpr_scan::Fault;
 use hpr_syntax::Content;
 use hpr_terms::{Name, NoMemory};
 use std::alloc::Global;
@@ -57,8 +59,10 @@ impl Commands {
 pub struct Found {
     /// The commands whose `;` was read.
     pub commands: Commands,
-    /// The names of `finals`, while they are read.
+    /// The variables of `finals`, while they are read.
     pub names: FinalNames,
+    /// The last variable of `finals`, while no sign that ends it was read.
+    pub last: Option<Name>,
 }
 
 /// All of it is dropped in one call.
@@ -67,6 +71,7 @@ impl Drop for Found {
         let Found {
             commands: _,
             names: _,
+            last: _,
         } = self;
     }
 }
@@ -95,6 +100,7 @@ impl Found {
         Found {
             commands: Commands::new(alloc),
             names: no_names(alloc),
+            last: None,
         }
     }
 
@@ -102,7 +108,11 @@ impl Found {
     pub fn into_commands(self) -> Vec<Command>
         ensures { result.items ≡ self.commands }
     {
-        let Found { commands, names: _ } = self;
+        let Found {
+            commands,
+            names: _,
+            last: _,
+        } = self;
         commands.into_vec()
     }
 
@@ -151,12 +161,39 @@ impl Found {
         found
     }
 
-    /// One more name of `finals` was read.
-    pub fn with_name(self, name: Name) -> Result<Found, NoMemory>
-        ensures { IfOk result (λ f. f ≡ machine.with_name name self) }
+    /// The last variable of `finals` is this one.
+    pub fn with_last(self, name: Name) -> Found
+        ensures { result ≡ machine.with_last name self }
     {
         let mut found = self;
-        found.names.push(name)?;
+        found.last = Some(name);
+        found
+    }
+
+    /// A sign that ends the last variable of `finals` was read.
+    pub fn with_last_ended(self) -> Result<Found, NoMemory>
+        ensures { IfOk result (λ f. f ≡ machine.with_last_ended self) }
+    {
+        let mut found = self;
+        if let Some(name) = mem::replace(&mut found.last, None) {
+            found.names.push(name)?;
+        }
         Ok(found)
+    }
+
+    /// The last variable of `finals` is the array of the name that it was. `Refused` comes exactly where it is no plain
+    /// name.
+    pub fn with_array(self, alloc: Global) -> Result<Found, Fault>
+        ensures { Steps (machine.with_array self) result }
+    {
+        let mut found = self;
+        let Some(name) = mem::replace(&mut found.last, None) else {
+            return Err(Fault::Refused);
+        };
+        if !name.is_plain() {
+            return Err(Fault::Refused);
+        }
+        let array = Name::array(alloc, &name)?;
+        Ok(found.with_last(array))
     }
 }

@@ -230,9 +230,9 @@ fn ended(reader: Reader, place: usize) -> Result<Vec<Command>, ScriptError>
 /// `Syntax` comes exactly where the bytes spell no script, with the length of their longest front
 /// that some further bytes complete to one; `Memory` where memory ran out. Blanks, comments and
 /// tokens are those of a program's text. Authors and places in a block are at most 4,294,967,295,
-/// serials are 1 to 4,294,967,295, and each expression has at most 256 operators, and 256 brackets in
-/// one another. The words of scripts are not reserved: each is known by its place. The form
-/// of scripts is defined here alone.
+/// serials are 1 to 4,294,967,295, and each content keeps the limits of a program's expressions. The
+/// words of scripts are not reserved: each is known by its place. The form of scripts is defined here
+/// alone.
 pub fn read_script(alloc: Global, bytes: &[u8]) -> Result<Vec<Command>, ScriptError>
     ensures spelled { IfOk result (λ commands. IsScript bytes.now commands.items) }
     ensures syntax { IfSyntax result (λ n. IsPlace HasScript bytes.now n) }

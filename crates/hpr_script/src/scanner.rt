@@ -113,20 +113,11 @@ fn dot(stage: Stage) -> Option<Stage>
     }
 }
 
-fn comma(stage: Stage) -> Option<Stage>
-    ensures { result ≡ machine.comma_stage stage }
+fn close_square(stage: Stage) -> Option<Stage>
+    ensures { result ≡ machine.close_square_stage stage }
 {
     match stage {
-        Stage::AfterName => Some(Stage::AfterComma),
-        _ => None,
-    }
-}
-
-fn close(stage: Stage) -> Option<Stage>
-    ensures { result ≡ machine.close_stage stage }
-{
-    match stage {
-        Stage::AfterOpen | Stage::AfterName => Some(Stage::AtEnd(Plain::Finals)),
+        Stage::AfterNameOpen => Some(Stage::AfterFinal),
         _ => None,
     }
 }
@@ -157,6 +148,51 @@ fn open(alloc: Global, found: Found, stage: Stage) -> Result<Reader, Fault>
     }
 }
 
+/// The last variable of `finals` has ended, and this place follows.
+fn last_ended(found: Found, stage: Stage) -> Result<Reader, Fault>
+    ensures { Steps (reading.settled (machine.last_ended found stage)) result }
+{
+    Ok(Reader {
+        begun: Begun::Gap,
+        found: found.with_last_ended()?,
+        stage,
+    })
+}
+
+fn comma(found: Found, stage: Stage) -> Result<Reader, Fault>
+    ensures { Steps (reading.settled (machine.comma_after found stage)) result }
+{
+    match stage {
+        Stage::AfterName => last_ended(found, Stage::AfterComma),
+        Stage::AfterFinal => last_ended(found, Stage::AfterComma),
+        _ => Err(Fault::Refused),
+    }
+}
+
+fn close(found: Found, stage: Stage) -> Result<Reader, Fault>
+    ensures { Steps (reading.settled (machine.close_after found stage)) result }
+{
+    match stage {
+        Stage::AfterOpen => at(found, Some(Stage::AtEnd(Plain::Finals))),
+        Stage::AfterName => last_ended(found, Stage::AtEnd(Plain::Finals)),
+        Stage::AfterFinal => last_ended(found, Stage::AtEnd(Plain::Finals)),
+        _ => Err(Fault::Refused),
+    }
+}
+
+fn open_square(alloc: Global, found: Found, stage: Stage) -> Result<Reader, Fault>
+    ensures { Steps (reading.settled (machine.square_opened found stage)) result }
+{
+    match stage {
+        Stage::AfterName => Ok(Reader {
+            begun: Begun::Gap,
+            found: found.with_array(alloc)?,
+            stage: Stage::AfterNameOpen,
+        }),
+        _ => Err(Fault::Refused),
+    }
+}
+
 fn end(alloc: Global, found: Found, stage: Stage) -> Result<Reader, Fault>
     ensures { Steps (reading.settled (machine.ended found stage)) result }
 {
@@ -176,9 +212,11 @@ fn sign(alloc: Global, found: Found, stage: Stage, byte: u8) -> Result<Reader, F
 {
     match byte {
         b'.' => at(found, dot(stage)),
-        b',' => at(found, comma(stage)),
+        b',' => comma(found, stage),
         b'(' => open(alloc, found, stage),
-        b')' => at(found, close(stage)),
+        b')' => close(found, stage),
+        b'[' => open_square(alloc, found, stage),
+        b']' => at(found, close_square(stage)),
         b';' => end(alloc, found, stage),
         _ => Err(Fault::Refused),
     }
@@ -261,13 +299,13 @@ fn after_any_name(
     word: &str,
 ) -> Result<(Found, Turn), Fault>
     requires { IsTrue (is_name word.now) }
-    ensures { Steps (machine.any_name_turn found stage word.now) result }
+    ensures { Steps (machine.variable_turn found stage word.now Stage.AfterName) result }
 {
     if !stage.takes_name() {
         return Err(Fault::Refused);
     }
     match Name::new(alloc, word) {
-        Ok(name) => Ok((found.with_name(name)?, Turn::Head(Stage::AfterName))),
+        Ok(name) => Ok((found.with_last(name), Turn::Head(Stage::AfterName))),
         Err(NameError::NotAName) => Err(Fault::Refused),
         Err(NameError::Memory) => Err(Fault::Memory),
     }
@@ -322,7 +360,7 @@ fn after_keyword(
     match keyword {
         Keyword::Out if stage.takes_name() => {
             let stream = Name::stream(alloc)?;
-            Ok((found.with_name(stream)?, Turn::Head(Stage::AfterName)))
+            Ok((found.with_last(stream), Turn::Head(Stage::AfterFinal)))
         }
         _ => Err(Fault::Refused),
     }

@@ -46,7 +46,7 @@ pub enum Holder {
     Wrap(Tag),
 }
 
-/// A command without a content, before its `;`. The names of `finals` are kept apart.
+/// A command without a content, before its `;`. The variables of `finals` are kept apart.
 #[derive(Clone, Copy)]
 pub enum Plain {
     Delete(Tag),
@@ -78,9 +78,13 @@ pub enum Stage {
     AtNames,
     /// The opening bracket of `finals`.
     AfterOpen,
-    /// A name of `finals`.
+    /// A name of `finals`, which is a variable of it unless `[` follows.
     AfterName,
-    /// A comma between two names of `finals`.
+    /// Such a name and `[`.
+    AfterNameOpen,
+    /// The stream or an array of `finals`.
+    AfterFinal,
+    /// A comma between two variables of `finals`.
     AfterComma,
     /// A whole command but for its `;`.
     AtEnd(Plain),

@@ -9,7 +9,7 @@ use Rattle.hpr_syntax.specs.declared.tree.Stmt.TheVariants.{If}
 use Rattle.hpr_syntax.specs.declared.rows.Content.{Content}
 use Rattle.hpr_syntax.specs.declared.rows.Content.TheVariants as content
 use Rattle.hpr_syntax.specs.declared.rows.Structure.TheVariants.{Simple, Conditional, Loop}
-use Rattle.hpr_syntax.specs.Action.{Action, assigns, writes}
+use Rattle.hpr_syntax.specs.Action.{Action, assigns, writes, stores}
 use Rattle.hpr_syntax.specs.Body.{Body, done, action, branch, loop}
 use Rattle.hpr_syntax.specs.BodyOf.{before}
 use Rattle.hpr_syntax.specs.Parts.{tag_of}
@@ -25,11 +25,13 @@ says_by (content.Assign x e) = by_action (assigns x e)
 says_by (content.If e) = by_test e
 says_by (content.While e) = by_loop e
 says_by (content.Write x e) = by_action (writes x e)
+says_by (content.Store x i e) = by_action (stores x i e)
 
 -- an action has no blocks
 pub structure_by : (d : Action) → structure_of (content_by d) ≡ Simple
 structure_by (assigns x e) = refl
 structure_by (writes x e) = refl
+structure_by (stores x i e) = refl
 
 pub no_test : (d : Action) (e : Expr) → ¬ (content_by d ≡ content.If e)
 no_test d e is = let no : Simple ≡ Conditional = sym (structure_by d) ∙ ap structure_of is in absurd cc
@@ -40,20 +42,23 @@ no_loop d e is = let no : Simple ≡ Loop = sym (structure_by d) ∙ ap structur
 pub content_inj : (d d' : Action) → content_by d ≡ content_by d' → d ≡ d'
 content_inj (assigns x e) (assigns y f) is = cc
 content_inj (writes x e) (writes y f) is = cc
-content_inj (assigns x e) (writes y f) is = absurd cc
-content_inj (writes x e) (assigns y f) is = absurd cc
+content_inj (stores x i e) (stores y j f) is = cc
+content_inj _ _ is = absurd cc
 
 pub tag_stmt : (t : Tag) (d : Action) → tag_of (stmt_by t d) ≡ t
 tag_stmt t (assigns x e) = refl
 tag_stmt t (writes x e) = refl
+tag_stmt t (stores x i e) = refl
 
 pub before_stmt : (t : Tag) (d : Action) (rest : Body) → before (stmt_by t d) rest ≡ action t d rest
 before_stmt t (assigns x e) rest = refl
 before_stmt t (writes x e) rest = refl
+before_stmt t (stores x i e) rest = refl
 
 pub before_by : (t : Tag) (d : Action) (a b rest : Body) → before (made t (content_by d) a b) rest ≡ action t d rest
 before_by t (assigns x e) a b rest = refl
 before_by t (writes x e) a b rest = refl
+before_by t (stores x i e) a b rest = refl
 
 -- a block with other parts behind its first
 abbrev with_rest : Body → Body → Body

@@ -3,11 +3,11 @@ use Rattle.std.proofs.Common.{◌≡◌, ℕ, ◌==◌, ◌&&◌, Bool, true, fa
 use Rattle.std.specs.Cmp.Lexicographic.{pointwise}
 use Rattle.hpr_terms.specs.declared.tag.Tag.{Tag}
 use Rattle.hpr_syntax.specs.declared.tree.Stmt.{Stmt}
-use Rattle.hpr_syntax.specs.declared.tree.Stmt.TheVariants.{Assign, If, While, Write}
+use Rattle.hpr_syntax.specs.declared.tree.Stmt.TheVariants.{Assign, If, While, Write, Store}
 use Rattle.hpr_terms.specs.declared.expr.Expr.{Expr}
 use Rattle.hpr_terms.specs.TermOrder.{term_code}
 use Rattle.hpr_terms.specs.TermOf.{term_of}
-use Rattle.hpr_syntax.specs.Action.{assigns, writes}
+use Rattle.hpr_syntax.specs.Action.{assigns, writes, stores}
 use Rattle.hpr_syntax.specs.Body.{Body, done, action, branch, loop}
 use Rattle.hpr_syntax.specs.BodyOrder.{body_code, block_code}
 use Rattle.hpr_syntax.specs.BodyOf.{body_of}
@@ -23,6 +23,7 @@ abbrev block_eq : Body → Body → Bool
 block_eq done done = true
 block_eq (action t (assigns x e) r) (action u (assigns y f) q) = tag_eq t u && (same x y && ((eqs.ghosts).eq e f && block_eq r q))
 block_eq (action t (writes x e) r) (action u (writes y f) q) = tag_eq t u && (same x y && ((eqs.ghosts).eq e f && block_eq r q))
+block_eq (action t (stores x i e) r) (action u (stores y j f) q) = tag_eq t u && (same x y && ((eqs.ghosts).eq i j && ((eqs.ghosts).eq e f && block_eq r q)))
 block_eq (branch t e a b r) (branch u f c d q) = tag_eq t u && ((eqs.ghosts).eq e f && (block_eq a c && (block_eq b d && block_eq r q)))
 block_eq (loop t e a r) (loop u f c q) = tag_eq t u && ((eqs.ghosts).eq e f && (block_eq a c && block_eq r q))
 block_eq _ _ = false
@@ -34,14 +35,19 @@ block_same : (b c : Body) (s t : List ℕ) → same (body_code b s) (body_code c
 block_same done done s t = refl
 block_same (action t (assigns x e) r) (action u (assigns y f) q) s s' = rw (name_same x y _ _, expr_part e f _ _, block_same r q s s') (simp and_assoc)
 block_same (action t (writes x e) r) (action u (writes y f) q) s s' = rw (name_same x y _ _, expr_part e f _ _, block_same r q s s') (simp and_assoc)
+block_same (action t (stores x i e) r) (action u (stores y j f) q) s s' =
+    rw (name_same x y _ _, expr_part i j _ _, expr_part e f _ _, block_same r q s s') (simp and_assoc)
 block_same (branch t e a b r) (branch u f c d q) s s' = rw (expr_part e f _ _, block_same a c _ _, block_same b d _ _, block_same r q s s') (simp and_assoc)
 block_same (loop t e a r) (loop u f c q) s s' = rw (expr_part e f _ _, block_same a c _ _, block_same r q s s') (simp and_assoc)
 block_same done (action u (assigns y f) q) s s' = refl
 block_same done (action u (writes y f) q) s s' = refl
+block_same done (action u (stores y j f) q) s s' = refl
 block_same (branch t e a b r) (action u (assigns y f) q) s s' = refl
 block_same (branch t e a b r) (action u (writes y f) q) s s' = refl
+block_same (branch t e a b r) (action u (stores y j f) q) s s' = refl
 block_same (loop t e a r) (action u (assigns y f) q) s s' = refl
 block_same (loop t e a r) (action u (writes y f) q) s s' = refl
+block_same (loop t e a r) (action u (stores y j f) q) s s' = refl
 block_same _ _ s t = refl
 
 and_true' : (a : Bool) → a && true ≡ a
@@ -54,6 +60,9 @@ exactly a b = block_same a b [] [] ∙ and_true' (block_eq a b)
 regroup_assign : (t x e r r' : Bool) → r ≡ r' → (t && (x && e)) && r ≡ t && (x && (e && r'))
 regroup_assign t x e r r' p = rw p (simp and_assoc)
 
+regroup_store : (t x i e r r' : Bool) → r ≡ r' → (t && (x && (i && e))) && r ≡ t && (x && (i && (e && r')))
+regroup_store t x i e r r' p = rw p (simp and_assoc)
+
 regroup_branch : (t e a b r a' b' r' : Bool) → a ≡ a' → b ≡ b' → r ≡ r' → (t && (e && (a && b))) && r ≡ t && (e && (a' && (b' && r')))
 regroup_branch t e a b r a' b' r' p q s = rw (p, q, s) (simp and_assoc)
 
@@ -63,11 +72,14 @@ stmts_eq [] (Assign u y f ∷ ys) = refl
 stmts_eq [] (If u f c d ∷ ys) = refl
 stmts_eq [] (While u f c ∷ ys) = refl
 stmts_eq [] (Write u y f ∷ ys) = refl
+stmts_eq [] (Store u y j f ∷ ys) = refl
 stmts_eq (Assign t x e ∷ xs) (Assign u y f ∷ ys) = regroup_assign (tag_eq t u) (same x y) ((eqs.ghosts).eq e f) _ _ (stmts_eq xs ys)
 stmts_eq (If t e a b ∷ xs) (If u f c d ∷ ys) =
     regroup_branch (tag_eq t u) ((eqs.ghosts).eq e f) _ _ _ _ _ _ (exactly a c) (exactly b d) (stmts_eq xs ys)
 stmts_eq (While t e a ∷ xs) (While u f c ∷ ys) = rw (exactly a c, stmts_eq xs ys) (simp and_assoc)
 stmts_eq (Write t x e ∷ xs) (Write u y f ∷ ys) = regroup_assign (tag_eq t u) (same x y) ((eqs.ghosts).eq e f) _ _ (stmts_eq xs ys)
+stmts_eq (Store t x i e ∷ xs) (Store u y j f ∷ ys) =
+    regroup_store (tag_eq t u) (same x y) ((eqs.ghosts).eq i j) ((eqs.ghosts).eq e f) _ _ (stmts_eq xs ys)
 stmts_eq _ _ = refl
 
 pub blocks_eq : (xs ys : List Stmt) → pointwise (stmt_eqs.ghosts).eq xs ys ≡ same (block_code (body_of xs)) (block_code (body_of ys))

@@ -5,11 +5,11 @@ use Rattle.std.specs.Ordering.{nat_cmp, ordering_then, partial_ordering_then}
 use Rattle.std.specs.declared.cmp.Ordering.{Ordering}
 use Rattle.hpr_terms.specs.declared.tag.Tag.{Tag}
 use Rattle.hpr_syntax.specs.declared.tree.Stmt.{Stmt}
-use Rattle.hpr_syntax.specs.declared.tree.Stmt.TheVariants.{Assign, If, While, Write}
+use Rattle.hpr_syntax.specs.declared.tree.Stmt.TheVariants.{Assign, If, While, Write, Store}
 use Rattle.hpr_terms.specs.declared.expr.Expr.{Expr}
 use Rattle.hpr_terms.specs.TermOrder.{term_code}
 use Rattle.hpr_terms.specs.TermOf.{term_of}
-use Rattle.hpr_syntax.specs.Action.{assigns, writes}
+use Rattle.hpr_syntax.specs.Action.{assigns, writes, stores}
 use Rattle.hpr_syntax.specs.Body.{Body, done, action, branch, loop}
 use Rattle.hpr_syntax.specs.BodyOrder.{body_code, block_code}
 use Rattle.hpr_syntax.specs.BodyOf.{body_of}
@@ -30,16 +30,21 @@ block_order (action t (assigns x e) r) (action u (assigns y f) q) s s' =
     rw (name_order x y (term_code (term_of e) (body_code r s)) (term_code (term_of f) (body_code q s')), expr_part e f (body_code r s) (body_code q s'), block_order r q s s', name_order x y (term_code (term_of e) (body_code r [])) (term_code (term_of f) (body_code q [])), expr_part e f (body_code r []) (body_code q [])) (simp then_assoc)
 block_order (action t (writes x e) r) (action u (writes y f) q) s s' =
     rw (name_order x y (term_code (term_of e) (body_code r s)) (term_code (term_of f) (body_code q s')), expr_part e f (body_code r s) (body_code q s'), block_order r q s s', name_order x y (term_code (term_of e) (body_code r [])) (term_code (term_of f) (body_code q [])), expr_part e f (body_code r []) (body_code q [])) (simp then_assoc)
+block_order (action t (stores x i e) r) (action u (stores y j f) q) s s' =
+    rw (name_order x y (term_code (term_of i) (term_code (term_of e) (body_code r s))) (term_code (term_of j) (term_code (term_of f) (body_code q s'))), expr_part i j (term_code (term_of e) (body_code r s)) (term_code (term_of f) (body_code q s')), expr_part e f (body_code r s) (body_code q s'), block_order r q s s', name_order x y (term_code (term_of i) (term_code (term_of e) (body_code r []))) (term_code (term_of j) (term_code (term_of f) (body_code q []))), expr_part i j (term_code (term_of e) (body_code r [])) (term_code (term_of f) (body_code q [])), expr_part e f (body_code r []) (body_code q [])) (simp then_assoc)
 block_order (branch t e a b r) (branch u f c d q) s s' =
     rw (expr_part e f (body_code a (body_code b (body_code r s))) (body_code c (body_code d (body_code q s'))), block_order a c (body_code b (body_code r s)) (body_code d (body_code q s')), block_order b d (body_code r s) (body_code q s'), block_order r q s s', expr_part e f (body_code a (body_code b (body_code r []))) (body_code c (body_code d (body_code q []))), block_order a c (body_code b (body_code r [])) (body_code d (body_code q [])), block_order b d (body_code r []) (body_code q [])) (simp then_assoc)
 block_order (loop t e a r) (loop u f c q) s s' =
     rw (expr_part e f (body_code a (body_code r s)) (body_code c (body_code q s')), block_order a c (body_code r s) (body_code q s'), block_order r q s s', expr_part e f (body_code a (body_code r [])) (body_code c (body_code q [])), block_order a c (body_code r []) (body_code q [])) (simp then_assoc)
 block_order done (action u (assigns y f) q) s s' = refl
 block_order done (action u (writes y f) q) s s' = refl
+block_order done (action u (stores y j f) q) s s' = refl
 block_order (branch t e a b r) (action u (assigns y f) q) s s' = refl
 block_order (branch t e a b r) (action u (writes y f) q) s s' = refl
+block_order (branch t e a b r) (action u (stores y j f) q) s s' = refl
 block_order (loop t e a r) (action u (assigns y f) q) s s' = refl
 block_order (loop t e a r) (action u (writes y f) q) s s' = refl
+block_order (loop t e a r) (action u (stores y j f) q) s s' = refl
 block_order _ _ s t = refl
 
 pub stmts_order : (xs ys : List Stmt) → slice_cmp (stmt_ords.ghosts).cmp xs ys ≡ order (block_code (body_of xs)) (block_code (body_of ys))
@@ -48,6 +53,7 @@ stmts_order [] (Assign u y f ∷ ys) = refl
 stmts_order [] (If u f c d ∷ ys) = refl
 stmts_order [] (While u f c ∷ ys) = refl
 stmts_order [] (Write u y f ∷ ys) = refl
+stmts_order [] (Store u y j f ∷ ys) = refl
 stmts_order (Assign t x e ∷ xs) (Assign u y f ∷ ys) =
     rw (stmts_order xs ys, name_order x y (term_code (term_of e) (body_code (body_of xs) [])) (term_code (term_of f) (body_code (body_of ys) [])), expr_part e f (body_code (body_of xs) []) (body_code (body_of ys) [])) (simp then_assoc)
 stmts_order (If t e a b ∷ xs) (If u f c d ∷ ys) =
@@ -56,6 +62,8 @@ stmts_order (While t e a ∷ xs) (While u f c ∷ ys) =
     rw (stmts_order xs ys, expr_part e f (body_code a (body_code (body_of xs) [])) (body_code c (body_code (body_of ys) [])), block_order a c (body_code (body_of xs) []) (body_code (body_of ys) [])) (simp then_assoc)
 stmts_order (Write t x e ∷ xs) (Write u y f ∷ ys) =
     rw (stmts_order xs ys, name_order x y (term_code (term_of e) (body_code (body_of xs) [])) (term_code (term_of f) (body_code (body_of ys) [])), expr_part e f (body_code (body_of xs) []) (body_code (body_of ys) [])) (simp then_assoc)
+stmts_order (Store t x i e ∷ xs) (Store u y j f ∷ ys) =
+    rw (stmts_order xs ys, name_order x y (term_code (term_of i) (term_code (term_of e) (body_code (body_of xs) []))) (term_code (term_of j) (term_code (term_of f) (body_code (body_of ys) []))), expr_part i j (term_code (term_of e) (body_code (body_of xs) [])) (term_code (term_of f) (body_code (body_of ys) [])), expr_part e f (body_code (body_of xs) []) (body_code (body_of ys) [])) (simp then_assoc)
 stmts_order _ _ = refl
 
 partial_two : (a b : Option Ordering) (x y : Ordering) → a ≡ Some x → b ≡ Some y → partial_ordering_then a b ≡ Some (ordering_then x y)
@@ -73,7 +81,25 @@ stmt_partial (If t e a b) (If u f c d) =
     partial_two _ _ _ _ (tag_partial t u) (partial_two _ _ _ _ (expr_partial e f) (partial_then (order (block_code a) (block_code c)) (order (block_code b) (block_code d))))
 stmt_partial (While t e a) (While u f c) = partial_two _ _ _ _ (tag_partial t u) (partial_two _ _ _ _ (expr_partial e f) refl)
 stmt_partial (Write t x e) (Write u y f) = partial_two _ _ _ _ (tag_partial t u) (partial_two _ _ _ _ refl (expr_partial e f))
+stmt_partial (Store t x i e) (Store u y j f) =
+    partial_two _ _ _ _ (tag_partial t u) (partial_two _ _ _ _ refl (partial_two _ _ _ _ (expr_partial i j) (expr_partial e f)))
 stmt_partial _ _ = refl
+
+-- what the derived order of stores answers, from the answers at their parts
+pub store_partial : (t u : Tag) (x y : List ℕ) (i j e f : Expr) (s r : Stmt) (p q v w : Option Ordering) → s ≡ Store t x i e → r ≡ Store u y j f
+    → p ≡ (tag_partials.ghosts).partial_cmp t u → q ≡ partial_ordering_then p (Some (order x y)) → v ≡ partial_ordering_then q ((partials.ghosts).partial_cmp i j)
+    → w ≡ partial_ordering_then v ((partials.ghosts).partial_cmp e f) → w ≡ (stmt_partials.ghosts).partial_cmp s r
+store_partial t u x y i j e f s r p q v w is is' first second third last =
+    let a = (tag_ords.ghosts).cmp t u in
+    let b = order x y in
+    let c = (ords.ghosts).cmp i j in
+    let d = (ords.ghosts).cmp e f in
+    let p' : p ≡ Some a = first ∙ tag_partial t u in
+    let q' : q ≡ Some (ordering_then a b) = second ∙ partial_two p (Some b) a b p' refl in
+    let v' : v ≡ Some (ordering_then (ordering_then a b) c) = third ∙ partial_two q _ _ c q' (expr_partial i j) in
+    let w' : w ≡ Some (ordering_then (ordering_then (ordering_then a b) c) d) = last ∙ partial_two v _ _ d v' (expr_partial e f) in
+    w' ∙ ap Some (then_assoc (ordering_then a b) c d ∙ then_assoc a b (ordering_then c d)) ∙ sym (stmt_partial (Store t x i e) (Store u y j f))
+    ∙ sym (λ k. (stmt_partials.ghosts).partial_cmp (is k) (is' k))
 
 slice_partial : (xs ys : List Stmt) → slice_partial_cmp (stmt_partials.ghosts).partial_cmp xs ys ≡ Some (slice_cmp (stmt_ords.ghosts).cmp xs ys)
 slice_partial [] [] = refl

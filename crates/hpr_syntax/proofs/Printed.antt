@@ -1,5 +1,5 @@
 -- The bytes of an expression's canonical text are its tokens.
-use Rattle.std.proofs.Common.{◌≡◌, ℕ, zero, suc, ◌*◌, List, [], ◌∷◌, ◌++◌, Bool, true, false, codes, replicate, refl, append_assoc, IsTrue}
+use Rattle.std.proofs.Common.{◌≡◌, ℕ, zero, suc, ◌*◌, List, [], ◌∷◌, ◌++◌, Bool, true, false, not, codes, replicate, refl, append_assoc, IsTrue}
 use Rattle.std.specs.Fmt.{decimal}
 use Rattle.hpr_terms.specs.declared.expr.Unary.{Unary}
 use Rattle.hpr_terms.specs.declared.expr.Unary.TheVariants.{Neg, Not}
@@ -12,15 +12,14 @@ use Rattle.hpr_terms.specs.declared.token.Sign.TheVariants as sign
 use Rattle.hpr_terms.specs.declared.token.Token.{Token}
 use Rattle.hpr_terms.specs.declared.token.Token.TheVariants.{Word, Name, Number, Mark}
 use Rattle.hpr_terms.specs.Keywords.{keyword_text}
-use Rattle.hpr_terms.specs.Names.{IsName}
+use Rattle.hpr_terms.specs.Names.{IsName, is_name, is_array, base_of}
 use Rattle.hpr_terms.specs.Tokens.{sign_text, is_blank, nothing, blank, Ending, blanks, Text, ending, token}
-use Rattle.hpr_terms.specs.Term.{Term, num, var, prefix, infix'}
+use Rattle.hpr_terms.specs.Term.{Term, num, var, prefix, infix', element}
 use Rattle.hpr_syntax.specs.Print as print
-use Rattle.hpr_syntax.specs.Print.{bracketed, prefix_sign, term_text, indent}
-use Rattle.hpr_terms.proofs.Facts.{or_false}
-use Rattle.hpr_terms.proofs.Plain.{plain_name}
-use Rattle.hpr_syntax.specs.Proper.{IsProperTerm}
-use Rattle.hpr_syntax.specs.Shape.{names_stream}
+use Rattle.hpr_syntax.specs.Print.{bracketed, prefix_sign, element_text, term_text, indent}
+use Rattle.hpr_terms.proofs.Facts.{not_is, or_false}
+use Rattle.hpr_terms.proofs.Plain.{array_parts}
+use Rattle.hpr_syntax.specs.Shape.{names_wrong}
 use Rattle.hpr_syntax.proofs.Shown.{prefix_token, sign_token, in_brackets, operand_test, left_test, right_test, shown}
 
 -- ---- pieces of a text
@@ -117,13 +116,27 @@ infix_is op left right s t p q rest ts h = simp append_assoc (p _ _ (space _ _ (
 prefixed_is : (op : Unary) (operand : List ℕ) (s : List Token) → Printed false true operand s → Printed false true (prefix_sign op ++ operand) (prefix_token op ∷ s)
 prefixed_is op operand s p rest ts h = simp append_assoc (prefix_is op _ _ (p rest ts h))
 
-pub term_is : (x : Term) → IsProperTerm x → names_stream x ≡ false → Printed false true (term_text x) (shown x)
+-- an element of an array, piece by piece
+pub element_before : (x index : List ℕ) (tokens : List Token) → is_array x ≡ true → Printed false true index tokens → (rest : List ℕ) (ts : List Token)
+    → Text false rest ts
+    → Text false (base_of x ++ (codes "[" ++ (index ++ (codes "]" ++ rest)))) (Name (base_of x) ∷ Mark sign.OpenSquare ∷ (tokens ++ (Mark sign.CloseSquare ∷ ts)))
+element_before x index tokens is p rest ts h =
+    name (base_of x) (array_parts x is).1 _ _ (mark sign.OpenSquare _ _ (p _ _ (mark sign.CloseSquare rest ts h)))
+
+element_is : (x index : List ℕ) (tokens : List Token) → is_array x ≡ true → Printed false true index tokens
+    → Printed false true (element_text x index) (Name (base_of x) ∷ Mark sign.OpenSquare ∷ (tokens ++ (Mark sign.CloseSquare ∷ [])))
+element_is x index tokens is p rest ts h = simp append_assoc (element_before x index tokens is p rest ts (weaker h))
+
+pub term_is : (x : Term) → names_wrong x ≡ false → Printed false true (term_text x) (shown x)
 unfolding term_text
-term_is (num n) h f = number n
-term_is (var x) h f = name x (plain_name x h f)
-term_is (prefix op a) h f =
-    prefixed_is op (bracketed (operand_test a) (term_text a)) (in_brackets (operand_test a) (shown a)) (bracketed_is (operand_test a) (term_text a) (shown a) (term_is a h f))
-term_is (infix' op a b) h f =
-    let both = or_false (names_stream a) (names_stream b) f in
+term_is (num n) f = number n
+term_is (var x) f = name x (not_is (is_name x) f)
+term_is (prefix op a) f =
+    prefixed_is op (bracketed (operand_test a) (term_text a)) (in_brackets (operand_test a) (shown a)) (bracketed_is (operand_test a) (term_text a) (shown a) (term_is a f))
+term_is (infix' op a b) f =
+    let both = or_false (names_wrong a) (names_wrong b) f in
     infix_is op (bracketed (left_test op a) (term_text a)) (bracketed (right_test op b) (term_text b)) (in_brackets (left_test op a) (shown a)) (in_brackets (right_test op b) (shown b))
-    (bracketed_is (left_test op a) (term_text a) (shown a) (term_is a h.0 both.0)) (bracketed_is (right_test op b) (term_text b) (shown b) (term_is b h.1 both.1))
+    (bracketed_is (left_test op a) (term_text a) (shown a) (term_is a both.0)) (bracketed_is (right_test op b) (term_text b) (shown b) (term_is b both.1))
+term_is (element x i) f =
+    let both = or_false (not (is_array x)) (names_wrong i) f in
+    element_is x (term_text i) (shown i) (not_is (is_array x) both.0) (term_is i both.1)

@@ -1,6 +1,6 @@
 -- The tokens of an expression's canonical text spell the expression.
-use Rattle.std.proofs.Common.{◌≡◌, ℕ, zero, suc, ◌+◌, ◌-◌, ◌<◌, ◌≤◌, List, [], ◌∷◌, ◌++◌, Bool, true, false, nat_lt, nat_le, ◌==◌, ◌||◌, ◌&&◌, if◌then◌else◌, refl, ap, sym, ◌∙◌, subst, arith}
-use Rattle.std.proofs.lemmas.Bool.{leb-true, leb-false, ltb-true, ltb-false}
+use Rattle.std.proofs.Common.{◌≡◌, ℕ, zero, suc, ◌+◌, ◌-◌, ◌<◌, ◌≤◌, List, [], ◌∷◌, ◌++◌, Bool, true, false, not, nat_lt, nat_le, ◌==◌, ◌||◌, ◌&&◌, if◌then◌else◌, refl, ap, sym, ◌∙◌, subst, arith}
+use Rattle.std.proofs.lemmas.Bool.{leb-false, ltb-false}
 use Rattle.std.proofs.lemmas.Bool.Decides.{nat_tests}
 use Rattle.hpr_terms.specs.declared.expr.Unary.{Unary}
 use Rattle.hpr_terms.specs.declared.expr.Unary.TheVariants.{Neg, Not}
@@ -10,11 +10,15 @@ use Rattle.hpr_terms.specs.declared.keyword.Keyword.TheVariants as keyword
 use Rattle.hpr_terms.specs.declared.token.Sign.TheVariants as sign
 use Rattle.hpr_terms.specs.declared.token.Token.{Token}
 use Rattle.hpr_terms.specs.declared.token.Token.TheVariants.{Word, Name, Number, Mark}
-use Rattle.hpr_terms.specs.Term.{Term, num, var, prefix, infix', operators}
+use Rattle.hpr_terms.specs.Names.{is_array, base_of}
+use Rattle.hpr_terms.specs.Term.{Term, num, var, prefix, infix', element, operators}
+use Rattle.hpr_terms.proofs.Facts.{not_is, or_false}
+use Rattle.hpr_terms.proofs.Plain.{array_parts}
 use Rattle.hpr_syntax.specs.Grammar as grammar
-use Rattle.hpr_syntax.specs.Grammar.{Rule, expr, conj, comp, sum, term, prefixed, atom, On, Joins, Compares, Prefixes, SpellsTerm, one, joined, compared, signed, literal, name, bracket}
+use Rattle.hpr_syntax.specs.Grammar.{Rule, expr, conj, comp, sum, term, prefixed, atom, On, Joins, Compares, Prefixes, SpellsTerm, one, joined, compared, signed, literal, name, bracket, indexed}
 use Rattle.hpr_syntax.specs.Print.{level_of_sign, level_of}
 use Rattle.hpr_syntax.specs.Proper.{IsProperTerm}
+use Rattle.hpr_syntax.specs.Shape.{names_wrong}
 
 -- ---- tokens
 
@@ -56,6 +60,7 @@ shown (num n) = Number n ∷ []
 shown (var x) = Name x ∷ []
 shown (prefix op a) = prefix_token op ∷ in_brackets (operand_test a) (shown a)
 shown (infix' op a b) = in_brackets (left_test op a) (shown a) ++ (sign_token op ∷ in_brackets (right_test op b) (shown b))
+shown (element x i) = Name (base_of x) ∷ Mark sign.OpenSquare ∷ (shown i ++ (Mark sign.CloseSquare ∷ []))
 
 -- ---- rules and levels
 
@@ -136,6 +141,7 @@ rule_of (num n) = atom
 rule_of (var x) = atom
 rule_of (prefix op a) = prefixed
 rule_of (infix' op a b) = rule_of_sign op
+rule_of (element x i) = atom
 
 sign_rank : (op : Binary) → rank (rule_of_sign op) ≡ level_of_sign op
 sign_rank Or = refl
@@ -152,51 +158,26 @@ sign_rank Mul = refl
 sign_rank Div = refl
 sign_rank Rem = refl
 
-sign_low : (op : Binary) → level_of_sign op ≤ 5
-sign_low Or = omega arith
-sign_low And = omega arith
-sign_low Equal = omega arith
-sign_low Differ = omega arith
-sign_low Less = omega arith
-sign_low LessEqual = omega arith
-sign_low Greater = omega arith
-sign_low GreaterEqual = omega arith
-sign_low Add = omega arith
-sign_low Sub = omega arith
-sign_low Mul = omega arith
-sign_low Div = omega arith
-sign_low Rem = omega arith
-
 level_rank : (x : Term) → rank (rule_of x) ≡ level_of x
 level_rank (num n) = refl
 level_rank (var x) = refl
 level_rank (prefix op a) = refl
 level_rank (infix' op a b) = sign_rank op
-
-infix_low : (x : Term) → level_of x < 7 → 1 ≤ operators x
-infix_low (num n) lt = absurd (omega arith)
-infix_low (var x) lt = absurd (omega arith)
-infix_low (prefix op a) lt = omega arith
-infix_low (infix' op a b) lt = omega arith
+level_rank (element x i) = refl
 
 -- ---- expressions
 
--- An expression in brackets has an operator: so it has at most as many brackets as operators.
+-- Each bracket stands around the operand of an operator, or around the index of an element: so there are at most as many as operators.
 Shown : Term → Type 0
-Shown x = (d : ℕ) → operators x ≤ suc d → SpellsTerm (rule_of x) d (shown x) x
+Shown x = (d : ℕ) → operators x ≤ d → SpellsTerm (rule_of x) d (shown x) x
 
-operand_shown : (x : Term) (r : Rule) (d : ℕ) (b : Bool) → (b ≡ true → level_of x < 7) → (b ≡ false → rank r ≤ level_of x) → operators x ≤ d → Shown x
+operand_shown : (x : Term) (r : Rule) (d : ℕ) (b : Bool) → (b ≡ false → rank r ≤ level_of x) → operators x + 1 ≤ d → Shown x
     → SpellsTerm r d (in_brackets b (shown x)) x
 unfolding Shown
-operand_shown x r d false bt bf fits s = lower r (rule_of x) (omega (arith, level_rank x, bf refl)) (s d (omega (arith, fits)))
-operand_shown x r zero true bt bf fits s = absurd (omega (arith, infix_low x (bt refl), fits))
-operand_shown x r (suc d) true bt bf fits s = lower r atom (rank_high r) (bracket (lower expr (rule_of x) (rank_low (rule_of x)) (s d fits)))
-
-prefix_true : (l : ℕ) → nat_lt l 6 ≡ true → l < 7
-prefix_true l e = let h : l < 6 = ltb-true l 6 e in omega (arith, h)
-
-left_true : (l m : ℕ) → m ≤ 5 → (nat_lt l m || ((m == 3) && (l == 3))) ≡ true → l < 7
-left_true l m low e = grind (arith, nat_tests)
+operand_shown x r d false bf fits s = lower r (rule_of x) (omega (arith, level_rank x, bf refl)) (s d (omega (arith, fits)))
+operand_shown x r zero true bf fits s = absurd (omega (arith, fits))
+operand_shown x r (suc d) true bf fits s =
+    lower r atom (rank_high r) (bracket (lower expr (rule_of x) (rank_low (rule_of x)) (s d (omega (arith, fits)))))
 
 left_false : (l m : ℕ) → (nat_lt l m || ((m == 3) && (l == 3))) ≡ false → m ≤ l
 left_false l m e = grind (arith, nat_tests)
@@ -204,33 +185,29 @@ left_false l m e = grind (arith, nat_tests)
 compared_false : (l m : ℕ) → m ≡ 3 → (nat_lt l m || ((m == 3) && (l == 3))) ≡ false → 4 ≤ l
 compared_false l m is e = grind (arith, nat_tests)
 
-right_true : (l m : ℕ) → m ≤ 5 → nat_le l m ≡ true → l < 7
-right_true l m low e = let h : l ≤ m = leb-true l m e in omega (arith, h, low)
-
 right_false : (l m : ℕ) → nat_le l m ≡ false → m + 1 ≤ l
 right_false l m e = let h : m < l = leb-false l m e in omega (arith, h)
 
-left_shown : (op : Binary) (a : Term) (r : Rule) (d : ℕ) → rank r ≤ level_of_sign op → operators a ≤ d → Shown a → SpellsTerm r d (in_brackets (left_test op a) (shown a)) a
+left_shown : (op : Binary) (a : Term) (r : Rule) (d : ℕ) → rank r ≤ level_of_sign op → operators a + 1 ≤ d → Shown a → SpellsTerm r d (in_brackets (left_test op a) (shown a)) a
 left_shown op a r d le fits s =
-    operand_shown a r d (left_test op a) (left_true (level_of a) (level_of_sign op) (sign_low op))
+    operand_shown a r d (left_test op a)
     (λ e. let h : level_of_sign op ≤ level_of a = left_false (level_of a) (level_of_sign op) e in omega (arith, h, le)) fits s
 
-compared_shown : (op : Binary) (a : Term) (d : ℕ) → level_of_sign op ≡ 3 → operators a ≤ d → Shown a → SpellsTerm sum d (in_brackets (left_test op a) (shown a)) a
-compared_shown op a d is fits s =
-    operand_shown a sum d (left_test op a) (left_true (level_of a) (level_of_sign op) (sign_low op)) (compared_false (level_of a) (level_of_sign op) is) fits s
+compared_shown : (op : Binary) (a : Term) (d : ℕ) → level_of_sign op ≡ 3 → operators a + 1 ≤ d → Shown a → SpellsTerm sum d (in_brackets (left_test op a) (shown a)) a
+compared_shown op a d is fits s = operand_shown a sum d (left_test op a) (compared_false (level_of a) (level_of_sign op) is) fits s
 
-right_shown : (op : Binary) (b : Term) (r : Rule) (d : ℕ) → rank r ≤ level_of_sign op + 1 → operators b ≤ d → Shown b → SpellsTerm r d (in_brackets (right_test op b) (shown b)) b
+right_shown : (op : Binary) (b : Term) (r : Rule) (d : ℕ) → rank r ≤ level_of_sign op + 1 → operators b + 1 ≤ d → Shown b → SpellsTerm r d (in_brackets (right_test op b) (shown b)) b
 right_shown op b r d le fits s =
-    operand_shown b r d (right_test op b) (right_true (level_of b) (level_of_sign op) (sign_low op))
+    operand_shown b r d (right_test op b)
     (λ e. let h : level_of_sign op + 1 ≤ level_of b = right_false (level_of b) (level_of_sign op) e in omega (arith, h, le)) fits s
 
 -- an operator that groups to the left
 joined_shown : (op : Binary) (r s : Rule) (a b : Term) (d : ℕ) → On r s → Joins r (sign_token op) op → rank r ≤ level_of_sign op → rank s ≤ level_of_sign op + 1
-    → operators a + operators b + 1 ≤ suc d → Shown a → Shown b → SpellsTerm r d (shown (infix' op a b)) (infix' op a b)
+    → operators a + operators b + 1 ≤ d → Shown a → Shown b → SpellsTerm r d (shown (infix' op a b)) (infix' op a b)
 joined_shown op r s a b d on joins low high fits sa sb =
     joined on joins (left_shown op a r d low (omega (arith, fits)) sa) (right_shown op b s d high (omega (arith, fits)) sb)
 
-compare_shown : (op : Binary) (a b : Term) (d : ℕ) → Compares (sign_token op) op → level_of_sign op ≡ 3 → operators a + operators b + 1 ≤ suc d → Shown a → Shown b
+compare_shown : (op : Binary) (a b : Term) (d : ℕ) → Compares (sign_token op) op → level_of_sign op ≡ 3 → operators a + operators b + 1 ≤ d → Shown a → Shown b
     → SpellsTerm comp d (shown (infix' op a b)) (infix' op a b)
 compare_shown op a b d compares is fits sa sb =
     compared compares (compared_shown op a d is (omega (arith, fits)) sa) (right_shown op b sum d (omega (arith, is)) (omega (arith, fits)) sb)
@@ -255,16 +232,29 @@ prefixes : (op : Unary) → Prefixes (prefix_token op) op
 prefixes Neg = grammar.Prefixes.minus
 prefixes Not = grammar.not
 
-term_shown : (x : Term) → IsProperTerm x → Shown x
+-- an element of an array
+element_shown : (x : List ℕ) (i : Term) → is_array x ≡ true → Shown i → Shown (element x i)
 unfolding Shown
-term_shown (num n) h d fits = literal h
-term_shown (var x) h d fits = name
-term_shown (prefix op a) h d fits =
+element_shown x i is s zero fits = absurd (omega (arith, fits))
+element_shown x i is s (suc d) fits =
+    let Told : List ℕ → Type 0 = λ y. SpellsTerm atom (suc d) (shown (element x i)) (element y i) in
+    subst Told (sym (array_parts x is).0) (indexed (array_parts x is).1 (lower expr (rule_of i) (rank_low (rule_of i)) (s d (omega (arith, fits)))))
+
+term_shown : (x : Term) → IsProperTerm x → names_wrong x ≡ false → Shown x
+unfolding Shown
+term_shown (num n) h f d fits = literal h
+term_shown (var x) h f d fits = name
+term_shown (prefix op a) h f d fits =
     signed (prefixes op)
-    (operand_shown a prefixed d (operand_test a) (prefix_true (level_of a)) (λ e. ltb-false (level_of a) 6 e) (omega (arith, fits)) (term_shown a h))
-term_shown (infix' op a b) h d fits = infix_shown op a b (term_shown a h.0) (term_shown b h.1) d fits
+    (operand_shown a prefixed d (operand_test a) (λ e. ltb-false (level_of a) 6 e) (omega (arith, fits)) (term_shown a h f))
+term_shown (infix' op a b) h f d fits =
+    let both = or_false (names_wrong a) (names_wrong b) f in
+    infix_shown op a b (term_shown a h.0 both.0) (term_shown b h.1 both.1) d fits
+term_shown (element x i) h f d fits =
+    let both = or_false (not (is_array x)) (names_wrong i) f in
+    element_shown x i (not_is (is_array x) both.0) (term_shown i h.1 both.1) d fits
 
 -- a whole expression
-pub expr_shown : (x : Term) (d : ℕ) → IsProperTerm x → operators x ≤ d → SpellsTerm expr d (shown x) x
+pub expr_shown : (x : Term) (d : ℕ) → IsProperTerm x → names_wrong x ≡ false → operators x ≤ d → SpellsTerm expr d (shown x) x
 unfolding Shown
-expr_shown x d h fits = lower expr (rule_of x) (rank_low (rule_of x)) (term_shown x h d (omega (arith, fits)))
+expr_shown x d h f fits = lower expr (rule_of x) (rank_low (rule_of x)) (term_shown x h f d fits)

@@ -3,14 +3,14 @@ use Rattle.std.proofs.Common.{◌≡◌, ℕ, pos, Bool, true, false, if◌then�
 use Rattle.std.specs.Ordering.{nat_cmp, is_eq}
 use Rattle.std.specs.Cmp.{eq_by_cmp_equiv, Equal-is}
 use Rattle.std.specs.Cmp.Lexicographic.{slice_cmp, nat_list_cmp_total}
-use Rattle.std.specs.FinMap.{get-insert, nat_cmp-IsAntisymmetric, slice_cmp-IsAntisymmetric}
+use Rattle.std.specs.FinMap.{empty, get-insert, nat_cmp-IsAntisymmetric, slice_cmp-IsAntisymmetric}
 use Rattle.hpr_syntax.specs.declared.rows.Content.{Content}
-use Rattle.hpr_syntax.specs.declared.rows.Content.TheVariants.{Assign, If, While, Write}
+use Rattle.hpr_syntax.specs.declared.rows.Content.TheVariants.{Assign, If, While, Write, Store}
 use Rattle.hpr_syntax.specs.Rows.{assigned}
-use Rattle.hpr_terms.specs.Names.{is_stream}
+use Rattle.hpr_terms.specs.Names.{is_stream, is_array}
 use Rattle.hpr_syntax.specs.declared.value.Value.{Value}
 use Rattle.hpr_syntax.specs.declared.value.Value.TheVariants as value
-use Rattle.hpr_syntax.specs.Values.{Values, number_in, written_in, blank, value_at, put}
+use Rattle.hpr_syntax.specs.Values.{Values, number_in, written_in, elements_in, blank, value_at, put}
 use Rattle.hpr_syntax.specs.Contents.{next_state}
 
 abbrev pub same_name : List ℕ → List ℕ → Bool
@@ -29,20 +29,22 @@ same_not x y n = go (same_name x y) refl
     go false e = e
     go true e = absurd (n (ap Some (sym (tied x y e))))
 
--- where nothing was put there is the number 0, and nothing was written
-no_number : (b : Bool) → number_in (if b then value.List [] else value.Number (pos 0)) ≡ pos 0
-no_number true = refl
-no_number false = refl
+-- where nothing was put there is the number 0, nothing was written, and each element is 0
+module _ {A : Type 0} (part : Value → A) (none : A) (list : part (value.List []) ≡ none) (array : part (value.Array empty) ≡ none)
+    (number : part (value.Number (pos 0)) ≡ none) where
+  blank_by : (stream array' : Bool) → part (if stream then value.List [] else (if array' then value.Array empty else value.Number (pos 0))) ≡ none
+  blank_by true b = list
+  blank_by false true = array
+  blank_by false false = number
 
 pub blank_number : (x : List ℕ) → number_in (blank x) ≡ pos 0
-blank_number x = no_number (is_stream x)
-
-none_written : (b : Bool) → written_in (if b then value.List [] else value.Number (pos 0)) ≡ []
-none_written true = refl
-none_written false = refl
+blank_number x = blank_by number_in (pos 0) refl refl refl (is_stream x) (is_array x)
 
 pub blank_written : (x : List ℕ) → written_in (blank x) ≡ []
-blank_written x = none_written (is_stream x)
+blank_written x = blank_by written_in [] refl refl refl (is_stream x) (is_array x)
+
+pub blank_elements : (x : List ℕ) → elements_in (blank x) ≡ empty
+blank_elements x = blank_by elements_in empty refl refl refl (is_stream x) (is_array x)
 
 -- a state after a value is put
 pub get_put : (s : Values) (x : List ℕ) (v : Value) → value_at (put s x v) x ≡ v
@@ -57,9 +59,11 @@ value_given (Assign y e) v s x is = let same : y ≡ x = cc in rw same (get_put 
 value_given (If e) v s x is = absurd cc
 value_given (While e) v s x is = absurd cc
 value_given (Write y e) v s x is = let same : y ≡ x = cc in rw same (get_put s x v)
+value_given (Store y i e) v s x is = let same : y ≡ x = cc in rw same (get_put s x v)
 
 pub value_kept : (c : Content) (v : Value) (s : Values) (x : List ℕ) → ¬ (assigned c ≡ Some x) → value_at (next_state c v s) x ≡ value_at s x
 value_kept (Assign y e) v s x n = get_other s x y v n
 value_kept (If e) v s x n = refl
 value_kept (While e) v s x n = refl
 value_kept (Write y e) v s x n = get_other s x y v n
+value_kept (Store y i e) v s x n = get_other s x y v n

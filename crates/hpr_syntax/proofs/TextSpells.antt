@@ -1,5 +1,5 @@
 -- The canonical text of a program spells it.
-use Rattle.std.proofs.Common.{◌≡◌, ℕ, ◌+◌, ◌<◌, ◌≤◌, List, [], ◌∷◌, ◌++◌, Bool, true, false, nat_lt, ◌==◌, ◌||◌, if◌then◌else◌, map, codes, Option, Some, None, refl, ap, sym, ◌∙◌, subst, append_assoc, arith}
+use Rattle.std.proofs.Common.{◌≡◌, ℕ, ◌+◌, ◌<◌, ◌≤◌, List, [], ◌∷◌, ◌++◌, Bool, true, false, nat_lt, ◌==◌, ◌||◌, map, codes, Option, Some, None, refl, ap, sym, ◌∙◌, subst, append_assoc, arith}
 use Rattle.std.specs.Fmt.{decimal}
 use Rattle.std.proofs.lemmas.Bool.{le-ltb, ne_eqb}
 use Rattle.std.proofs.lemmas.Bool.Decides.{nat_tests}
@@ -12,10 +12,10 @@ use Rattle.hpr_terms.specs.declared.keyword.Keyword.TheVariants as keyword
 use Rattle.hpr_terms.specs.declared.token.Sign.TheVariants as sign
 use Rattle.hpr_terms.specs.declared.token.Token.{Token}
 use Rattle.hpr_terms.specs.declared.token.Token.TheVariants.{Word, Name, Mark}
-use Rattle.hpr_terms.specs.Names.{IsVariable, is_stream}
+use Rattle.hpr_terms.specs.Names.{IsVariable, is_stream, is_array, base_of}
 use Rattle.hpr_terms.specs.Tokens.{nothing, blanks, Text, ending}
 use Rattle.hpr_terms.proofs.Facts.{if_none}
-use Rattle.hpr_terms.proofs.Plain.{stream_is, plain_name}
+use Rattle.hpr_terms.proofs.Plain.{stream_is, plain_name, array_parts}
 use Rattle.hpr_syntax.specs.Body.{Body}
 use Rattle.hpr_syntax.specs.Parts.{tags_of}
 use Rattle.hpr_syntax.specs.Issued.{Issued, AscendsFrom, IsIssued, raised, raised_by}
@@ -33,38 +33,53 @@ use Rattle.hpr_syntax.proofs.PrintedParts.{body_is}
 
 -- ---- the names of `end`
 
-abbrev final_token : List ℕ → Token
-final_token x = if is_stream x then Word keyword.Out else Name x
+-- by whether the name is the stream's or an array's
+abbrev final_by : Bool → Bool → List ℕ → List Token
+final_by true array x = Word keyword.Out ∷ []
+final_by false true x = Name (base_of x) ∷ Mark sign.OpenSquare ∷ Mark sign.CloseSquare ∷ []
+final_by false false x = Name x ∷ []
+
+abbrev final_tokens : List ℕ → List Token
+final_tokens x = final_by (is_stream x) (is_array x) x
 
 abbrev shown_after : List (List ℕ) → List Token
 shown_after [] = []
-shown_after (x ∷ xs) = Mark sign.Comma ∷ final_token x ∷ shown_after xs
+shown_after (x ∷ xs) = Mark sign.Comma ∷ (final_tokens x ++ shown_after xs)
 
 abbrev shown_names : List (List ℕ) → List Token
 shown_names [] = []
-shown_names (x ∷ xs) = final_token x ∷ shown_after xs
+shown_names (x ∷ xs) = final_tokens x ++ shown_after xs
 
-final_spelled : (x : List ℕ) → SpellsFinal (final_token x) x
-final_spelled x = go (is_stream x) refl
+final_spelled : (x : List ℕ) → SpellsFinal (final_tokens x) x
+final_spelled x = go (is_stream x) (is_array x) refl refl
   where
-    go : (b : Bool) → is_stream x ≡ b → SpellsFinal (if b then Word keyword.Out else Name x) x
-    go true e = subst (SpellsFinal (Word keyword.Out)) (sym (stream_is x e)) grammar.out
-    go false e = grammar.plain
+    go : (b c : Bool) → is_stream x ≡ b → is_array x ≡ c → SpellsFinal (final_by b c x) x
+    go true c e f = subst (SpellsFinal (Word keyword.Out ∷ [])) (sym (stream_is x e)) grammar.out
+    go false true e f = subst (SpellsFinal (final_by false true x)) (sym (array_parts x f).0) (grammar.array (array_parts x f).1)
+    go false false e f = grammar.plain
 
-names_from : (x : List ℕ) (xs : List (List ℕ)) → SpellsNames (final_token x ∷ shown_after xs) (x ∷ xs)
-names_from x [] = grammar.SpellsNames.one (final_spelled x)
+names_from : (x : List ℕ) (xs : List (List ℕ)) → SpellsNames (final_tokens x ++ shown_after xs) (x ∷ xs)
+names_from x [] = subst (λ (ts : List Token). SpellsNames ts (x ∷ [])) (sym (append-nil (final_tokens x))) (grammar.SpellsNames.one (final_spelled x))
 names_from x (y ∷ ys) = grammar.SpellsNames.more (final_spelled x) (names_from y ys)
 
 names_spelled : (xs : List (List ℕ)) → SpellsNames (shown_names xs) xs
 names_spelled [] = grammar.SpellsNames.none
 names_spelled (x ∷ xs) = names_from x xs
 
-final_is : (x : List ℕ) → IsVariable x → Printed false true x (final_token x ∷ [])
-final_is x h = go (is_stream x) refl
+brackets : Printed true false (codes "[]") (Mark sign.OpenSquare ∷ Mark sign.CloseSquare ∷ [])
+brackets rest ts k = mark sign.OpenSquare _ _ (weaker (mark sign.CloseSquare rest ts k))
+
+final_is : (x : List ℕ) → IsVariable x → Printed false true x (final_tokens x)
+final_is x h = go (is_stream x) (is_array x) refl refl
   where
-    go : (b : Bool) → is_stream x ≡ b → Printed false true x ((if b then Word keyword.Out else Name x) ∷ [])
-    go true e = subst (λ (y : List ℕ). Printed false true y (Word keyword.Out ∷ [])) (sym (stream_is x e)) (word keyword.Out)
-    go false e = name x (plain_name x h e)
+    go : (b c : Bool) → is_stream x ≡ b → is_array x ≡ c → Printed false true x (final_by b c x)
+    go true c e f = subst (λ (y : List ℕ). Printed false true y (Word keyword.Out ∷ [])) (sym (stream_is x e)) (word keyword.Out)
+    go false true e f =
+        let parts = array_parts x f in
+        let base : List ℕ = base_of x in
+        let both : Printed false true (base ++ codes "[]") (final_by false true x) = λ rest ts k. simp append_assoc (name base parts.1 _ _ (brackets rest ts (weaker k))) in
+        subst (λ (y : List ℕ). Printed false true y (final_by false true x)) (sym parts.0) both
+    go false false e f = name x (plain_name x h e f)
 
 after_is : (xs : List (List ℕ)) → AllByRecursion IsVariable xs → Printed true true (after_commas xs) (shown_after xs)
 after_is [] h rest ts k = k
@@ -164,7 +179,7 @@ text_is t h w =
     (word keyword.Program _ _
     (newline _ _
     (header_is t.issued _ _
-    (body_is 0 t.body h.body w _ _
+    (body_is 0 t.body w _ _
     (word keyword.End _ _
     (mark sign.Open _ _ (names_are t.finals (recursion_from_All IsVariable t.finals h.finals) _ _ (mark sign.Close _ _ (weaker (newline [] [] (ending (blanks nothing))))))))))))
 

@@ -10,7 +10,7 @@ use Rattle.hpr_terms.specs.declared.tag.Tag.{Tag}
 use Rattle.hpr_terms.specs.declared.expr.Expr.{Expr}
 use Rattle.hpr_terms.specs.TermOf.{term_of}
 use Rattle.hpr_terms.specs.TermOrder.{name_code, term_code}
-use Rattle.hpr_syntax.specs.Action.{Action, assigns, writes}
+use Rattle.hpr_syntax.specs.Action.{Action, assigns, writes, stores}
 use Rattle.hpr_syntax.specs.Body.{Body, done, action, branch, loop}
 
 abbrev pub tag_code : Tag → List ℕ → List ℕ
@@ -19,10 +19,11 @@ tag_code t rest = t.author ∷ t.serial ∷ rest
 abbrev pub act_code : Tag → List ℕ → Expr → List ℕ → List ℕ
 act_code t x e next = tag_code t (name_code x (term_code (term_of e) next))
 
--- a write stands behind all other parts
+-- a write stands behind conditionals and loops, and a store behind a write
 abbrev pub action_code : Tag → Action → List ℕ → List ℕ
 action_code t (assigns x e) next = 1 ∷ act_code t x e next
 action_code t (writes x e) next = 4 ∷ act_code t x e next
+action_code t (stores x i e) next = 5 ∷ act_code t x i (term_code (term_of e) next)
 
 -- a block as numbers
 abbrev pub body_code : Body → List ℕ → List ℕ

@@ -4,9 +4,10 @@
 --   header  = (nothing) | "issued" pair { "," pair }
 --   pair    = author ":" serial
 --   names   = (nothing) | final { "," final }
---   final   = name | "out"
+--   final   = name | "out" | name "[" "]"
 --   parts   = (nothing) | part parts
 --   part    = tag ":" name ":=" expr ";"
+--           | tag ":" name "[" expr "]" ":=" expr ";"
 --           | tag ":" "write" expr ";"
 --           | tag ":" "if" expr "then" parts "fi"
 --           | tag ":" "if" expr "then" parts "else" parts "fi"
@@ -18,7 +19,7 @@
 --   sum     = term | sum ("+" | "-") term
 --   term    = prefix | term ("*" | "/" | "%") prefix
 --   prefix  = atom | "-" prefix | "not" prefix
---   atom    = literal | name | "(" expr ")"
+--   atom    = literal | name | name "[" expr "]" | "(" expr ")"
 --
 -- The untagged form is the same without header and without `tag ":"`. Its parts get the serials 1, 2, .. of one author in preorder.
 --
@@ -30,14 +31,15 @@
 -- Joins r t op                  == the token t stands for the sign op between operands of the rule r, grouped to the left
 -- Compares t op                 == the token t stands for the comparison op
 -- Prefixes t op                 == the token t stands for the prefix op
--- SpellsTerm rule d ts e        == by this rule the tokens spell the expression, with at most d brackets one in another
+-- SpellsTerm rule d ts e        == by this rule the tokens spell the expression, with at most d brackets one in another, of both kinds
 -- SpellsExpr ts e               == the tokens spell a whole expression of a part, within the limits of brackets and operators
+-- SpellsStore index value i e   == the same of the two expressions of a store, whose operators count together
 -- Labels form n ts t            == the tokens are the tag t and its colon; in the untagged form there are none, and t is the tag after n parts
 -- SpellsParts form l n m ts body == the tokens spell the parts of a block, with at most l levels of parts one in another; before it n parts
 --                                  had their tags, after it m
 -- SpellsPairs ts pairs          == the tokens are one or more pairs, with commas between them
 -- SpellsHeader form ts header   == the tokens are a header with these pairs, or nothing
--- SpellsFinal t x               == the token is the variable x: a name, or the stream's word
+-- SpellsFinal ts x              == the tokens are the variable x: a name, the stream's word, or a name and `[` `]`
 -- SpellsNames ts names          == the tokens are variables, with commas between them
 -- issued_of header body         == the greatest number that the header gives each author, or without a header the greatest of its tags
 -- SpellsProgram form ts tree    == the tokens spell the tree
@@ -53,10 +55,10 @@ use Rattle.hpr_terms.specs.declared.keyword.Keyword.TheVariants as keyword
 use Rattle.hpr_terms.specs.declared.token.Sign.TheVariants as sign
 use Rattle.hpr_terms.specs.declared.token.Token.{Token}
 use Rattle.hpr_terms.specs.declared.token.Token.TheVariants.{Word, Name, Number, Mark}
-use Rattle.hpr_terms.specs.Names.{stream}
-use Rattle.hpr_terms.specs.Term.{Term, num, var, prefix, infix', operators}
+use Rattle.hpr_terms.specs.Names.{IsName, stream, array_of}
+use Rattle.hpr_terms.specs.Term.{Term, num, var, prefix, infix', element, operators}
 use Rattle.hpr_terms.specs.TermOf.{term_of}
-use Rattle.hpr_syntax.specs.Action.{assigns, writes}
+use Rattle.hpr_syntax.specs.Action.{assigns, writes, stores}
 use Rattle.hpr_syntax.specs.Body.{Body, done, action, branch, loop}
 use Rattle.hpr_syntax.specs.Parts.{tags_of}
 use Rattle.hpr_syntax.specs.Issued as issued
@@ -123,9 +125,16 @@ pub data SpellsTerm : Rule → ℕ → List Token → Term → Type 0 where
   literal : {d n : ℕ} → IsLiteral n → SpellsTerm atom d (Number n ∷ []) (num n)
   name : {d : ℕ} {x : List ℕ} → SpellsTerm atom d (Name x ∷ []) (var x)
   bracket : {d : ℕ} {ts : List Token} {x : Term} → SpellsTerm expr d ts x → SpellsTerm atom (suc d) (Mark sign.Open ∷ (ts ++ (Mark sign.Close ∷ []))) x
+  indexed : {d : ℕ} {x : List ℕ} {ts : List Token} {i : Term} → IsName x → SpellsTerm expr d ts i
+      → SpellsTerm atom (suc d) (Name x ∷ Mark sign.OpenSquare ∷ (ts ++ (Mark sign.CloseSquare ∷ []))) (element (array_of x) i)
 
 abbrev pub SpellsExpr : List Token → Expr → Type 0
 SpellsExpr ts e = SpellsTerm expr MAX_BRACKETS ts (term_of e) × (operators (term_of e) ≤ MAX_OPERATORS)
+
+abbrev pub SpellsStore : List Token → List Token → Expr → Expr → Type 0
+SpellsStore index value i e =
+    SpellsTerm expr MAX_BRACKETS index (term_of i) × SpellsTerm expr MAX_BRACKETS value (term_of e)
+    × (operators (term_of i) + operators (term_of e) ≤ MAX_OPERATORS)
 
 abbrev pub IsTag : Tag → Type 0
 IsTag t = IsAuthor t.author × IsSerial t.serial
@@ -142,6 +151,11 @@ pub data SpellsParts : Form → ℕ → ℕ → ℕ → List Token → Body → 
   write : {f : Form} {l n m : ℕ} {t : Tag} {e : Expr} {label value more : List Token} {rest : Body}
       → Labels f n label t → SpellsExpr value e → SpellsParts f (suc l) (n + 1) m more rest
       → SpellsParts f (suc l) n m (label ++ (Word keyword.Write ∷ (value ++ (Mark sign.Semicolon ∷ more)))) (action t (writes stream e) rest)
+  store : {f : Form} {l n m : ℕ} {t : Tag} (x : List ℕ) {i e : Expr} {label index value more : List Token} {rest : Body}
+      → IsName x → Labels f n label t → SpellsStore index value i e → SpellsParts f (suc l) (n + 1) m more rest
+      → SpellsParts f (suc l) n m
+      (label ++ (Name x ∷ Mark sign.OpenSquare ∷ (index ++ (Mark sign.CloseSquare ∷ Mark sign.Becomes ∷ (value ++ (Mark sign.Semicolon ∷ more))))))
+      (action t (stores (array_of x) i e) rest)
   conditional : {f : Form} {l n k m : ℕ} {t : Tag} {e : Expr} {label test first more : List Token} {yes rest : Body}
       → Labels f n label t → SpellsExpr test e → SpellsParts f l (n + 1) k first yes → SpellsParts f (suc l) k m more rest
       → SpellsParts f (suc l) n m (label ++ (Word keyword.If ∷ (test ++ (Word keyword.Then ∷ (first ++ (Word keyword.Fi ∷ more)))))) (branch t e yes done rest)
@@ -168,15 +182,16 @@ pub data SpellsHeader : Form → List Token → Option (List (ℕ × ℕ)) → T
   none : {f : Form} → SpellsHeader f [] None
   pairs : {ts : List Token} {ps : List (ℕ × ℕ)} → SpellsPairs ts ps → SpellsHeader tagged (Word keyword.Issued ∷ ts) (Some ps)
 
-pub data SpellsFinal : Token → List ℕ → Type 0 where
-  plain : {x : List ℕ} → SpellsFinal (Name x) x
-  out : SpellsFinal (Word keyword.Out) stream
+pub data SpellsFinal : List Token → List ℕ → Type 0 where
+  plain : {x : List ℕ} → SpellsFinal (Name x ∷ []) x
+  out : SpellsFinal (Word keyword.Out ∷ []) stream
+  array : {x : List ℕ} → IsName x → SpellsFinal (Name x ∷ Mark sign.OpenSquare ∷ Mark sign.CloseSquare ∷ []) (array_of x)
 
 pub data SpellsNames : List Token → List (List ℕ) → Type 0 where
   none : SpellsNames [] []
-  one : {t : Token} {x : List ℕ} → SpellsFinal t x → SpellsNames (t ∷ []) (x ∷ [])
-  more : {t : Token} {x y : List ℕ} {ts : List Token} {xs : List (List ℕ)} → SpellsFinal t x → SpellsNames ts (y ∷ xs)
-      → SpellsNames (t ∷ Mark sign.Comma ∷ ts) (x ∷ y ∷ xs)
+  one : {ts : List Token} {x : List ℕ} → SpellsFinal ts x → SpellsNames ts (x ∷ [])
+  more : {first ts : List Token} {x y : List ℕ} {xs : List (List ℕ)} → SpellsFinal first x → SpellsNames ts (y ∷ xs)
+      → SpellsNames (first ++ (Mark sign.Comma ∷ ts)) (x ∷ y ∷ xs)
 
 abbrev pub tag_pair : Tag → ℕ × ℕ
 tag_pair t = (t.author, t.serial)

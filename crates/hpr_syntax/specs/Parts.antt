@@ -1,8 +1,9 @@
 -- The parts of a block.
 --
 -- tag_of stmt         == the statement's tag
--- expr_of stmt        == the expression that it assigns, writes or tests
--- defines stmt        == the name that an assignment or a write defines; none for a predicate
+-- expr_of stmt        == the expression that it assigns, writes, stores or tests
+-- index_of stmt       == the expression of a store that gives the index; none for other parts
+-- defines stmt        == the name that an assignment, a write or a store defines; none for a predicate
 -- same_tag a b        == the two tags have the same author and serial
 -- find_stmt t body    == the first statement with this tag, in preorder
 -- tags_of body after  == the tags of the block's parts in preorder, and then these
@@ -11,18 +12,22 @@ use Rattle.std.specs.Option.{option_or}
 use Rattle.hpr_terms.specs.declared.tag.Tag.{Tag}
 use Rattle.hpr_terms.specs.declared.expr.Expr.{Expr}
 use Rattle.hpr_syntax.specs.declared.tree.Stmt.{Stmt}
-use Rattle.hpr_syntax.specs.declared.tree.Stmt.TheVariants.{Assign, If, While, Write}
+use Rattle.hpr_syntax.specs.declared.tree.Stmt.TheVariants.{Assign, If, While, Write, Store}
 use Rattle.hpr_syntax.specs.Body.{Body, done, action, branch, loop}
-use Rattle.hpr_syntax.specs.Rows.{stmt_by, content_of, assigned, expr_in}
+use Rattle.hpr_syntax.specs.Rows.{stmt_by, content_of, assigned, expr_in, index_in}
 
 abbrev pub tag_of : Stmt → Tag
 tag_of (Assign t x e) = t
 tag_of (If t e a b) = t
 tag_of (While t e b) = t
 tag_of (Write t x e) = t
+tag_of (Store t x i e) = t
 
 abbrev pub expr_of : Stmt → Expr
 expr_of s = expr_in (content_of s)
+
+abbrev pub index_of : Stmt → Option Expr
+index_of s = index_in (content_of s)
 
 abbrev pub defines : Stmt → Option (List ℕ)
 defines s = assigned (content_of s)

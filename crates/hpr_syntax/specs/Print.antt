@@ -1,6 +1,7 @@
 -- The canonical text.
 --
 -- level_of term          == how tightly the term's outermost sign binds: `or` 1, `and` 2, comparisons 3, `+ -` 4, `* / %` 5, prefixes 6, else 7
+-- element_text x index   == an element of the array x: the array's name without its `[]`, and the index between `[` and `]`
 -- term_text term         == the text of an expression, with the brackets that its tree needs and no others
 -- expr_text e            == the text of an expression as the program holds it
 -- content_text c         == what a part says, without its tag and without the parts that stand in it
@@ -14,13 +15,14 @@ use Rattle.std.specs.Prelude.{ℕ, ◌+◌, ◌*◌, Bool, true, false, nat_lt, 
 use Rattle.std.specs.Fmt.{decimal}
 use Rattle.hpr_terms.specs.declared.expr.Expr.{Expr}
 use Rattle.hpr_syntax.specs.declared.rows.Content.{Content}
-use Rattle.hpr_syntax.specs.declared.rows.Content.TheVariants.{Assign, If, While, Write}
-use Rattle.hpr_terms.specs.Term.{Term, num, var, prefix, infix'}
+use Rattle.hpr_syntax.specs.declared.rows.Content.TheVariants.{Assign, If, While, Write, Store}
+use Rattle.hpr_terms.specs.Term.{Term, num, var, prefix, infix', element}
 use Rattle.hpr_terms.specs.TermOf.{term_of}
+use Rattle.hpr_terms.specs.Names.{base_of}
 use Rattle.hpr_terms.specs.Texts.{tag_text}
 use Rattle.hpr_syntax.specs.Issued.{Issued}
 use Rattle.hpr_syntax.specs.Tree.{Tree}
-use Rattle.hpr_syntax.specs.Action.{assigns, writes}
+use Rattle.hpr_syntax.specs.Action.{assigns, writes, stores}
 use Rattle.hpr_syntax.specs.Body.{Body, done, action, branch, loop}
 use Rattle.hpr_terms.specs.declared.expr.Unary.{Unary}
 use Rattle.hpr_terms.specs.declared.expr.Unary.TheVariants.{Neg, Not}
@@ -62,6 +64,7 @@ level_of (num n) = 7
 level_of (var x) = 7
 level_of (prefix op a) = 6
 level_of (infix' op a b) = level_of_sign op
+level_of (element x i) = 7
 
 abbrev pub bracketed : Bool → List ℕ → List ℕ
 bracketed b text = if b then codes "(" ++ text ++ codes ")" else text
@@ -70,6 +73,9 @@ abbrev pub prefix_sign : Unary → List ℕ
 prefix_sign Neg = codes "-"
 prefix_sign Not = codes "not "
 
+abbrev pub element_text : List ℕ → List ℕ → List ℕ
+element_text x index = base_of x ++ codes "[" ++ index ++ codes "]"
+
 unfoldable pub term_text : Term → List ℕ
 term_text (num n) = decimal n
 term_text (var x) = x
@@ -77,6 +83,7 @@ term_text (prefix op a) = prefix_sign op ++ bracketed (nat_lt (level_of a) 6) (t
 term_text (infix' op a b) =
     bracketed (nat_lt (level_of a) (level_of_sign op) || ((level_of_sign op == 3) && (level_of a == 3))) (term_text a)
     ++ codes " " ++ sign op ++ codes " " ++ bracketed (nat_le (level_of b) (level_of_sign op)) (term_text b)
+term_text (element x i) = element_text x (term_text i)
 
 abbrev pub expr_text : Expr → List ℕ
 expr_text e = term_text (term_of e)
@@ -86,6 +93,7 @@ content_text (Assign x e) = x ++ codes " := " ++ expr_text e
 content_text (If e) = codes "if " ++ expr_text e
 content_text (While e) = codes "while " ++ expr_text e
 content_text (Write x e) = codes "write " ++ expr_text e
+content_text (Store x i e) = element_text x (expr_text i) ++ codes " := " ++ expr_text e
 
 abbrev pub indent : ℕ → List ℕ
 indent n = replicate (2 * n) 32
@@ -106,6 +114,8 @@ unfoldable pub body_text : ℕ → Body → List ℕ
 body_text n done = []
 body_text n (action t (assigns x e) rest) = line n (tag_text t ++ codes ": " ++ x ++ codes " := " ++ term_text (term_of e) ++ codes ";") ++ body_text n rest
 body_text n (action t (writes x e) rest) = line n (tag_text t ++ codes ": write " ++ term_text (term_of e) ++ codes ";") ++ body_text n rest
+body_text n (action t (stores x i e) rest) =
+    line n (tag_text t ++ codes ": " ++ element_text x (term_text (term_of i)) ++ codes " := " ++ term_text (term_of e) ++ codes ";") ++ body_text n rest
 body_text n (branch t e a b rest) =
     line n (tag_text t ++ codes ": if " ++ term_text (term_of e) ++ codes " then") ++ body_text (n + 1) a
     ++ else_text n b (body_text (n + 1) b) ++ line n (codes "fi") ++ body_text n rest

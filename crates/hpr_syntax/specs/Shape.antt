@@ -6,25 +6,28 @@
 -- first_deep n body           == the first part's tag that stands more than n levels deep
 -- first_where test body       == the first part's tag, in preorder, that says something of which the test is true
 -- is_large e                  == the expression has more than MAX_OPERATORS operators
--- names_stream e              == the expression names the stream
--- is_wrong c                  == the part has a wrong name: its expression names the stream, or it assigns it, or writes to another name
+-- operators_in c              == how many operators the expressions of a part have: of a store, its index and its number together
+-- says_large c                == these are more than MAX_OPERATORS
+-- names_wrong e               == the expression has a wrong name: a variable that is no plain name, or an element of what is no array
+-- is_wrong c                  == the part has a wrong name: an expression has, it assigns to what is no plain name, writes to what isn't the stream,
+--                                or stores into what is no array
 -- left_after most k           == what is left of most after k are taken, if there are as many
 -- shape tree                  == the first refusal, in the order of the tests, or none
 -- IsProgram tree              == its names are variables, its numbers in range, and the tree has no refusal
-use Rattle.std.specs.Prelude.{◌≡◌, ℕ, Bool, false, not, zero, suc, ◌-◌, ◌==◌, ◌||◌, nat_lt, nat_le, if◌then◌else◌, List, [], ◌∷◌, Option, Some, None, option_map}
+use Rattle.std.specs.Prelude.{◌≡◌, ℕ, Bool, false, not, zero, suc, ◌+◌, ◌-◌, ◌==◌, ◌||◌, nat_lt, nat_le, if◌then◌else◌, List, [], ◌∷◌, Option, Some, None, option_map}
 use Rattle.std.specs.Option.{option_or}
 use Rattle.std.specs.List.{list_any}
 use Rattle.std.specs.Str.{bytes_eq}
 use Rattle.hpr_terms.specs.declared.limits.TheConstants.{MAX_LEVELS, MAX_OPERATORS, MAX_PARTS}
 use Rattle.hpr_terms.specs.declared.tag.Tag.{Tag}
 use Rattle.hpr_terms.specs.declared.expr.Expr.{Expr}
-use Rattle.hpr_terms.specs.Names.{is_stream}
-use Rattle.hpr_terms.specs.Term.{Term, num, var, prefix, infix', operators}
+use Rattle.hpr_terms.specs.Names.{is_name, is_stream, is_array}
+use Rattle.hpr_terms.specs.Term.{Term, num, var, prefix, infix', element, operators}
 use Rattle.hpr_terms.specs.TermOf.{term_of}
 use Rattle.hpr_syntax.specs.declared.shape.ShapeError.{ShapeError}
 use Rattle.hpr_syntax.specs.declared.shape.ShapeError.TheVariants.{DuplicateTag, Unissued, TooDeep, ExprTooLarge, WrongName, TooManyParts, DuplicateFinal}
 use Rattle.hpr_syntax.specs.declared.rows.Content.{Content}
-use Rattle.hpr_syntax.specs.declared.rows.Content.TheVariants.{Assign, If, While, Write}
+use Rattle.hpr_syntax.specs.declared.rows.Content.TheVariants.{Assign, If, While, Write, Store}
 use Rattle.hpr_syntax.specs.Body.{Body, done, action, branch, loop, part_count}
 use Rattle.hpr_syntax.specs.Rows.{content_by, expr_in}
 use Rattle.hpr_syntax.specs.Parts.{same_tag, tags_of}
@@ -61,20 +64,26 @@ is_large e = nat_lt MAX_OPERATORS (operators (term_of e))
 abbrev pub left_after : ℕ → ℕ → Option ℕ
 left_after most k = if nat_le k most then Some (most - k) else None
 
-abbrev pub names_stream : Term → Bool
-names_stream (num n) = false
-names_stream (var x) = is_stream x
-names_stream (prefix op a) = names_stream a
-names_stream (infix' op a b) = names_stream a || names_stream b
+abbrev pub names_wrong : Term → Bool
+names_wrong (num n) = false
+names_wrong (var x) = not (is_name x)
+names_wrong (prefix op a) = names_wrong a
+names_wrong (infix' op a b) = names_wrong a || names_wrong b
+names_wrong (element x i) = not (is_array x) || names_wrong i
+
+abbrev pub operators_in : Content → ℕ
+operators_in (Store x i e) = operators (term_of i) + operators (term_of e)
+operators_in c = operators (term_of (expr_in c))
 
 abbrev pub says_large : Content → Bool
-says_large c = is_large (expr_in c)
+says_large c = nat_lt MAX_OPERATORS (operators_in c)
 
 abbrev pub is_wrong : Content → Bool
-is_wrong (Assign x e) = is_stream x || names_stream (term_of e)
-is_wrong (If e) = names_stream (term_of e)
-is_wrong (While e) = names_stream (term_of e)
-is_wrong (Write x e) = not (is_stream x) || names_stream (term_of e)
+is_wrong (Assign x e) = not (is_name x) || names_wrong (term_of e)
+is_wrong (If e) = names_wrong (term_of e)
+is_wrong (While e) = names_wrong (term_of e)
+is_wrong (Write x e) = not (is_stream x) || names_wrong (term_of e)
+is_wrong (Store x i e) = not (is_array x) || names_wrong (term_of i) || names_wrong (term_of e)
 
 abbrev pub first_where : (Content → Bool) → Body → Option Tag
 first_where test done = None

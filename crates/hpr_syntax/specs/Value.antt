@@ -1,29 +1,35 @@
 -- What an expression is worth in a state.
 --
 -- Fault              == overflow, where a result leaves the range of i64; zero_divide, where a right operand of `/` or `%` is 0; output_full,
---                       where as many numbers were written as may be
+--                       where as many numbers were written as may be; index_range, where an index isn't 0 to 65535
 -- Answer             == a number or a fault
 -- exact z            == the number z where it lies within i64, else overflow
 -- is_true z          == a number is true where it is not 0
 -- apply_unary op x   == what the prefix makes of a number
 -- apply_binary op x y == what the sign makes of two numbers
--- term_value e s     == the value of a term: both operands always, the left one first
+-- as_index z         == the index that the number z is, if it is 0 to 65535
+-- element_at z es    == the number of the elements es at the index z, else index_range
+-- term_value e s     == the value of a term: both operands always, the left one first; an element after its index
 -- value e s          == the value of an expression
-use Rattle.std.specs.Prelude.{◌^◌, ℤ, pos, negsuc, ◌+ℤ◌, ◌-ℤ◌, ◌*ℤ◌, neg_ℤ, int_div, int_rem, int_lt, int_le, Bool, not, ◌&&◌, ◌||◌, if◌then◌else◌, nat_lt, Result, Ok, Err}
+use Rattle.std.specs.Prelude.{◌^◌, ℤ, pos, negsuc, ◌+ℤ◌, ◌-ℤ◌, ◌*ℤ◌, neg_ℤ, int_div, int_rem, int_lt, int_le, Bool, not, ◌&&◌, ◌||◌, if◌then◌else◌, nat_lt, ℕ, Option, Some, None, Result, Ok, Err}
 use Rattle.std.specs.Ordering.{int_eq}
+use Rattle.hpr_arrays.specs.Elements.{Elements, element}
+use Rattle.hpr_terms.specs.declared.limits.TheConstants.{ELEMENTS}
 use Rattle.hpr_terms.specs.Term.{Term, num, var, prefix, infix'}
+use Rattle.hpr_terms.specs.Term as term
 use Rattle.hpr_terms.specs.TermOf.{term_of}
 use Rattle.hpr_terms.specs.declared.expr.Unary.{Unary}
 use Rattle.hpr_terms.specs.declared.expr.Unary.TheVariants.{Neg, Not}
 use Rattle.hpr_terms.specs.declared.expr.Binary.{Binary}
 use Rattle.hpr_terms.specs.declared.expr.Binary.TheVariants.{Or, And, Equal, Differ, Less, LessEqual, Greater, GreaterEqual, Add, Sub, Mul, Div, Rem}
 use Rattle.hpr_terms.specs.declared.expr.Expr.{Expr}
-use Rattle.hpr_syntax.specs.Values.{Values, number_in, value_at}
+use Rattle.hpr_syntax.specs.Values.{Values, number_in, elements_in, value_at}
 
 pub data Fault : Type 0 where
   overflow : Fault
   zero_divide : Fault
   output_full : Fault
+  index_range : Fault
 
 abbrev pub Answer : Type 0
 Answer = Result ℤ Fault
@@ -70,11 +76,24 @@ abbrev pub with_value : Answer → (ℤ → Answer) → Answer
 with_value (Ok v) go = go v
 with_value (Err f) go = Err f
 
+abbrev pub as_index : ℤ → Option ℕ
+as_index (pos n) = if nat_lt n ELEMENTS then Some n else None
+as_index (negsuc n) = None
+
+-- goes on with an index, or ends with the fault of its range
+abbrev pub with_index : {A : Type 0} → Option ℕ → (ℕ → Result A Fault) → Result A Fault
+with_index (Some n) go = go n
+with_index None go = Err index_range
+
+abbrev pub element_at : ℤ → Elements → Answer
+element_at z es = with_index (as_index z) (λ n. Ok (element es n))
+
 abbrev pub term_value : Term → Values → Answer
 term_value (num n) s = Ok (pos n)
 term_value (var x) s = Ok (number_in (value_at s x))
 term_value (prefix op a) s = with_value (term_value a s) (apply_unary op)
 term_value (infix' op a b) s = with_value (term_value a s) (λ x. with_value (term_value b s) (apply_binary op x))
+term_value (term.element x i) s = with_value (term_value i s) (λ z. element_at z (elements_in (value_at s x)))
 
 abbrev pub value : Expr → Values → Answer
 value e s = term_value (term_of e) s

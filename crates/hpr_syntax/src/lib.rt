@@ -11,10 +11,11 @@ mod shape;
 mod tree;
 mod value;
 
+pub use hpr_arrays::Cells;
 pub use hpr_terms::{Binary, Expr, Literal, Name, NameError, NoMemory, Operand, Tag, Unary};
 pub use issued::Issued;
 pub use program::Program;
 pub use rows::{Content, Row, Structure, content_of, has_content, same_content, structure_of};
-pub use shape::{ShapeError, has_wrong_name, is_large};
-pub use tree::{Block, Stmt, defines, expr_of, uses};
+pub use shape::{ShapeError, has_wrong_name, is_large, is_large_content};
+pub use tree::{Block, Stmt, defines, expr_of, index_of, uses};
 pub use value::{Value, Written};

@@ -1,7 +1,7 @@
 //! What a block, an expression, issued numbers and names that are at hand are known to be.
 //!
 //! A contract sees a name as its bytes and a number as a number. That the bytes are a name or
-//! the stream's, and the number in range, is known where a name or a number is read: so these walks read
+//! the stream's or an array's, and the number in range, is known where a name or a number is read: so these walks read
 //! them, and do no more.
 ghost use Rattle.std.specs.Prelude.{All};
 ghost use Rattle.hpr_terms.specs.Names.{IsVariable};
@@ -34,6 +34,10 @@ pub fn read_expr(expr: &Expr)
             read_expr(left.expr());
             read_expr(right.expr());
         }
+        Expr::Elem(array, index) => {
+            let _text = array.text();
+            read_expr(index.expr());
+        }
     }
 }
 
@@ -55,6 +59,11 @@ pub fn read_content(content: &Content)
         Content::While(test) => read_expr(test),
         Content::Write(name, value) => {
             let _text = name.text();
+            read_expr(value);
+        }
+        Content::Store(array, index, value) => {
+            let _text = array.text();
+            read_expr(index);
             read_expr(value);
         }
     }
@@ -92,6 +101,11 @@ fn read_stmt(stmt: &Stmt)
         }
         Stmt::Write(_, name, value) => {
             let _text = name.text();
+            read_expr(value);
+        }
+        Stmt::Store(_, array, index, value) => {
+            let _text = array.text();
+            read_expr(index);
             read_expr(value);
         }
     }

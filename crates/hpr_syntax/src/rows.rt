@@ -5,7 +5,7 @@ ghost use Rattle.hpr_syntax.specs.Body.{done};
 ghost use Rattle.hpr_syntax.specs.BodyOf.{before};
 ghost use Rattle.hpr_syntax.specs.Parts.{tag_of};
 ghost use Rattle.hpr_syntax.specs.Contents.{UsesIn, used_names};
-ghost use Rattle.hpr_syntax.specs.Rows.{rows_of, row_of, content_of, made, structure_of, is_simple, same_structure, assigned, expr_in};
+ghost use Rattle.hpr_syntax.specs.Rows.{rows_of, row_of, content_of, made, structure_of, is_simple, same_structure, assigned, expr_in, index_in};
 
 use crate::tree::{Block, Stmt};
 use hpr_terms::names::names_in;
@@ -23,6 +23,9 @@ pub enum Content {
     While(Expr),
     /// The number goes behind those that were written to the stream, which the name is.
     Write(Name, Expr),
+    /// The element of the array, which the name is, at the index that the first expression gives takes the value of
+    /// the second.
+    Store(Name, Expr, Expr),
 }
 
 // By hand, so that each way out of a function that holds a content is one call, proved here.
@@ -33,6 +36,7 @@ impl Drop for Content {
             Content::If(_) => {}
             Content::While(_) => {}
             Content::Write(_, _) => {}
+            Content::Store(_, _, _) => {}
         }
     }
 }
@@ -47,6 +51,7 @@ impl Content {
             Content::If(test) => Ok(Content::If(test.copy(alloc)?)),
             Content::While(test) => Ok(Content::While(test.copy(alloc)?)),
             Content::Write(name, value) => writing(alloc, name, value),
+            Content::Store(array, index, value) => storing(alloc, array, index, value),
         }
     }
 
@@ -59,10 +64,12 @@ impl Content {
             Content::If(_) => Structure::Conditional,
             Content::While(_) => Structure::Loop,
             Content::Write(_, _) => Structure::Simple,
+            Content::Store(_, _, _) => Structure::Simple,
         }
     }
 
-    /// The name that a part that says this defines: an assignment its variable, a write the stream, a predicate none.
+    /// The name that a part that says this defines: an assignment its variable, a write the stream, a store its array,
+    /// a predicate none.
     pub fn assigned(&self) -> Option<&Name>
         ensures { option_copied result ≡ assigned self.now }
     {
@@ -71,10 +78,11 @@ impl Content {
             Content::If(_) => None,
             Content::While(_) => None,
             Content::Write(name, _) => Some(name),
+            Content::Store(array, _, _) => Some(array),
         }
     }
 
-    /// The expression in what a part says.
+    /// The expression in what a part says: the value that it assigns, writes or stores, or what it tests.
     pub fn expr(&self) -> &Expr
         ensures { result.now ≡ expr_in self.now }
     {
@@ -83,10 +91,22 @@ impl Content {
             Content::If(test) => test,
             Content::While(test) => test,
             Content::Write(_, value) => value,
+            Content::Store(_, _, value) => value,
         }
     }
 
-    /// Whether a part that says this uses the name: in its expression, or as the stream that it writes.
+    /// The expression of a store that gives the index; other contents have none.
+    pub fn index(&self) -> Option<&Expr>
+        ensures { option_copied result ≡ index_in self.now }
+    {
+        match self {
+            Content::Store(_, index, _) => Some(index),
+            _ => None,
+        }
+    }
+
+    /// Whether a part that says this uses the name: in its expressions, as the stream that it writes, or as the array
+    /// into which it stores.
     pub fn uses(&self, name: &Name) -> bool
         ensures { IsTrue result ↔ UsesIn self.now name.now }
     {
@@ -95,19 +115,28 @@ impl Content {
             Content::If(test) => test.uses(name),
             Content::While(test) => test.uses(name),
             Content::Write(stream, value) => value.uses(name) || name.is_same(stream),
+            Content::Store(array, index, value) => {
+                index.uses(name) || value.uses(name) || name.is_same(array)
+            }
         }
     }
 
-    /// The names that a part that says this uses: those of its expression from left to right, each as often
-    /// as it stands there, and then the stream that it writes.
+    /// The names that a part that says this uses: those of its expressions from left to right, each as often
+    /// as it stands there, and then the stream that it writes or the array into which it stores.
     pub fn used_names(&self, alloc: Global) -> Result<Vec<Name>, NoMemory>
         ensures { IfOk result (λ names. names.items ≡ used_names self.now) }
     {
-        let mut names = names_in(alloc, self.expr())?;
-        if let Content::Write(stream, _) = self {
-            names.push(stream.copy(alloc)?)?;
+        match self {
+            Content::Assign(_, value) => names_in(alloc, value),
+            Content::If(test) => names_in(alloc, test),
+            Content::While(test) => names_in(alloc, test),
+            Content::Write(stream, value) => {
+                let mut names = names_in(alloc, value)?;
+                names.push(stream.copy(alloc)?)?;
+                Ok(names)
+            }
+            Content::Store(array, index, value) => names_of_store(alloc, array, index, value),
         }
-        Ok(names)
     }
 
     /// The part that says this, with this tag and these blocks, as far as it has blocks.
@@ -119,6 +148,7 @@ impl Content {
             Content::If(test) => Stmt::If(tag, test, first, second),
             Content::While(test) => Stmt::While(tag, test, first),
             Content::Write(name, value) => Stmt::Write(tag, name, value),
+            Content::Store(array, index, value) => Stmt::Store(tag, array, index, value),
         }
     }
 }
@@ -139,6 +169,32 @@ fn writing(alloc: Global, name: &Name, value: &Expr) -> Result<Content, NoMemory
     let name = name.copy(alloc)?;
     let value = value.copy(alloc)?;
     Ok(Content::Write(name, value))
+}
+
+/// What a store of a copy of the value, at a copy of the index, into the array of this name says.
+fn storing(alloc: Global, array: &Name, index: &Expr, value: &Expr) -> Result<Content, NoMemory>
+    ensures { IfOk result (λ c. c ≡ Content.Store array.now index.now value.now) }
+{
+    let array = array.copy(alloc)?;
+    let index = index.copy(alloc)?;
+    let value = value.copy(alloc)?;
+    Ok(Content::Store(array, index, value))
+}
+
+/// The names that a store uses.
+fn names_of_store(
+    alloc: Global,
+    array: &Name,
+    index: &Expr,
+    value: &Expr,
+) -> Result<Vec<Name>, NoMemory>
+    ensures { IfOk result (λ names. names.items ≡ used_names (Content.Store array.now index.now value.now)) }
+{
+    let mut names = names_in(alloc, index)?;
+    let mut of_value = names_in(alloc, value)?;
+    of_value.push(array.copy(alloc)?)?;
+    names.append(&mut of_value)?;
+    Ok(names)
 }
 
 /// Which blocks a part has.
@@ -209,6 +265,7 @@ pub fn content_of(alloc: Global, stmt: &Stmt) -> Result<Content, NoMemory>
         Stmt::If(_, test, _, _) => Ok(Content::If(test.copy(alloc)?)),
         Stmt::While(_, test, _) => Ok(Content::While(test.copy(alloc)?)),
         Stmt::Write(_, name, value) => writing(alloc, name, value),
+        Stmt::Store(_, array, index, value) => storing(alloc, array, index, value),
     }
 }
 
@@ -221,6 +278,7 @@ pub fn structure_of(stmt: &Stmt) -> Structure
         Stmt::If(_, _, _, _) => Structure::Conditional,
         Stmt::While(_, _, _) => Structure::Loop,
         Stmt::Write(_, _, _) => Structure::Simple,
+        Stmt::Store(_, _, _, _) => Structure::Simple,
     }
 }
 
@@ -236,6 +294,9 @@ pub fn has_content(stmt: &Stmt, content: &Content) -> bool
         (Stmt::While(_, test, _), Content::While(other)) => test.is_same(other),
         (Stmt::Write(_, name, value), Content::Write(other_name, other)) => name.is_same(other_name)
             && value.is_same(other),
+        (Stmt::Store(_, array, index, value), Content::Store(other_array, other_index, other)) => {
+            array.is_same(other_array) && index.is_same(other_index) && value.is_same(other)
+        }
         _ => false,
     }
 }
@@ -252,6 +313,9 @@ pub fn same_content(a: &Content, b: &Content) -> bool
         (Content::While(test), Content::While(other)) => test.is_same(other),
         (Content::Write(name, value), Content::Write(other_name, other)) => name.is_same(other_name)
             && value.is_same(other),
+        (Content::Store(array, index, value), Content::Store(other_array, other_index, other)) => {
+            array.is_same(other_array) && index.is_same(other_index) && value.is_same(other)
+        }
         _ => false,
     }
 }

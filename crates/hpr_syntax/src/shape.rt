@@ -1,19 +1,20 @@
 //! The tests that a tree must pass to be a program.
-ghost use Rattle.std.specs.Prelude.{◌≡◌, ◌-◌, ◌++◌, ◌<◌, ◌^◌, IfOk, OnOk, [], if◌then◌else◌, Some, None, nat_le};
+ghost use Rattle.std.specs.Prelude.{◌≡◌, ◌+◌, ◌-◌, ◌++◌, ◌<◌, ◌^◌, IfOk, OnOk, [], if◌then◌else◌, Some, None, nat_le, nat_lt};
 ghost use Rattle.std.specs.Option.{option_copied};
 ghost use Rattle.std.specs.Str.{bytes_eq};
+ghost use Rattle.hpr_terms.specs.declared.limits.TheConstants.{MAX_OPERATORS};
 ghost use Rattle.hpr_terms.specs.Term.{operators};
 ghost use Rattle.hpr_terms.specs.TermOf.{term_of};
 ghost use Rattle.hpr_syntax.specs.Body.{done};
 ghost use Rattle.hpr_syntax.specs.BodyOf.{before};
 ghost use Rattle.hpr_syntax.specs.Parts.{tags_of, same_tag};
-ghost use Rattle.hpr_syntax.specs.Shape.{first_repeated, first_unissued, first_deep, first_where, is_large, names_stream, is_wrong, left_after, shape};
+ghost use Rattle.hpr_syntax.specs.Shape.{first_repeated, first_unissued, first_deep, first_where, is_large, says_large, names_wrong, is_wrong, left_after, shape};
 ghost use Rattle.hpr_syntax.specs.Rows.{content_of};
 ghost use Rattle.hpr_syntax.specs.Private.Refusals.{test_of, end_refusal, part_refusal, body_refusal, tag_refusal};
 
 use crate::issued::Issued;
 use crate::rows::Content;
-use crate::tree::{Block, Stmt, expr_of};
+use crate::tree::{Block, Stmt};
 use hpr_terms::limits::{MAX_LEVELS, MAX_OPERATORS, MAX_PARTS};
 use hpr_terms::{Expr, Name, NoMemory, Tag};
 use std::alloc::Global;
@@ -28,10 +29,11 @@ pub enum ShapeError {
     Unissued(Tag),
     /// The first part whose level is above [`MAX_LEVELS`]; a top part has level 1.
     TooDeep(Tag),
-    /// The first part whose expression has more than [`MAX_OPERATORS`] operators.
+    /// The first part whose expression has more than [`MAX_OPERATORS`] operators; those of a store's index and of its
+    /// number count together.
     ExprTooLarge(Tag),
-    /// The first part with a wrong name: its expression names the stream, or it assigns it, or it writes to
-    /// another name.
+    /// The first part with a wrong name: in an expression a variable isn't plain or an element isn't an array's, or it
+    /// assigns to what isn't plain, writes to what isn't the stream, or stores into what is no array.
     WrongName(Tag),
     /// There are more than [`MAX_PARTS`] parts: so many.
     TooManyParts(usize),
@@ -146,7 +148,7 @@ fn deep_in(stmt: &Stmt, levels: usize) -> Option<Tag>
 /// What no part of a program may say, whatever stands around it.
 #[derive(Clone, Copy)]
 enum PartTest {
-    /// An expression with more than [`MAX_OPERATORS`] operators.
+    /// Expressions with more than [`MAX_OPERATORS`] operators together.
     Large,
     /// A wrong name.
     Wrong,
@@ -158,9 +160,36 @@ impl PartTest {
         ensures { result ≡ test_of self (content_of stmt.now) }
     {
         match self {
-            PartTest::Large => is_large(expr_of(stmt)),
+            PartTest::Large => says_large(stmt),
             PartTest::Wrong => is_wrong(stmt),
         }
+    }
+}
+
+/// Whether the expressions of the part have more than [`MAX_OPERATORS`] operators together.
+fn says_large(stmt: &Stmt) -> bool
+    ensures { result ≡ says_large (content_of stmt.now) }
+{
+    match stmt {
+        Stmt::Assign(_, _, value) => is_large(value),
+        Stmt::If(_, test, _, _) => is_large(test),
+        Stmt::While(_, test, _) => is_large(test),
+        Stmt::Write(_, _, value) => is_large(value),
+        Stmt::Store(_, _, index, value) => are_large(index, value),
+    }
+}
+
+/// Whether the expressions of a part that says this have more than [`MAX_OPERATORS`] operators: those of a store's
+/// index and of its number count together.
+pub fn is_large_content(content: &Content) -> bool
+    ensures { result ≡ says_large content.now }
+{
+    match content {
+        Content::Assign(_, value) => is_large(value),
+        Content::If(test) => is_large(test),
+        Content::While(test) => is_large(test),
+        Content::Write(_, value) => is_large(value),
+        Content::Store(_, index, value) => are_large(index, value),
     }
 }
 
@@ -169,35 +198,42 @@ fn is_wrong(stmt: &Stmt) -> bool
     ensures { result ≡ is_wrong (content_of stmt.now) }
 {
     match stmt {
-        Stmt::Assign(_, name, value) => name.is_stream() || names_stream(value),
-        Stmt::If(_, test, _, _) => names_stream(test),
-        Stmt::While(_, test, _) => names_stream(test),
-        Stmt::Write(_, name, value) => !name.is_stream() || names_stream(value),
+        Stmt::Assign(_, name, value) => !name.is_plain() || names_wrong(value),
+        Stmt::If(_, test, _, _) => names_wrong(test),
+        Stmt::While(_, test, _) => names_wrong(test),
+        Stmt::Write(_, name, value) => !name.is_stream() || names_wrong(value),
+        Stmt::Store(_, array, index, value) => {
+            !array.is_array() || names_wrong(index) || names_wrong(value)
+        }
     }
 }
 
-/// Whether a part that says this has a wrong name: its expression names the stream, or it assigns it, or it
-/// writes to another name.
+/// Whether a part that says this has a wrong name: in an expression a variable isn't plain or an element isn't an
+/// array's, or it assigns to what isn't plain, writes to what isn't the stream, or stores into what is no array.
 pub fn has_wrong_name(content: &Content) -> bool
     ensures { result ≡ is_wrong content.now }
 {
     match content {
-        Content::Assign(name, value) => name.is_stream() || names_stream(value),
-        Content::If(test) => names_stream(test),
-        Content::While(test) => names_stream(test),
-        Content::Write(name, value) => !name.is_stream() || names_stream(value),
+        Content::Assign(name, value) => !name.is_plain() || names_wrong(value),
+        Content::If(test) => names_wrong(test),
+        Content::While(test) => names_wrong(test),
+        Content::Write(name, value) => !name.is_stream() || names_wrong(value),
+        Content::Store(array, index, value) => {
+            !array.is_array() || names_wrong(index) || names_wrong(value)
+        }
     }
 }
 
-/// Whether an expression names the stream.
-fn names_stream(expr: &Expr) -> bool
-    ensures { result ≡ names_stream (term_of expr.now) }
+/// Whether a variable of the expression isn't plain, or an element isn't an array's.
+fn names_wrong(expr: &Expr) -> bool
+    ensures { result ≡ names_wrong (term_of expr.now) }
 {
     match expr {
         Expr::Num(_) => false,
-        Expr::Var(name) => name.is_stream(),
-        Expr::Prefix(_, operand) => names_stream(operand.expr()),
-        Expr::Infix(_, left, right) => names_stream(left.expr()) || names_stream(right.expr()),
+        Expr::Var(name) => !name.is_plain(),
+        Expr::Prefix(_, operand) => names_wrong(operand.expr()),
+        Expr::Infix(_, left, right) => names_wrong(left.expr()) || names_wrong(right.expr()),
+        Expr::Elem(array, index) => !array.is_array() || names_wrong(index.expr()),
     }
 }
 
@@ -238,6 +274,16 @@ pub fn is_large(expr: &Expr) -> bool
     left_after(expr, MAX_OPERATORS).is_none()
 }
 
+/// Whether the two expressions have more than [`MAX_OPERATORS`] operators together.
+fn are_large(index: &Expr, value: &Expr) -> bool
+    ensures { result ≡ nat_lt MAX_OPERATORS (operators (term_of index.now) + operators (term_of value.now)) }
+{
+    match left_after(index, MAX_OPERATORS) {
+        Some(left) => left_after(value, left).is_none(),
+        None => true,
+    }
+}
+
 /// How many more operators may follow where so many may stand, if there are no more of them.
 fn left_after(expr: &Expr, most: usize) -> Option<usize>
     ensures { result ≡ left_after most (operators (term_of expr.now)) }
@@ -257,6 +303,12 @@ fn left_after(expr: &Expr, most: usize) -> Option<usize>
             }
             let rest = left_after(left.expr(), most - 1)?;
             left_after(right.expr(), rest)
+        }
+        Expr::Elem(_, index) => {
+            if most == 0 {
+                return None;
+            }
+            left_after(index.expr(), most - 1)
         }
     }
 }

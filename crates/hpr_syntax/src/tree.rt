@@ -13,7 +13,7 @@ ghost use Rattle.std.specs.Ordering.{nat_cmp, as_partial_cmp, on};
 ghost use Rattle.hpr_syntax.specs.Body.{Body, done, part_count};
 ghost use Rattle.hpr_syntax.specs.BodyOrder.{block_code};
 ghost use Rattle.hpr_syntax.specs.BodyOf.{body_of, before};
-ghost use Rattle.hpr_syntax.specs.Parts.{tag_of, find_stmt, expr_of, defines};
+ghost use Rattle.hpr_syntax.specs.Parts.{tag_of, find_stmt, expr_of, index_of, defines};
 
 use hpr_terms::{Expr, Name, NoMemory, Tag};
 use std::alloc::Global;
@@ -40,6 +40,9 @@ pub enum Stmt {
     While(Tag, Expr, Block),
     /// The number goes behind those that were written to the stream, which the name is.
     Write(Tag, Name, Expr),
+    /// The element of the array, which the name is, at the index that the first expression gives takes the value of
+    /// the second.
+    Store(Tag, Name, Expr, Expr),
 }
 
 // By hand, so that each way out of a function that holds a block is one call, proved here.
@@ -59,6 +62,7 @@ impl Drop for Stmt {
             Stmt::If(_, _, _, _) => {}
             Stmt::While(_, _, _) => {}
             Stmt::Write(_, _, _) => {}
+            Stmt::Store(_, _, _, _) => {}
         }
     }
 }
@@ -169,6 +173,7 @@ impl Stmt {
             Stmt::If(tag, _, _, _) => *tag,
             Stmt::While(tag, _, _) => *tag,
             Stmt::Write(tag, _, _) => *tag,
+            Stmt::Store(tag, _, _, _) => *tag,
         }
     }
 
@@ -207,6 +212,7 @@ impl Stmt {
                 repetition(alloc, *tag, test, body)
             }
             Stmt::Write(tag, name, value) => writing(alloc, *tag, name, value),
+            Stmt::Store(tag, array, index, value) => storing(alloc, *tag, array, index, value),
         }
     }
 }
@@ -227,6 +233,22 @@ fn writing(alloc: Global, tag: Tag, name: &Name, value: &Expr) -> Result<Stmt, N
     let name = name.copy(alloc)?;
     let value = value.copy(alloc)?;
     Ok(Stmt::Write(tag, name, value))
+}
+
+/// The store with copies of the array's name, the index and the value.
+fn storing(
+    alloc: Global,
+    tag: Tag,
+    array: &Name,
+    index: &Expr,
+    value: &Expr,
+) -> Result<Stmt, NoMemory>
+    ensures { IfOk result (λ s. s ≡ Stmt.Store tag array.now index.now value.now) }
+{
+    let array = array.copy(alloc)?;
+    let index = index.copy(alloc)?;
+    let value = value.copy(alloc)?;
+    Ok(Stmt::Store(tag, array, index, value))
 }
 
 /// The conditional of these blocks, with a copy of the test.
@@ -251,7 +273,7 @@ fn repetition(alloc: Global, tag: Tag, test: &Expr, body: Block) -> Result<Stmt,
     Ok(Stmt::While(tag, test, body))
 }
 
-/// The expression of a part: the value that it assigns or writes, or what it tests.
+/// The expression of a part: the value that it assigns, writes or stores, or what it tests.
 pub fn expr_of(stmt: &Stmt) -> &Expr
     ensures { result.now ≡ expr_of stmt.now }
 {
@@ -260,10 +282,21 @@ pub fn expr_of(stmt: &Stmt) -> &Expr
         Stmt::If(_, test, _, _) => test,
         Stmt::While(_, test, _) => test,
         Stmt::Write(_, _, value) => value,
+        Stmt::Store(_, _, _, value) => value,
     }
 }
 
-/// The name that a part defines: an assignment its variable, a write the stream, a predicate none.
+/// The expression of a store that gives the index; other parts have none.
+pub fn index_of(stmt: &Stmt) -> Option<&Expr>
+    ensures { option_copied result ≡ index_of stmt.now }
+{
+    match stmt {
+        Stmt::Store(_, _, index, _) => Some(index),
+        _ => None,
+    }
+}
+
+/// The name that a part defines: an assignment its variable, a write the stream, a store its array, a predicate none.
 pub fn defines(stmt: &Stmt) -> Option<&Name>
     ensures { option_copied result ≡ defines stmt.now }
 {
@@ -272,10 +305,12 @@ pub fn defines(stmt: &Stmt) -> Option<&Name>
         Stmt::If(_, _, _, _) => None,
         Stmt::While(_, _, _) => None,
         Stmt::Write(_, name, _) => Some(name),
+        Stmt::Store(_, array, _, _) => Some(array),
     }
 }
 
-/// Whether a part uses this name: in its expression, or as the stream that it writes.
+/// Whether a part uses this name: in its expressions, as the stream that it writes, or as the array into which it
+/// stores.
 pub fn uses(stmt: &Stmt, name: &Name) -> bool
     ensures { IsTrue result ↔ UsesIn (content_of stmt.now) name.now }
 {
@@ -284,6 +319,9 @@ pub fn uses(stmt: &Stmt, name: &Name) -> bool
         Stmt::If(_, test, _, _) => test.uses(name),
         Stmt::While(_, test, _) => test.uses(name),
         Stmt::Write(_, stream, value) => value.uses(name) || name.is_same(stream),
+        Stmt::Store(_, array, index, value) => {
+            index.uses(name) || value.uses(name) || name.is_same(array)
+        }
     }
 }
 

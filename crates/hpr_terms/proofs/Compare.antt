@@ -5,12 +5,12 @@ use Rattle.std.specs.Ordering.{nat_cmp, ordering_then, partial_ordering_then}
 use Rattle.std.specs.declared.cmp.Ordering.{Ordering}
 use Rattle.std.specs.declared.cmp.Ordering.TheVariants.{Less, Equal, Greater}
 use Rattle.hpr_terms.specs.declared.expr.Expr.{Expr}
-use Rattle.hpr_terms.specs.declared.expr.Expr.TheVariants.{Num, Var, Prefix, Infix}
+use Rattle.hpr_terms.specs.declared.expr.Expr.TheVariants.{Num, Var, Prefix, Infix, Elem}
 use Rattle.hpr_terms.specs.declared.expr.Unary.{Unary}
 use Rattle.hpr_terms.specs.declared.expr.Unary.TheVariants as unary
 use Rattle.hpr_terms.specs.declared.expr.Binary.{Binary}
 use Rattle.hpr_terms.specs.declared.expr.Binary.TheVariants as binary
-use Rattle.hpr_terms.specs.Term.{Term, num, var, prefix, infix'}
+use Rattle.hpr_terms.specs.Term.{Term, num, var, prefix, infix', element}
 use Rattle.hpr_terms.specs.TermOrder.{unary_rank, binary_rank, name_code, term_code, code_of}
 use Rattle.hpr_terms.specs.TermOf.{term_of}
 use Rattle.hpr_terms.specs.contracts.expr.ExprPartialEq.TheImpl as eqs
@@ -110,6 +110,9 @@ term_same (prefix op a) (prefix op' b) s t = ap (λ r. (unary_rank op == unary_r
 term_same (infix' op a b) (infix' op' a' b') s t =
     rw (term_same a a' (term_code b s) (term_code b' t), term_same a a' (term_code b []) (term_code b' []), term_same b b' s t)
     (and_regroup (binary_rank op == binary_rank op') (same (code_of a) (code_of a')) (same (code_of b) (code_of b')) (same s t))
+term_same (element x i) (element y j) s t =
+    rw (name_same x y (term_code i s) (term_code j t), name_same x y (term_code i []) (term_code j []), term_same i j s t)
+    (sym (and_assoc (same x y) (same (code_of i) (code_of j)) (same s t)))
 term_same _ _ s t = refl
 
 pub term_order : (x y : Term) (s t : List ℕ) → order (term_code x s) (term_code y t) ≡ ordering_then (order (code_of x) (code_of y)) (order s t)
@@ -119,6 +122,9 @@ term_order (prefix op a) (prefix op' b) s t = ap (λ r. ordering_then (nat_cmp (
 term_order (infix' op a b) (infix' op' a' b') s t =
     rw (term_order a a' (term_code b s) (term_code b' t), term_order a a' (term_code b []) (term_code b' []), term_order b b' s t)
     (then_regroup (nat_cmp (binary_rank op) (binary_rank op')) (order (code_of a) (code_of a')) (order (code_of b) (code_of b')) (order s t))
+term_order (element x i) (element y j) s t =
+    rw (name_order x y (term_code i s) (term_code j t), name_order x y (term_code i []) (term_code j []), term_order i j s t)
+    (sym (then_assoc (order x y) (order (code_of i) (code_of j)) (order s t)))
 term_order _ _ s t = refl
 
 and_true : (a : Bool) → a ≡ a && true
@@ -162,6 +168,7 @@ eq_codes (Var x) (Var y) = rw (name_same x y [] []) (and_true (same x y))
 eq_codes (Prefix op a) (Prefix op' b) = ap (λ r. r && same (code_of a) (code_of b)) (unary_same op op')
 eq_codes (Infix op a b) (Infix op' a' b') =
     rw (term_same a a' (term_code b []) (term_code b' [])) (ap (λ r. r && (same (code_of a) (code_of a') && same (code_of b) (code_of b'))) (binary_same op op'))
+eq_codes (Elem x i) (Elem y j) = sym (name_same x y (term_code i []) (term_code j []))
 eq_codes _ _ = refl
 
 pub cmp_codes : (e f : Expr) → (ords.ghosts).cmp e f ≡ order (code_of (term_of e)) (code_of (term_of f))
@@ -170,6 +177,7 @@ cmp_codes (Var x) (Var y) = rw (name_order x y [] []) (then_equal (order x y))
 cmp_codes (Prefix op a) (Prefix op' b) = ap (λ r. ordering_then r (order (code_of a) (code_of b))) (unary_order op op')
 cmp_codes (Infix op a b) (Infix op' a' b') =
     rw (term_order a a' (term_code b []) (term_code b' [])) (ap (λ r. ordering_then r (ordering_then (order (code_of a) (code_of a')) (order (code_of b) (code_of b')))) (binary_order op op'))
+cmp_codes (Elem x i) (Elem y j) = sym (name_order x y (term_code i []) (term_code j []))
 cmp_codes _ _ = refl
 
 pub partial_codes : (e f : Expr) → (partials.ghosts).partial_cmp e f ≡ Some (order (code_of (term_of e)) (code_of (term_of f)))
@@ -182,6 +190,7 @@ partial_codes (Infix op a b) (Infix op' a' b') =
     ∙ ap (λ r. partial_ordering_then (Some (nat_cmp (binary_rank op) (binary_rank op'))) r) (partial_then (order (code_of a) (code_of a')) (order (code_of b) (code_of b')))
     ∙ partial_then (nat_cmp (binary_rank op) (binary_rank op')) (ordering_then (order (code_of a) (code_of a')) (order (code_of b) (code_of b')))
     ∙ ap (λ r. Some (ordering_then (nat_cmp (binary_rank op) (binary_rank op')) r)) (sym (term_order a a' (term_code b []) (term_code b' [])))
+partial_codes (Elem x i) (Elem y j) = partial_then (order x y) (order (code_of i) (code_of j)) ∙ ap Some (sym (name_order x y (term_code i []) (term_code j [])))
 partial_codes _ _ = refl
 
 partial_then_assoc : (p x y : Option Ordering) → partial_ordering_then (partial_ordering_then p x) y ≡ partial_ordering_then p (partial_ordering_then x y)

@@ -1,8 +1,8 @@
 -- Expressions as plain trees.
 --
--- Term         == a literal, a name, or an operator and its operands
+-- Term         == a literal, a name, an operator and its operands, or an element: the name of its array, and its index
 -- levels t     == how many levels the term has
--- operators t  == how many operators stand in the term
+-- operators t  == how many operators and elements stand in the term
 use Rattle.std.specs.Prelude.{ℕ, ◌+◌, List, max}
 use Rattle.hpr_terms.specs.declared.expr.Unary.{Unary}
 use Rattle.hpr_terms.specs.declared.expr.Binary.{Binary}
@@ -12,6 +12,7 @@ pub data Term : Type 0 where
   var : (name : List ℕ) → Term
   prefix : (op : Unary) → (operand : Term) → Term
   infix' : (op : Binary) → (left right : Term) → Term
+  element : (array : List ℕ) → (index : Term) → Term
 
 -- how many levels a term has
 abbrev pub levels : Term → ℕ
@@ -19,10 +20,12 @@ levels (num n) = 1
 levels (var x) = 1
 levels (prefix op a) = levels a + 1
 levels (infix' op a b) = max (levels a) (levels b) + 1
+levels (element x i) = levels i + 1
 
--- how many operators a term has
+-- how many operators a term has; an element counts as one
 abbrev pub operators : Term → ℕ
 operators (num n) = 0
 operators (var x) = 0
 operators (prefix op a) = operators a + 1
 operators (infix' op a b) = operators a + operators b + 1
+operators (element x i) = operators i + 1

@@ -10,7 +10,7 @@ use Rattle.hpr_terms.specs.declared.expr.Unary.{Unary}
 use Rattle.hpr_terms.specs.declared.expr.Unary.TheVariants.{Neg, Not}
 use Rattle.hpr_terms.specs.declared.expr.Binary.{Binary}
 use Rattle.hpr_terms.specs.declared.expr.Binary.TheVariants.{Or, And, Equal, Differ, Less, LessEqual, Greater, GreaterEqual, Add, Sub, Mul, Div, Rem}
-use Rattle.hpr_terms.specs.Term.{Term, num, var, prefix, infix'}
+use Rattle.hpr_terms.specs.Term.{Term, num, var, prefix, infix', element}
 
 abbrev pub unary_rank : Unary → ℕ
 unary_rank Neg = 0
@@ -42,6 +42,7 @@ term_code (num n) rest = 0 ∷ n ∷ rest
 term_code (var x) rest = 1 ∷ name_code x rest
 term_code (prefix op a) rest = 2 ∷ unary_rank op ∷ term_code a rest
 term_code (infix' op a b) rest = 3 ∷ binary_rank op ∷ term_code a (term_code b rest)
+term_code (element x i) rest = 4 ∷ name_code x (term_code i rest)
 
 abbrev pub code_of : Term → List ℕ
 code_of t = term_code t []

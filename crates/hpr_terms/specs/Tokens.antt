@@ -13,7 +13,7 @@
 use Rattle.std.specs.Prelude.{◌≡◌, ◌≢◌, ℕ, Bool, true, false, ◌==◌, ◌||◌, List, [], ◌∷◌, ◌++◌, codes, All, IsTrue}
 use Rattle.std.specs.Fmt.{decimal}
 use Rattle.hpr_terms.specs.declared.token.Sign.{Sign}
-use Rattle.hpr_terms.specs.declared.token.Sign.TheVariants.{Colon, Becomes, Dot, Comma, Semicolon, Open, Close, Plus, Minus, Star, Slash, Percent, Equal, Differ, Less, LessEqual, Greater, GreaterEqual}
+use Rattle.hpr_terms.specs.declared.token.Sign.TheVariants.{Colon, Becomes, Dot, Comma, Semicolon, Open, Close, OpenSquare, CloseSquare, Plus, Minus, Star, Slash, Percent, Equal, Differ, Less, LessEqual, Greater, GreaterEqual}
 use Rattle.hpr_terms.specs.declared.token.Token.{Token}
 use Rattle.hpr_terms.specs.declared.token.Token.TheVariants.{Word, Name, Number, Mark}
 use Rattle.hpr_terms.specs.Keywords.{keyword_text}
@@ -27,6 +27,8 @@ sign_text Comma = codes ","
 sign_text Semicolon = codes ";"
 sign_text Open = codes "("
 sign_text Close = codes ")"
+sign_text OpenSquare = codes "["
+sign_text CloseSquare = codes "]"
 sign_text Plus = codes "+"
 sign_text Minus = codes "-"
 sign_text Star = codes "*"

@@ -92,7 +92,8 @@ pub struct Operand {
     inner: Rc<Expr>,
 }
 
-/// An expression: a literal, a name, or an operator and its operands.
+/// An expression: a literal, a name, an operator and its operands, or an element: the name of its array, and its
+/// index.
 ///
 /// Expressions compare by the declared order of variants and fields.
 #[cycle(expr)]
@@ -102,6 +103,7 @@ pub enum Expr {
     Var(Name),
     Prefix(Unary, Operand),
     Infix(Binary, Operand, Operand),
+    Elem(Name, Operand),
 }
 
 // By hand, so that each way out of a function that holds an expression is one call.
@@ -113,6 +115,7 @@ impl Drop for Expr {
             Expr::Var(_) => {}
             Expr::Prefix(_, _) => {}
             Expr::Infix(_, _, _) => {}
+            Expr::Elem(_, _) => {}
         }
     }
 }
@@ -175,6 +178,7 @@ impl Expr {
             Expr::Var(x) => Ok(Expr::Var(x.copy(alloc)?)),
             Expr::Prefix(op, a) => Ok(Expr::Prefix(*op, a.copy()?)),
             Expr::Infix(op, a, b) => Ok(Expr::Infix(*op, a.copy()?, b.copy()?)),
+            Expr::Elem(array, index) => Ok(Expr::Elem(array.copy(alloc)?, index.copy()?)),
         }
     }
 }
@@ -188,7 +192,8 @@ impl Expr {
         self == other
     }
 
-    /// Whether the expression uses this name.
+    /// Whether the expression uses this name: a plain name where it stands there, and an array's where one of its
+    /// elements does.
     #[cycle(uses)]
     pub fn uses(&self, name: &Name) -> bool
         ensures { IsTrue result ↔ Uses self.now name.now }
@@ -198,6 +203,7 @@ impl Expr {
             Expr::Var(used) => name.is_same(used),
             Expr::Prefix(_, operand) => operand.uses(name),
             Expr::Infix(_, left, right) => left.uses(name) || right.uses(name),
+            Expr::Elem(array, index) => name.is_same(array) || index.uses(name),
         }
     }
 }

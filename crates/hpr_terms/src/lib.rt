@@ -14,6 +14,6 @@ mod token;
 pub use expr::{Binary, Expr, Literal, Operand, Unary};
 pub use keyword::{KEYWORDS, Keyword};
 pub use memory::NoMemory;
-pub use name::{Name, NameError, copy_names, is_name, is_name_byte, is_name_like};
+pub use name::{Name, NameError, copy_names, is_array, is_name, is_name_byte, is_name_like};
 pub use tag::Tag;
 pub use token::{Sign, Token};

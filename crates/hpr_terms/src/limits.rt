@@ -22,6 +22,9 @@ pub const MAX_OPERATORS: usize = 256;
 /// How many brackets of an expression stand in one another at most, where it is read.
 pub const MAX_BRACKETS: usize = 256;
 
+/// How many elements an array has, from the index 0 on.
+pub const ELEMENTS: usize = 65_536;
+
 /// How many edges the graph of a program has at most, where it is integrated or shown.
 pub const MAX_EDGES: usize = 1_000_000;
 

@@ -6,7 +6,7 @@ ghost use Rattle.std.specs.List.{list_all};
 ghost use Rattle.std.specs.Cmp.Rules.{comparing};
 ghost use Rattle.std.specs.Cmp.Lexicographic.{slice_cmp, pointwise};
 ghost use Rattle.std.specs.Ordering.{nat_cmp, as_partial_cmp};
-ghost use Rattle.hpr_terms.specs.Names.{IsName, IsVariable, stream, is_stream, is_name, is_name_like, is_name_byte, begins_with_digit};
+ghost use Rattle.hpr_terms.specs.Names.{IsName, IsVariable, stream, is_stream, array_of, is_array, base_of, is_name, is_name_like, is_name_byte, begins_with_digit};
 
 use crate::keyword::Keyword;
 use crate::limits::MAX_NAME;
@@ -49,7 +49,7 @@ impl<T: Drop> From<AllocFailed<T>> for NameError {
 }
 
 /// What may have a value: a plain name, which is 1 to 64 ASCII letters, digits and `_`, not beginning with a
-/// digit, and no keyword; or the stream `out`, which a program writes.
+/// digit, and no keyword; the stream `out`, which a program writes; or an array, whose name is a plain name and `[]`.
 ///
 /// A contract sees a name as its bytes. Names compare by their bytes.
 pub struct Name {
@@ -117,6 +117,17 @@ pub fn is_name(text: &[u8]) -> bool
     is_name_like(text) && Keyword::of(text).is_none()
 }
 
+/// Whether the text is the name of an array: a plain name and `[]`.
+#[tactic(auto, unfolding(crate::specs::Names::is_array))]
+pub fn is_array(text: &[u8]) -> bool
+    ensures { result ≡ is_array text.now }
+{
+    match text.strip_suffix(b"[]") {
+        Some(base) => is_name(base),
+        None => false,
+    }
+}
+
 impl Name {
     /// The plain name with this text. `NotAName` comes exactly where the text is no plain name.
     #[tactic(auto, using(crate::proofs::Plain::name_is_variable))]
@@ -145,6 +156,20 @@ impl Name {
         })
     }
 
+    /// The name of the array whose elements are written with this plain name: `a[]` of `a`. The refusal is want of
+    /// memory.
+    #[tactic(auto, using(crate::proofs::Plain::array_is_variable))]
+    pub fn array(alloc: Global, base: &Name) -> Result<Name, NoMemory>
+        requires { IsName base.now }
+        ensures { IfOk result (λ name. name ≡ array_of base.now) }
+    {
+        let mut text = String::from_str(alloc, base.text())?;
+        text.push_str("[]")?;
+        Ok(Name {
+            text: Rc::new(alloc, text)?,
+        })
+    }
+
     /// The text of the name.
     pub fn text(&self) -> &str
         ensures text { result.now ≡ self.now }
@@ -158,6 +183,34 @@ impl Name {
         ensures { result ≡ is_stream self.now }
     {
         self.text.as_str() == "out"
+    }
+
+    /// Whether it is the name of an array.
+    pub fn is_array(&self) -> bool
+        ensures { result ≡ is_array self.now }
+    {
+        is_array(self.text.as_bytes())
+    }
+
+    /// Whether it is a plain name.
+    pub fn is_plain(&self) -> bool
+        ensures { result ≡ is_name self.now }
+    {
+        let text = self.text();
+        !self.is_stream() && !is_array(text.as_bytes())
+    }
+
+    /// The name of an array without its `[]`; any other name as it is.
+    #[tactic(auto, unfolding(crate::specs::Names::base_of))]
+    pub fn base(&self) -> &str
+        ensures { result.now ≡ base_of self.now }
+    {
+        let text = self.text.as_str();
+        if self.is_array() {
+            &text[..text.len() - 2]
+        } else {
+            text
+        }
     }
 
     /// Whether two names are the same.

@@ -37,6 +37,10 @@ fn push_names(alloc: Global, expr: &Expr, names: &mut Vec<Name>) -> Result<(), N
             push_names(alloc, left.expr(), names)?;
             push_names(alloc, right.expr(), names)
         }
+        Expr::Elem(array, index) => {
+            names.push(array.copy(alloc)?)?;
+            push_names(alloc, index.expr(), names)
+        }
     }
 }
 

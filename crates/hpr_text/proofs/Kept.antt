@@ -6,12 +6,12 @@ use Rattle.hpr_terms.specs.declared.tag.Tag.{Tag}
 use Rattle.hpr_terms.specs.declared.expr.Expr.{Expr}
 use Rattle.hpr_terms.specs.declared.expr.Expr.TheVariants.{Num}
 use Rattle.hpr_terms.specs.declared.keyword.Keyword.TheVariants.{Program, Issued, End, If, Then, Else, Fi, While, Do, Od, Write, Out}
-use Rattle.hpr_terms.specs.declared.token.Sign.TheVariants.{Colon, Becomes, Dot, Comma, Semicolon, Open, Close}
+use Rattle.hpr_terms.specs.declared.token.Sign.TheVariants.{Colon, Becomes, Dot, Comma, Semicolon, Open, Close, OpenSquare, CloseSquare}
 use Rattle.hpr_terms.specs.declared.token.Token.{Token}
 use Rattle.hpr_terms.specs.declared.token.Token.TheVariants.{Word, Name, Number, Mark}
 use Rattle.hpr_terms.proofs.Facts.{some_inj}
-use Rattle.hpr_terms.specs.Names.{stream}
-use Rattle.hpr_syntax.specs.Action.{assigns, writes}
+use Rattle.hpr_terms.specs.Names.{stream, is_name, array_of}
+use Rattle.hpr_syntax.specs.Action.{assigns, writes, stores}
 use Rattle.hpr_syntax.specs.Body.{Body, done, action, branch, loop}
 use Rattle.hpr_scan.specs.Steps.{runs}
 use Rattle.hpr_scan.proofs.SoundText.{then_of}
@@ -23,12 +23,13 @@ use Rattle.hpr_text.specs.declared.form.Mode.{Mode}
 use Rattle.hpr_text.specs.declared.form.Mode.TheVariants.{Tagged, Untagged}
 use Rattle.hpr_text.specs.declared.found.Found.{Found}
 use Rattle.hpr_text.specs.declared.state.Purpose.{Purpose}
-use Rattle.hpr_text.specs.declared.state.Purpose.TheVariants.{Assign, Test, Guard, Output}
+use Rattle.hpr_text.specs.declared.state.Purpose.TheVariants.{Assign, Test, Guard, Output, Store}
 use Rattle.hpr_text.specs.declared.state.Place.{Place}
-use Rattle.hpr_text.specs.declared.state.Place.TheVariants.{Start, AfterProgram, BeforePair, AfterPairAuthor, AfterPairColon, AfterPair, AtPart, AfterAuthor, AfterDot, AfterSerial, AfterColon, AfterTarget, InExpression, AfterEnd, AfterOpen, AfterName, AfterComma, AtEnd}
+use Rattle.hpr_text.specs.declared.state.Place.TheVariants.{Start, AfterProgram, BeforePair, AfterPairAuthor, AfterPairColon, AfterPair, AtPart, AfterAuthor, AfterDot, AfterSerial, AfterColon, AfterTarget, InIndex, AfterIndex, InExpression, AfterEnd, AfterOpen, AfterName, AfterNameOpen, AfterFinal, AfterComma, AtEnd}
 use Rattle.hpr_text.specs.declared.state.State.{State}
-use Rattle.hpr_expressions.specs.Expression.{start, read, ended}
-use Rattle.hpr_text.specs.Machine.{limit, counted, tag_given, then_kept, with_number, with_header, with_tag, given, begun_in, with_part, in_then, in_loop, block_ended, else_in, fi_in, od_in, with_name, state_at, at_part, ends_parts, colon_next, first_next, tag_next, part_next, header_next, goes_on, ends_here, expression_next, next_at, next}
+use Rattle.hpr_expressions.specs.Expression.{start, start_after, counted_in, read, ended, can_end}
+use Rattle.hpr_text.specs.Machine.{limit, counted, tag_given, then_kept, with_number, with_header, with_tag, given, begun_in, with_part, in_then, in_loop, block_ended, else_in, fi_in, od_in, with_name, state_at, at_part, ends_parts, colon_next, first_next, tag_next, part_next, header_next, goes_on, index_ends, in_index_next, ends_here, expression_next, next_at, next}
+use Rattle.hpr_text.proofs.Going.{either_way}
 
 -- ---- what shows where parts are not kept
 
@@ -57,11 +58,14 @@ bare_purpose (Assign t x) = Assign bare_tag x
 bare_purpose (Test t) = Test bare_tag
 bare_purpose (Guard t) = Guard bare_tag
 bare_purpose (Output t) = Output bare_tag
+bare_purpose (Store t a i) = Store bare_tag a i
 
 abbrev pub bare_place : Place → Place
 bare_place (AfterSerial t) = AfterSerial bare_tag
 bare_place (AfterColon t) = AfterColon bare_tag
 bare_place (AfterTarget t x) = AfterTarget bare_tag x
+bare_place (InIndex t a r) = InIndex bare_tag a r
+bare_place (AfterIndex t a i k) = AfterIndex bare_tag a i k
 bare_place (InExpression p r) = InExpression (bare_purpose p) r
 bare_place p = p
 
@@ -199,14 +203,16 @@ ends_bare l m f g (Assign t x) (Some v) e = ap (shown_at AtPart) e
 ends_bare l m f g (Test t) (Some v) e = ap (λ (x : Found). shown_at AtPart (record x { blocks = begun.Then bare_around ∷ x.blocks })) e
 ends_bare l m f g (Guard t) (Some v) e = ap (λ (x : Found). shown_at AtPart (record x { blocks = begun.Loop bare_around ∷ x.blocks })) e
 ends_bare l m f g (Output t) (Some v) e = ap (shown_at AtPart) e
+ends_bare l m f g (Store t a i) (Some v) e = ap (shown_at AtPart) e
 
 again_purpose : (p : Purpose) → bare_purpose p ≡ bare_purpose (bare_purpose p)
 again_purpose (Assign t x) = refl
 again_purpose (Test t) = refl
 again_purpose (Guard t) = refl
 again_purpose (Output t) = refl
+again_purpose (Store t a i) = refl
 
-goes_bare : (f g : Found) (p : Purpose) (o : Option Reading) → bare_found f ≡ bare_found g → bared (goes_on f p o) ≡ bared (goes_on g (bare_purpose p) o)
+goes_bare : (f g : Found) (p : Purpose) (o : Option Reading) → bare_found f ≡ bare_found g → bared (goes_on f (InExpression p) o) ≡ bared (goes_on g (InExpression (bare_purpose p)) o)
 goes_bare f g p None e = refl
 goes_bare f g p (Some r) e =
     ap (shown_at (InExpression (bare_purpose p) r)) e ∙ ap (λ (q : Purpose). shown_at (InExpression q r) (bare_found g)) (again_purpose p)
@@ -217,10 +223,30 @@ expression_bare l m f g (Assign a x) r (Mark Semicolon) e = ends_bare l m f g (A
 expression_bare l m f g (Test a) r (Word Then) e = ends_bare l m f g (Test a) (ended r) e
 expression_bare l m f g (Guard a) r (Word Do) e = ends_bare l m f g (Guard a) (ended r) e
 expression_bare l m f g (Output a) r (Mark Semicolon) e = ends_bare l m f g (Output a) (ended r) e
+expression_bare l m f g (Store a x i) r (Mark Semicolon) e = ends_bare l m f g (Store a x i) (ended r) e
 expression_bare l m f g (Assign a x) r t e = goes_bare f g (Assign a x) (read r t) e
 expression_bare l m f g (Test a) r t e = goes_bare f g (Test a) (read r t) e
 expression_bare l m f g (Guard a) r t e = goes_bare f g (Guard a) (read r t) e
 expression_bare l m f g (Output a) r t e = goes_bare f g (Output a) (read r t) e
+expression_bare l m f g (Store a x i) r t e = goes_bare f g (Store a x i) (read r t) e
+
+index_goes_bare : (f g : Found) (t : Tag) (a : List ℕ) (o : Option Reading) → bare_found f ≡ bare_found g → bared (goes_on f (InIndex t a) o) ≡ bared (goes_on g (InIndex bare_tag a) o)
+index_goes_bare f g t a None e = refl
+index_goes_bare f g t a (Some r) e = ap (shown_at (InIndex bare_tag a r)) e
+
+index_ends_bare : (f g : Found) (t : Tag) (a : List ℕ) (k : ℕ) (o : Option Expr) → bare_found f ≡ bare_found g → bared (index_ends f t a k o) ≡ bared (index_ends g bare_tag a k o)
+index_ends_bare f g t a k None e = refl
+index_ends_bare f g t a k (Some i) e = ap (shown_at (AfterIndex bare_tag a i k)) e
+
+-- with either answer of the test, both show the same
+either_bare : (b : Bool) (o p q r : Option State) → bared o ≡ bared q → bared p ≡ bared r → bared (cond b o p) ≡ bared (cond b q r)
+either_bare true o p q r e h = e
+either_bare false o p q r e h = h
+
+in_index_bare : (f g : Found) (t : Tag) (a : List ℕ) (r : Reading) (k : Token) → bare_found f ≡ bare_found g → bared (in_index_next f t a r k) ≡ bared (in_index_next g bare_tag a r k)
+in_index_bare f g t a r (Mark CloseSquare) e =
+    either_bare (can_end r) _ _ _ _ (index_ends_bare f g t a (counted_in r) (ended r) e) (index_goes_bare f g t a (read r (Mark CloseSquare)) e)
+in_index_bare f g t a r k e = index_goes_bare f g t a (read r k) e
 
 step_bare : (l m : Option ℕ) (f g : Found) (p : Place) (t : Token) → bare_found f ≡ bare_found g → bared (next_at l f p t) ≡ bared (next_at m g (bare_place p) t)
 step_bare l m f g Start (Word Program) e = ap (shown_at AfterProgram) e
@@ -241,15 +267,24 @@ step_bare l m f g (AfterDot a) (Number k) e =
 step_bare l m f g (AfterSerial u) (Mark Colon) e = ap (shown_at (AfterColon bare_tag)) e
 step_bare l m f g (AfterColon u) t e = colon_bare f g u bare_tag t e
 step_bare l m f g (AfterTarget u x) (Mark Becomes) e = ap (shown_at (InExpression (Assign bare_tag x) start)) e
+step_bare l m f g (AfterTarget u x) (Mark OpenSquare) e =
+    guards_bare (is_name x) (state_at f (InIndex u (array_of x) start)) (state_at g (InIndex bare_tag (array_of x) start)) (ap (λ (y : Found). state_at y (InIndex bare_tag (array_of x) start)) e)
+step_bare l m f g (InIndex u a r) t e = in_index_bare f g u a r t e
+step_bare l m f g (AfterIndex u a i k) (Mark Becomes) e = ap (shown_at (InExpression (Store bare_tag a i) (start_after k))) e
 step_bare l m f g (InExpression p r) t e = expression_bare l m f g p r t e
 step_bare l m f g AfterEnd (Mark Open) e = ap (shown_at AfterOpen) e
-step_bare l m f g AfterOpen (Name x) e = ap (λ (y : Found). shown_at AfterName (with_name x y)) e
-step_bare l m f g AfterOpen (Word Out) e = ap (λ (y : Found). shown_at AfterName (with_name stream y)) e
+step_bare l m f g AfterOpen (Name x) e = ap (shown_at (AfterName x)) e
+step_bare l m f g AfterOpen (Word Out) e = ap (λ (y : Found). shown_at AfterFinal (with_name stream y)) e
 step_bare l m f g AfterOpen (Mark Close) e = ap (shown_at AtEnd) e
-step_bare l m f g AfterName (Mark Comma) e = ap (shown_at AfterComma) e
-step_bare l m f g AfterName (Mark Close) e = ap (shown_at AtEnd) e
-step_bare l m f g AfterComma (Name x) e = ap (λ (y : Found). shown_at AfterName (with_name x y)) e
-step_bare l m f g AfterComma (Word Out) e = ap (λ (y : Found). shown_at AfterName (with_name stream y)) e
+step_bare l m f g (AfterName x) (Mark OpenSquare) e =
+    guards_bare (is_name x) (state_at f (AfterNameOpen (array_of x))) (state_at g (AfterNameOpen (array_of x))) (ap (λ (y : Found). state_at y (AfterNameOpen (array_of x))) e)
+step_bare l m f g (AfterName x) (Mark Comma) e = ap (λ (y : Found). shown_at AfterComma (with_name x y)) e
+step_bare l m f g (AfterName x) (Mark Close) e = ap (λ (y : Found). shown_at AtEnd (with_name x y)) e
+step_bare l m f g (AfterNameOpen a) (Mark CloseSquare) e = ap (λ (y : Found). shown_at AfterFinal (with_name a y)) e
+step_bare l m f g AfterFinal (Mark Comma) e = ap (shown_at AfterComma) e
+step_bare l m f g AfterFinal (Mark Close) e = ap (shown_at AtEnd) e
+step_bare l m f g AfterComma (Name x) e = ap (shown_at (AfterName x)) e
+step_bare l m f g AfterComma (Word Out) e = ap (λ (y : Found). shown_at AfterFinal (with_name stream y)) e
 step_bare l m f g p t e = refl
 
 -- states that show the same go on to states that show the same
@@ -338,17 +373,29 @@ ends_counts f (Assign t x) (Some v) n e = counts_some (state_at (with_part None 
 ends_counts f (Test t) (Some v) n e = counts_some (state_at (in_then t v f) AtPart) n f.count (as_many f.count) e
 ends_counts f (Guard t) (Some v) n e = counts_some (state_at (in_loop t v f) AtPart) n f.count (as_many f.count) e
 ends_counts f (Output t) (Some v) n e = counts_some (state_at (with_part None t (writes stream v) f) AtPart) n f.count (as_many f.count) e
+ends_counts f (Store t a i) (Some v) n e = counts_some (state_at (with_part None t (stores a i v) f) AtPart) n f.count (as_many f.count) e
 
-goes_counts : (f : Found) (p : Purpose) (o : Option Reading) (n : State) → goes_on f p o ≡ Some n → OneMore f.count n.found.count
+goes_counts : (f : Found) (p : Reading → Place) (o : Option Reading) (n : State) → goes_on f p o ≡ Some n → OneMore f.count n.found.count
 goes_counts f p None n e = absurd cc
-goes_counts f p (Some r) n e = counts_some (state_at f (InExpression p r)) n f.count (as_many f.count) e
+goes_counts f p (Some r) n e = counts_some (state_at f (p r)) n f.count (as_many f.count) e
+
+index_counts : (f : Found) (t : Tag) (a : List ℕ) (k : ℕ) (o : Option Expr) (n : State) → index_ends f t a k o ≡ Some n → OneMore f.count n.found.count
+index_counts f t a k None n e = absurd cc
+index_counts f t a k (Some i) n e = counts_some (state_at f (AfterIndex t a i k)) n f.count (as_many f.count) e
+
+in_index_counts : (f : Found) (t : Tag) (a : List ℕ) (r : Reading) (k : Token) (n : State) → in_index_next f t a r k ≡ Some n → OneMore f.count n.found.count
+in_index_counts f t a r (Mark CloseSquare) n e =
+    either_way (can_end r) (index_ends f t a (counted_in r) (ended r)) (goes_on f (InIndex t a) (read r (Mark CloseSquare))) n
+    (index_counts f t a (counted_in r) (ended r) n) (goes_counts f (InIndex t a) (read r (Mark CloseSquare)) n) e
+in_index_counts f t a r k n e = goes_counts f (InIndex t a) (read r k) n e
 
 expression_counts : (f : Found) (p : Purpose) (r : Reading) (t : Token) (n : State) → expression_next None f p r t ≡ Some n → OneMore f.count n.found.count
 expression_counts f (Assign a x) r (Mark Semicolon) n e = ends_counts f (Assign a x) (ended r) n e
 expression_counts f (Test a) r (Word Then) n e = ends_counts f (Test a) (ended r) n e
 expression_counts f (Guard a) r (Word Do) n e = ends_counts f (Guard a) (ended r) n e
 expression_counts f (Output a) r (Mark Semicolon) n e = ends_counts f (Output a) (ended r) n e
-expression_counts f p r t n e = goes_counts f p (read r t) n e
+expression_counts f (Store a x i) r (Mark Semicolon) n e = ends_counts f (Store a x i) (ended r) n e
+expression_counts f p r t n e = goes_counts f (InExpression p) (read r t) n e
 
 step_counts : (f : Found) (p : Place) (t : Token) (n : State) → next_at None f p t ≡ Some n → OneMore f.count n.found.count
 step_counts f Start (Word Program) n e = counts_some (state_at f AfterProgram) n f.count (as_many f.count) e
@@ -367,15 +414,22 @@ step_counts f (AfterDot a) (Number k) n e =
 step_counts f (AfterSerial u) (Mark Colon) n e = counts_some (state_at f (AfterColon u)) n f.count (as_many f.count) e
 step_counts f (AfterColon u) t n e = colon_counts f.count f u t n (as_many f.count) e
 step_counts f (AfterTarget u x) (Mark Becomes) n e = counts_some (state_at f (InExpression (Assign u x) start)) n f.count (as_many f.count) e
+step_counts f (AfterTarget u x) (Mark OpenSquare) n e = counts_guard (is_name x) (state_at f (InIndex u (array_of x) start)) n f.count (as_many f.count) e
+step_counts f (InIndex u a r) t n e = in_index_counts f u a r t n e
+step_counts f (AfterIndex u a i k) (Mark Becomes) n e = counts_some (state_at f (InExpression (Store u a i) (start_after k))) n f.count (as_many f.count) e
 step_counts f (InExpression p r) t n e = expression_counts f p r t n e
 step_counts f AfterEnd (Mark Open) n e = counts_some (state_at f AfterOpen) n f.count (as_many f.count) e
-step_counts f AfterOpen (Name x) n e = counts_some (state_at (with_name x f) AfterName) n f.count (as_many f.count) e
-step_counts f AfterOpen (Word Out) n e = counts_some (state_at (with_name stream f) AfterName) n f.count (as_many f.count) e
+step_counts f AfterOpen (Name x) n e = counts_some (state_at f (AfterName x)) n f.count (as_many f.count) e
+step_counts f AfterOpen (Word Out) n e = counts_some (state_at (with_name stream f) AfterFinal) n f.count (as_many f.count) e
 step_counts f AfterOpen (Mark Close) n e = counts_some (state_at f AtEnd) n f.count (as_many f.count) e
-step_counts f AfterName (Mark Comma) n e = counts_some (state_at f AfterComma) n f.count (as_many f.count) e
-step_counts f AfterName (Mark Close) n e = counts_some (state_at f AtEnd) n f.count (as_many f.count) e
-step_counts f AfterComma (Name x) n e = counts_some (state_at (with_name x f) AfterName) n f.count (as_many f.count) e
-step_counts f AfterComma (Word Out) n e = counts_some (state_at (with_name stream f) AfterName) n f.count (as_many f.count) e
+step_counts f (AfterName x) (Mark OpenSquare) n e = counts_guard (is_name x) (state_at f (AfterNameOpen (array_of x))) n f.count (as_many f.count) e
+step_counts f (AfterName x) (Mark Comma) n e = counts_some (state_at (with_name x f) AfterComma) n f.count (as_many f.count) e
+step_counts f (AfterName x) (Mark Close) n e = counts_some (state_at (with_name x f) AtEnd) n f.count (as_many f.count) e
+step_counts f (AfterNameOpen a) (Mark CloseSquare) n e = counts_some (state_at (with_name a f) AfterFinal) n f.count (as_many f.count) e
+step_counts f AfterFinal (Mark Comma) n e = counts_some (state_at f AfterComma) n f.count (as_many f.count) e
+step_counts f AfterFinal (Mark Close) n e = counts_some (state_at f AtEnd) n f.count (as_many f.count) e
+step_counts f AfterComma (Name x) n e = counts_some (state_at f (AfterName x)) n f.count (as_many f.count) e
+step_counts f AfterComma (Word Out) n e = counts_some (state_at (with_name stream f) AfterFinal) n f.count (as_many f.count) e
 step_counts f p t n e = absurd cc
 
 -- ---- where each part is kept
@@ -446,12 +500,14 @@ ends_same f (Assign t x) (Some v) n le e = kept_same f f.blocks f.parts (action 
 ends_same f (Test t) (Some v) n le e = e
 ends_same f (Guard t) (Some v) n le e = e
 ends_same f (Output t) (Some v) n le e = kept_same f f.blocks f.parts (action t (writes stream v) done) n le e
+ends_same f (Store t a i) (Some v) n le e = kept_same f f.blocks f.parts (action t (stores a i v) done) n le e
 
 expression_same : (f : Found) (p : Purpose) (r : Reading) (t : Token) (n : State) → n.found.count ≤ MAX_PARTS → expression_next None f p r t ≡ Some n → expression_next limit f p r t ≡ Some n
 expression_same f (Assign a x) r (Mark Semicolon) n le e = ends_same f (Assign a x) (ended r) n le e
 expression_same f (Test a) r (Word Then) n le e = ends_same f (Test a) (ended r) n le e
 expression_same f (Guard a) r (Word Do) n le e = ends_same f (Guard a) (ended r) n le e
 expression_same f (Output a) r (Mark Semicolon) n le e = ends_same f (Output a) (ended r) n le e
+expression_same f (Store a x i) r (Mark Semicolon) n le e = ends_same f (Store a x i) (ended r) n le e
 expression_same f p r t n le e = e
 
 step_same : (f : Found) (p : Place) (t : Token) (n : State) → n.found.count ≤ MAX_PARTS → next_at None f p t ≡ Some n → next_at limit f p t ≡ Some n

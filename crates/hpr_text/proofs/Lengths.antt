@@ -2,7 +2,7 @@
 use Rattle.std.proofs.Common.{◌≡◌, ℕ, ◌+◌, ◌≤◌, Bool, List, ◌++◌, length, Some, None, refl, ap, sym, subst, arith}
 use Rattle.std.proofs.lemmas.List.{length-append}
 use Rattle.hpr_terms.specs.declared.token.Sign.{Sign}
-use Rattle.hpr_terms.specs.declared.token.Sign.TheVariants.{Colon, Becomes, Dot, Comma, Semicolon, Open, Close, Plus, Minus, Star, Slash, Percent, Equal, Differ, Less, LessEqual, Greater, GreaterEqual}
+use Rattle.hpr_terms.specs.declared.token.Sign.TheVariants.{Colon, Becomes, Dot, Comma, Semicolon, Open, Close, OpenSquare, CloseSquare, Plus, Minus, Star, Slash, Percent, Equal, Differ, Less, LessEqual, Greater, GreaterEqual}
 use Rattle.hpr_terms.specs.declared.token.Token.{Token}
 use Rattle.hpr_terms.specs.declared.token.Token.TheVariants.{Word, Name, Number, Mark}
 use Rattle.hpr_terms.specs.Tokens.{sign_text, IsToken, Text, ending, token}
@@ -23,6 +23,8 @@ sign_long Comma = omega arith
 sign_long Semicolon = omega arith
 sign_long Open = omega arith
 sign_long Close = omega arith
+sign_long OpenSquare = omega arith
+sign_long CloseSquare = omega arith
 sign_long Plus = omega arith
 sign_long Minus = omega arith
 sign_long Star = omega arith

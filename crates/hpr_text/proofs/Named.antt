@@ -41,6 +41,17 @@ pub named_write : (label value more : List Token) → Named (label ++ (Word keyw
 named_write label value more n =
     named_around value (Mark sign.Semicolon) more (named_around label (Word keyword.Write) (value ++ (Mark sign.Semicolon ∷ more)) n).1
 
+pub named_store : (label : List Token) (x : List ℕ) (index value more : List Token)
+    → Named (label ++ (Name x ∷ Mark sign.OpenSquare ∷ (index ++ (Mark sign.CloseSquare ∷ Mark sign.Becomes ∷ (value ++ (Mark sign.Semicolon ∷ more))))))
+    → Named index × Named value × Named more
+named_store label x index value more n =
+    let last : List Token = value ++ (Mark sign.Semicolon ∷ more) in
+    let behind : List Token = index ++ (Mark sign.CloseSquare ∷ Mark sign.Becomes ∷ last) in
+    let from = named_around label (Name x) (Mark sign.OpenSquare ∷ behind) n in
+    let two = named_around index (Mark sign.CloseSquare) (Mark sign.Becomes ∷ last) (named_rest (Mark sign.OpenSquare) behind from.1) in
+    let said = named_around value (Mark sign.Semicolon) more (named_rest (Mark sign.Becomes) last two.1) in
+    (two.0, said.0, said.1)
+
 -- and behind a word, a test and another word
 named_test : (label test rest : List Token) (begins ends : Token) → Named (label ++ (begins ∷ (test ++ (ends ∷ rest)))) → Named test × Named rest
 named_test label test rest begins ends n = named_around test ends rest (named_around label begins (test ++ (ends ∷ rest)) n).1

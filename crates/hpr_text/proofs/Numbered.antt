@@ -25,6 +25,7 @@ pub parts_counted : {f : Form} {l n m : ℕ} {ts : List Token} {b : Body} → Sp
 parts_counted grammar.nothing = omega arith
 parts_counted (grammar.assignment is v s) = omega (arith, parts_counted s)
 parts_counted (grammar.write is v s) = omega (arith, parts_counted s)
+parts_counted (grammar.store x name is both s) = omega (arith, parts_counted s)
 parts_counted (grammar.conditional is v s u) = omega (arith, parts_counted s, parts_counted u)
 parts_counted (grammar.conditional_else is v s w u) = omega (arith, parts_counted s, parts_counted w, parts_counted u)
 parts_counted (grammar.while_loop is v s u) = omega (arith, parts_counted s, parts_counted u)
@@ -40,6 +41,7 @@ pub tags_run : {a l n k : ℕ} {ts : List Token} {b : Body} → SpellsParts (unt
 tags_run grammar.nothing m after h = h
 tags_run (grammar.assignment grammar.none v s) m after h = (refl, tags_run s m after h)
 tags_run (grammar.write grammar.none v s) m after h = (refl, tags_run s m after h)
+tags_run (grammar.store x name grammar.none both s) m after h = (refl, tags_run s m after h)
 tags_run (grammar.conditional {rest = rest} grammar.none v s u) m after h = (refl, tags_run s m (tags_of rest after) (tags_run u m after h))
 tags_run (grammar.conditional_else {no = other} {rest = rest} grammar.none v s w u) m after h =
     (refl, tags_run s m (tags_of other (tags_of rest after)) (tags_run w m (tags_of rest after) (tags_run u m after h)))

@@ -108,6 +108,7 @@ pub parts_then : {f : Form} {l n k m : ℕ} {a b : List Token} {p q : Body} → 
 parts_then grammar.nothing h = h
 parts_then (grammar.assignment {x = x} label value rest) h = rw (append_assoc, append_assoc) (grammar.assignment {x = x} label value (parts_then rest h))
 parts_then (grammar.write label value rest) h = rw (append_assoc, append_assoc) (grammar.write label value (parts_then rest h))
+parts_then (grammar.store x name label both rest) h = rw (append_assoc, append_assoc, append_assoc) (grammar.store x name label both (parts_then rest h))
 parts_then (grammar.conditional label test first rest) h = rw (append_assoc, append_assoc, append_assoc) (grammar.conditional label test first (parts_then rest h))
 parts_then (grammar.conditional_else label test first second rest) h =
     rw (append_assoc, append_assoc, append_assoc, append_assoc) (grammar.conditional_else label test first second (parts_then rest h))

@@ -1,5 +1,5 @@
 -- A tree of a text is neither too deep nor too large, and has no wrong name.
-use Rattle.std.proofs.Common.{◌≡◌, ℕ, Bool, true, false, cond, nat_lt, List, [], ◌∷◌, ◌++◌, Option, Some, None, refl, subst}
+use Rattle.std.proofs.Common.{◌≡◌, ℕ, ◌+◌, Bool, true, false, not, cond, nat_lt, List, [], ◌∷◌, ◌++◌, Option, Some, None, refl, ap, subst}
 use Rattle.std.proofs.lemmas.Bool.{le-ltb}
 use Rattle.std.specs.Option.{option_or, option_map}
 use Rattle.std.specs.Str.{bytes_eq}
@@ -9,11 +9,11 @@ use Rattle.hpr_terms.specs.declared.expr.Expr.{Expr}
 use Rattle.hpr_terms.specs.declared.token.Token.{Token}
 use Rattle.hpr_terms.specs.declared.token.Token.TheVariants.{Name, Mark}
 use Rattle.hpr_terms.specs.declared.token.Sign.TheVariants as sign
-use Rattle.hpr_terms.specs.Names.{is_stream}
+use Rattle.hpr_terms.specs.Names.{is_name, array_of, is_array}
 use Rattle.hpr_terms.specs.Term.{Term, operators}
 use Rattle.hpr_terms.specs.TermOf.{term_of}
 use Rattle.hpr_terms.proofs.Facts.{some_inj, neither, in_here}
-use Rattle.hpr_terms.proofs.Plain.{name_not_stream}
+use Rattle.hpr_terms.proofs.Plain.{array_is}
 use Rattle.hpr_syntax.specs.declared.shape.ShapeError.{ShapeError}
 use Rattle.hpr_syntax.specs.declared.shape.ShapeError.TheVariants.{DuplicateTag, Unissued, TooDeep, ExprTooLarge, WrongName, TooManyParts, DuplicateFinal}
 use Rattle.hpr_syntax.specs.Body.{Body, part_count}
@@ -21,10 +21,10 @@ use Rattle.hpr_syntax.specs.Parts.{tags_of}
 use Rattle.hpr_syntax.specs.Tree.{Tree}
 use Rattle.hpr_syntax.specs.Grammar as grammar
 use Rattle.hpr_syntax.specs.Grammar.{Form, Rule, SpellsTerm, SpellsExpr, SpellsParts}
-use Rattle.hpr_syntax.specs.Shape.{first_repeated_tag, first_unissued, first_deep, is_large, says_large, names_stream, is_wrong, first_where, first_repeated, too_many, shape}
+use Rattle.hpr_syntax.specs.Shape.{first_repeated_tag, first_unissued, first_deep, is_large, says_large, names_wrong, is_wrong, first_where, first_repeated, too_many, shape}
 use Rattle.hpr_syntax.specs.Spelling.{Spells}
 use Rattle.hpr_text.specs.Answers.{ComesFromText}
-use Rattle.hpr_text.proofs.Named.{Named, named_rest, named_around, named_assignment, named_write, named_conditional, named_conditional_else, named_loop, text_named, parts_named}
+use Rattle.hpr_text.proofs.Named.{Named, named_rest, named_around, named_assignment, named_write, named_store, named_conditional, named_conditional_else, named_loop, text_named, parts_named}
 
 -- ---- levels and operators
 
@@ -32,6 +32,7 @@ pub none_deep : {form : Form} {l n m : ℕ} {ts : List Token} {body : Body} → 
 none_deep grammar.nothing = refl
 none_deep (grammar.assignment label value rest) = none_deep rest
 none_deep (grammar.write label value rest) = none_deep rest
+none_deep (grammar.store x name label both rest) = none_deep rest
 none_deep (grammar.conditional label test first rest) = rw (none_deep first) (none_deep rest)
 none_deep (grammar.conditional_else label test first second rest) = rw (none_deep first, none_deep second) (none_deep rest)
 none_deep (grammar.while_loop label test inner rest) = rw (none_deep inner) (none_deep rest)
@@ -43,41 +44,50 @@ pub none_large : {form : Form} {l n m : ℕ} {ts : List Token} {body : Body} →
 none_large grammar.nothing = refl
 none_large (grammar.assignment label value rest) = rw (not_large _ _ value) (none_large rest)
 none_large (grammar.write label value rest) = rw (not_large _ _ value) (none_large rest)
+none_large (grammar.store x {i = i} {e = e} name label both rest) = rw (le-ltb MAX_OPERATORS (operators (term_of i) + operators (term_of e)) both.2) (none_large rest)
 none_large (grammar.conditional label test first rest) = rw (not_large _ _ test, none_large first) (none_large rest)
 none_large (grammar.conditional_else label test first second rest) = rw (not_large _ _ test, none_large first, none_large second) (none_large rest)
 none_large (grammar.while_loop label test inner rest) = rw (not_large _ _ test, none_large inner) (none_large rest)
 
 -- ---- names
 
-term_plain : {r : Rule} {d : ℕ} {ts : List Token} {x : Term} → SpellsTerm r d ts x → Named ts → names_stream x ≡ false
-term_plain (grammar.SpellsTerm.one on s) n = term_plain s n
-term_plain (grammar.SpellsTerm.joined {a = a} {b = b} {t = t} {x = x} {y = y} on is s u) n =
-    let two = named_around a t b n in neither (names_stream x) (names_stream y) (term_plain s two.0) (term_plain u two.1)
-term_plain (grammar.SpellsTerm.compared {a = a} {b = b} {t = t} {x = x} {y = y} is s u) n =
-    let two = named_around a t b n in neither (names_stream x) (names_stream y) (term_plain s two.0) (term_plain u two.1)
-term_plain (grammar.SpellsTerm.signed {a = a} {t = t} is s) n = term_plain s (named_rest t a n)
-term_plain (grammar.SpellsTerm.literal is) n = refl
-term_plain (grammar.SpellsTerm.name {x = x}) n = name_not_stream x (n x (in_here (Name x) []))
-term_plain (grammar.SpellsTerm.bracket {ts = ts} s) n =
-    term_plain s (named_around ts (Mark sign.Close) [] (named_rest (Mark sign.Open) (ts ++ (Mark sign.Close ∷ [])) n)).0
+term_right : {r : Rule} {d : ℕ} {ts : List Token} {x : Term} → SpellsTerm r d ts x → Named ts → names_wrong x ≡ false
+term_right (grammar.SpellsTerm.one on s) n = term_right s n
+term_right (grammar.SpellsTerm.joined {a = a} {b = b} {t = t} {x = x} {y = y} on is s u) n =
+    let two = named_around a t b n in neither (names_wrong x) (names_wrong y) (term_right s two.0) (term_right u two.1)
+term_right (grammar.SpellsTerm.compared {a = a} {b = b} {t = t} {x = x} {y = y} is s u) n =
+    let two = named_around a t b n in neither (names_wrong x) (names_wrong y) (term_right s two.0) (term_right u two.1)
+term_right (grammar.SpellsTerm.signed {a = a} {t = t} is s) n = term_right s (named_rest t a n)
+term_right (grammar.SpellsTerm.literal is) n = refl
+term_right (grammar.SpellsTerm.name {x = x}) n = ap not (n x (in_here (Name x) []))
+term_right (grammar.SpellsTerm.bracket {ts = ts} s) n =
+    term_right s (named_around ts (Mark sign.Close) [] (named_rest (Mark sign.Open) (ts ++ (Mark sign.Close ∷ [])) n)).0
+term_right (grammar.SpellsTerm.indexed {x = x} {ts = ts} {i = i} name s) n =
+    let behind : List Token = ts ++ (Mark sign.CloseSquare ∷ []) in
+    neither (not (is_array (array_of x))) (names_wrong i) (ap not (array_is x name))
+    (term_right s (named_around ts (Mark sign.CloseSquare) [] (named_rest (Mark sign.OpenSquare) behind (named_rest (Name x) (Mark sign.OpenSquare ∷ behind) n))).0)
 
 pub none_wrong : {form : Form} {l n m : ℕ} {ts : List Token} {body : Body} → SpellsParts form l n m ts body → Named ts → first_where is_wrong body ≡ None
 none_wrong grammar.nothing names = refl
 none_wrong (grammar.assignment {x = x} {label = label} {value = value} {more = more} is v s) names =
     let said = named_assignment label x value more names in
-    let plain : is_stream x ≡ false = name_not_stream x said.0 in
-    rw (plain, term_plain v.0 said.1) (none_wrong s said.2)
+    let plain : is_name x ≡ true = said.0 in
+    rw (plain, term_right v.0 said.1) (none_wrong s said.2)
 none_wrong (grammar.write {label = label} {value = value} {more = more} is v s) names =
-    let said = named_write label value more names in rw (term_plain v.0 said.0) (none_wrong s said.1)
+    let said = named_write label value more names in rw (term_right v.0 said.0) (none_wrong s said.1)
+none_wrong (grammar.store x {label = label} {index = index} {value = value} {more = more} name is both s) names =
+    let said = named_store label x index value more names in
+    let array : is_array (array_of x) ≡ true = array_is x name in
+    rw (array, term_right both.0 said.0, term_right both.1 said.1) (none_wrong s said.2)
 none_wrong (grammar.conditional {label = label} {test = test} {first = first} {more = more} is v s u) names =
     let said = named_conditional label test first more names in
-    rw (term_plain v.0 said.0, none_wrong s said.1) (none_wrong u said.2)
+    rw (term_right v.0 said.0, none_wrong s said.1) (none_wrong u said.2)
 none_wrong (grammar.conditional_else {label = label} {test = test} {first = first} {second = second} {more = more} is v s w u) names =
     let said = named_conditional_else label test first second more names in
-    rw (term_plain v.0 said.0, none_wrong s said.1, none_wrong w said.2) (none_wrong u said.3)
+    rw (term_right v.0 said.0, none_wrong s said.1, none_wrong w said.2) (none_wrong u said.3)
 none_wrong (grammar.while_loop {label = label} {test = test} {inner = inner} {more = more} is v s u) names =
     let said = named_loop label test inner more names in
-    rw (term_plain v.0 said.0, none_wrong s said.1) (none_wrong u said.2)
+    rw (term_right v.0 said.0, none_wrong s said.1) (none_wrong u said.2)
 
 -- ---- the refusals that are left
 

@@ -6,17 +6,19 @@ use Rattle.hpr_terms.specs.declared.limits.TheConstants.{MAX_LEVELS}
 use Rattle.hpr_terms.specs.declared.tag.Tag.{Tag}
 use Rattle.hpr_terms.specs.declared.expr.Expr.{Expr}
 use Rattle.hpr_terms.specs.declared.keyword.Keyword.TheVariants.{Program, Issued, End, If, Then, Else, Fi, While, Do, Od, Write, Out}
-use Rattle.hpr_terms.specs.declared.token.Sign.TheVariants.{Colon, Becomes, Dot, Comma, Semicolon, Open, Close}
+use Rattle.hpr_terms.specs.declared.token.Sign.TheVariants.{Colon, Becomes, Dot, Comma, Semicolon, Open, Close, OpenSquare, CloseSquare}
 use Rattle.hpr_terms.specs.declared.token.Token.{Token}
 use Rattle.hpr_terms.specs.declared.token.Token.TheVariants.{Word, Name, Number, Mark}
 use Rattle.hpr_terms.proofs.Facts.{and_both, some_inj}
-use Rattle.hpr_terms.specs.Names.{stream}
-use Rattle.hpr_syntax.specs.Action.{Action, assigns, writes}
+use Rattle.hpr_terms.specs.Names.{stream, IsName, is_name, array_of}
+use Rattle.hpr_terms.specs.Term.{operators}
+use Rattle.hpr_terms.specs.TermOf.{term_of}
+use Rattle.hpr_syntax.specs.Action.{Action, assigns, writes, stores}
 use Rattle.hpr_syntax.specs.Body.{Body, done, action, branch, loop}
 use Rattle.hpr_syntax.specs.Issued as issued
 use Rattle.hpr_syntax.specs.Tree.{Tree}
 use Rattle.hpr_syntax.specs.Grammar as grammar
-use Rattle.hpr_syntax.specs.Grammar.{Form, IsAuthor, IsSerial, IsTag, IsIssuedPair, Labels, SpellsExpr, SpellsParts, SpellsPairs, SpellsHeader, SpellsFinal, SpellsNames, SpellsProgram, tag_pair, pair_then, issued_of}
+use Rattle.hpr_syntax.specs.Grammar.{Form, IsAuthor, IsSerial, IsTag, IsIssuedPair, Labels, SpellsExpr, SpellsStore, SpellsParts, SpellsPairs, SpellsHeader, SpellsFinal, SpellsNames, SpellsProgram, tag_pair, pair_then, issued_of}
 use Rattle.hpr_scan.specs.Steps.{and_then, runs}
 use Rattle.hpr_scan.proofs.SoundText.{guard_is}
 use Rattle.hpr_expressions.specs.declared.expression.Reading.{Reading}
@@ -27,14 +29,16 @@ use Rattle.hpr_text.specs.declared.form.Mode.{Mode}
 use Rattle.hpr_text.specs.declared.form.Mode.TheVariants.{Tagged, Untagged}
 use Rattle.hpr_text.specs.declared.found.Found.{Found}
 use Rattle.hpr_text.specs.declared.state.Purpose.{Purpose}
-use Rattle.hpr_text.specs.declared.state.Purpose.TheVariants.{Assign, Test, Guard, Output}
+use Rattle.hpr_text.specs.declared.state.Purpose.TheVariants.{Assign, Test, Guard, Output, Store}
 use Rattle.hpr_text.specs.declared.state.Place.{Place}
-use Rattle.hpr_text.specs.declared.state.Place.TheVariants.{Start, AfterProgram, BeforePair, AfterPairAuthor, AfterPairColon, AfterPair, AtPart, AfterAuthor, AfterDot, AfterSerial, AfterColon, AfterTarget, InExpression, AfterEnd, AfterOpen, AfterName, AfterComma, AtEnd}
+use Rattle.hpr_text.specs.declared.state.Place.TheVariants.{Start, AfterProgram, BeforePair, AfterPairAuthor, AfterPairColon, AfterPair, AtPart, AfterAuthor, AfterDot, AfterSerial, AfterColon, AfterTarget, InIndex, AfterIndex, InExpression, AfterEnd, AfterOpen, AfterName, AfterNameOpen, AfterFinal, AfterComma, AtEnd}
 use Rattle.hpr_text.specs.declared.state.State.{State}
-use Rattle.hpr_expressions.specs.Expression.{read, ended, start}
+use Rattle.hpr_expressions.specs.Expression.{read, ended, start, start_after, counted_in, can_end}
+use Rattle.hpr_expressions.specs.Read.{SpellsAfter}
 use Rattle.hpr_text.specs.Forms.{form_of}
-use Rattle.hpr_text.specs.Machine.{then_parts, with_number, with_header, with_tag, with_count, tag_raised, given, tag_given, begun_in, first_next, tag_next, header_next, colon_next, with_part, in_then, in_loop, else_in, fi_in, od_in, at_part, ends_parts, with_name, state_at, part_next, goes_on, ends_here, expression_next, next_at, next, nothing_found, initially, accepted, accepted_at, tag_read}
-use Rattle.hpr_expressions.proofs.SoundExpression.{ReadingIs, start_is, read_is, ended_is}
+use Rattle.hpr_text.specs.Machine.{then_parts, with_number, with_header, with_tag, with_count, tag_raised, given, tag_given, begun_in, first_next, tag_next, header_next, colon_next, with_part, in_then, in_loop, else_in, fi_in, od_in, at_part, ends_parts, with_name, state_at, part_next, goes_on, index_ends, in_index_next, ends_here, expression_next, next_at, next, nothing_found, initially, accepted, accepted_at, tag_read}
+use Rattle.hpr_expressions.proofs.SoundExpression.{ReadingIs, start_is, read_is, ended_is, count_is}
+use Rattle.hpr_text.proofs.Going.{either_way}
 use Rattle.hpr_text.proofs.Parts.{raised_after, tags_read, read_then, tag_raises, parts_then, tally}
 
 -- ---- what is taken
@@ -153,6 +157,13 @@ pub record BegunIs (m : Mode) (f : Found) (t : Tag) (last : List Token) (ts : Li
   pub room : length f.blocks < MAX_LEVELS
   pub tokens : ts ≡ past ++ (label ++ last)
 
+-- the same where that is a name and `[`, and what follows them; a is the array of the name
+pub record ArrayIs (m : Mode) (f : Found) (t : Tag) (a : List ℕ) (last : List Token) (ts : List Token) : Type 0 where
+  pub name : List ℕ
+  pub name_is : IsName name
+  pub array_is : a ≡ array_of name
+  pub begun : BegunIs m f t (Name name ∷ Mark OpenSquare ∷ last) ts
+
 -- ---- the end
 
 -- names, each with a comma behind it
@@ -175,10 +186,13 @@ pub record BodyIs (m : Mode) (f : Found) (names : List (List ℕ)) (last : List 
 -- ---- each place
 
 abbrev pub PurposeIs : Mode → Purpose → Found → Reading → List Token → Type 0
-PurposeIs m (Assign t x) f r ts = (e : List Token) × ReadingIs r e × BegunIs m f t (Name x ∷ Mark Becomes ∷ e) ts
-PurposeIs m (Test t) f r ts = (e : List Token) × ReadingIs r e × BegunIs m f t (Word If ∷ e) ts
-PurposeIs m (Guard t) f r ts = (e : List Token) × ReadingIs r e × BegunIs m f t (Word While ∷ e) ts
-PurposeIs m (Output t) f r ts = (e : List Token) × ReadingIs r e × BegunIs m f t (Word Write ∷ e) ts
+PurposeIs m (Assign t x) f r ts = (e : List Token) × ReadingIs 0 r e × BegunIs m f t (Name x ∷ Mark Becomes ∷ e) ts
+PurposeIs m (Test t) f r ts = (e : List Token) × ReadingIs 0 r e × BegunIs m f t (Word If ∷ e) ts
+PurposeIs m (Guard t) f r ts = (e : List Token) × ReadingIs 0 r e × BegunIs m f t (Word While ∷ e) ts
+PurposeIs m (Output t) f r ts = (e : List Token) × ReadingIs 0 r e × BegunIs m f t (Word Write ∷ e) ts
+PurposeIs m (Store t a i) f r ts =
+    (index : List Token) × (e : List Token) × SpellsAfter 0 index i × ReadingIs (operators (term_of i)) r e
+    × ArrayIs m f t a (index ++ (Mark CloseSquare ∷ Mark Becomes ∷ e)) ts
 
 abbrev pub PlaceIs : Mode → Place → Found → List Token → Type 0
 PlaceIs m Start f ts = (f ≡ nothing_found m) × (ts ≡ [])
@@ -193,12 +207,20 @@ PlaceIs m (AfterDot a) f ts = IsAuthor a × SincePart m f [] (Number a ∷ Mark 
 PlaceIs m (AfterSerial t) f ts = IsTag t × SincePart m f (t ∷ []) (Number t.author ∷ Mark Dot ∷ Number t.serial ∷ []) ts
 PlaceIs m (AfterColon t) f ts = BegunIs m f t [] ts
 PlaceIs m (AfterTarget t x) f ts = BegunIs m f t (Name x ∷ []) ts
+PlaceIs m (InIndex t a r) f ts = (e : List Token) × ReadingIs 0 r e × ArrayIs m f t a e ts
+PlaceIs m (AfterIndex t a i k) f ts =
+    (index : List Token) × SpellsAfter 0 index i × (k ≡ operators (term_of i)) × ArrayIs m f t a (index ++ (Mark CloseSquare ∷ [])) ts
 PlaceIs m (InExpression p r) f ts = PurposeIs m p f r ts
 PlaceIs m AfterEnd f ts = BodyIs m f [] [] ts
 PlaceIs m AfterOpen f ts = BodyIs m f [] (Mark Open ∷ []) ts
-PlaceIs m AfterName f ts =
-    (front : List Token) × (xs : List (List ℕ)) × (t : Token) × (x : List ℕ) × SpellsFinal t x × NamesGo front xs
-    × BodyIs m f (xs ++ (x ∷ [])) (Mark Open ∷ (front ++ (t ∷ []))) ts
+PlaceIs m (AfterName x) f ts =
+    (front : List Token) × (xs : List (List ℕ)) × NamesGo front xs × BodyIs m f xs (Mark Open ∷ (front ++ (Name x ∷ []))) ts
+PlaceIs m (AfterNameOpen a) f ts =
+    (front : List Token) × (xs : List (List ℕ)) × (x : List ℕ) × IsName x × (a ≡ array_of x) × NamesGo front xs
+    × BodyIs m f xs (Mark Open ∷ (front ++ (Name x ∷ Mark OpenSquare ∷ []))) ts
+PlaceIs m AfterFinal f ts =
+    (front : List Token) × (xs : List (List ℕ)) × (last : List Token) × (x : List ℕ) × SpellsFinal last x × NamesGo front xs
+    × BodyIs m f (xs ++ (x ∷ [])) (Mark Open ∷ (front ++ last)) ts
 PlaceIs m AfterComma f ts = (front : List Token) × (xs : List (List ℕ)) × NamesGo front xs × BodyIs m f xs (Mark Open ∷ front) ts
 PlaceIs m AtEnd f ts = (names : List Token) × (xs : List (List ℕ)) × SpellsNames names xs × BodyIs m f xs (Mark Open ∷ (names ++ (Mark Close ∷ []))) ts
 
@@ -343,6 +365,14 @@ body_numbers : (pairs : Option (List (ℕ × ℕ))) (f : Found) → f.blocks ≡
 body_numbers None f e h = h.1 ∙ ap (λ bs. issued.raised_by (map tag_pair (tags_read bs f.parts [])) []) e
 body_numbers (Some ps) f e h = h.1
 
+-- ---- expressions
+
+begin_is : ReadingIs 0 start []
+begin_is = start_is 0 (omega arith)
+
+whole_is : (r : Reading) (e : Expr) (ts : List Token) → ReadingIs 0 r ts → ended r ≡ Some e → SpellsExpr ts e
+whole_is r e ts h q = let s = ended_is 0 r e ts h q in (s.0, omega (arith, s.1))
+
 -- ---- steps in parts
 
 level_is : (m : Form) (l n : ℕ) (os : List Begun) (ts : List Token) → BlocksAre m l n os ts → l + length os ≡ MAX_LEVELS
@@ -369,6 +399,10 @@ behind m f g last t ts h =
       room = h.room;
       tokens = rw h.tokens (append_assoc h.past (h.label ++ last) (t ∷ []) ∙ ap (λ x. h.past ++ x) (append_assoc h.label last (t ∷ [])));
     }
+
+array_behind : (m : Mode) (f : Found) (g : Tag) (a : List ℕ) (last : List Token) (t : Token) (ts : List Token) → ArrayIs m f g a last ts → ArrayIs m f g a (last ++ (t ∷ [])) (ts ++ (t ∷ []))
+array_behind m f g a last t ts h =
+    record { name = h.name; name_is = h.name_is; array_is = h.array_is; begun = behind m f g (Name h.name ∷ Mark OpenSquare ∷ last) t ts h.begun }
 
 -- with one more tag
 tag_begins : (m : Mode) (l : ℕ) (f : Found) (t : Tag) (ts : List Token) (n : ℕ) (h : PartsAre m l f [] ts) → n ≡ tally m (h.to + 1) → PartsAre m l (with_tag t (with_count n f)) (t ∷ []) ts
@@ -409,9 +443,9 @@ colon_ends m f t ts is h =
 
 colon_is : (m : Mode) (f : Found) (g : Tag) (t : Token) (ts : List Token) (n : State) → BegunIs m f g [] ts → colon_next f g t ≡ Some n → StateIs m n (ts ++ (t ∷ []))
 colon_is m f g (Name x) ts n h e = to_state m f (AfterTarget g x) (ts ++ (Name x ∷ [])) n e (behind m f g [] (Name x) ts h)
-colon_is m f g (Word If) ts n h e = to_state m f (InExpression (Test g) start) (ts ++ (Word If ∷ [])) n e ([], start_is, behind m f g [] (Word If) ts h)
-colon_is m f g (Word While) ts n h e = to_state m f (InExpression (Guard g) start) (ts ++ (Word While ∷ [])) n e ([], start_is, behind m f g [] (Word While) ts h)
-colon_is m f g (Word Write) ts n h e = to_state m f (InExpression (Output g) start) (ts ++ (Word Write ∷ [])) n e ([], start_is, behind m f g [] (Word Write) ts h)
+colon_is m f g (Word If) ts n h e = to_state m f (InExpression (Test g) start) (ts ++ (Word If ∷ [])) n e ([], begin_is, behind m f g [] (Word If) ts h)
+colon_is m f g (Word While) ts n h e = to_state m f (InExpression (Guard g) start) (ts ++ (Word While ∷ [])) n e ([], begin_is, behind m f g [] (Word While) ts h)
+colon_is m f g (Word Write) ts n h e = to_state m f (InExpression (Output g) start) (ts ++ (Word Write ∷ [])) n e ([], begin_is, behind m f g [] (Word Write) ts h)
 colon_is m f g t ts n h e = absurd cc
 
 -- a part that gets its tag from the machine
@@ -697,12 +731,20 @@ part_is m l f t ts n h e = absurd cc
 -- ---- steps in expressions
 
 further : (m : Mode) (p : Purpose) (f : Found) (r k : Reading) (t : Token) (ts : List Token) → PurposeIs m p f r ts → read r t ≡ Some k → PurposeIs m p f k (ts ++ (t ∷ []))
-further m (Assign g x) f r k t ts h e = (h.0 ++ (t ∷ []), read_is r t k h.0 h.1 e, behind m f g (Name x ∷ Mark Becomes ∷ h.0) t ts h.2)
-further m (Test g) f r k t ts h e = (h.0 ++ (t ∷ []), read_is r t k h.0 h.1 e, behind m f g (Word If ∷ h.0) t ts h.2)
-further m (Guard g) f r k t ts h e = (h.0 ++ (t ∷ []), read_is r t k h.0 h.1 e, behind m f g (Word While ∷ h.0) t ts h.2)
-further m (Output g) f r k t ts h e = (h.0 ++ (t ∷ []), read_is r t k h.0 h.1 e, behind m f g (Word Write ∷ h.0) t ts h.2)
+further m (Assign g x) f r k t ts h e = (h.0 ++ (t ∷ []), read_is 0 r t k h.0 h.1 e, behind m f g (Name x ∷ Mark Becomes ∷ h.0) t ts h.2)
+further m (Test g) f r k t ts h e = (h.0 ++ (t ∷ []), read_is 0 r t k h.0 h.1 e, behind m f g (Word If ∷ h.0) t ts h.2)
+further m (Guard g) f r k t ts h e = (h.0 ++ (t ∷ []), read_is 0 r t k h.0 h.1 e, behind m f g (Word While ∷ h.0) t ts h.2)
+further m (Output g) f r k t ts h e = (h.0 ++ (t ∷ []), read_is 0 r t k h.0 h.1 e, behind m f g (Word Write ∷ h.0) t ts h.2)
+further m (Store g a i) f r k t ts h e = (
+  h.0,
+  h.1 ++ (t ∷ []),
+  h.2,
+  read_is (operators (term_of i)) r t k h.1 h.3 e,
+  subst (λ (x : List Token). ArrayIs m f g a x (ts ++ (t ∷ []))) (append_assoc h.0 (Mark CloseSquare ∷ Mark Becomes ∷ h.1) (t ∷ []))
+      (array_behind m f g a (h.0 ++ (Mark CloseSquare ∷ Mark Becomes ∷ h.1)) t ts h.4),
+)
 
-goes_on_is : (m : Mode) (f : Found) (p : Purpose) (r : Reading) (t : Token) (o : Option Reading) (ts : List Token) (n : State) → PurposeIs m p f r ts → read r t ≡ o → goes_on f p o ≡ Some n → StateIs m n (ts ++ (t ∷ []))
+goes_on_is : (m : Mode) (f : Found) (p : Purpose) (r : Reading) (t : Token) (o : Option Reading) (ts : List Token) (n : State) → PurposeIs m p f r ts → read r t ≡ o → goes_on f (InExpression p) o ≡ Some n → StateIs m n (ts ++ (t ∷ []))
 goes_on_is m f p r t None ts n h e q = absurd cc
 goes_on_is m f p r t (Some k) ts n h e q = to_state m f (InExpression p k) (ts ++ (t ∷ [])) n q (further m p f r k t ts h e)
 
@@ -712,7 +754,7 @@ value_ends m f g x r None ts n h e q = absurd cc
 value_ends m f g x r (Some v) ts n h e q =
     let s = h.2 in
     to_state m (with_part None g (assigns x v) f) AtPart (ts ++ (Mark Semicolon ∷ [])) n q
-    (action_ends m s.level f g (assigns x v) s.past s.label (Name x ∷ Mark Becomes ∷ h.0) ts s.parts s.room (λ k. grammar.assignment {x = x} s.label_is (ended_is r v h.0 h.1 e) grammar.nothing) s.tokens)
+    (action_ends m s.level f g (assigns x v) s.past s.label (Name x ∷ Mark Becomes ∷ h.0) ts s.parts s.room (λ k. grammar.assignment {x = x} s.label_is (whole_is r v h.0 h.1 e) grammar.nothing) s.tokens)
 
 write_ends : (m : Mode) (f : Found) (g : Tag) (r : Reading) (o : Option Expr) (ts : List Token) (n : State) → PurposeIs m (Output g) f r ts → ended r ≡ o → ends_here None f (Output g) o ≡ Some n
     → StateIs m n (ts ++ (Mark Semicolon ∷ []))
@@ -720,28 +762,80 @@ write_ends m f g r None ts n h e q = absurd cc
 write_ends m f g r (Some v) ts n h e q =
     let s = h.2 in
     to_state m (with_part None g (writes stream v) f) AtPart (ts ++ (Mark Semicolon ∷ [])) n q
-    (action_ends m s.level f g (writes stream v) s.past s.label (Word Write ∷ h.0) ts s.parts s.room (λ k. grammar.write s.label_is (ended_is r v h.0 h.1 e) grammar.nothing) s.tokens)
+    (action_ends m s.level f g (writes stream v) s.past s.label (Word Write ∷ h.0) ts s.parts s.room (λ k. grammar.write s.label_is (whole_is r v h.0 h.1 e) grammar.nothing) s.tokens)
+
+-- a store that is spelled, with its `;`
+stored : {form : Form} {n : ℕ} {t : Tag} (k : ℕ) (x a : List ℕ) (i e : Expr) (label index value : List Token) → IsName x → a ≡ array_of x → Labels form n label t → SpellsStore index value i e
+    → SpellsParts form (suc k) n (n + 1) (label ++ ((Name x ∷ Mark OpenSquare ∷ (index ++ (Mark CloseSquare ∷ Mark Becomes ∷ value))) ++ (Mark Semicolon ∷ []))) (action t (stores a i e) done)
+stored {form} {n} {t} k x a i e label index value name is l both =
+    subst (λ (y : List ℕ). SpellsParts form (suc k) n (n + 1) (label ++ ((Name x ∷ Mark OpenSquare ∷ (index ++ (Mark CloseSquare ∷ Mark Becomes ∷ value))) ++ (Mark Semicolon ∷ []))) (action t (stores y i e) done)) (sym is)
+    (rw append_assoc (grammar.store x name l both grammar.nothing))
+
+store_ends : (m : Mode) (f : Found) (g : Tag) (a : List ℕ) (i : Expr) (r : Reading) (o : Option Expr) (ts : List Token) (n : State) → PurposeIs m (Store g a i) f r ts → ended r ≡ o → ends_here None f (Store g a i) o ≡ Some n
+    → StateIs m n (ts ++ (Mark Semicolon ∷ []))
+store_ends m f g a i r None ts n h e q = absurd cc
+store_ends m f g a i r (Some v) ts n h e q =
+    let said = ended_is (operators (term_of i)) r v h.1 h.3 e in
+    let x : List ℕ = h.4.name in
+    let s = h.4.begun in
+    to_state m (with_part None g (stores a i v) f) AtPart (ts ++ (Mark Semicolon ∷ [])) n q
+    (action_ends m s.level f g (stores a i v) s.past s.label (Name x ∷ Mark OpenSquare ∷ (h.0 ++ (Mark CloseSquare ∷ Mark Becomes ∷ h.1))) ts s.parts s.room
+    (λ k. stored k x a i v s.label h.0 h.1 h.4.name_is h.4.array_is s.label_is (h.2.0, said.0, said.1)) s.tokens)
 
 test_ends : (m : Mode) (f : Found) (g : Tag) (r : Reading) (o : Option Expr) (ts : List Token) (n : State) → PurposeIs m (Test g) f r ts → ended r ≡ o → ends_here None f (Test g) o ≡ Some n
     → StateIs m n (ts ++ (Word Then ∷ []))
 test_ends m f g r None ts n h e q = absurd cc
 test_ends m f g r (Some v) ts n h e q =
     let s = h.2 in
-    to_state m (in_then g v f) AtPart (ts ++ (Word Then ∷ [])) n q (then_begins m s.level f g v s.past s.label h.0 ts s.parts s.room s.label_is (ended_is r v h.0 h.1 e) s.tokens)
+    to_state m (in_then g v f) AtPart (ts ++ (Word Then ∷ [])) n q (then_begins m s.level f g v s.past s.label h.0 ts s.parts s.room s.label_is (whole_is r v h.0 h.1 e) s.tokens)
 
 guard_ends : (m : Mode) (f : Found) (g : Tag) (r : Reading) (o : Option Expr) (ts : List Token) (n : State) → PurposeIs m (Guard g) f r ts → ended r ≡ o → ends_here None f (Guard g) o ≡ Some n
     → StateIs m n (ts ++ (Word Do ∷ []))
 guard_ends m f g r None ts n h e q = absurd cc
 guard_ends m f g r (Some v) ts n h e q =
     let s = h.2 in
-    to_state m (in_loop g v f) AtPart (ts ++ (Word Do ∷ [])) n q (loop_begins m s.level f g v s.past s.label h.0 ts s.parts s.room s.label_is (ended_is r v h.0 h.1 e) s.tokens)
+    to_state m (in_loop g v f) AtPart (ts ++ (Word Do ∷ [])) n q (loop_begins m s.level f g v s.past s.label h.0 ts s.parts s.room s.label_is (whole_is r v h.0 h.1 e) s.tokens)
 
 expression_is : (m : Mode) (f : Found) (p : Purpose) (r : Reading) (t : Token) (ts : List Token) (n : State) → PurposeIs m p f r ts → expression_next None f p r t ≡ Some n → StateIs m n (ts ++ (t ∷ []))
 expression_is m f (Assign g x) r (Mark Semicolon) ts n h e = value_ends m f g x r (ended r) ts n h refl e
 expression_is m f (Test g) r (Word Then) ts n h e = test_ends m f g r (ended r) ts n h refl e
 expression_is m f (Guard g) r (Word Do) ts n h e = guard_ends m f g r (ended r) ts n h refl e
 expression_is m f (Output g) r (Mark Semicolon) ts n h e = write_ends m f g r (ended r) ts n h refl e
+expression_is m f (Store g a i) r (Mark Semicolon) ts n h e = store_ends m f g a i r (ended r) ts n h refl e
 expression_is m f p r t ts n h e = goes_on_is m f p r t (read r t) ts n h refl e
+
+-- ---- steps in the index of a store
+
+index_goes_is : (m : Mode) (f : Found) (g : Tag) (a : List ℕ) (r : Reading) (t : Token) (o : Option Reading) (ts : List Token) (n : State) → PlaceIs m (InIndex g a r) f ts → read r t ≡ o
+    → goes_on f (InIndex g a) o ≡ Some n → StateIs m n (ts ++ (t ∷ []))
+index_goes_is m f g a r t None ts n h e q = absurd cc
+index_goes_is m f g a r t (Some k) ts n h e q =
+    to_state m f (InIndex g a k) (ts ++ (t ∷ [])) n q (h.0 ++ (t ∷ []), read_is 0 r t k h.0 h.1 e, array_behind m f g a h.0 t ts h.2)
+
+index_ends_is : (m : Mode) (f : Found) (g : Tag) (a : List ℕ) (r : Reading) (o : Option Expr) (ts : List Token) (n : State) → PlaceIs m (InIndex g a r) f ts → ended r ≡ o
+    → index_ends f g a (counted_in r) o ≡ Some n → StateIs m n (ts ++ (Mark CloseSquare ∷ []))
+index_ends_is m f g a r None ts n h e q = absurd cc
+index_ends_is m f g a r (Some i) ts n h e q =
+    to_state m f (AfterIndex g a i (counted_in r)) (ts ++ (Mark CloseSquare ∷ [])) n q
+    (h.0, ended_is 0 r i h.0 h.1 e, omega (arith, count_is 0 r i h.0 h.1 e), array_behind m f g a h.0 (Mark CloseSquare) ts h.2)
+
+in_index_is : (m : Mode) (f : Found) (g : Tag) (a : List ℕ) (r : Reading) (t : Token) (ts : List Token) (n : State) → PlaceIs m (InIndex g a r) f ts → in_index_next f g a r t ≡ Some n
+    → StateIs m n (ts ++ (t ∷ []))
+in_index_is m f g a r (Mark CloseSquare) ts n h e =
+    either_way (can_end r) (index_ends f g a (counted_in r) (ended r)) (goes_on f (InIndex g a) (read r (Mark CloseSquare))) n
+    (λ q. index_ends_is m f g a r (ended r) ts n h refl q) (λ q. index_goes_is m f g a r (Mark CloseSquare) (read r (Mark CloseSquare)) ts n h refl q) e
+in_index_is m f g a r t ts n h e = index_goes_is m f g a r t (read r t) ts n h refl e
+
+-- the number of a store follows its index
+number_begins : (m : Mode) (f : Found) (g : Tag) (a : List ℕ) (i : Expr) (k : ℕ) (ts : List Token) → PlaceIs m (AfterIndex g a i k) f ts → PurposeIs m (Store g a i) f (start_after k) (ts ++ (Mark Becomes ∷ []))
+number_begins m f g a i k ts h = (
+  h.0,
+  [],
+  h.1,
+  subst (λ (j : ℕ). ReadingIs (operators (term_of i)) (start_after j) []) (sym h.2) (start_is (operators (term_of i)) (omega (arith, h.1.1))),
+  subst (λ (x : List Token). ArrayIs m f g a x (ts ++ (Mark Becomes ∷ []))) (append_assoc h.0 (Mark CloseSquare ∷ []) (Mark Becomes ∷ []))
+      (array_behind m f g a (h.0 ++ (Mark CloseSquare ∷ [])) (Mark Becomes) ts h.3),
+)
 
 -- ---- steps at the end
 
@@ -760,9 +854,8 @@ ended_with m f names last t ts h =
       tokens = rw h.tokens (simp append_assoc);
     }
 
-named : (m : Mode) (f : Found) (names : List (List ℕ)) (last : List Token) (t : Token) (x : List ℕ) (ts : List Token) → BodyIs m f names last ts
-    → BodyIs m (with_name x f) (names ++ (x ∷ [])) (last ++ (t ∷ [])) (ts ++ (t ∷ []))
-named m f names last t x ts h =
+named : (m : Mode) (f : Found) (names : List (List ℕ)) (last : List Token) (x : List ℕ) (ts : List Token) → BodyIs m f names last ts → BodyIs m (with_name x f) (names ++ (x ∷ [])) last ts
+named m f names last x ts h =
     record {
       header = h.header;
       pairs = h.pairs;
@@ -773,16 +866,59 @@ named m f names last t x ts h =
       parts_are = h.parts_are;
       numbers = h.numbers;
       names_are = ap (λ xs. xs ++ (x ∷ [])) h.names_are;
-      tokens = rw h.tokens (simp append_assoc);
+      tokens = h.tokens;
     }
 
-first_name : (m : Mode) (f : Found) (t : Token) (x : List ℕ) (ts : List Token) (n : State) → SpellsFinal t x → PlaceIs m AfterOpen f ts
-    → Some (state_at (with_name x f) AfterName) ≡ Some n → StateIs m n (ts ++ (t ∷ []))
-first_name m f t x ts n is h e = to_state m (with_name x f) AfterName (ts ++ (t ∷ [])) n e ([], [], t, x, is, λ us y ys s. s, named m f [] (Mark Open ∷ []) t x ts h)
+-- behind the opening bracket no names stand
+opened : (m : Mode) (f : Found) (ts : List Token) → PlaceIs m AfterOpen f ts → PlaceIs m AfterComma f ts
+opened m f ts h = ([], [], λ us y ys s. s, h)
 
-next_name : (m : Mode) (f : Found) (t : Token) (x : List ℕ) (ts : List Token) (n : State) → SpellsFinal t x → PlaceIs m AfterComma f ts
-    → Some (state_at (with_name x f) AfterName) ≡ Some n → StateIs m n (ts ++ (t ∷ []))
-next_name m f t x ts n is h e = to_state m (with_name x f) AfterName (ts ++ (t ∷ [])) n e (h.0, h.1, t, x, is, h.2, named m f h.1 (Mark Open ∷ h.0) t x ts h.3)
+name_begins : (m : Mode) (f : Found) (x : List ℕ) (ts : List Token) → PlaceIs m AfterComma f ts → PlaceIs m (AfterName x) f (ts ++ (Name x ∷ []))
+name_begins m f x ts h = (h.0, h.1, h.2, ended_with m f h.1 (Mark Open ∷ h.0) (Name x) ts h.3)
+
+stream_named : (m : Mode) (f : Found) (ts : List Token) → PlaceIs m AfterComma f ts → PlaceIs m AfterFinal (with_name stream f) (ts ++ (Word Out ∷ []))
+stream_named m f ts h =
+    (h.0, h.1, Word Out ∷ [], stream, grammar.out, h.2, named m f h.1 (Mark Open ∷ (h.0 ++ (Word Out ∷ []))) stream (ts ++ (Word Out ∷ [])) (ended_with m f h.1 (Mark Open ∷ h.0) (Word Out) ts h.3))
+
+-- a name that no bracket follows is a variable of `end`
+plain_named : (m : Mode) (f : Found) (x : List ℕ) (ts : List Token) → PlaceIs m (AfterName x) f ts → PlaceIs m AfterFinal (with_name x f) ts
+plain_named m f x ts h = (h.0, h.1, Name x ∷ [], x, grammar.plain, h.2, named m f h.1 (Mark Open ∷ (h.0 ++ (Name x ∷ []))) x ts h.3)
+
+array_opens : (m : Mode) (f : Found) (x : List ℕ) (ts : List Token) → IsName x → PlaceIs m (AfterName x) f ts → PlaceIs m (AfterNameOpen (array_of x)) f (ts ++ (Mark OpenSquare ∷ []))
+array_opens m f x ts name h =
+    (h.0, h.1, x, name, refl, h.2, rw append_assoc at (ended_with m f h.1 (Mark Open ∷ (h.0 ++ (Name x ∷ []))) (Mark OpenSquare) ts h.3))
+
+array_named : (m : Mode) (f : Found) (a : List ℕ) (ts : List Token) → PlaceIs m (AfterNameOpen a) f ts → PlaceIs m AfterFinal (with_name a f) (ts ++ (Mark CloseSquare ∷ []))
+array_named m f a ts h =
+    let last : List Token = Name h.2 ∷ Mark OpenSquare ∷ Mark CloseSquare ∷ [] in (
+      h.0,
+      h.1,
+      last,
+      a,
+      subst (SpellsFinal last) (sym h.4) (grammar.array h.3),
+      h.5,
+      named m f h.1 (Mark Open ∷ (h.0 ++ last)) a (ts ++ (Mark CloseSquare ∷ []))
+          (rw append_assoc at (ended_with m f h.1 (Mark Open ∷ (h.0 ++ (Name h.2 ∷ Mark OpenSquare ∷ []))) (Mark CloseSquare) ts h.6)),
+    )
+
+-- a variable of `end` behind such names, with a comma and without
+pub names_go : {last : List Token} {x : List ℕ} (front : List Token) (xs : List (List ℕ)) → SpellsFinal last x → NamesGo front xs → NamesGo (front ++ (last ++ (Mark Comma ∷ []))) (xs ++ (x ∷ []))
+names_go front xs is go us y ys s = rw (append_assoc, append_assoc, append_assoc) (go _ _ _ (grammar.more is s))
+
+pub names_end : {last : List Token} {x : List ℕ} (front : List Token) (xs : List (List ℕ)) → SpellsFinal last x → NamesGo front xs → SpellsNames (front ++ last) (xs ++ (x ∷ []))
+names_end front xs is go = go _ _ _ (grammar.one is)
+
+comma_follows : (m : Mode) (f : Found) (ts : List Token) → PlaceIs m AfterFinal f ts → PlaceIs m AfterComma f (ts ++ (Mark Comma ∷ []))
+comma_follows m f ts h = (
+  h.0 ++ (h.2 ++ (Mark Comma ∷ [])),
+  h.1 ++ (h.3 ∷ []),
+  names_go h.0 h.1 h.4 h.5,
+  rw append_assoc at (ended_with m f (h.1 ++ (h.3 ∷ [])) (Mark Open ∷ (h.0 ++ h.2)) (Mark Comma) ts h.6),
+)
+
+close_follows : (m : Mode) (f : Found) (ts : List Token) → PlaceIs m AfterFinal f ts → PlaceIs m AtEnd f (ts ++ (Mark Close ∷ []))
+close_follows m f ts h =
+    (h.0 ++ h.2, h.1 ++ (h.3 ∷ []), names_end h.0 h.1 h.4 h.5, ended_with m f (h.1 ++ (h.3 ∷ [])) (Mark Open ∷ (h.0 ++ h.2)) (Mark Close) ts h.6)
 
 -- ---- one step, and many
 
@@ -813,24 +949,31 @@ next_is m f (AfterDot a) (Number k) ts n h e =
 next_is m f (AfterSerial g) (Mark Colon) ts n h e = to_state m f (AfterColon g) (ts ++ (Mark Colon ∷ [])) n e (colon_ends m f g ts h.0 h.1)
 next_is m f (AfterColon g) t ts n h e = colon_is m f g t ts n h e
 next_is m f (AfterTarget g x) (Mark Becomes) ts n h e =
-    to_state m f (InExpression (Assign g x) start) (ts ++ (Mark Becomes ∷ [])) n e ([], start_is, behind m f g (Name x ∷ []) (Mark Becomes) ts h)
+    to_state m f (InExpression (Assign g x) start) (ts ++ (Mark Becomes ∷ [])) n e ([], begin_is, behind m f g (Name x ∷ []) (Mark Becomes) ts h)
+next_is m f (AfterTarget g x) (Mark OpenSquare) ts n h e =
+    let q = guard_is (is_name x) (state_at f (InIndex g (array_of x) start)) n e in
+    to_state m f (InIndex g (array_of x) start) (ts ++ (Mark OpenSquare ∷ [])) n (ap (λ s. Some s) q.1)
+    ([], begin_is, record { name = x; name_is = q.0; array_is = refl; begun = behind m f g (Name x ∷ []) (Mark OpenSquare) ts h })
+next_is m f (InIndex g a r) t ts n h e = in_index_is m f g a r t ts n h e
+next_is m f (AfterIndex g a i k) (Mark Becomes) ts n h e =
+    to_state m f (InExpression (Store g a i) (start_after k)) (ts ++ (Mark Becomes ∷ [])) n e (number_begins m f g a i k ts h)
 next_is m f (InExpression p r) t ts n h e = expression_is m f p r t ts n h e
 next_is m f AfterEnd (Mark Open) ts n h e = to_state m f AfterOpen (ts ++ (Mark Open ∷ [])) n e (ended_with m f [] [] (Mark Open) ts h)
-next_is m f AfterOpen (Name x) ts n h e = first_name m f (Name x) x ts n grammar.plain h e
-next_is m f AfterOpen (Word Out) ts n h e = first_name m f (Word Out) stream ts n grammar.out h e
+next_is m f AfterOpen (Name x) ts n h e = to_state m f (AfterName x) (ts ++ (Name x ∷ [])) n e (name_begins m f x ts (opened m f ts h))
+next_is m f AfterOpen (Word Out) ts n h e = to_state m (with_name stream f) AfterFinal (ts ++ (Word Out ∷ [])) n e (stream_named m f ts (opened m f ts h))
 next_is m f AfterOpen (Mark Close) ts n h e = to_state m f AtEnd (ts ++ (Mark Close ∷ [])) n e ([], [], grammar.none, ended_with m f [] (Mark Open ∷ []) (Mark Close) ts h)
-next_is m f AfterName (Mark Comma) ts n h e =
-    to_state m f AfterComma (ts ++ (Mark Comma ∷ [])) n e (
-      h.0 ++ (h.2 ∷ Mark Comma ∷ []),
-      h.1 ++ (h.3 ∷ []),
-      λ us y ys s. rw (append_assoc, append_assoc) (h.5 _ _ _ (grammar.more h.4 s)),
-      rw append_assoc at (ended_with m f (h.1 ++ (h.3 ∷ [])) (Mark Open ∷ (h.0 ++ (h.2 ∷ []))) (Mark Comma) ts h.6),
-    )
-next_is m f AfterName (Mark Close) ts n h e =
-    to_state m f AtEnd (ts ++ (Mark Close ∷ [])) n e
-    (h.0 ++ (h.2 ∷ []), h.1 ++ (h.3 ∷ []), h.5 _ _ _ (grammar.one h.4), ended_with m f (h.1 ++ (h.3 ∷ [])) (Mark Open ∷ (h.0 ++ (h.2 ∷ []))) (Mark Close) ts h.6)
-next_is m f AfterComma (Name x) ts n h e = next_name m f (Name x) x ts n grammar.plain h e
-next_is m f AfterComma (Word Out) ts n h e = next_name m f (Word Out) stream ts n grammar.out h e
+next_is m f (AfterName x) (Mark OpenSquare) ts n h e =
+    let q = guard_is (is_name x) (state_at f (AfterNameOpen (array_of x))) n e in
+    to_state m f (AfterNameOpen (array_of x)) (ts ++ (Mark OpenSquare ∷ [])) n (ap (λ s. Some s) q.1) (array_opens m f x ts q.0 h)
+next_is m f (AfterName x) (Mark Comma) ts n h e =
+    to_state m (with_name x f) AfterComma (ts ++ (Mark Comma ∷ [])) n e (comma_follows m (with_name x f) ts (plain_named m f x ts h))
+next_is m f (AfterName x) (Mark Close) ts n h e =
+    to_state m (with_name x f) AtEnd (ts ++ (Mark Close ∷ [])) n e (close_follows m (with_name x f) ts (plain_named m f x ts h))
+next_is m f (AfterNameOpen a) (Mark CloseSquare) ts n h e = to_state m (with_name a f) AfterFinal (ts ++ (Mark CloseSquare ∷ [])) n e (array_named m f a ts h)
+next_is m f AfterFinal (Mark Comma) ts n h e = to_state m f AfterComma (ts ++ (Mark Comma ∷ [])) n e (comma_follows m f ts h)
+next_is m f AfterFinal (Mark Close) ts n h e = to_state m f AtEnd (ts ++ (Mark Close ∷ [])) n e (close_follows m f ts h)
+next_is m f AfterComma (Name x) ts n h e = to_state m f (AfterName x) (ts ++ (Name x ∷ [])) n e (name_begins m f x ts h)
+next_is m f AfterComma (Word Out) ts n h e = to_state m (with_name stream f) AfterFinal (ts ++ (Word Out ∷ [])) n e (stream_named m f ts h)
 next_is m f p t ts n h e = absurd cc
 
 step_is : (m : Mode) (s : State) (t : Token) (ts : List Token) (n : State) → StateIs m s ts → next None s t ≡ Some n → StateIs m n (ts ++ (t ∷ []))

@@ -22,8 +22,8 @@ use Rattle.hpr_syntax.proofs.IssuedLemmas.{raised_keeps}
 use Rattle.hpr_syntax.proofs.PartBound.{few}
 use Rattle.hpr_syntax.proofs.NoRefusal.{no_refusal}
 use Rattle.hpr_syntax.specs.Shape.{shape}
-use Rattle.hpr_terms.proofs.Plain.{name_is_variable, stream_is_variable}
-use Rattle.hpr_text.proofs.Named.{Named, named_rest, named_around, named_assignment, named_write, named_conditional, named_conditional_else, named_loop, text_named, parts_named, finals_named}
+use Rattle.hpr_terms.proofs.Plain.{name_is_variable, stream_is_variable, array_is_variable}
+use Rattle.hpr_text.proofs.Named.{Named, named_rest, named_around, named_assignment, named_write, named_store, named_conditional, named_conditional_else, named_loop, text_named, parts_named, finals_named}
 use Rattle.hpr_text.proofs.Numbered.{parts_counted}
 
 -- expressions
@@ -38,6 +38,9 @@ term_proper (grammar.SpellsTerm.literal is) n = is
 term_proper (grammar.SpellsTerm.name {x = x}) n = name_is_variable x (n x (in_here (Name x) []))
 term_proper (grammar.SpellsTerm.bracket {ts = ts} s) n =
     term_proper s (named_around ts (Mark sign.Close) [] (named_rest (Mark sign.Open) (ts ++ (Mark sign.Close ∷ [])) n)).0
+term_proper (grammar.SpellsTerm.indexed {x = x} {ts = ts} name s) n =
+    let behind : List Token = ts ++ (Mark sign.CloseSquare ∷ []) in
+    (array_is_variable x name, term_proper s (named_around ts (Mark sign.CloseSquare) [] (named_rest (Mark sign.OpenSquare) behind (named_rest (Name x) (Mark sign.OpenSquare ∷ behind) n))).0)
 
 -- the tags of the parts, of which there are no more than `most`, are tags
 abbrev pub AreLabels : Form → ℕ → Type 0
@@ -59,6 +62,14 @@ module _ (form : Form) (most : ℕ) (labels : AreLabels form most) where
   body_proper (grammar.SpellsParts.write {n = n} {t = t} {label = label} {value = value} {more = more} is v s) up names =
       let said = named_write label value more names in
       (tag_proper t (labels n label t is (omega (arith, up, parts_counted s))), stream_is_variable, term_proper v.0 said.0, body_proper s up said.1)
+  body_proper (grammar.SpellsParts.store {n = n} {t = t} x {label = label} {index = index} {value = value} {more = more} name is both s) up names =
+      let said = named_store label x index value more names in (
+        tag_proper t (labels n label t is (omega (arith, up, parts_counted s))),
+        array_is_variable x name,
+        term_proper both.0 said.0,
+        term_proper both.1 said.1,
+        body_proper s up said.2,
+      )
   body_proper (grammar.SpellsParts.conditional {n = n} {t = t} {label = label} {test = test} {first = first} {more = more} is v s u) up names =
       let said = named_conditional label test first more names in (
         tag_proper t (labels n label t is (omega (arith, up, parts_counted s, parts_counted u))),
@@ -114,15 +125,16 @@ proper_pairs : (ps : Issued) → InRange ps → AllByRecursion IsProperPair ps
 proper_pairs [] h = tt
 proper_pairs (p ∷ ps) h = ((h.0.0, h.0.1.1), proper_pairs ps h.1)
 
-final_proper : {t : Token} {x : List ℕ} (ts : List Token) → SpellsFinal t x → Named (t ∷ ts) → IsVariable x
-final_proper ts (grammar.plain {x = x}) n = name_is_variable x (n x (in_here (Name x) ts))
-final_proper ts grammar.out n = stream_is_variable
+final_proper : {ts : List Token} {x : List ℕ} → SpellsFinal ts x → Named ts → IsVariable x
+final_proper (grammar.plain {x = x}) n = name_is_variable x (n x (in_here (Name x) []))
+final_proper grammar.out n = stream_is_variable
+final_proper (grammar.array {x = x} name) n = array_is_variable x name
 
 names_proper : {ts : List Token} {xs : List (List ℕ)} → SpellsNames ts xs → Named ts → AllByRecursion IsVariable xs
 names_proper grammar.SpellsNames.none n = tt
-names_proper (grammar.SpellsNames.one is) n = (final_proper [] is n, tt)
-names_proper (grammar.SpellsNames.more {t = t} {ts = ts} is s) n =
-    (final_proper (Mark sign.Comma ∷ ts) is n, names_proper s (named_rest (Mark sign.Comma) ts (named_rest t (Mark sign.Comma ∷ ts) n)))
+names_proper (grammar.SpellsNames.one is) n = (final_proper is n, tt)
+names_proper (grammar.SpellsNames.more {first = first} {ts = ts} is s) n =
+    let two = named_around first (Mark sign.Comma) ts n in (final_proper is two.0, names_proper s two.1)
 
 module _ (form : Form) (most : ℕ) (labels : AreLabels form most) where
   tags_in : {l n m : ℕ} {ts : List Token} {b : Body} → SpellsParts form l n m ts b → m ≤ most → (after : List Tag) → InRange (map tag_pair after) → InRange (map tag_pair (tags_of b after))
@@ -130,6 +142,8 @@ module _ (form : Form) (most : ℕ) (labels : AreLabels form most) where
   tags_in (grammar.SpellsParts.assignment {n = n} {t = t} {label = label} is v s) up after h =
       (labels n label t is (omega (arith, up, parts_counted s)), tags_in s up after h)
   tags_in (grammar.SpellsParts.write {n = n} {t = t} {label = label} is v s) up after h =
+      (labels n label t is (omega (arith, up, parts_counted s)), tags_in s up after h)
+  tags_in (grammar.SpellsParts.store {n = n} {t = t} x {label = label} name is both s) up after h =
       (labels n label t is (omega (arith, up, parts_counted s)), tags_in s up after h)
   tags_in (grammar.SpellsParts.conditional {n = n} {t = t} {label = label} {rest = rest} is v s u) up after h =
       (labels n label t is (omega (arith, up, parts_counted s, parts_counted u)), tags_in s (omega (arith, up, parts_counted u)) (tags_of rest after) (tags_in u up after h))

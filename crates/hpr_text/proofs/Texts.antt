@@ -17,7 +17,7 @@ use Rattle.hpr_text.specs.declared.form.Mode.{Mode}
 use Rattle.hpr_text.specs.declared.form.Mode.TheVariants.{Tagged, Untagged}
 use Rattle.hpr_text.specs.declared.found.Found.{Found}
 use Rattle.hpr_text.specs.declared.state.Place.{Place}
-use Rattle.hpr_text.specs.declared.state.Place.TheVariants.{AfterSerial, AfterColon, AfterTarget, InExpression, AtEnd}
+use Rattle.hpr_text.specs.declared.state.Place.TheVariants.{AfterSerial, AfterColon, AfterTarget, InIndex, AfterIndex, InExpression, AtEnd}
 use Rattle.hpr_text.specs.declared.state.State.{State}
 use Rattle.hpr_text.specs.Answers.{IsText}
 use Rattle.hpr_text.specs.Forms.{form_of}
@@ -50,6 +50,8 @@ bare_ends : (p : Place) → ends_at (bare_place p) ≡ ends_at p
 bare_ends (AfterSerial t) = refl
 bare_ends (AfterColon t) = refl
 bare_ends (AfterTarget t x) = refl
+bare_ends (InIndex t a r) = refl
+bare_ends (AfterIndex t a i k) = refl
 bare_ends (InExpression p r) = refl
 bare_ends p = refl
 

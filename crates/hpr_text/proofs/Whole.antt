@@ -5,19 +5,21 @@ use Rattle.std.proofs.lemmas.List.{append-nil}
 use Rattle.hpr_terms.specs.declared.limits.TheConstants.{MAX_LEVELS}
 use Rattle.hpr_terms.specs.declared.tag.Tag.{Tag}
 use Rattle.hpr_terms.specs.declared.expr.Expr.{Expr}
-use Rattle.hpr_terms.specs.declared.keyword.Keyword.TheVariants.{Program, Issued, End, If, Then, Else, Fi, While, Do, Od, Write}
-use Rattle.hpr_terms.specs.declared.token.Sign.TheVariants.{Colon, Becomes, Dot, Comma, Semicolon, Open, Close}
+use Rattle.hpr_terms.specs.declared.keyword.Keyword.TheVariants.{Program, Issued, End, If, Then, Else, Fi, While, Do, Od, Write, Out}
+use Rattle.hpr_terms.specs.declared.token.Sign.TheVariants.{Colon, Becomes, Dot, Comma, Semicolon, Open, Close, OpenSquare, CloseSquare}
 use Rattle.hpr_terms.specs.declared.token.Token.{Token}
 use Rattle.hpr_terms.specs.declared.token.Token.TheVariants.{Word, Name, Number, Mark}
 use Rattle.hpr_terms.proofs.Facts.{some_inj}
-use Rattle.hpr_terms.specs.Names.{stream}
-use Rattle.hpr_syntax.specs.Action.{Action, assigns, writes}
+use Rattle.hpr_terms.specs.Names.{stream, IsName, is_name, array_of}
+use Rattle.hpr_terms.specs.Term.{operators}
+use Rattle.hpr_terms.specs.TermOf.{term_of}
+use Rattle.hpr_syntax.specs.Action.{Action, assigns, writes, stores}
 use Rattle.hpr_syntax.specs.Body.{Body, done, action, branch, loop}
 use Rattle.hpr_syntax.specs.Parts.{tags_of}
 use Rattle.hpr_syntax.specs.Issued as issued
 use Rattle.hpr_syntax.specs.Tree.{Tree}
 use Rattle.hpr_syntax.specs.Grammar as grammar
-use Rattle.hpr_syntax.specs.Grammar.{Form, IsAuthor, IsSerial, IsTag, IsIssuedPair, Labels, SpellsExpr, SpellsParts, SpellsPairs, SpellsHeader, SpellsFinal, SpellsNames, SpellsProgram, tag_pair, pair_then, issued_of}
+use Rattle.hpr_syntax.specs.Grammar.{Form, IsAuthor, IsSerial, IsTag, IsIssuedPair, Labels, SpellsExpr, SpellsStore, SpellsParts, SpellsPairs, SpellsHeader, SpellsFinal, SpellsNames, SpellsProgram, tag_pair, pair_then, issued_of}
 use Rattle.hpr_scan.specs.Steps.{and_then, runs}
 use Rattle.hpr_text.specs.declared.blocks.Around.{Around}
 use Rattle.hpr_text.specs.declared.blocks.Begun.{Begun}
@@ -27,16 +29,17 @@ use Rattle.hpr_text.specs.declared.form.Mode.{Mode}
 use Rattle.hpr_text.specs.declared.form.Mode.TheVariants.{Tagged, Untagged}
 use Rattle.hpr_text.specs.declared.found.Found.{Found}
 use Rattle.hpr_text.specs.declared.state.Purpose.{Purpose}
-use Rattle.hpr_text.specs.declared.state.Purpose.TheVariants.{Assign, Test, Guard, Output}
+use Rattle.hpr_text.specs.declared.state.Purpose.TheVariants.{Assign, Test, Guard, Output, Store}
 use Rattle.hpr_text.specs.declared.state.Place.{Place}
-use Rattle.hpr_text.specs.declared.state.Place.TheVariants.{AfterProgram, BeforePair, AfterPairAuthor, AfterPairColon, AfterPair, AtPart, AfterAuthor, AfterDot, AfterSerial, AfterColon, AfterTarget, InExpression, AfterEnd, AfterOpen, AfterName, AfterComma, AtEnd}
+use Rattle.hpr_text.specs.declared.state.Place.TheVariants.{AfterProgram, BeforePair, AfterPairAuthor, AfterPairColon, AfterPair, AtPart, AfterAuthor, AfterDot, AfterSerial, AfterColon, AfterTarget, InIndex, AfterIndex, InExpression, AfterEnd, AfterOpen, AfterName, AfterNameOpen, AfterFinal, AfterComma, AtEnd}
 use Rattle.hpr_text.specs.declared.state.State.{State}
-use Rattle.hpr_expressions.specs.Expression.{start, read, ended}
+use Rattle.hpr_expressions.specs.Expression.{start, start_after, counted_in, read, ended}
 use Rattle.hpr_text.specs.Forms.{form_of}
 use Rattle.hpr_text.specs.Machine.{then_parts, with_number, with_header, with_tag, with_count, tag_raised, given, tag_given, begun_in, first_next, tag_next, colon_next, with_part, around, in_then, in_loop, with_name, state_at, next, nothing_found, initially, accepted, may_end}
-use Rattle.hpr_text.specs.Laws.{goes_read}
+use Rattle.hpr_text.specs.Laws.{goes_read, goes_in_index}
 use Rattle.hpr_text.proofs.Parts.{then_assoc, then_done, tags_raise, tally}
-use Rattle.hpr_expressions.proofs.WholeExpression.{expression_read}
+use Rattle.hpr_expressions.proofs.WholeExpression.{expression_read, expression_read_after}
+use Rattle.hpr_expressions.proofs.Spelled.{read_as_spelled_after}
 
 -- a token that is taken
 run_one : (s n : State) (t : Token) (ts : List Token) → next None s t ≡ Some n → runs (next None) s (t ∷ ts) ≡ runs (next None) n ts
@@ -47,15 +50,24 @@ run_one s n t ts e = rw e refl
 abbrev reading : Found → Purpose → Reading → State
 reading f p r = state_at f (InExpression p r)
 
-reads_at : (f : Found) (p : Purpose) (r n : Reading) (t : Token) (ts rest : List Token) (o : Option Reading) → read r t ≡ o → and_then o (λ m. runs read m ts) ≡ Some n
-    → ((m : Reading) → runs read m ts ≡ Some n → runs (next None) (reading f p m) (ts ++ rest) ≡ runs (next None) (reading f p n) rest) → runs (next None) (reading f p r) (t ∷ (ts ++ rest)) ≡ runs (next None) (reading f p n) rest
-reads_at f p r n t ts rest None e q go = absurd cc
-reads_at f p r n t ts rest (Some m) e q go = run_one _ (reading f p m) t (ts ++ rest) (goes_read None f p r m t e) ∙ go m q
+-- where a token leads a reading, it leads the machine of programs at this place
+abbrev GoesOn : Found → (Reading → Place) → Type 0
+GoesOn f p = (r n : Reading) (t : Token) → read r t ≡ Some n → next None (state_at f (p r)) t ≡ Some (state_at f (p n))
 
--- where a reading leads, the machine of programs is led
-lift : (f : Found) (p : Purpose) (r n : Reading) (ts rest : List Token) → runs read r ts ≡ Some n → runs (next None) (reading f p r) (ts ++ rest) ≡ runs (next None) (reading f p n) rest
-lift f p r n [] rest e = ap (λ (m : Reading). runs (next None) (reading f p m) rest) (some_inj _ _ e)
-lift f p r n (t ∷ ts) rest e = reads_at f p r n t ts rest (read r t) refl e (λ m q. lift f p m n ts rest q)
+reads_at : (f : Found) (p : Reading → Place) → GoesOn f p → (r n : Reading) (t : Token) (ts rest : List Token) (o : Option Reading) → read r t ≡ o → and_then o (λ m. runs read m ts) ≡ Some n
+    → ((m : Reading) → runs read m ts ≡ Some n → runs (next None) (state_at f (p m)) (ts ++ rest) ≡ runs (next None) (state_at f (p n)) rest)
+    → runs (next None) (state_at f (p r)) (t ∷ (ts ++ rest)) ≡ runs (next None) (state_at f (p n)) rest
+reads_at f p on r n t ts rest None e q go = absurd cc
+reads_at f p on r n t ts rest (Some m) e q go = run_one _ (state_at f (p m)) t (ts ++ rest) (on r m t e) ∙ go m q
+
+-- so do many tokens
+lift : (f : Found) (p : Reading → Place) → GoesOn f p → (r n : Reading) (ts rest : List Token) → runs read r ts ≡ Some n
+    → runs (next None) (state_at f (p r)) (ts ++ rest) ≡ runs (next None) (state_at f (p n)) rest
+lift f p on r n [] rest e = ap (λ (m : Reading). runs (next None) (state_at f (p m)) rest) (some_inj _ _ e)
+lift f p on r n (t ∷ ts) rest e = reads_at f p on r n t ts rest (read r t) refl e (λ m q. lift f p on m n ts rest q)
+
+in_expression : (f : Found) (p : Purpose) → GoesOn f (InExpression p)
+in_expression f p r n t e = goes_read None f p r n t e
 
 value_step : (f : Found) (t : Tag) (x : List ℕ) (r : Reading) (e : Expr) → ended r ≡ Some e → next None (reading f (Assign t x) r) (Mark Semicolon) ≡ Some (state_at (with_part None t (assigns x e) f) AtPart)
 unfolding next
@@ -64,6 +76,19 @@ value_step f t x r e h = rw h refl
 write_step : (f : Found) (t : Tag) (r : Reading) (e : Expr) → ended r ≡ Some e → next None (reading f (Output t) r) (Mark Semicolon) ≡ Some (state_at (with_part None t (writes stream e) f) AtPart)
 unfolding next
 write_step f t r e h = rw h refl
+
+store_step : (f : Found) (t : Tag) (a : List ℕ) (i : Expr) (r : Reading) (e : Expr) → ended r ≡ Some e
+    → next None (reading f (Store t a i) r) (Mark Semicolon) ≡ Some (state_at (with_part None t (stores a i e) f) AtPart)
+unfolding next
+store_step f t a i r e h = rw h refl
+
+index_step : (f : Found) (t : Tag) (a : List ℕ) (r : Reading) (i : Expr) → ended r ≡ Some i → next None (state_at f (InIndex t a r)) (Mark CloseSquare) ≡ Some (state_at f (AfterIndex t a i (counted_in r)))
+unfolding next
+index_step f t a r i h = rw h refl
+
+index_becomes : (f : Found) (t : Tag) (a : List ℕ) (i : Expr) (k : ℕ) → next None (state_at f (AfterIndex t a i k)) (Mark Becomes) ≡ Some (reading f (Store t a i) (start_after k))
+unfolding next
+index_becomes f t a i k = refl
 
 then_step : (f : Found) (t : Tag) (r : Reading) (e : Expr) → ended r ≡ Some e → next None (reading f (Test t) r) (Word Then) ≡ Some (state_at (in_then t e f) AtPart)
 unfolding next
@@ -77,25 +102,41 @@ value_runs : (ts : List Token) (e : Expr) → SpellsExpr ts e → (f : Found) (t
     → runs (next None) (reading f (Assign t x) start) (ts ++ (Mark Semicolon ∷ rest)) ≡ runs (next None) (state_at (with_part None t (assigns x e) f) AtPart) rest
 value_runs ts e s f t x rest =
     let n = expression_read ts e s in
-    lift f (Assign t x) start n.0 ts (Mark Semicolon ∷ rest) n.1 ∙ run_one _ (state_at (with_part None t (assigns x e) f) AtPart) (Mark Semicolon) rest (value_step f t x n.0 e n.2)
+    lift f (InExpression (Assign t x)) (in_expression f (Assign t x)) start n.0 ts (Mark Semicolon ∷ rest) n.1 ∙ run_one _ (state_at (with_part None t (assigns x e) f) AtPart) (Mark Semicolon) rest (value_step f t x n.0 e n.2)
 
 write_runs : (ts : List Token) (e : Expr) → SpellsExpr ts e → (f : Found) (t : Tag) (rest : List Token)
     → runs (next None) (reading f (Output t) start) (ts ++ (Mark Semicolon ∷ rest)) ≡ runs (next None) (state_at (with_part None t (writes stream e) f) AtPart) rest
 write_runs ts e s f t rest =
     let n = expression_read ts e s in
-    lift f (Output t) start n.0 ts (Mark Semicolon ∷ rest) n.1 ∙ run_one _ (state_at (with_part None t (writes stream e) f) AtPart) (Mark Semicolon) rest (write_step f t n.0 e n.2)
+    lift f (InExpression (Output t)) (in_expression f (Output t)) start n.0 ts (Mark Semicolon ∷ rest) n.1 ∙ run_one _ (state_at (with_part None t (writes stream e) f) AtPart) (Mark Semicolon) rest (write_step f t n.0 e n.2)
+
+-- the two expressions of a store, with the tokens between them
+store_runs : (index value : List Token) (i e : Expr) → SpellsStore index value i e → (f : Found) (t : Tag) (a : List ℕ) (rest : List Token)
+    → runs (next None) (state_at f (InIndex t a start)) (index ++ (Mark CloseSquare ∷ Mark Becomes ∷ (value ++ (Mark Semicolon ∷ rest))))
+    ≡ runs (next None) (state_at (with_part None t (stores a i e) f) AtPart) rest
+store_runs index value i e both f t a rest =
+    let tail : List Token = value ++ (Mark Semicolon ∷ rest) in
+    let n = expression_read_after 0 index i (both.0, omega (arith, both.2)) in
+    let k : ℕ = counted_in n.0 in
+    let count : k ≡ 0 + operators (term_of i) = read_as_spelled_after.counts 0 index i n.0 (omega arith) n.1 n.2 in
+    let m = expression_read_after k value e (both.1, omega (arith, both.2, count)) in
+    lift f (InIndex t a) (λ r u b q. goes_in_index None f t a r u b q) start n.0 index (Mark CloseSquare ∷ Mark Becomes ∷ tail) n.1
+    ∙ run_one _ (state_at f (AfterIndex t a i k)) (Mark CloseSquare) (Mark Becomes ∷ tail) (index_step f t a n.0 i n.2)
+    ∙ run_one _ (reading f (Store t a i) (start_after k)) (Mark Becomes) tail (index_becomes f t a i k)
+    ∙ lift f (InExpression (Store t a i)) (in_expression f (Store t a i)) (start_after k) m.0 value (Mark Semicolon ∷ rest) m.1
+    ∙ run_one _ (state_at (with_part None t (stores a i e) f) AtPart) (Mark Semicolon) rest (store_step f t a i m.0 e m.2)
 
 test_runs : (ts : List Token) (e : Expr) → SpellsExpr ts e → (f : Found) (t : Tag) (rest : List Token)
     → runs (next None) (reading f (Test t) start) (ts ++ (Word Then ∷ rest)) ≡ runs (next None) (state_at (in_then t e f) AtPart) rest
 test_runs ts e s f t rest =
     let n = expression_read ts e s in
-    lift f (Test t) start n.0 ts (Word Then ∷ rest) n.1 ∙ run_one _ (state_at (in_then t e f) AtPart) (Word Then) rest (then_step f t n.0 e n.2)
+    lift f (InExpression (Test t)) (in_expression f (Test t)) start n.0 ts (Word Then ∷ rest) n.1 ∙ run_one _ (state_at (in_then t e f) AtPart) (Word Then) rest (then_step f t n.0 e n.2)
 
 guard_runs : (ts : List Token) (e : Expr) → SpellsExpr ts e → (f : Found) (t : Tag) (rest : List Token)
     → runs (next None) (reading f (Guard t) start) (ts ++ (Word Do ∷ rest)) ≡ runs (next None) (state_at (in_loop t e f) AtPart) rest
 guard_runs ts e s f t rest =
     let n = expression_read ts e s in
-    lift f (Guard t) start n.0 ts (Word Do ∷ rest) n.1 ∙ run_one _ (state_at (in_loop t e f) AtPart) (Word Do) rest (do_step f t n.0 e n.2)
+    lift f (InExpression (Guard t)) (in_expression f (Guard t)) start n.0 ts (Word Do ∷ rest) n.1 ∙ run_one _ (state_at (in_loop t e f) AtPart) (Word Do) rest (do_step f t n.0 e n.2)
 
 -- ---- the header
 
@@ -146,6 +187,10 @@ serial_step f t is = rw (le-leb _ _ is.1.0, lt-ltb _ _ is.1.1) refl
 tag_colon_step : (f : Found) (t : Tag) → next None (state_at f (AfterSerial t)) (Mark Colon) ≡ Some (state_at f (AfterColon t))
 unfolding next
 tag_colon_step f t = refl
+
+square_step : (f : Found) (t : Tag) (x : List ℕ) → IsName x → next None (state_at f (AfterTarget t x)) (Mark OpenSquare) ≡ Some (state_at f (InIndex t (array_of x) start))
+unfolding next
+square_step f t x name = let plain : is_name x ≡ true = name in rw plain refl
 
 becomes_step : (f : Found) (t : Tag) (x : List ℕ) → next None (state_at f (AfterTarget t x)) (Mark Becomes) ≡ Some (reading f (Assign t x) start)
 unfolding next
@@ -292,6 +337,19 @@ parts_run {n = n} {m = m} f eq (grammar.write {t = t} {e = e} {label = label} {v
     ∙ ap (runs (next None) (reading g (Output t) start)) (append_assoc value (Mark Semicolon ∷ more) rest)
     ∙ write_runs value e v g t (more ++ rest) ∙ parts_run k eq s rest deep refl
     ∙ ap (λ y. runs (next None) (state_at y AtPart) rest) (part_then f g.count m g.issued (action t (writes stream e) done) body (action_raises f.has_header t (writes stream e) body f.issued))
+parts_run {n = n} {m = m} f eq (grammar.store {t = t} x {i = i} {e = e} {label = label} {index = index} {value = value} {more = more} {rest = body} name is both s) rest deep c =
+    let g : Found = labelled n t f in
+    let room : length f.blocks < MAX_LEVELS = omega (arith, deep) in
+    let behind : List Token = Mark CloseSquare ∷ Mark Becomes ∷ (value ++ (Mark Semicolon ∷ more)) in
+    let k : Found = with_part None t (stores (array_of x) i e) g in
+    ap (runs (next None) (state_at f AtPart)) (append_assoc label (Name x ∷ Mark OpenSquare ∷ (index ++ behind)) rest)
+    ∙ label_runs f f.mode n label t (Name x) (state_at g (AfterTarget t x)) (Mark OpenSquare ∷ ((index ++ behind) ++ rest)) refl c (own f label t n eq is) (a_name x) room refl
+    ∙ run_one _ (state_at g (InIndex t (array_of x) start)) (Mark OpenSquare) ((index ++ behind) ++ rest) (square_step g t x name)
+    ∙ ap (runs (next None) (state_at g (InIndex t (array_of x) start)))
+    (append_assoc index behind rest ∙ ap (λ y. index ++ (Mark CloseSquare ∷ Mark Becomes ∷ y)) (append_assoc value (Mark Semicolon ∷ more) rest))
+    ∙ store_runs index value i e both g t (array_of x) (more ++ rest) ∙ parts_run k eq s rest deep refl
+    ∙ ap (λ y. runs (next None) (state_at y AtPart) rest)
+    (part_then f g.count m g.issued (action t (stores (array_of x) i e) done) body (action_raises f.has_header t (stores (array_of x) i e) body f.issued))
 parts_run {n = n} {m = m} f eq (grammar.conditional {k = c1} {t = t} {e = e} {label = label} {test = test} {first = inner} {more = more} {yes = chosen} {rest = body} is v s u) rest deep c =
     let g : Found = labelled n t f in
     let room : length f.blocks < MAX_LEVELS = omega (arith, deep) in
@@ -376,6 +434,9 @@ program_parts (grammar.assignment {x = x} {label = label} {value = value} {more 
     rw append_assoc (label_alike (Name x) ((Mark Becomes ∷ (value ++ (Mark Semicolon ∷ more))) ++ (Word End ∷ rest)) is (a_name x))
 program_parts (grammar.write {label = label} {value = value} {more = more} is v s) rest =
     rw append_assoc (label_alike (Word Write) ((value ++ (Mark Semicolon ∷ more)) ++ (Word End ∷ rest)) is a_write)
+program_parts (grammar.store x {label = label} {index = index} {value = value} {more = more} name is both s) rest =
+    rw append_assoc
+    (label_alike (Name x) ((Mark OpenSquare ∷ (index ++ (Mark CloseSquare ∷ Mark Becomes ∷ (value ++ (Mark Semicolon ∷ more))))) ++ (Word End ∷ rest)) is (a_name x))
 program_parts (grammar.conditional {label = label} {test = test} {first = inner} {more = more} is v s u) rest =
     rw append_assoc (label_alike (Word If) ((test ++ (Word Then ∷ (inner ++ (Word Fi ∷ more)))) ++ (Word End ∷ rest)) is a_test)
 program_parts (grammar.conditional_else {label = label} {test = test} {first = inner} {second = other} {more = more} is v s w u) rest =
@@ -389,6 +450,7 @@ unfolding next
 header_parts grammar.nothing f rest = refl
 header_parts (grammar.assignment (grammar.tag is) v s) f rest = refl
 header_parts (grammar.write (grammar.tag is) v s) f rest = refl
+header_parts (grammar.store x name (grammar.tag is) both s) f rest = refl
 header_parts (grammar.conditional (grammar.tag is) v s u) f rest = refl
 header_parts (grammar.conditional_else (grammar.tag is) v s w u) f rest = refl
 header_parts (grammar.while_loop (grammar.tag is) v s u) f rest = refl
@@ -402,41 +464,70 @@ close_step : (f : Found) → next None (state_at f AfterOpen) (Mark Close) ≡ S
 unfolding next
 close_step f = refl
 
-last_step : (f : Found) → next None (state_at f AfterName) (Mark Close) ≡ Some (state_at f AtEnd)
+-- the places at which a variable of `end` may begin
+record IsAtNames (p : Place) : Type 0 where
+  name : (f : Found) (x : List ℕ) → next None (state_at f p) (Name x) ≡ Some (state_at f (AfterName x))
+  out : (f : Found) → next None (state_at f p) (Word Out) ≡ Some (state_at (with_name stream f) AfterFinal)
+
+first_names : IsAtNames AfterOpen
 unfolding next
-last_step f = refl
+first_names = record { name = λ f x. refl; out = λ f. refl }
 
-more_step : (f : Found) → next None (state_at f AfterName) (Mark Comma) ≡ Some (state_at f AfterComma)
+next_names : IsAtNames AfterComma
 unfolding next
-more_step f = refl
+next_names = record { name = λ f x. refl; out = λ f. refl }
 
-abbrev TakesName : Place → Type 0
-TakesName p = (f : Found) (t : Token) (x : List ℕ) → SpellsFinal t x → next None (state_at f p) t ≡ Some (state_at (with_name x f) AfterName)
-
-first_name_step : TakesName AfterOpen
+array_step : (f : Found) (x : List ℕ) → IsName x → next None (state_at f (AfterName x)) (Mark OpenSquare) ≡ Some (state_at f (AfterNameOpen (array_of x)))
 unfolding next
-first_name_step f t x grammar.plain = refl
-first_name_step f t x grammar.out = refl
+array_step f x name = let plain : is_name x ≡ true = name in rw plain refl
 
-next_name_step : TakesName AfterComma
+array_ends : (f : Found) (a : List ℕ) → next None (state_at f (AfterNameOpen a)) (Mark CloseSquare) ≡ Some (state_at (with_name a f) AfterFinal)
 unfolding next
-next_name_step f t x grammar.plain = refl
-next_name_step f t x grammar.out = refl
+array_ends f a = refl
 
-names_from : {ts : List Token} {y : List ℕ} {ys : List (List ℕ)} → SpellsNames ts (y ∷ ys) → (p : Place) → TakesName p → (f : Found)
+-- a sign that may stand behind a variable of `end`, and the place to which it leads
+data Follows : Token → Place → Type 0 where
+  a_comma : Follows (Mark Comma) AfterComma
+  a_close : Follows (Mark Close) AtEnd
+
+name_step : (f : Found) (x : List ℕ) (t : Token) (q : Place) → Follows t q → next None (state_at f (AfterName x)) t ≡ Some (state_at (with_name x f) q)
+unfolding next
+name_step f x t q a_comma = refl
+name_step f x t q a_close = refl
+
+final_step : (f : Found) (t : Token) (q : Place) → Follows t q → next None (state_at f AfterFinal) t ≡ Some (state_at f q)
+unfolding next
+final_step f t q a_comma = refl
+final_step f t q a_close = refl
+
+-- a variable and the sign behind it
+final_runs : {ts : List Token} {x : List ℕ} → SpellsFinal ts x → (p : Place) → IsAtNames p → (f : Found) (t : Token) (q : Place) → Follows t q → (rest : List Token)
+    → runs (next None) (state_at f p) (ts ++ (t ∷ rest)) ≡ runs (next None) (state_at (with_name x f) q) rest
+final_runs (grammar.plain {x = x}) p at f t q is rest =
+    run_one _ (state_at f (AfterName x)) (Name x) (t ∷ rest) (at.name f x) ∙ run_one _ (state_at (with_name x f) q) t rest (name_step f x t q is)
+final_runs grammar.out p at f t q is rest =
+    let g : Found = with_name stream f in
+    run_one _ (state_at g AfterFinal) (Word Out) (t ∷ rest) (at.out f) ∙ run_one _ (state_at g q) t rest (final_step g t q is)
+final_runs (grammar.array {x = x} name) p at f t q is rest =
+    let g : Found = with_name (array_of x) f in
+    run_one _ (state_at f (AfterName x)) (Name x) (Mark OpenSquare ∷ Mark CloseSquare ∷ t ∷ rest) (at.name f x)
+    ∙ run_one _ (state_at f (AfterNameOpen (array_of x))) (Mark OpenSquare) (Mark CloseSquare ∷ t ∷ rest) (array_step f x name)
+    ∙ run_one _ (state_at g AfterFinal) (Mark CloseSquare) (t ∷ rest) (array_ends f (array_of x)) ∙ run_one _ (state_at g q) t rest (final_step g t q is)
+
+names_from : {ts : List Token} {y : List ℕ} {ys : List (List ℕ)} → SpellsNames ts (y ∷ ys) → (p : Place) → IsAtNames p → (f : Found)
     → runs (next None) (state_at f p) (ts ++ (Mark Close ∷ [])) ≡ Some (state_at (with_names (y ∷ ys) f) AtEnd)
-names_from (grammar.one {t = t} {x = x} is) p takes f =
-    run_one _ (state_at (with_name x f) AfterName) t (Mark Close ∷ []) (takes f t x is) ∙ run_one _ (state_at (with_name x f) AtEnd) (Mark Close) [] (last_step (with_name x f))
-names_from (grammar.more {t = t} {x = x} {y = z} {ts = ts} {xs = xs} is s) p takes f =
+names_from (grammar.one is) p at f = final_runs is p at f (Mark Close) AtEnd a_close []
+names_from (grammar.more {first = first} {ts = ts} {x = x} {y = z} {xs = xs} is s) p at f =
     let g : Found = with_name x f in
-    run_one _ (state_at g AfterName) t (Mark Comma ∷ (ts ++ (Mark Close ∷ []))) (takes f t x is) ∙ run_one _ (state_at g AfterComma) (Mark Comma) (ts ++ (Mark Close ∷ [])) (more_step g)
-    ∙ names_from s AfterComma next_name_step g ∙ ap (λ ns. Some (state_at (record f { names = ns }) AtEnd)) (append_assoc f.names (x ∷ []) (z ∷ xs))
+    ap (runs (next None) (state_at f p)) (append_assoc first (Mark Comma ∷ ts) (Mark Close ∷ []))
+    ∙ final_runs is p at f (Mark Comma) AfterComma a_comma (ts ++ (Mark Close ∷ []))
+    ∙ names_from s AfterComma next_names g ∙ ap (λ ns. Some (state_at (record f { names = ns }) AtEnd)) (append_assoc f.names (x ∷ []) (z ∷ xs))
 
 names_run : {ts : List Token} {xs : List (List ℕ)} → SpellsNames ts xs → (f : Found) → runs (next None) (state_at f AfterOpen) (ts ++ (Mark Close ∷ [])) ≡ Some (state_at (with_names xs f) AtEnd)
 names_run grammar.none f =
     run_one _ (state_at f AtEnd) (Mark Close) [] (close_step f) ∙ ap (λ ns. Some (state_at (record f { names = ns }) AtEnd)) (sym (append-nil f.names))
-names_run (grammar.one is) f = names_from (grammar.one is) AfterOpen first_name_step f
-names_run (grammar.more is s) f = names_from (grammar.more is s) AfterOpen first_name_step f
+names_run (grammar.one is) f = names_from (grammar.one is) AfterOpen first_names f
+names_run (grammar.more is s) f = names_from (grammar.more is s) AfterOpen first_names f
 
 -- ---- programs
 

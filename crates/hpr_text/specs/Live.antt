@@ -2,7 +2,7 @@
 --
 -- x_text    == the name `x`
 -- x_is_name == it is a name
--- live      == an open expression is brought to an end, open blocks are closed, and then the program ends
+-- live      == an open expression, or an index and its number, is brought to an end, open blocks are closed, and then the program ends
 use Rattle.std.proofs.Common.{◌≡◌, ℕ, true, List, [], ◌∷◌, Option, Some, None, is_some, refl, ap, ◌∙◌, lit<}
 use Rattle.hpr_terms.specs.declared.keyword.Keyword.{Keyword}
 use Rattle.hpr_terms.specs.declared.keyword.Keyword.TheVariants as keyword
@@ -13,20 +13,20 @@ use Rattle.hpr_terms.specs.declared.token.Sign.TheVariants as sign
 use Rattle.hpr_terms.specs.declared.token.Token.TheVariants.{Word, Name, Number, Mark}
 use Rattle.hpr_terms.specs.Keywords.{keyword_of}
 use Rattle.hpr_terms.specs.Names.{is_name_like, IsName, is_name, is_name_byte, stream}
-use Rattle.hpr_syntax.specs.Action.{assigns, writes}
+use Rattle.hpr_syntax.specs.Action.{assigns, writes, stores}
 use Rattle.hpr_scan.specs.Machine.{Live, ends, goes}
 use Rattle.hpr_text.specs.declared.blocks.Begun.{Begun}
 use Rattle.hpr_text.specs.declared.blocks.Begun.TheVariants as begun
 use Rattle.hpr_expressions.specs.declared.expression.Reading.{Reading}
 use Rattle.hpr_text.specs.declared.found.Found.{Found}
 use Rattle.hpr_text.specs.declared.state.Purpose.{Purpose}
-use Rattle.hpr_text.specs.declared.state.Purpose.TheVariants.{Assign, Test, Guard, Output}
+use Rattle.hpr_text.specs.declared.state.Purpose.TheVariants.{Assign, Test, Guard, Output, Store}
 use Rattle.hpr_text.specs.declared.state.Place.{Place}
-use Rattle.hpr_text.specs.declared.state.Place.TheVariants.{Start, AfterProgram, BeforePair, AfterPairAuthor, AfterPairColon, AfterPair, AtPart, AfterAuthor, AfterDot, AfterSerial, AfterColon, AfterTarget, InExpression, AfterEnd, AfterOpen, AfterName, AfterComma, AtEnd}
+use Rattle.hpr_text.specs.declared.state.Place.TheVariants.{Start, AfterProgram, BeforePair, AfterPairAuthor, AfterPairColon, AfterPair, AtPart, AfterAuthor, AfterDot, AfterSerial, AfterColon, AfterTarget, InIndex, AfterIndex, InExpression, AfterEnd, AfterOpen, AfterName, AfterNameOpen, AfterFinal, AfterComma, AtEnd}
 use Rattle.hpr_text.specs.declared.state.State.{State}
-use Rattle.hpr_expressions.specs.Expression.{start, read, ended, can_end}
+use Rattle.hpr_expressions.specs.Expression.{start, start_after, counted_in, read, ended, can_end}
 use Rattle.hpr_expressions.specs.Laws.{reading_live}
-use Rattle.hpr_text.specs.Laws.{goes_read}
+use Rattle.hpr_text.specs.Laws.{goes_read, goes_in_index}
 use Rattle.hpr_text.specs.Machine.{limit, with_number, with_tag, with_part, in_then, in_loop, fi_in, od_in, at_part, ends_parts, with_name, state_at, ends_here, next_at, next, may_end}
 
 abbrev IsLive : State → Type 0
@@ -63,13 +63,21 @@ live_open : (f : Found) → IsLive (state_at f AfterOpen)
 unfolding next
 live_open f = mark _ (state_at f AtEnd) sign.Close refl (live_end f)
 
-live_name : (f : Found) → IsLive (state_at f AfterName)
+live_name : (f : Found) (x : List ℕ) → IsLive (state_at f (AfterName x))
 unfolding next
-live_name f = mark _ (state_at f AtEnd) sign.Close refl (live_end f)
+live_name f x = mark _ (state_at (with_name x f) AtEnd) sign.Close refl (live_end (with_name x f))
+
+live_final : (f : Found) → IsLive (state_at f AfterFinal)
+unfolding next
+live_final f = mark _ (state_at f AtEnd) sign.Close refl (live_end f)
+
+live_name_open : (f : Found) (a : List ℕ) → IsLive (state_at f (AfterNameOpen a))
+unfolding next
+live_name_open f a = mark _ (state_at (with_name a f) AfterFinal) sign.CloseSquare refl (live_final (with_name a f))
 
 live_comma : (f : Found) → IsLive (state_at f AfterComma)
 unfolding next
-live_comma f = name_x _ (state_at (with_name x_text f) AfterName) refl (live_name (with_name x_text f))
+live_comma f = name_x _ (state_at f (AfterName x_text)) refl (live_name f x_text)
 
 live_after_end : (f : Found) → IsLive (state_at f AfterEnd)
 unfolding next
@@ -105,6 +113,7 @@ live_ends f (Assign t x) r (Some v) q e = mark _ (state_at (with_part limit t (a
 live_ends f (Test t) r (Some v) q e = word _ (state_at (in_then t v f) AtPart) keyword.Then (ap (ends_here limit f (Test t)) q) (live_part _)
 live_ends f (Guard t) r (Some v) q e = word _ (state_at (in_loop t v f) AtPart) keyword.Do (ap (ends_here limit f (Guard t)) q) (live_part _)
 live_ends f (Output t) r (Some v) q e = mark _ (state_at (with_part limit t (writes stream v) f) AtPart) sign.Semicolon (ap (ends_here limit f (Output t)) q) (live_part _)
+live_ends f (Store t a i) r (Some v) q e = mark _ (state_at (with_part limit t (stores a i v) f) AtPart) sign.Semicolon (ap (ends_here limit f (Store t a i)) q) (live_part _)
 
 live_in : (f : Found) (p : Purpose) {r : Reading} → Live read can_end r → IsLive (state_at f (InExpression p r))
 live_in f p (ends {s = r} e) = live_ends f p r (ended r) refl e
@@ -112,6 +121,21 @@ live_in f p (goes {s = r} t n h e k) = goes t (state_at f (InExpression p n)) h 
 
 live_reading : (f : Found) (p : Purpose) (r : Reading) → IsLive (state_at f (InExpression p r))
 live_reading f p r = live_in f p (reading_live r)
+
+-- ---- the index of a store
+
+live_index : (f : Found) (t : Tag) (a : List ℕ) (i : Expr) (k : ℕ) → IsLive (state_at f (AfterIndex t a i k))
+unfolding next
+live_index f t a i k = mark _ (state_at f (InExpression (Store t a i) (start_after k))) sign.Becomes refl (live_reading f (Store t a i) (start_after k))
+
+index_live_ends : (f : Found) (t : Tag) (a : List ℕ) (r : Reading) (o : Option Expr) → ended r ≡ o → is_some o ≡ true → IsLive (state_at f (InIndex t a r))
+unfolding next
+index_live_ends f t a r None q e = absurd cc
+index_live_ends f t a r (Some i) q e = mark _ (state_at f (AfterIndex t a i (counted_in r))) sign.CloseSquare (rw q refl) (live_index f t a i (counted_in r))
+
+index_live_in : (f : Found) (t : Tag) (a : List ℕ) {r : Reading} → Live read can_end r → IsLive (state_at f (InIndex t a r))
+index_live_in f t a (ends {s = r} e) = index_live_ends f t a r (ended r) refl e
+index_live_in f t a (goes {s = r} k n h e more) = goes k (state_at f (InIndex t a n)) h (goes_in_index limit f t a r n k e) (index_live_in f t a more)
 
 -- ---- parts
 
@@ -174,10 +198,14 @@ live_at f (AfterDot a) = live_dot f a
 live_at f (AfterSerial t) = live_serial f t
 live_at f (AfterColon t) = live_colon f t
 live_at f (AfterTarget t x) = live_target f t x
+live_at f (InIndex t a r) = index_live_in f t a (reading_live r)
+live_at f (AfterIndex t a i k) = live_index f t a i k
 live_at f (InExpression p r) = live_reading f p r
 live_at f AfterEnd = live_after_end f
 live_at f AfterOpen = live_open f
-live_at f AfterName = live_name f
+live_at f (AfterName x) = live_name f x
+live_at f (AfterNameOpen a) = live_name_open f a
+live_at f AfterFinal = live_final f
 live_at f AfterComma = live_comma f
 live_at f AtEnd = live_end f
 

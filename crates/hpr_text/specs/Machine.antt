@@ -22,7 +22,12 @@
 -- else_found f        == the second block of a conditional begins, if it can begin here
 -- fi_found l f        == a conditional ends, if it can end here
 -- od_found l f        == a loop ends, if it can end here
--- with_name x f       == one more name of `end`
+-- with_name x f       == one more variable of `end`
+-- index_begins f t x  == the index of a store into the array of the name x begins, if x is a plain name
+-- index_ends f t a k o == the index of a store into a ends with the expression o, if there is one, which has k operators
+-- ends_here l f p o   == the expression o, if there is one, ends, which was read for p
+-- goes_on f place o   == an expression goes on, at the place that its reading o tells, if there is one
+-- array_begins f x    == the brackets of the array of the name x begin, if x is a plain name
 -- NAME_next f .. t    == the state after the token t at that place, if the token can stand there
 -- next l s t          == the state after the token, if the token can stand next
 -- initially mode      == the state before the first token
@@ -35,11 +40,11 @@ use Rattle.hpr_terms.specs.declared.limits.TheConstants.{MAX_LEVELS, MAX_PARTS}
 use Rattle.hpr_terms.specs.declared.tag.Tag.{Tag}
 use Rattle.hpr_terms.specs.declared.expr.Expr.{Expr}
 use Rattle.hpr_terms.specs.declared.keyword.Keyword.TheVariants.{Program, Issued, End, If, Then, Else, Fi, While, Do, Od, Write, Out}
-use Rattle.hpr_terms.specs.declared.token.Sign.TheVariants.{Colon, Becomes, Dot, Comma, Semicolon, Open, Close}
+use Rattle.hpr_terms.specs.declared.token.Sign.TheVariants.{Colon, Becomes, Dot, Comma, Semicolon, Open, Close, OpenSquare, CloseSquare}
 use Rattle.hpr_terms.specs.declared.token.Token.{Token}
 use Rattle.hpr_terms.specs.declared.token.Token.TheVariants.{Word, Name, Number, Mark}
-use Rattle.hpr_terms.specs.Names.{stream}
-use Rattle.hpr_syntax.specs.Action.{Action, assigns, writes}
+use Rattle.hpr_terms.specs.Names.{stream, is_name, array_of}
+use Rattle.hpr_syntax.specs.Action.{Action, assigns, writes, stores}
 use Rattle.hpr_syntax.specs.Body.{Body, done, action, branch, loop}
 use Rattle.hpr_syntax.specs.Issued as issued
 use Rattle.hpr_syntax.specs.Tree.{Tree}
@@ -54,11 +59,11 @@ use Rattle.hpr_text.specs.declared.form.Mode.{Mode}
 use Rattle.hpr_text.specs.declared.form.Mode.TheVariants.{Tagged, Untagged}
 use Rattle.hpr_text.specs.declared.found.Found.{Found}
 use Rattle.hpr_text.specs.declared.state.Purpose.{Purpose}
-use Rattle.hpr_text.specs.declared.state.Purpose.TheVariants.{Assign, Test, Guard, Output}
+use Rattle.hpr_text.specs.declared.state.Purpose.TheVariants.{Assign, Test, Guard, Output, Store}
 use Rattle.hpr_text.specs.declared.state.Place.{Place}
-use Rattle.hpr_text.specs.declared.state.Place.TheVariants.{Start, AfterProgram, BeforePair, AfterPairAuthor, AfterPairColon, AfterPair, AtPart, AfterAuthor, AfterDot, AfterSerial, AfterColon, AfterTarget, InExpression, AfterEnd, AfterOpen, AfterName, AfterComma, AtEnd}
+use Rattle.hpr_text.specs.declared.state.Place.TheVariants.{Start, AfterProgram, BeforePair, AfterPairAuthor, AfterPairColon, AfterPair, AtPart, AfterAuthor, AfterDot, AfterSerial, AfterColon, AfterTarget, InIndex, AfterIndex, InExpression, AfterEnd, AfterOpen, AfterName, AfterNameOpen, AfterFinal, AfterComma, AtEnd}
 use Rattle.hpr_text.specs.declared.state.State.{State}
-use Rattle.hpr_expressions.specs.Expression.{start, read, ended}
+use Rattle.hpr_expressions.specs.Expression.{start, start_after, counted_in, read, ended, can_end}
 
 abbrev pub limit : Option ℕ
 limit = Some MAX_PARTS
@@ -250,9 +255,31 @@ abbrev pub serial_next : Found → Tag → Token → Option State
 serial_next f t (Mark Colon) = Some (state_at f (AfterColon t))
 serial_next f t _ = None
 
+abbrev pub index_begins : Found → Tag → List ℕ → Option State
+index_begins f t x = if is_name x then Some (state_at f (InIndex t (array_of x) start)) else None
+
 abbrev pub target_next : Found → Tag → List ℕ → Token → Option State
 target_next f t x (Mark Becomes) = Some (state_at f (InExpression (Assign t x) start))
+target_next f t x (Mark OpenSquare) = index_begins f t x
 target_next f t x _ = None
+
+abbrev pub goes_on : Found → (Reading → Place) → Option Reading → Option State
+goes_on f place None = None
+goes_on f place (Some r) = Some (state_at f (place r))
+
+abbrev pub index_ends : Found → Tag → List ℕ → ℕ → Option Expr → Option State
+index_ends f t a k None = None
+index_ends f t a k (Some i) = Some (state_at f (AfterIndex t a i k))
+
+-- a bracket ends the index where none is open in it
+abbrev pub in_index_next : Found → Tag → List ℕ → Reading → Token → Option State
+in_index_next f t a r (Mark CloseSquare) =
+    if can_end r then index_ends f t a (counted_in r) (ended r) else goes_on f (InIndex t a) (read r (Mark CloseSquare))
+in_index_next f t a r k = goes_on f (InIndex t a) (read r k)
+
+abbrev pub index_next : Found → Tag → List ℕ → Expr → ℕ → Token → Option State
+index_next f t a i k (Mark Becomes) = Some (state_at f (InExpression (Store t a i) (start_after k)))
+index_next f t a i k _ = None
 
 abbrev pub ends_here : Option ℕ → Found → Purpose → Option Expr → Option State
 ends_here l f p None = None
@@ -260,36 +287,47 @@ ends_here l f (Assign t x) (Some e) = Some (state_at (with_part l t (assigns x e
 ends_here l f (Test t) (Some e) = Some (state_at (in_then t e f) AtPart)
 ends_here l f (Guard t) (Some e) = Some (state_at (in_loop t e f) AtPart)
 ends_here l f (Output t) (Some e) = Some (state_at (with_part l t (writes stream e) f) AtPart)
-
-abbrev pub goes_on : Found → Purpose → Option Reading → Option State
-goes_on f p None = None
-goes_on f p (Some r) = Some (state_at f (InExpression p r))
+ends_here l f (Store t a i) (Some e) = Some (state_at (with_part l t (stores a i e) f) AtPart)
 
 abbrev pub expression_next : Option ℕ → Found → Purpose → Reading → Token → Option State
 expression_next l f (Assign t x) r (Mark Semicolon) = ends_here l f (Assign t x) (ended r)
 expression_next l f (Test t) r (Word Then) = ends_here l f (Test t) (ended r)
 expression_next l f (Guard t) r (Word Do) = ends_here l f (Guard t) (ended r)
 expression_next l f (Output t) r (Mark Semicolon) = ends_here l f (Output t) (ended r)
-expression_next l f p r t = goes_on f p (read r t)
+expression_next l f (Store t a i) r (Mark Semicolon) = ends_here l f (Store t a i) (ended r)
+expression_next l f p r t = goes_on f (InExpression p) (read r t)
 
 abbrev pub end_next : Found → Token → Option State
 end_next f (Mark Open) = Some (state_at f AfterOpen)
 end_next f _ = None
 
 abbrev pub open_next : Found → Token → Option State
-open_next f (Name x) = Some (state_at (with_name x f) AfterName)
-open_next f (Word Out) = Some (state_at (with_name stream f) AfterName)
+open_next f (Name x) = Some (state_at f (AfterName x))
+open_next f (Word Out) = Some (state_at (with_name stream f) AfterFinal)
 open_next f (Mark Close) = Some (state_at f AtEnd)
 open_next f _ = None
 
-abbrev pub name_next : Found → Token → Option State
-name_next f (Mark Comma) = Some (state_at f AfterComma)
-name_next f (Mark Close) = Some (state_at f AtEnd)
-name_next f _ = None
+abbrev pub array_begins : Found → List ℕ → Option State
+array_begins f x = if is_name x then Some (state_at f (AfterNameOpen (array_of x))) else None
+
+abbrev pub name_next : Found → List ℕ → Token → Option State
+name_next f x (Mark OpenSquare) = array_begins f x
+name_next f x (Mark Comma) = Some (state_at (with_name x f) AfterComma)
+name_next f x (Mark Close) = Some (state_at (with_name x f) AtEnd)
+name_next f x _ = None
+
+abbrev pub name_open_next : Found → List ℕ → Token → Option State
+name_open_next f a (Mark CloseSquare) = Some (state_at (with_name a f) AfterFinal)
+name_open_next f a _ = None
+
+abbrev pub final_next : Found → Token → Option State
+final_next f (Mark Comma) = Some (state_at f AfterComma)
+final_next f (Mark Close) = Some (state_at f AtEnd)
+final_next f _ = None
 
 abbrev pub comma_next : Found → Token → Option State
-comma_next f (Name x) = Some (state_at (with_name x f) AfterName)
-comma_next f (Word Out) = Some (state_at (with_name stream f) AfterName)
+comma_next f (Name x) = Some (state_at f (AfterName x))
+comma_next f (Word Out) = Some (state_at (with_name stream f) AfterFinal)
 comma_next f _ = None
 
 abbrev pub next_at : Option ℕ → Found → Place → Token → Option State
@@ -305,10 +343,14 @@ next_at l f (AfterDot a) t = dot_next f a t
 next_at l f (AfterSerial g) t = serial_next f g t
 next_at l f (AfterColon g) t = colon_next f g t
 next_at l f (AfterTarget g x) t = target_next f g x t
+next_at l f (InIndex g a r) t = in_index_next f g a r t
+next_at l f (AfterIndex g a i k) t = index_next f g a i k t
 next_at l f (InExpression p r) t = expression_next l f p r t
 next_at l f AfterEnd t = end_next f t
 next_at l f AfterOpen t = open_next f t
-next_at l f AfterName t = name_next f t
+next_at l f (AfterName x) t = name_next f x t
+next_at l f (AfterNameOpen a) t = name_open_next f a t
+next_at l f AfterFinal t = final_next f t
 next_at l f AfterComma t = comma_next f t
 next_at l f AtEnd t = None
 

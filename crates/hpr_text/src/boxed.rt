@@ -33,8 +33,15 @@ impl BoxedReader {
     pub fn start(alloc: Global) -> Result<BoxedReader, NoMemory>
         ensures { IfOk result (λ r. r ≡ expression.start) }
     {
+        BoxedReader::start_after(alloc, 0)
+    }
+
+    /// Nothing of the expression was read, and so many operators stand before it that count together with its own.
+    pub fn start_after(alloc: Global, operators: usize) -> Result<BoxedReader, NoMemory>
+        ensures { IfOk result (λ r. r ≡ expression.start_after operators) }
+    {
         Ok(BoxedReader {
-            reader: Box::new(alloc, Reader::start(alloc))?,
+            reader: Box::new(alloc, Reader::start_after(alloc, operators))?,
         })
     }
 

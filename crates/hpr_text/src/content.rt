@@ -27,15 +27,21 @@ pub enum Aim {
     Guard,
     /// The number that is written.
     Output,
+    /// The number that is stored. With the array and the index.
+    Store(Name, Expr),
 }
 
 /// How far a content was read.
 pub enum ContentState {
     /// Nothing was read.
     Start,
-    /// The name that is assigned to.
+    /// The name that is assigned to, or of whose array an element is changed.
     AfterTarget(Name),
-    /// A front of the expression.
+    /// A front of the index of a store. With the array.
+    InIndex(Name, BoxedReader),
+    /// The index of a store and its closing bracket. With the array, the index and how many operators it has.
+    AfterIndex(Name, Expr, usize),
+    /// A front of another expression.
     InExpression(Aim, BoxedReader),
     /// The content and its `;`.
     Ended(Content),
@@ -47,6 +53,8 @@ impl Drop for ContentState {
         match self {
             ContentState::Start => {}
             ContentState::AfterTarget(_) => {}
+            ContentState::InIndex(_, _) => {}
+            ContentState::AfterIndex(_, _, _) => {}
             ContentState::InExpression(_, _) => {}
             ContentState::Ended(_) => {}
         }
@@ -61,6 +69,7 @@ fn content(alloc: Global, aim: Aim, value: Expr) -> Result<Content, NoMemory>
         Aim::Test => Ok(Content::If(value)),
         Aim::Guard => Ok(Content::While(value)),
         Aim::Output => Ok(Content::Write(Name::stream(alloc)?, value)),
+        Aim::Store(array, index) => Ok(Content::Store(array, index, value)),
     }
 }
 
@@ -82,13 +91,89 @@ fn begin_next(alloc: Global, token: Token) -> Result<ContentState, Fault>
     }
 }
 
-fn becomes_next(alloc: Global, name: Name, token: Token) -> Result<ContentState, Fault>
-    ensures { Steps (machine.becomes_next name token) result }
+fn index_begins(alloc: Global, name: Name) -> Result<ContentState, Fault>
+    ensures { Steps (machine.content_index_begins name) result }
+{
+    if !name.is_plain() {
+        return Err(Fault::Refused);
+    }
+    let array = Name::array(alloc, &name)?;
+    Ok(ContentState::InIndex(array, BoxedReader::start(alloc)?))
+}
+
+fn target_next(alloc: Global, name: Name, token: Token) -> Result<ContentState, Fault>
+    ensures { Steps (machine.target_next name token) result }
 {
     match token {
         Token::Mark(Sign::Becomes) => {
             Ok(ContentState::InExpression(Aim::Assign(name), BoxedReader::start(alloc)?))
         }
+        Token::Mark(Sign::OpenSquare) => index_begins(alloc, name),
+        _ => Err(Fault::Refused),
+    }
+}
+
+fn index_ends(alloc: Global, array: Name, reading: BoxedReader) -> Result<ContentState, Fault>
+    ensures { Steps (machine.content_index_ends array (expression.counted_in reading)
+        (expression.ended reading)) result }
+{
+    let operators = reading.reader().operators();
+    let index = reading.ended(alloc)?;
+    Ok(ContentState::AfterIndex(array, index, operators))
+}
+
+fn index_goes_on(
+    alloc: Global,
+    array: Name,
+    mut reading: BoxedReader,
+    token: Token,
+) -> Result<ContentState, Fault>
+    ensures { Steps (machine.content_goes_on (ContentState.InIndex array)
+        (expression.read reading token)) result }
+{
+    reading.step(alloc, token)?;
+    Ok(ContentState::InIndex(array, reading))
+}
+
+fn index_closes(alloc: Global, array: Name, reading: BoxedReader) -> Result<ContentState, Fault>
+    ensures { Steps (machine.in_index_next array reading (tokens.Mark Sign.CloseSquare)) result }
+{
+    // it closes an element of the index where one is open
+    if reading.reader().can_end() {
+        index_ends(alloc, array, reading)
+    } else {
+        index_goes_on(alloc, array, reading, Token::Mark(Sign::CloseSquare))
+    }
+}
+
+fn in_index_next(
+    alloc: Global,
+    array: Name,
+    reading: BoxedReader,
+    token: Token,
+) -> Result<ContentState, Fault>
+    ensures { Steps (machine.in_index_next array reading token) result }
+{
+    match token {
+        Token::Mark(Sign::CloseSquare) => index_closes(alloc, array, reading),
+        _ => index_goes_on(alloc, array, reading, token),
+    }
+}
+
+fn index_next(
+    alloc: Global,
+    array: Name,
+    index: Expr,
+    operators: usize,
+    token: Token,
+) -> Result<ContentState, Fault>
+    ensures { Steps (machine.index_next array index operators token) result }
+{
+    match token {
+        Token::Mark(Sign::Becomes) => Ok(ContentState::InExpression(
+            Aim::Store(array, index),
+            BoxedReader::start_after(alloc, operators)?,
+        )),
         _ => Err(Fault::Refused),
     }
 }
@@ -106,7 +191,8 @@ fn goes_on(
     mut reading: BoxedReader,
     token: Token,
 ) -> Result<ContentState, Fault>
-    ensures { Steps (machine.content_goes_on aim (expression.read reading token)) result }
+    ensures { Steps (machine.content_goes_on (ContentState.InExpression aim)
+        (expression.read reading token)) result }
 {
     reading.step(alloc, token)?;
     Ok(ContentState::InExpression(aim, reading))
@@ -149,6 +235,7 @@ impl TokenMachine for ContentState {
             ContentState::Start => {
                 matches!(keyword, Keyword::If | Keyword::While | Keyword::Write)
             }
+            ContentState::InIndex(_, reading) => reading.reader().takes_keyword(keyword),
             ContentState::InExpression(_, reading) => reading.reader().takes_keyword(keyword),
             _ => false,
         }
@@ -158,6 +245,7 @@ impl TokenMachine for ContentState {
     fn takes_name(&self) -> bool {
         match self {
             ContentState::Start => true,
+            ContentState::InIndex(_, reading) => reading.reader().takes_name(),
             ContentState::InExpression(_, reading) => reading.reader().takes_name(),
             _ => false,
         }
@@ -166,15 +254,26 @@ impl TokenMachine for ContentState {
     #[tactic(auto, unfolding(crate::specs::ContentMachine::content_next), using(crate::proofs::ContentGoing::content_goes_on_is_some))]
     fn takes_number(&self, number: u64) -> bool {
         match self {
+            ContentState::InIndex(_, reading) => reading.reader().takes_number(number),
             ContentState::InExpression(_, reading) => reading.reader().takes_number(number),
             _ => false,
         }
     }
 
-    #[tactic(auto, unfolding(crate::specs::ContentMachine::content_next), using(crate::proofs::ContentGoing::content_goes_on_is_some, crate::proofs::ContentGoing::content_ends_is_some))]
+    #[tactic(auto, unfolding(crate::specs::ContentMachine::content_next), using(crate::proofs::ContentGoing::content_goes_on_is_some, crate::proofs::ContentGoing::content_ends_is_some, crate::proofs::ContentGoing::content_index_ends_is_some))]
     fn takes_sign(&self, sign: Sign) -> bool {
         match self {
-            ContentState::AfterTarget(_) => matches!(sign, Sign::Becomes),
+            ContentState::AfterTarget(name) => match sign {
+                Sign::Becomes => true,
+                Sign::OpenSquare => name.is_plain(),
+                _ => false,
+            },
+            ContentState::InIndex(_, reading) => match sign {
+                Sign::CloseSquare => reading.reader().can_end()
+                    || reading.reader().takes_sign(sign),
+                _ => reading.reader().takes_sign(sign),
+            },
+            ContentState::AfterIndex(_, _, _) => matches!(sign, Sign::Becomes),
             ContentState::InExpression(_, reading) => match sign {
                 Sign::Semicolon => reading.reader().can_end(),
                 _ => reading.reader().takes_sign(sign),
@@ -202,7 +301,11 @@ impl ContentState {
     {
         match self {
             ContentState::Start => begin_next(alloc, token),
-            ContentState::AfterTarget(name) => becomes_next(alloc, name, token),
+            ContentState::AfterTarget(name) => target_next(alloc, name, token),
+            ContentState::InIndex(array, reading) => in_index_next(alloc, array, reading, token),
+            ContentState::AfterIndex(array, index, operators) => index_next(
+                alloc, array, index, operators, token,
+            ),
             ContentState::InExpression(aim, reading) => inside_next(alloc, aim, reading, token),
             ContentState::Ended(_) => Err(Fault::Refused),
         }
@@ -224,10 +327,11 @@ impl ContentState {
 /// from the start of all bytes, and `start` is at most their length.
 ///
 /// What follows the `;` is not read. A content is what a part says without its tag and its blocks:
-/// `name := expr`, `write expr`, `if expr` or `while expr`, with the limits of an expression. `Syntax` comes
-/// exactly where the bytes from `start` on begin with no content and `;`; its place is `start` and
-/// the length of the longest front of the bytes from there on that some further bytes complete.
-/// `Shape` never comes; `Memory` where memory ran out.
+/// `name := expr`, `name[expr] := expr`, `write expr`, `if expr` or `while expr`, with the limits of
+/// an expression, where the operators of an index and of the number that is stored count together.
+/// `Syntax` comes exactly where the bytes from `start` on begin with no content and `;`; its place is
+/// `start` and the length of the longest front of the bytes from there on that some further bytes
+/// complete. `Shape` never comes; `Memory` where memory ran out.
 pub fn read_content(
     alloc: Global,
     bytes: &[u8],

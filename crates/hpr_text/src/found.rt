@@ -2,7 +2,7 @@
 ghost use Rattle.std.specs.Prelude.{◌≡◌, ◌≢◌, ◌≤◌, [], ◌∷◌, ◌++◌, length, nat_lt, is_some, Some, IfOk, IfErr, OnOk};
 ghost use Rattle.hpr_terms.specs.declared.limits.TheConstants.{MAX_LEVELS, MAX_PARTS};
 ghost use Rattle.hpr_terms.specs.Names.{stream};
-ghost use Rattle.hpr_syntax.specs.Action.{assigns, writes};
+ghost use Rattle.hpr_syntax.specs.Action.{assigns, writes, stores};
 ghost use Rattle.hpr_syntax.specs.Body.{done, branch, loop};
 ghost use Rattle.hpr_syntax.specs.BodyOf.{before};
 ghost use Rattle.hpr_syntax.specs.Shape.{IsProgram};
@@ -193,6 +193,19 @@ impl Found {
     {
         let stream = Name::stream(alloc)?;
         self.add_stmt(Stmt::Write(tag, stream, value))
+    }
+
+    /// One more part, a store, unless more have begun than a program may have.
+    pub fn add_store(
+        &mut self,
+        tag: Tag,
+        array: Name,
+        index: Expr,
+        value: Expr,
+    ) -> Result<(), NoMemory>
+        ensures { OnOk result (self.new ≡ machine.with_part machine.limit tag (stores array index value) self.old) }
+    {
+        self.add_stmt(Stmt::Store(tag, array, index, value))
     }
 
     /// Takes the parts of the innermost block.

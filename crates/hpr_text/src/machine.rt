@@ -5,7 +5,7 @@ ghost use Rattle.hpr_text.specs.Machine as machine;
 
 use crate::places::{
     is_author, is_serial, takes_block, takes_expression_keyword, takes_expression_sign,
-    takes_header, takes_tag,
+    takes_header, takes_index_sign, takes_name_sign, takes_tag, takes_target_sign,
 };
 use crate::state::{Place, State};
 use hpr_scan::{Fault, TokenMachine};
@@ -61,6 +61,7 @@ impl TokenMachine for State {
             Place::AfterColon(_) => {
                 matches!(keyword, Keyword::If | Keyword::While | Keyword::Write)
             }
+            Place::InIndex(_, _, reading) => reading.reader().takes_keyword(keyword),
             Place::InExpression(purpose, reading) => {
                 takes_expression_keyword(&self.found, purpose, reading.reader(), keyword)
             }
@@ -77,6 +78,7 @@ impl TokenMachine for State {
             Place::AfterPair => self.found.can_begin(),
             Place::AtPart => self.found.can_begin(),
             Place::AfterColon(_) => true,
+            Place::InIndex(_, _, reading) => reading.reader().takes_name(),
             Place::InExpression(_, reading) => reading.reader().takes_name(),
             Place::AfterOpen => true,
             Place::AfterComma => true,
@@ -93,6 +95,7 @@ impl TokenMachine for State {
             Place::AtPart => takes_tag(&self.found, number),
             Place::AfterPairColon(_) => is_serial(number),
             Place::AfterDot(_) => is_serial(number),
+            Place::InIndex(_, _, reading) => reading.reader().takes_number(number),
             Place::InExpression(_, reading) => reading.reader().takes_number(number),
             _ => false,
         }
@@ -105,13 +108,17 @@ impl TokenMachine for State {
             Place::AfterPair => matches!(sign, Sign::Comma),
             Place::AfterAuthor(_) => matches!(sign, Sign::Dot),
             Place::AfterSerial(_) => matches!(sign, Sign::Colon),
-            Place::AfterTarget(_, _) => matches!(sign, Sign::Becomes),
+            Place::AfterTarget(_, name) => takes_target_sign(name, sign),
+            Place::InIndex(_, _, reading) => takes_index_sign(reading.reader(), sign),
+            Place::AfterIndex(_, _, _, _) => matches!(sign, Sign::Becomes),
             Place::InExpression(purpose, reading) => {
                 takes_expression_sign(&self.found, purpose, reading.reader(), sign)
             }
             Place::AfterEnd => matches!(sign, Sign::Open),
             Place::AfterOpen => matches!(sign, Sign::Close),
-            Place::AfterName => matches!(sign, Sign::Comma | Sign::Close),
+            Place::AfterName(name) => takes_name_sign(name, sign),
+            Place::AfterNameOpen(_) => matches!(sign, Sign::CloseSquare),
+            Place::AfterFinal => matches!(sign, Sign::Comma | Sign::Close),
             _ => false,
         }
     }

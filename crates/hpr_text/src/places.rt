@@ -12,7 +12,7 @@ use crate::found::Found;
 use crate::state::{Place, Purpose};
 use hpr_expressions::Reader;
 use hpr_scan::{Fault, TokenMachine};
-use hpr_terms::{Keyword, Name, Sign, Tag, Token};
+use hpr_terms::{Expr, Keyword, Name, Sign, Tag, Token};
 use std::alloc::Global;
 
 /// Authors and serials are below this.
@@ -92,7 +92,43 @@ pub fn takes_expression_sign(found: &Found, purpose: &Purpose, reading: &Reader,
     match (purpose, sign) {
         (Purpose::Assign(_, _), Sign::Semicolon) => reading.can_end(),
         (Purpose::Output(_), Sign::Semicolon) => reading.can_end(),
+        (Purpose::Store(_, _, _), Sign::Semicolon) => reading.can_end(),
         _ => reading.takes_sign(sign),
+    }
+}
+
+/// Whether the sign can stand behind the name at which a part begins.
+pub fn takes_target_sign(name: &Name, sign: Sign) -> bool
+    ensures { (f : _) (t : _) → result ≡ is_some (machine.target_next f t name.now (tokens.Mark sign)) }
+{
+    match sign {
+        Sign::Becomes => true,
+        Sign::OpenSquare => name.is_plain(),
+        _ => false,
+    }
+}
+
+/// Whether the sign can stand next in the index of a store, or behind it.
+#[tactic(auto, using(crate::proofs::Going::goes_on_is_some, crate::proofs::Going::index_ends_is_some))]
+pub fn takes_index_sign(reading: &Reader, sign: Sign) -> bool
+    ensures { (f : _) (t : _) (a : _) → result ≡ is_some (machine.in_index_next f t a reading.now
+        (tokens.Mark sign)) }
+{
+    match sign {
+        Sign::CloseSquare => reading.can_end() || reading.takes_sign(sign),
+        _ => reading.takes_sign(sign),
+    }
+}
+
+/// Whether the sign can stand behind a name of `end`.
+pub fn takes_name_sign(name: &Name, sign: Sign) -> bool
+    ensures { (f : _) → result ≡ is_some (machine.name_next f name.now (tokens.Mark sign)) }
+{
+    match sign {
+        Sign::Comma => true,
+        Sign::Close => true,
+        Sign::OpenSquare => name.is_plain(),
+        _ => false,
     }
 }
 
@@ -314,6 +350,103 @@ impl Found {
                 Purpose::Assign(tag, name),
                 BoxedReader::start(alloc)?,
             )),
+            Token::Mark(Sign::OpenSquare) => self.index_begins(alloc, tag, name),
+            _ => Err(Fault::Refused),
+        }
+    }
+
+    fn index_begins(&mut self, alloc: Global, tag: Tag, name: Name) -> Result<Place, Fault>
+        ensures { InPlace (machine.state_at self.new) (machine.index_begins self.old tag name) result }
+    {
+        if !name.is_plain() {
+            return Err(Fault::Refused);
+        }
+        let array = Name::array(alloc, &name)?;
+        Ok(Place::InIndex(tag, array, BoxedReader::start(alloc)?))
+    }
+
+    fn index_goes_on(
+        &mut self,
+        alloc: Global,
+        tag: Tag,
+        array: Name,
+        mut reading: BoxedReader,
+        token: Token,
+    ) -> Result<Place, Fault>
+        ensures { InPlace (machine.state_at self.new) (machine.goes_on self.old (Place.InIndex tag array)
+            (expression.read reading token)) result }
+    {
+        reading.step(alloc, token)?;
+        Ok(Place::InIndex(tag, array, reading))
+    }
+
+    fn index_ends(
+        &mut self,
+        alloc: Global,
+        tag: Tag,
+        array: Name,
+        reading: BoxedReader,
+    ) -> Result<Place, Fault>
+        ensures { InPlace (machine.state_at self.new) (machine.index_ends self.old tag array
+            (expression.counted_in reading) (expression.ended reading)) result }
+    {
+        let operators = reading.reader().operators();
+        let index = reading.ended(alloc)?;
+        Ok(Place::AfterIndex(tag, array, index, operators))
+    }
+
+    fn index_closes(
+        &mut self,
+        alloc: Global,
+        tag: Tag,
+        array: Name,
+        reading: BoxedReader,
+    ) -> Result<Place, Fault>
+        ensures { InPlace (machine.state_at self.new) (machine.in_index_next self.old tag array reading
+            (tokens.Mark Sign.CloseSquare)) result }
+    {
+        // it closes an element of the index where one is open
+        if reading.reader().can_end() {
+            self.index_ends(alloc, tag, array, reading)
+        } else {
+            self.index_goes_on(alloc, tag, array, reading, Token::Mark(Sign::CloseSquare))
+        }
+    }
+
+    fn in_index_next(
+        &mut self,
+        alloc: Global,
+        tag: Tag,
+        array: Name,
+        reading: BoxedReader,
+        token: Token,
+    ) -> Result<Place, Fault>
+        ensures { InPlace (machine.state_at self.new)
+            (machine.in_index_next self.old tag array reading token) result }
+    {
+        match token {
+            Token::Mark(Sign::CloseSquare) => self.index_closes(alloc, tag, array, reading),
+            _ => self.index_goes_on(alloc, tag, array, reading, token),
+        }
+    }
+
+    fn index_next(
+        &mut self,
+        alloc: Global,
+        tag: Tag,
+        array: Name,
+        index: Expr,
+        operators: usize,
+        token: Token,
+    ) -> Result<Place, Fault>
+        ensures { InPlace (machine.state_at self.new)
+            (machine.index_next self.old tag array index operators token) result }
+    {
+        match token {
+            Token::Mark(Sign::Becomes) => Ok(Place::InExpression(
+                Purpose::Store(tag, array, index),
+                BoxedReader::start_after(alloc, operators)?,
+            )),
             _ => Err(Fault::Refused),
         }
     }
@@ -325,7 +458,7 @@ impl Found {
         mut reading: BoxedReader,
         token: Token,
     ) -> Result<Place, Fault>
-        ensures { InPlace (machine.state_at self.new) (machine.goes_on self.old purpose
+        ensures { InPlace (machine.state_at self.new) (machine.goes_on self.old (Place.InExpression purpose)
             (expression.read reading token)) result }
     {
         reading.step(alloc, token)?;
@@ -359,9 +492,14 @@ impl Found {
                 self.add_write(alloc, tag, value)?;
                 Ok(Place::AtPart)
             }
+            Purpose::Store(tag, array, index) => {
+                self.add_store(tag, array, index, value)?;
+                Ok(Place::AtPart)
+            }
         }
     }
 
+    #[tactic(auto, using(crate::proofs::Going::goes_on_within, crate::proofs::Going::ends_within))]
     fn expression_next(
         &mut self,
         alloc: Global,
@@ -372,20 +510,10 @@ impl Found {
         ensures { InPlace (machine.state_at self.new)
             (machine.expression_next machine.limit self.old purpose reading token) result }
     {
-        match (&purpose, &token) {
-            (Purpose::Assign(_, _), Token::Mark(Sign::Semicolon)) => {
-                self.expression_ends(alloc, purpose, reading)
-            }
-            (Purpose::Test(_), Token::Word(Keyword::Then)) => {
-                self.expression_ends(alloc, purpose, reading)
-            }
-            (Purpose::Guard(_), Token::Word(Keyword::Do)) => {
-                self.expression_ends(alloc, purpose, reading)
-            }
-            (Purpose::Output(_), Token::Mark(Sign::Semicolon)) => {
-                self.expression_ends(alloc, purpose, reading)
-            }
-            _ => self.expression_goes_on(alloc, purpose, reading, token),
+        if purpose.ends_at(&token) {
+            self.expression_ends(alloc, purpose, reading)
+        } else {
+            self.expression_goes_on(alloc, purpose, reading, token)
         }
     }
 
@@ -407,8 +535,46 @@ impl Found {
         }
     }
 
-    fn name_next(&mut self, token: Token) -> Result<Place, Fault>
-        ensures { InPlace (machine.state_at self.new) (machine.name_next self.old token) result }
+    fn array_begins(&mut self, alloc: Global, name: Name) -> Result<Place, Fault>
+        ensures { InPlace (machine.state_at self.new) (machine.array_begins self.old name) result }
+    {
+        if !name.is_plain() {
+            return Err(Fault::Refused);
+        }
+        Ok(Place::AfterNameOpen(Name::array(alloc, &name)?))
+    }
+
+    fn name_next(&mut self, alloc: Global, name: Name, token: Token) -> Result<Place, Fault>
+        ensures { InPlace (machine.state_at self.new) (machine.name_next self.old name token) result }
+    {
+        match token {
+            Token::Mark(Sign::OpenSquare) => self.array_begins(alloc, name),
+            Token::Mark(Sign::Comma) => {
+                self.add_name(name)?;
+                Ok(Place::AfterComma)
+            }
+            Token::Mark(Sign::Close) => {
+                self.add_name(name)?;
+                Ok(Place::AtEnd)
+            }
+            _ => Err(Fault::Refused),
+        }
+    }
+
+    fn name_open_next(&mut self, array: Name, token: Token) -> Result<Place, Fault>
+        ensures { InPlace (machine.state_at self.new) (machine.name_open_next self.old array token) result }
+    {
+        match token {
+            Token::Mark(Sign::CloseSquare) => {
+                self.add_name(array)?;
+                Ok(Place::AfterFinal)
+            }
+            _ => Err(Fault::Refused),
+        }
+    }
+
+    fn final_next(&mut self, token: Token) -> Result<Place, Fault>
+        ensures { InPlace (machine.state_at self.new) (machine.final_next self.old token) result }
     {
         match token {
             Token::Mark(Sign::Comma) => Ok(Place::AfterComma),
@@ -421,14 +587,11 @@ impl Found {
         ensures { InPlace (machine.state_at self.new) (machine.comma_next self.old token) result }
     {
         match token {
-            Token::Name(name) => {
-                self.add_name(name)?;
-                Ok(Place::AfterName)
-            }
+            Token::Name(name) => Ok(Place::AfterName(name)),
             Token::Word(Keyword::Out) => {
                 let stream = Name::stream(alloc)?;
                 self.add_name(stream)?;
-                Ok(Place::AfterName)
+                Ok(Place::AfterFinal)
             }
             _ => Err(Fault::Refused),
         }
@@ -452,12 +615,20 @@ impl Found {
             Place::AfterSerial(tag) => self.serial_next(tag, token),
             Place::AfterColon(tag) => self.colon_next(alloc, tag, token),
             Place::AfterTarget(tag, name) => self.target_next(alloc, tag, name, token),
+            Place::InIndex(tag, array, reading) => self.in_index_next(
+                alloc, tag, array, reading, token,
+            ),
+            Place::AfterIndex(tag, array, index, operators) => self.index_next(
+                alloc, tag, array, index, operators, token,
+            ),
             Place::InExpression(purpose, reading) => self.expression_next(
                 alloc, purpose, reading, token,
             ),
             Place::AfterEnd => self.end_next(token),
             Place::AfterOpen => self.open_next(alloc, token),
-            Place::AfterName => self.name_next(token),
+            Place::AfterName(name) => self.name_next(alloc, name, token),
+            Place::AfterNameOpen(array) => self.name_open_next(array, token),
+            Place::AfterFinal => self.final_next(token),
             Place::AfterComma => self.comma_next(alloc, token),
             Place::AtEnd => Err(Fault::Refused),
         }

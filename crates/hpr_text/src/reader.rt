@@ -53,8 +53,9 @@ fn built(alloc: Global, state: State) -> Result<Program, TextError>
 /// untagged one the parts get the tags of the author from 1 on, in preorder, and the issued numbers
 /// are the author with the number of parts, or none where there are no parts; the author is at
 /// least 1, since author 0 is kept for the product. In either one literals are at most
-/// 9,223,372,036,854,775,807, a name has 1 to 64 bytes, a part stands at most 64 levels deep, and an
-/// expression has at most 256 operators, and 256 brackets in one another.
+/// 9,223,372,036,854,775,807, a name has 1 to 64 bytes, a part stands at most 64 levels deep, the
+/// expressions of a part have together at most 256 operators, and an expression has at most 256
+/// brackets in one another. The brackets around the index of a store stand outside of its expression.
 ///
 /// `Syntax` comes exactly where the bytes spell no tree in this form, with the length of their
 /// longest front that some further bytes complete; `Shape` exactly where they spell a tree that is

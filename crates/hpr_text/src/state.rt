@@ -6,7 +6,7 @@ ghost use Rattle.hpr_text.specs.Private.EndsAt.{ends_at};
 use crate::boxed::BoxedReader;
 use crate::form::Mode;
 use crate::found::Found;
-use hpr_terms::{Keyword, Name, Sign, Tag, Token};
+use hpr_terms::{Expr, Keyword, Name, Sign, Tag, Token};
 use std::alloc::Global;
 
 /// What an expression is read for.
@@ -20,6 +20,8 @@ pub enum Purpose {
     Guard(Tag),
     /// The number that is written.
     Output(Tag),
+    /// The number that is stored. With the array and the index.
+    Store(Tag, Name, Expr),
 }
 
 impl Purpose {
@@ -32,6 +34,7 @@ impl Purpose {
             Purpose::Test(_) => matches!(token, Token::Word(Keyword::Then)),
             Purpose::Guard(_) => matches!(token, Token::Word(Keyword::Do)),
             Purpose::Output(_) => matches!(token, Token::Mark(Sign::Semicolon)),
+            Purpose::Store(_, _, _) => matches!(token, Token::Mark(Sign::Semicolon)),
         }
     }
 }
@@ -61,16 +64,24 @@ pub enum Place {
     AfterSerial(Tag),
     /// The colon of a tag.
     AfterColon(Tag),
-    /// The name that a part assigns to.
+    /// The name that a part assigns to, or of whose array it changes an element.
     AfterTarget(Tag, Name),
-    /// A front of an expression.
+    /// A front of the index of a store. With the array.
+    InIndex(Tag, Name, BoxedReader),
+    /// The index of a store and its closing bracket. With the array, the index and how many operators it has.
+    AfterIndex(Tag, Name, Expr, usize),
+    /// A front of another expression.
     InExpression(Purpose, BoxedReader),
     /// `end`.
     AfterEnd,
     /// The opening bracket of `end`.
     AfterOpen,
-    /// A name of `end`.
-    AfterName,
+    /// A name of `end`, which is a variable of `end` unless `[` follows.
+    AfterName(Name),
+    /// Such a name and `[`. With the name's array.
+    AfterNameOpen(Name),
+    /// The stream or an array of `end`.
+    AfterFinal,
     /// A comma between two names of `end`.
     AfterComma,
     /// The whole program.

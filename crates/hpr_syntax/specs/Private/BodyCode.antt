@@ -12,7 +12,7 @@ use Rattle.hpr_terms.specs.TermOrder.{term_code}
 use Rattle.hpr_terms.specs.TermOf.{term_of}
 use Rattle.hpr_terms.specs.Private.TermCode.{name_inj}
 pub use Rattle.hpr_terms.specs.Private.ExprCode.{expr_inj}
-use Rattle.hpr_syntax.specs.Action.{assigns, writes}
+use Rattle.hpr_syntax.specs.Action.{assigns, writes, stores}
 use Rattle.hpr_syntax.specs.Body.{Body, done, action, branch, loop}
 use Rattle.hpr_syntax.specs.BodyOrder.{tag_code, act_code, body_code}
 
@@ -39,6 +39,11 @@ body_inj (action g (writes x e) r) (action h (writes y f) q) s t p =
     let a = act_inj g h x y e f (body_code r s) (body_code q t) cc in
     let d : (r ≡ q) × (s ≡ t) = body_inj r q s t a.3 in
     (cc, d.1)
+body_inj (action g (stores x i e) r) (action h (stores y j f) q) s t p =
+    let a : (g ≡ h) × (x ≡ y) × (i ≡ j) × (term_code (term_of e) (body_code r s) ≡ term_code (term_of f) (body_code q t)) = act_inj g h x y i j _ _ cc in
+    let b : (e ≡ f) × (body_code r s ≡ body_code q t) = expr_inj e f _ _ a.3 in
+    let d : (r ≡ q) × (s ≡ t) = body_inj r q s t b.1 in
+    (cc, d.1)
 body_inj (branch g e u v r) (branch h f u' v' q) s t p =
     let a : (g ≡ h) × (term_code (term_of e) (body_code u (body_code v (body_code r s))) ≡ term_code (term_of f) (body_code u' (body_code v' (body_code q t)))) = tag_inj g h _ _ cc in
     let b : (e ≡ f) × (body_code u (body_code v (body_code r s)) ≡ body_code u' (body_code v' (body_code q t))) = expr_inj e f _ _ a.1 in
@@ -54,10 +59,13 @@ body_inj (loop g e u r) (loop h f u' q) s t p =
     (cc, d.1)
 body_inj done (action h (assigns y f) q) s t p = absurd cc
 body_inj done (action h (writes y f) q) s t p = absurd cc
+body_inj done (action h (stores y j f) q) s t p = absurd cc
 body_inj (branch g e u v r) (action h (assigns y f) q) s t p = absurd cc
 body_inj (branch g e u v r) (action h (writes y f) q) s t p = absurd cc
+body_inj (branch g e u v r) (action h (stores y j f) q) s t p = absurd cc
 body_inj (loop g e u r) (action h (assigns y f) q) s t p = absurd cc
 body_inj (loop g e u r) (action h (writes y f) q) s t p = absurd cc
+body_inj (loop g e u r) (action h (stores y j f) q) s t p = absurd cc
 body_inj _ _ s t p = absurd cc
 
 abbrev pub body_coded : Coded Body

@@ -4,7 +4,7 @@
 use Rattle.std.proofs.Common.{◌≤◌, max, arith, List, [], ◌∷◌}
 use denote.Param.Weighed.{most}
 use Rattle.hpr_syntax.specs.declared.tree.Stmt.{Stmt}
-use Rattle.hpr_syntax.specs.declared.tree.Stmt.TheVariants.{Assign, If, While, Write}
+use Rattle.hpr_syntax.specs.declared.tree.Stmt.TheVariants.{Assign, If, While, Write, Store}
 use Rattle.hpr_syntax.specs.declared.tree.Block.TheDeep.{deep-Stmt}
 use Rattle.hpr_syntax.specs.Body.{depth}
 use Rattle.hpr_syntax.specs.BodyOf.{body_of}
@@ -15,3 +15,4 @@ depth_falls (Assign t x e ∷ rest) = omega (arith, depth_falls rest)
 depth_falls (If t e a b ∷ rest) = omega (arith, depth_falls rest)
 depth_falls (While t e b ∷ rest) = omega (arith, depth_falls rest)
 depth_falls (Write t x e ∷ rest) = omega (arith, depth_falls rest)
+depth_falls (Store t x i e ∷ rest) = omega (arith, depth_falls rest)

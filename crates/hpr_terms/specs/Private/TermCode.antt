@@ -11,7 +11,7 @@ use Rattle.hpr_terms.specs.declared.expr.Unary.{Unary}
 use Rattle.hpr_terms.specs.declared.expr.Unary.TheVariants.{Neg, Not}
 use Rattle.hpr_terms.specs.declared.expr.Binary.{Binary}
 use Rattle.hpr_terms.specs.declared.expr.Binary.TheVariants.{Or, And, Equal, Differ, Less, LessEqual, Greater, GreaterEqual, Add, Sub, Mul, Div, Rem}
-use Rattle.hpr_terms.specs.Term.{Term, num, var, prefix, infix'}
+use Rattle.hpr_terms.specs.Term.{Term, num, var, prefix, infix', element}
 use Rattle.hpr_terms.specs.TermOrder.{unary_rank, binary_rank, name_code, term_code}
 
 abbrev unary_back : ℕ → Unary
@@ -75,6 +75,9 @@ term_inj (infix' op a b) (infix' op' a' b') s t p =
     let q : (a ≡ a') × (term_code b s ≡ term_code b' t) = term_inj a a' _ _ cc in
     let r : (b ≡ b') × (s ≡ t) = term_inj b b' s t q.1 in
     let o : op ≡ op' = binary_inj op op' cc in (cc, r.1)
+term_inj (element x i) (element y j) s t p =
+    let q : (x ≡ y) × (term_code i s ≡ term_code j t) = name_inj x y _ _ cc in
+    let r : (i ≡ j) × (s ≡ t) = term_inj i j s t q.1 in (cc, r.1)
 term_inj _ _ s t p = absurd cc
 
 -- the code by which a proof tells terms apart

@@ -1,9 +1,9 @@
 use Rattle.std.proofs.Common.{rules, ◌≡◌, ◌++◌, IsUtf8, List, ℕ, codes, sym, subst}
 use Rattle.hpr_terms.specs.TermOf.{term_of}
-use Rattle.hpr_syntax.specs.Print.{term_text}
+use Rattle.hpr_syntax.specs.Print.{term_text, element_text}
 use Rattle.hpr_print.proofs.Utf8.{assignment_utf8, if_utf8, while_utf8, write_utf8}
 use Rattle.hpr_print.proofs.contents.content_text.Goals as goal
-use Rattle.hpr_print.proofs.contents.content_text.Goals.{in-Assign+in_ok-put-in-Assign+in_ok-put-in-Assign-2+in_ok-put_expr-in-Assign, in-If+in_ok-put-in-If+in_ok-put_expr-in-If, in-While+in_ok-put-in-While+in_ok-put_expr-in-While, in-Write+in_ok-put-in-Write+in_ok-put_expr-in-Write}
+use Rattle.hpr_print.proofs.contents.content_text.Goals.{in-Assign+in_ok-put-in-Assign+in_ok-put-in-Assign-2+in_ok-put_expr-in-Assign, in-If+in_ok-put-in-If+in_ok-put_expr-in-If, in-While+in_ok-put-in-While+in_ok-put_expr-in-While, in-Write+in_ok-put-in-Write+in_ok-put_expr-in-Write, in-Store+in_ok-put_element-in-Store+in_ok-put-in-Store+in_ok-put_expr-in-Store}
 
 pub returns-clause-utf8 : goal.returns-clause-utf8
 returns-clause-utf8 c =
@@ -21,4 +21,8 @@ returns-clause-utf8 c =
       | in-Write+in_ok-put-in-Write+in_ok-put_expr-in-Write w ↦
           (let e : out ≡ codes "write " ++ term_text (term_of w.in-Write.value) = search rules in
           subst IsUtf8 (sym e) (write_utf8 (term_text (term_of w.in-Write.value)) (w.in_ok-put_expr-in-Write.ensures).utf8))
+      | in-Store+in_ok-put_element-in-Store+in_ok-put-in-Store+in_ok-put_expr-in-Store w ↦
+          (let stored = element_text w.in-Store.array (term_text (term_of w.in-Store.index)) in
+          let e : out ≡ stored ++ codes " := " ++ term_text (term_of w.in-Store.value) = search rules in
+          subst IsUtf8 (sym e) (assignment_utf8 stored (term_text (term_of w.in-Store.value)) (w.in_ok-put_element-in-Store.ensures).utf8 (w.in_ok-put_expr-in-Store.ensures).utf8))
     ]

@@ -1,9 +1,9 @@
-use Rattle.std.proofs.Common.{◌≡◌, ◌<◌, ◌^◌, ◌||◌, ◌&&◌, ◌==◌, nat_lt, nat_le, rules, arith, ap}
+use Rattle.std.proofs.Common.{◌≡◌, ◌<◌, ◌^◌, ◌||◌, ◌&&◌, ◌==◌, nat_lt, nat_le, rules, arith, ap, sym, subst, IsUtf8}
 use Rattle.std.proofs.lemmas.Result.{on_ok_weaker}
-use Rattle.hpr_terms.specs.Term.{num, prefix, infix'}
+use Rattle.hpr_terms.specs.Term.{num, prefix, infix', element}
 use Rattle.hpr_terms.specs.TermOf.{term_of}
 use Rattle.hpr_syntax.specs.Print.{level_of, level_of_sign, term_text}
-use Rattle.hpr_print.proofs.Utf8.{num_utf8, prefix_utf8, bracketed_utf8, infix_utf8}
+use Rattle.hpr_print.proofs.Utf8.{num_utf8, prefix_utf8, bracketed_utf8, infix_utf8, element_utf8, elem_utf8}
 use Rattle.hpr_print.proofs.expressions.+put_expr.Goals as goal
 
 pub put_expr-returns-in-Num-clause-utf8 : goal.put_expr-returns-in-Num-clause-utf8
@@ -30,6 +30,17 @@ put_expr-returns-in_ok-put-in-Infix-3-clause-utf8 t c =
     on_ok_weaker c.put_operand-in-Infix-2.result
     (λ h. infix_utf8 (term_of c.args.expr.now) op first second c.if-level-binds.is_loose _ is left right c.in_ok-put_operand-in-Infix.ensures.utf8 h)
     c.put_operand-in-Infix-2.ensures.utf8
+
+pub put_expr-returns-in-Elem-clause-utf8 : goal.put_expr-returns-in-Elem-clause-utf8
+put_expr-returns-in-Elem-clause-utf8 t c =
+    let index = term_of c.expr.result.now in
+    let is : term_of c.args.expr.now ≡ element c.in-Elem.array index = search rules in
+    on_ok_weaker c.put_element.result (λ h. elem_utf8 (term_of c.args.expr.now) c.in-Elem.array index is h) c.put_element.ensures.utf8
+
+pub put_element-returns-clause-utf8 : goal.put_element-returns-clause-utf8
+put_element-returns-clause-utf8 t c =
+    let name = subst IsUtf8 c.base.ensures c.base.utf8 in
+    on_ok_weaker c.put-3.result (λ _. element_utf8 c.args.array.now (term_text (term_of c.args.index.now)) name (c.in_ok-put_expr.ensures).utf8) c.put-3.ensures
 
 pub put_operand-returns-in_ok-put_expr-clause-utf8 : goal.put_operand-returns-in_ok-put_expr-clause-utf8
 put_operand-returns-in_ok-put_expr-clause-utf8 t c =
