@@ -2,7 +2,7 @@
 use crate::state::read_state;
 use hpr_expressions::Reader;
 use hpr_print::expr_text;
-use hpr_rows::{Out, Row, put_comparison, put_count, put_made};
+use hpr_rows::{Out, Row, put_comparison, put_count, put_counted, put_made};
 use hpr_run::{Fault, State, eval};
 use hpr_scan::{Refusal, read};
 use hpr_terms::Expr;
@@ -12,6 +12,7 @@ use std::alloc::Global;
 pub(crate) fn call(row: Row<'_>, out: &mut Out) -> Option<()> {
     match row.word(1)? {
         "show" => show(row, out),
+        "after" => after(row, out),
         "compare" => compare(row, out),
         "eval" => value(row, out),
         _ => None,
@@ -30,13 +31,36 @@ fn put_read(alloc: Global, out: &mut Out, reading: Reader) {
     }
 }
 
+fn put_refusal(out: &mut Out, refusal: Refusal) {
+    match refusal {
+        Refusal::Stuck { place } => put_count(out, "stuck at ", place as u64),
+        Refusal::Memory => out.cut(),
+    }
+}
+
 // `show TEXT`: the expression in its canonical form.
 fn show(row: Row<'_>, out: &mut Out) -> Option<()> {
     let bytes = row.bytes(2)?;
     match read(row.alloc, Reader::start(row.alloc), bytes) {
         Ok(reading) => put_read(row.alloc, out, reading),
-        Err(Refusal::Stuck { place }) => put_count(out, "stuck at ", place as u64),
-        Err(Refusal::Memory) => out.cut(),
+        Err(refusal) => put_refusal(out, refusal),
+    }
+    Some(())
+}
+
+fn put_counted_read(alloc: Global, out: &mut Out, reading: Reader) {
+    put_counted(out, "operators ", reading.operators());
+    out.put_piece(": ");
+    put_read(alloc, out, reading);
+}
+
+// `after OPERATORS TEXT`: the expression where so many operators stand before it, and how many there are then.
+fn after(row: Row<'_>, out: &mut Out) -> Option<()> {
+    let before = row.number(2)?;
+    let bytes = row.bytes(3)?;
+    match read(row.alloc, Reader::start_after(row.alloc, before), bytes) {
+        Ok(reading) => put_counted_read(row.alloc, out, reading),
+        Err(refusal) => put_refusal(out, refusal),
     }
     Some(())
 }
@@ -79,6 +103,7 @@ fn put_value(out: &mut Out, expr: &Expr, state: &State) {
         Err(Fault::Overflow) => out.put_piece("overflow\n"),
         Err(Fault::ZeroDivide) => out.put_piece("zero-divide\n"),
         Err(Fault::OutputFull) => out.put_piece("output-full\n"),
+        Err(Fault::IndexRange) => out.put_piece("index-range\n"),
     }
 }
 

@@ -26,6 +26,7 @@ impl Calls for ProgramCalls {
     fn answer(row: Row<'_>, out: &mut Out) -> Option<()> {
         match row.word(0)? {
             "array" => arrays::call(row, out),
+            "copy" => arrays::copied(row, out),
             "text" => text::call(row, out),
             "expression" => expression::call(row, out),
             "tree" => tree::call(row, out),

@@ -2,10 +2,11 @@
 ghost use Rattle.std.specs.Prelude.{IfOk};
 ghost use Rattle.hpr_report.specs.TableText.{IsSingleValued};
 
+use crate::arrays::put_elements;
 use crate::state::read_state;
 use hpr_meaning::{Instance, Origin, Read, Reading, Traced, trace};
 use hpr_report::{outcome_text, table_text};
-use hpr_rows::{Out, Row, put, put_counted, put_made, put_tag, truth};
+use hpr_rows::{Out, Row, put, put_count, put_counted, put_made, put_tag, truth};
 use hpr_run::{FinalValues, Outcome, State, Value, run};
 use hpr_syntax::Program;
 use hpr_terms::{Name, NoMemory};
@@ -16,6 +17,7 @@ pub(crate) fn call(row: Row<'_>, out: &mut Out) -> Option<()> {
     match row.word(1)? {
         "table" => table(row, out),
         "state" => stated(row, out),
+        "count" => counted(row, out),
         _ => started(row, out),
     }
 }
@@ -174,6 +176,7 @@ fn put_worth(out: &mut Out, value: &Value) {
     match value {
         Value::Number(number) => out.put_value(*number),
         Value::List(written) => put_counted(out, "size ", written.len()),
+        Value::Array(cells) => put_elements(out, cells),
     }
 }
 
@@ -202,5 +205,13 @@ fn stated(row: Row<'_>, out: &mut Out) -> Option<()> {
     let name = row.name(2)?;
     let state = read_state(row, 3)?;
     put_name_in(row.alloc, out, &state, &name);
+    Some(())
+}
+
+// `count ARRAY STATE..`: how many elements of the array aren't 0 in the state.
+fn counted(row: Row<'_>, out: &mut Out) -> Option<()> {
+    let array = row.name(2)?;
+    let state = read_state(row, 3)?;
+    put_count(out, "count ", state.count(&array) as u64);
     Some(())
 }

@@ -1,13 +1,15 @@
 //! Calls of the names of hpr_terms.
 use hpr_rows::{Out, Row, name_of, put, put_counted, put_names, truth};
-use hpr_terms::{Name, copy_names, is_name, is_name_like, names};
+use hpr_terms::{Name, copy_names, is_array, is_name, is_name_like, names};
 use std::alloc::Global;
 
 /// Answers the call.
 pub(crate) fn call(row: Row<'_>, out: &mut Out) -> Option<()> {
     match row.word(1)? {
         "names" => put_lines(row, out),
+        "arrays" => put_arrays(row, out),
         "stream" => put_stream(row, out)?,
+        "kind" => put_kind(row, out)?,
         _ => order(row, out)?,
     }
     Some(())
@@ -52,6 +54,36 @@ fn put_lines(row: Row<'_>, out: &mut Out) {
     for word in row.rest(2) {
         put_line(row.alloc, out, word.as_str());
     }
+}
+
+fn put_array(out: &mut Out, text: &str) {
+    out.put_piece(text);
+    put(
+        out,
+        &[": an array ", truth(is_array(text.as_bytes())), "\n"],
+    );
+}
+
+// `arrays WORD..`: which words are names of arrays.
+fn put_arrays(row: Row<'_>, out: &mut Out) {
+    for word in row.rest(2) {
+        put_array(out, word.as_str());
+    }
+}
+
+fn put_kind_of(out: &mut Out, name: &Name) {
+    out.put_piece(name.text());
+    put(out, &[": plain ", truth(name.is_plain())]);
+    put(out, &[", an array ", truth(name.is_array()), ", base "]);
+    out.put_piece(name.base());
+    out.put_piece("\n");
+}
+
+// `kind NAME`: whether the name is plain or an array's, and with which name it is written.
+fn put_kind(row: Row<'_>, out: &mut Out) -> Option<()> {
+    let name = row.name(2)?;
+    put_kind_of(out, &name);
+    Some(())
 }
 
 // `stream NAME`: the text of the name, and whether it is the stream's.

@@ -1,13 +1,14 @@
 //! Calls of hpr_syntax on the program of a text.
-use hpr_print::content_text;
+use hpr_print::expr_text;
 use hpr_refusals::Refusal;
 use hpr_rows::{
-    Out, Row, put, put_comparison, put_content, put_count, put_counted, put_made, put_message,
-    put_names, put_tag, truth,
+    Out, Row, array_of, name_of, put, put_comparison, put_content, put_count, put_counted,
+    put_made, put_message, put_names, put_tag, truth,
 };
 use hpr_syntax::{
     Block, Content, Issued, Program, Row as Place, Stmt, Structure, Value, content_of, defines,
-    expr_of, has_content, has_wrong_name, is_large, same_content, structure_of, uses,
+    expr_of, has_content, has_wrong_name, index_of, is_large, is_large_content, same_content,
+    structure_of, uses,
 };
 use hpr_terms::{Binary, Expr, Literal, Name, Operand, Tag};
 use std::alloc::Global;
@@ -21,9 +22,12 @@ pub(crate) fn call(row: Row<'_>, out: &mut Out) -> Option<()> {
         "structure" => structure(row, out),
         "compare" => compare(row, out),
         "sum" => sum(row, out),
+        "store" => store(row, out),
+        "index" => index(row, out),
         "used" => used_names(row, out),
         "named" => named(row, out),
         "value" => value(row, out),
+        "stored" => stored(row, out),
         _ => None,
     }
 }
@@ -255,6 +259,68 @@ fn sum(row: Row<'_>, out: &mut Out) -> Option<()> {
     Some(())
 }
 
+// Puts what comes of a program with one part that says this.
+fn put_part_judged(row: Row<'_>, out: &mut Out, content: Content) -> Option<()> {
+    let tag = Tag {
+        author: 1,
+        serial: 1,
+    };
+    let (first, second) = (
+        Block::new(Vec::new(row.alloc)),
+        Block::new(Vec::new(row.alloc)),
+    );
+    let body = block(row.alloc, content.into_stmt(tag, first, second))?;
+    put_judged(row.alloc, out, issued(row.alloc)?, body);
+    Some(())
+}
+
+// A store into `a[]` whose index and number are sums of so many operators.
+fn store_of(alloc: Global, index: u64, number: u64) -> Option<Content> {
+    let index = ones(alloc, index)?;
+    let number = ones(alloc, number)?;
+    Some(Content::Store(array_of(alloc, "a")?, index, number))
+}
+
+// `store OPERATORS OPERATORS`: whether a store whose index and number are sums of so many operators is too large,
+// and what comes of a program with it.
+fn store(row: Row<'_>, out: &mut Out) -> Option<()> {
+    let content = store_of(row.alloc, row.count(2)?, row.count(3)?)?;
+    put(
+        out,
+        &["too large ", truth(is_large_content(&content)), ", "],
+    );
+    put_part_judged(row, out, content)
+}
+
+fn put_expr(alloc: Global, out: &mut Out, title: &str, expr: Option<&Expr>) {
+    out.put_piece(title);
+    match expr {
+        Some(expr) => put_made(out, expr_text(alloc, expr)),
+        None => out.put_piece("none"),
+    }
+}
+
+fn put_exprs(alloc: Global, out: &mut Out, stmt: &Stmt, content: &Content) {
+    put_expr(alloc, out, "index ", index_of(stmt));
+    put_expr(alloc, out, ", of its content ", content.index());
+    put_expr(alloc, out, ", expression ", Some(expr_of(stmt)));
+    out.put_piece("\n");
+}
+
+fn put_index(alloc: Global, out: &mut Out, stmt: &Stmt) {
+    match content_of(alloc, stmt) {
+        Ok(content) => put_exprs(alloc, out, stmt, &content),
+        Err(_) => out.cut(),
+    }
+}
+
+// `index PROGRAM TAG`: the index of the part with the tag, if it has one, and its other expression.
+fn index(row: Row<'_>, out: &mut Out) -> Option<()> {
+    let program = row.program(2)?;
+    put_index(row.alloc, out, program.find(row.tag(3)?)?);
+    Some(())
+}
+
 fn put_used(alloc: Global, out: &mut Out, content: &Content, name: &Name) {
     put(out, &["uses it ", truth(content.uses(name)), ", uses"]);
     match content.used_names(alloc) {
@@ -276,35 +342,45 @@ fn used_names(row: Row<'_>, out: &mut Out) -> Option<()> {
     used_in(row, out, &program)
 }
 
-// What a part says that assigns to the name or writes to it.
+// What a part says that assigns to the name, writes to it, or stores into it: the number, or at the index.
 fn content_named(kind: &str, name: Name, expr: Expr) -> Option<Content> {
     match kind {
         "assign" => Some(Content::Assign(name, expr)),
         "write" => Some(Content::Write(name, expr)),
+        "store" => Some(Content::Store(name, one()?, expr)),
+        "index" => Some(Content::Store(name, expr, one()?)),
         _ => None,
     }
 }
 
-fn put_named(row: Row<'_>, out: &mut Out, content: Content) -> Option<()> {
-    let tag = Tag {
-        author: 1,
-        serial: 1,
-    };
-    put(out, &["wrong name ", truth(has_wrong_name(&content)), ", "]);
-    let (first, second) = (
-        Block::new(Vec::new(row.alloc)),
-        Block::new(Vec::new(row.alloc)),
-    );
-    let body = block(row.alloc, content.into_stmt(tag, first, second))?;
-    put_judged(row.alloc, out, issued(row.alloc)?, body);
-    Some(())
+fn variable(alloc: Global, name: &str) -> Option<Expr> {
+    Some(Expr::Var(name_of(alloc, name)?))
 }
 
-// `named KIND NAME NAME`: whether the content that gives the first name the value of the second has a wrong
-// name, and what comes of a program with it.
+fn element(alloc: Global, array: &str, index: &str) -> Option<Expr> {
+    let index = Operand::new(alloc, variable(alloc, index)?).ok()?;
+    Some(Expr::Elem(name_of(alloc, array)?, index))
+}
+
+// The variable of a word `NAME`, or the element of a word `NAME:INDEX`, where the index is a variable.
+fn used_by(alloc: Global, word: &str) -> Option<Expr> {
+    match word.split_once(':') {
+        Some((array, index)) => element(alloc, array, index),
+        None => variable(alloc, word),
+    }
+}
+
+fn put_named(row: Row<'_>, out: &mut Out, content: Content) -> Option<()> {
+    put(out, &["wrong name ", truth(has_wrong_name(&content)), ", "]);
+    put_part_judged(row, out, content)
+}
+
+// `named KIND NAME NAME` or `named KIND NAME NAME:INDEX`: whether the content that gives the first name what the
+// other word says has a wrong name, and what comes of a program with it.
 fn named(row: Row<'_>, out: &mut Out) -> Option<()> {
     let name = row.name(3)?;
-    let content = content_named(row.word(2)?, name, Expr::Var(row.name(4)?))?;
+    let expr = used_by(row.alloc, row.word(4)?)?;
+    let content = content_named(row.word(2)?, name, expr)?;
     put_named(row, out, content)
 }
 
@@ -336,4 +412,57 @@ fn value(row: Row<'_>, out: &mut Out) -> Option<()> {
     put_worth(out, &copy);
     put_worth(out, &value.copy(row.alloc).ok()?);
     Some(())
+}
+
+fn put_element(out: &mut Out, value: &Value, word: &str) -> Option<()> {
+    let (at, _) = word.split_once('=')?;
+    put(out, &[" ", at, "="]);
+    out.put_value(value.element(at.parse().ok()?));
+    Some(())
+}
+
+fn put_elements(out: &mut Out, value: &Value, words: &[String]) -> Option<()> {
+    for word in words {
+        put_element(out, value, word.as_str())?;
+    }
+    Some(())
+}
+
+// Puts how many elements aren't 0, the number, and the elements of the words.
+fn put_stored(out: &mut Out, value: &Value, words: &[String]) -> Option<()> {
+    put_counted(out, "elements ", value.element_count());
+    out.put_piece(", number ");
+    out.put_value(value.number());
+    out.put_piece(":");
+    put_elements(out, value, words)?;
+    out.put_piece("\n");
+    Some(())
+}
+
+fn store_number(alloc: Global, value: &mut Value, word: &str) -> Option<()> {
+    let (at, number) = word.split_once('=')?;
+    value
+        .store(alloc, at.parse().ok()?, number.parse().ok()?)
+        .ok()
+}
+
+fn store_numbers(alloc: Global, value: &mut Value, words: &[String]) -> Option<()> {
+    for word in words {
+        store_number(alloc, value, word.as_str())?;
+    }
+    Some(())
+}
+
+fn put_copies(row: Row<'_>, out: &mut Out, before: &Value, value: &Value) -> Option<()> {
+    put_stored(out, before, row.rest(3))?;
+    put_stored(out, &value.copy(row.alloc).ok()?, row.rest(3))
+}
+
+// `stored NUMBER AT=NUMBER..`: the first number as a value, whose elements then get the other ones, and a copy made
+// before.
+fn stored(row: Row<'_>, out: &mut Out) -> Option<()> {
+    let mut value = Value::Number(row.word(2)?.parse().ok()?);
+    let before = value.copy(row.alloc).ok()?;
+    store_numbers(row.alloc, &mut value, row.rest(3))?;
+    put_copies(row, out, &before, &value)
 }

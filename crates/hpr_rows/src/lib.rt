@@ -14,4 +14,4 @@ pub use printing::{
     put_marked, put_message, put_names, put_numbers, put_program, put_tag, truth,
 };
 pub use taking::{Calls, take};
-pub use words::{Row, Text, name_of, tag_of};
+pub use words::{Row, Text, array_of, name_of, tag_of};

@@ -98,12 +98,21 @@ impl<'a> Row<'a> {
     }
 }
 
-/// The name that a word spells: the stream's, or a plain one.
+/// The name that a word spells: the stream's, an array's, or a plain one.
 pub fn name_of(alloc: Global, word: &str) -> Option<Name> {
-    match word {
-        "out" => Name::stream(alloc).ok(),
-        _ => Name::new(alloc, word).ok(),
+    if word == "out" {
+        return Name::stream(alloc).ok();
     }
+    match word.strip_suffix("[]") {
+        Some(base) => array_of(alloc, base),
+        None => Name::new(alloc, word).ok(),
+    }
+}
+
+/// The name of the array that is written with this plain name.
+pub fn array_of(alloc: Global, base: &str) -> Option<Name> {
+    let base = Name::new(alloc, base).ok()?;
+    Name::array(alloc, &base).ok()
 }
 
 /// The tag that a word spells.
