@@ -10,17 +10,20 @@ import re
 
 LEAST, GREATEST = -2**63, 2**63 - 1
 MOST_WRITTEN = 1_000_000
+# an array has so many elements, from 0 on
+ELEMENTS = 65_536
 MOST_PARTS = 4000
 GREATEST_SERIAL = 2**32 - 1
 # so many arrangements of a merged graph are looked at
 LOOKED_AT = 100
 
-# ---- programs. Kinds stand in the order in which they are compared, so that tuples of them compare as they are to.
-NUMBER, VARIABLE, PREFIX, INFIX = range(4)
+# ---- programs. Kinds stand in the order in which they are compared, so that tuples of them compare as they are to. The name of an
+# array ends in `[]`, so that no plain name is the same.
+NUMBER, VARIABLE, PREFIX, INFIX, ELEMENT = range(5)
 PREFIXES = ["-", "not "]
 SIGNS = ["or", "and", "=", "<>", "<", "<=", ">", ">=", "+", "-", "*", "/", "%"]
 LEVELS = [1, 2, 3, 3, 3, 3, 3, 3, 4, 4, 5, 5, 5]
-ASSIGN, IF, WHILE, WRITE = range(4)
+ASSIGN, IF, WHILE, WRITE, STORE = range(5)
 ENTRY, INIT, PART, FINAL = range(4)
 CONTROL, INDEPENDENT, CARRIED, ORDER = range(4)
 
@@ -69,24 +72,29 @@ def places(block):
 
 
 def defined(content):
-    """The name that a part defines, if it does: an assignment its variable, a write `out`."""
-    return content[1] if content[0] in (ASSIGN, WRITE) else None
+    """The name that a part defines, if it does: an assignment its variable, a write `out`, a store its array."""
+    return content[1] if content[0] in (ASSIGN, WRITE, STORE) else None
+
+
+def expressions_in(one):
+    """The expressions of a content, or the operands of an expression; the index of a store comes before its number."""
+    return [inner for inner in one if isinstance(inner, tuple)]
 
 
 def names_of(expression):
-    if expression[0] == VARIABLE:
-        return {expression[1]}
-    return set().union(*(names_of(inner) for inner in expression[1:] if isinstance(inner, tuple)))
+    own = {expression[1]} if expression[0] in (VARIABLE, ELEMENT) else set()
+    return own.union(*map(names_of, expressions_in(expression)))
 
 
 def used(content):
-    """The names that a part uses: those of its expression, and a write `out` too."""
-    return names_of(content[-1]) | ({"out"} if content[0] == WRITE else set())
+    """The names that a part uses: those of its expressions, an element's array among them, a write `out` too, a store its array."""
+    own = {content[1]} if content[0] in (WRITE, STORE) else set()
+    return own.union(*map(names_of, expressions_in(content)))
 
 
 # ---- texts
 def level(expression):
-    return {NUMBER: 7, VARIABLE: 7, PREFIX: 6}.get(expression[0]) or LEVELS[expression[1]]
+    return {NUMBER: 7, VARIABLE: 7, PREFIX: 6, ELEMENT: 7}.get(expression[0]) or LEVELS[expression[1]]
 
 
 def bracketed(expression, when):
@@ -97,6 +105,8 @@ def expression_text(expression):
     kind = expression[0]
     if kind in (NUMBER, VARIABLE):
         return str(expression[1])
+    if kind == ELEMENT:
+        return element_text(expression[1], expression[2])
     if kind == PREFIX:
         return PREFIXES[expression[1]] + bracketed(expression[2], level(expression[2]) < 6)
     mine = LEVELS[expression[1]]
@@ -104,8 +114,15 @@ def expression_text(expression):
     return f"{left} {SIGNS[expression[1]]} {bracketed(expression[3], level(expression[3]) <= mine)}"
 
 
+def element_text(array, index):
+    return f"{array.removesuffix('[]')}[{expression_text(index)}]"
+
+
 def content_text(content):
-    head = {ASSIGN: f"{content[1]} :=", WRITE: "write", IF: "if", WHILE: "while"}[content[0]]
+    if content[0] == STORE:
+        head = f"{element_text(content[1], content[2])} :="
+    else:
+        head = {ASSIGN: f"{content[1]} :=", WRITE: "write", IF: "if", WHILE: "while"}[content[0]]
     return f"{head} {expression_text(content[-1])}"
 
 
@@ -201,10 +218,16 @@ class Reader:
         body = self.block("end")
         self.take("end")
         self.take("(")
-        finals = self.list(self.take)
+        finals = self.list(self.final)
         self.take(")")
         self.take("")
         return Program(issued, body, finals)
+
+    def final(self):
+        name = self.take()
+        if self.peek() != "[":
+            return name
+        return name + self.take("[") + self.take("]")
 
     def block(self, *ends):
         parts = []
@@ -232,6 +255,10 @@ class Reader:
             return Part(tag, content, [body])
         if head == "write":
             content = (WRITE, "out", self.expression())
+        elif self.peek() == "[":
+            index = self.index()
+            self.take(":=")
+            content = (STORE, head + "[]", index, self.expression())
         else:
             self.take(":=")
             content = (ASSIGN, head, self.expression())
@@ -253,7 +280,15 @@ class Reader:
             inner = self.expression()
             self.take(")")
             return inner
+        if self.peek() == "[":
+            return (ELEMENT, token + "[]", self.index())
         return (NUMBER, int(token)) if token.isdigit() else (VARIABLE, token)
+
+    def index(self):
+        self.take("[")
+        found = self.expression()
+        self.take("]")
+        return found
 
 
 # ---- runs
@@ -265,13 +300,21 @@ class Stopped(Exception):
     pass
 
 
-# The value of an expression: both operands, the left one first, and then the sign; out of range or by zero is a fault.
+# What a name is worth that a state doesn't list: 0, for `out` the empty list, and for an array no element that isn't 0.
+def blank(name):
+    return [] if name == "out" else {} if name.endswith("[]") else 0
+
+
+# The value of an expression: both operands, the left one first, and then the sign; out of range or by zero is a fault. Of an
+# element it is the index first, for which there may be no element, and then what the array has there.
 def value_of(expression, state):
     kind = expression[0]
     if kind == NUMBER:
         return expression[1]
     if kind == VARIABLE:
         return state.get(expression[1], 0)
+    if kind == ELEMENT:
+        return state.get(expression[1], {}).get(in_array(value_of(expression[2], state)), 0)
     if kind == PREFIX:
         inner = value_of(expression[2], state)
         return int(inner == 0) if expression[1] else in_range(-inner)
@@ -283,6 +326,12 @@ def in_range(value):
     if not LEAST <= value <= GREATEST:
         raise Fault("overflow")
     return value
+
+
+def in_array(index):
+    if not 0 <= index < ELEMENTS:
+        raise Fault("index-range")
+    return index
 
 
 def infix(sign, left, right):
@@ -300,36 +349,49 @@ def infix(sign, left, right):
 
 
 class Run:
-    """A run: a step is an assignment, a write or a test; it ends, it faults at a part, or no step is left for the next part."""
+    """A run: a step is an assignment, a store, a write or a test; it ends, it faults at a part, or no step is left for the next
+    part. The map of an array has the elements that aren't 0."""
 
     def __init__(self, program, state, most):
-        self.state, self.most, self.steps, self.trace = {**state, "out": []}, most, 0, []
+        self.state, self.most, self.steps, self.trace = dict(state), most, 0, []
         try:
             self.block(program.body, [])
         except Stopped as stopped:
             self.outcome = Outcome(False, str(stopped), self.steps, [])
             return
-        finals = [(name, self.state.get(name, 0)) for name in program.finals]
+        finals = [(name, self.state.get(name, blank(name))) for name in program.finals]
         self.outcome = Outcome(True, f"ended, steps {self.steps}", self.steps, finals)
 
-    # What a part does: an assignment gives its variable a number, a write puts one behind those that were written, unless there
-    # are too many, and a test decides by one.
     def step(self, part, turns):
         if self.steps == self.most:
             raise Stopped(f"not ended, steps {self.steps}")
         self.steps += 1
         try:
-            value = value_of(part.content[-1], self.state)
-            if part.content[0] == WRITE and len(self.state["out"]) == MOST_WRITTEN:
-                raise Fault("output-full")
+            value = self.act(part.content)
         except Fault as fault:
             raise Stopped(f"faulted {fault} at {tag_text(part.tag)}, steps {self.steps}") from None
-        if part.content[0] == ASSIGN:
-            self.state[part.content[1]] = value
-        elif part.content[0] == WRITE:
-            self.state["out"].append(value)
         self.trace.append((part.tag, turns, value))
         return value
+
+    # What a part does with its number: an assignment gives it to its variable, a store to an element of its array, a write puts it
+    # behind those that were written, unless there are too many, and a test decides by it. A store's number may fault before it is
+    # asked whether there is such an element.
+    def act(self, content):
+        *index, number = (value_of(expression, self.state) for expression in expressions_in(content))
+        name = defined(content)
+        if content[0] == ASSIGN:
+            self.state[name] = number
+        elif content[0] == STORE:
+            at, elements = in_array(*index), self.state.setdefault(name, {})
+            elements[at] = number
+            if number == 0:
+                del elements[at]
+        elif content[0] == WRITE:
+            written = self.state.setdefault(name, [])
+            if len(written) == MOST_WRITTEN:
+                raise Fault("output-full")
+            written.append(number)
+        return number
 
     def block(self, block, turns):
         for part in block:
@@ -346,6 +408,8 @@ class Run:
 
 
 def printed(value):
+    if isinstance(value, dict):
+        return f"{{{','.join(f'{at}:{number}' for at, number in sorted(value.items()))}}}"
     return f"[{','.join(map(str, value))}]" if isinstance(value, list) else str(value)
 
 
