@@ -161,6 +161,28 @@ def deep(levels, parts):
     return program
 
 
+def of_lines(*lines):
+    """The program of these lines, which close blocks by words of their own."""
+    program = Program()
+    for line in lines:
+        (program.close if line in ("else", "fi", "od") else program.put)(line)
+    return program
+
+
+def turning(turns, *body):
+    """A loop that counts its turns, with this body before."""
+    return of_lines("i := 0;", f"while i < {turns} do", *body, "i := i + 1;", "od")
+
+
+def sieve(numbers):
+    """The sieve of Eratosthenes below a number: the elements of composite numbers become 1, and the primes are counted."""
+    return of_lines(
+        "i := 2;", f"while i * i < {numbers} do", "if a[i] = 0 then", "j := i * i;", f"while j < {numbers} do", "a[j] := 1;",
+        "j := j + i;", "od", "fi", "i := i + 1;", "od",
+        "i := 2;", f"while i < {numbers} do", "if a[i] = 0 then", "primes := primes + 1;", "fi", "i := i + 1;", "od",
+    )
+
+
 def main(words):
     if words:
         print("".join(variants(sample(int(words[1]), int(words[0])))), end="")
