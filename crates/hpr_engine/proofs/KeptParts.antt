@@ -1,7 +1,9 @@
 -- Parts that keep their tags, found program by program.
 use Rattle.std.proofs.Common.{◌≡◌, ℕ, zero, suc, ◌+◌, ◌<◌, ◌≤◌, Bool, true, false, ◌↔◌, ◌⊎◌, inl, inr, List, [], ◌∷◌, length, take, drop, get_or, replicate, Contains, refl, sym, ap, ◌∙◌, subst}
+use Rattle.std.proofs.lemmas.List.{length-replicate}
 use Rattle.hpr_terms.specs.declared.tag.Tag.{Tag}
 use Rattle.hpr_terms.proofs.Facts.{in_none, in_cons, in_here, in_later, taken_item}
+use Rattle.hpr_search.specs.Marks.{IsMarked}
 use Rattle.hpr_search.proofs.Marked.{no_marks}
 use Rattle.hpr_syntax.specs.declared.rows.Content.{Content}
 use Rattle.hpr_syntax.specs.Shape.{IsProgram}
@@ -195,8 +197,13 @@ module _ (g : Numbered) (vs : List Tree) (i : ℕ) (taken : List (ℕ × ℕ)) (
       kept_by_all (graphs_of vs) g taken keep
       (subst (λ (ws : List Tree). AreKeptSoFar (graphs_of vs) (graphs_of ws) g taken keep) (none_to_come vs i l) so_far)
 
-pub no_vertex_marked : (g : Numbered) (n : ℕ) (v : Vertex) → ¬ IsMarkedVertex g (replicate n false) v
-no_vertex_marked g n v (at, there, mark) = no_marks n at mark
+-- nothing is marked yet
+module _ (g : Numbered) (n : ℕ) (keep : List Bool) (none : keep ≡ replicate n false) where
+  pub no_vertex_marked : (v : Vertex) → ¬ IsMarkedVertex g keep v
+  no_vertex_marked v (at, there, mark) = no_marks n at (subst (λ (marks : List Bool). IsMarked marks at) none mark)
+
+  pub marks_begun : n ≡ length g.vertices → length keep ≡ length g.vertices
+  marks_begun count = ap length none ∙ length-replicate n false ∙ count
 
 pub listed_content : (p : Tree) (vs : List Vertex) → IsProgram p → vs ≡ parts_of p → HasOneContent (Contains vs)
 listed_content p vs is same = subst (λ (us : List Vertex). HasOneContent (Contains us)) (sym same) (parts_content p (says_once p is))

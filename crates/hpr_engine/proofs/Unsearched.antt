@@ -28,6 +28,17 @@ module _ (X Y : Type 0) where
   judged Spent P h = h
   judged Memory P h = tt
 
+-- a program that is found, a graph that no program has, and want of memory are no spent search
+module _ (Y : Type 0) where
+  pub found_not_spent : (y : Y) → ¬ IsErrOf {T = Y} {E = Stop} (Ok y) Spent
+  found_not_spent y is = absurd cc
+
+  pub none_not_spent : (n : ℕ) → ¬ IsErrOf {T = Y} {E = Stop} (Err (NoProgram n)) Spent
+  none_not_spent n is = absurd cc
+
+  pub memory_not_spent : ¬ IsErrOf {T = Y} {E = Stop} (Err Memory) Spent
+  memory_not_spent is = absurd cc
+
 -- what is so of every result, of one that names no program, and of a list of conflicts
 module _ (X : Type 0) where
   pub judged_always : (r : Result X Stop) (P : Type 0) → P → IfJudged r P

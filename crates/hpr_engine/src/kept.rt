@@ -13,6 +13,18 @@ use hpr_syntax::Program;
 use indexmap::IndexSet;
 use std::alloc::Global;
 
+/// The tags that were taken, each by its author and its serial.
+struct Taken {
+    tags: IndexSet<(u32, u32)>,
+}
+
+// By hand, so that each way out of a function that holds these is one call.
+impl Drop for Taken {
+    fn drop(self) {
+        let Taken { tags: _ } = self;
+    }
+}
+
 /// For each vertex of the graph whether it is a part that keeps its tag: of the parts with one tag A's
 /// keeps it, or B's where A has none of them. Looks each part of A and of B up by hash. Horwitz, Prins and
 /// Reps 1989 have no tags.
@@ -25,10 +37,12 @@ pub(crate) fn kept(
     ensures count { IfOk result (λ keep. length keep.items ≡ length graph.now.vertices) }
     ensures kept { IfOk result (λ keep. AreKeptBy (graph_of a.now ∷ graph_of b.now ∷ []) graph.now keep.items) }
 {
-    let mut taken = IndexSet::new(alloc);
     let mut keep = unmarked(alloc, graph.vertex_count())?;
-    keep_program(alloc, graph, a, &mut taken, &mut keep)?;
-    keep_program(alloc, graph, b, &mut taken, &mut keep)?;
+    let mut taken = Taken {
+        tags: IndexSet::new(alloc),
+    };
+    keep_program(alloc, graph, a, &mut taken.tags, &mut keep)?;
+    keep_program(alloc, graph, b, &mut taken.tags, &mut keep)?;
     Ok(keep)
 }
 
@@ -42,10 +56,12 @@ pub(crate) fn kept_of_all(
     ensures count { IfOk result (λ keep. length keep.items ≡ length graph.now.vertices) }
     ensures kept { IfOk result (λ keep. AreKeptBy (graphs_of variants.now) graph.now keep.items) }
 {
-    let mut taken = IndexSet::new(alloc);
     let mut keep = unmarked(alloc, graph.vertex_count())?;
+    let mut taken = Taken {
+        tags: IndexSet::new(alloc),
+    };
     for variant in variants {
-        keep_program(alloc, graph, variant, &mut taken, &mut keep)?;
+        keep_program(alloc, graph, variant, &mut taken.tags, &mut keep)?;
     }
     Ok(keep)
 }

@@ -5,4 +5,4 @@ use Rattle.hpr_engine.proofs.kept.kept_of_all.Given as goal
 
 abbrev pub invariant-loop-variant : goal.invariant-loop-variant
 invariant-loop-variant l = (length l.keep.items ≡ length l.graph.vertices)
-    × AreKeptSoFar (graphs_of l.variants) (graphs_of (drop l.variant-index l.variants)) l.graph l.taken.keys l.keep.items
+    × AreKeptSoFar (graphs_of l.variants) (graphs_of (drop l.variant-index l.variants)) l.graph l.taken.tags.keys l.keep.items
