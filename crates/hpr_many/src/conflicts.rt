@@ -1,5 +1,5 @@
 //! The conflicts of one of many variants.
-ghost use Rattle.std.specs.Prelude.{◌≡◌, ◌++◌, List, OnOk, IfOk, map};
+ghost use Rattle.std.specs.Prelude.{◌≡◌, ◌++◌, List, OnOk, map};
 ghost use Rattle.std.specs.Ordering.{nat_cmp};
 ghost use Rattle.hpr_graph.specs.declared.edge.Edge.{Edge};
 ghost use Rattle.hpr_graph.specs.declared.vertex.Vertex.{Vertex};
@@ -31,26 +31,12 @@ pub(crate) fn push_conflicts(
         × ArePointConflicts (graph_in merged.now) (graph_in variant.now) (IsOneOf variant.now points.now) ps) }
 {
     let pairs = conflicts_of(alloc, variant, points, merged)?;
-    let mut conflicts = numbered(alloc, number, pairs)?;
-    into.append(&mut conflicts)?;
-    Ok(())
-}
-
-/// The conflicts of the variant with this number, by their points and edges.
-fn numbered(
-    alloc: Global,
-    number: usize,
-    pairs: Vec<(Vertex, Edge)>,
-) -> Result<Vec<ManyConflict>, NoMemory>
-    ensures { IfOk result (λ v. v.items ≡ map (conflict_of number) pairs.items) }
-{
-    let conflicts = pairs
-        .into_iter()
-        .map(|(point, edge)| ManyConflict {
+    for (point, edge) in pairs {
+        into.push(ManyConflict {
             variant: number,
             point,
             edge,
-        })
-        .collect(alloc)?;
-    Ok(conflicts)
+        })?;
+    }
+    Ok(())
 }

@@ -1,12 +1,14 @@
 //! Any number of variants merged.
-ghost use Rattle.std.specs.Prelude.{◌≡◌, ◌≤◌, IfOk, Contains, length, map};
+ghost use Rattle.std.specs.Prelude.{◌≡◌, ◌≤◌, ◌∷◌, ◌++◌, ℕ, [], IfOk, OnOk, Contains, Vec, length, map};
+ghost use Rattle.std.specs.Global.{Global};
 ghost use Rattle.hpr_terms.specs.declared.limits.TheConstants.{MAX_VARIANTS};
 ghost use Rattle.hpr_search.specs.Rows.{numbers_of};
 ghost use Rattle.hpr_graph.specs.Graphs.{Same};
 ghost use Rattle.hpr_graph.specs.Numbered.{graph_in, graphs_in};
-ghost use Rattle.hpr_graph.specs.Points.{IsPreservedBy, merged_all};
+ghost use Rattle.hpr_graph.specs.Points.{IsAffected, IsPreservedBy, merged_all};
 ghost use Rattle.hpr_graph.specs.Conflicts.{AreConflictsBy, told_many};
 ghost use Rattle.hpr_graph.specs.Whole.{AreAll, IsWhole};
+ghost use Rattle.hpr_affected.specs.Comparison.{Sides};
 ghost use Rattle.hpr_affected.specs.Numbers.{AreNumbersOf};
 ghost use Rattle.hpr_graph.specs.declared.conflict.ManyConflict.{ManyConflict};
 ghost use Rattle.hpr_many.specs.ManyPoints.{AreAffectedIn};
@@ -88,15 +90,34 @@ fn points_of(alloc: Global, base: &Graph, variants: &[Graph]) -> Result<Points, 
     let mut affected = Vec::with_capacity(alloc, variants.len())?;
     let mut beside = Vec::with_capacity(alloc, variants.len())?;
     for variant in variants {
-        let comparison = Comparison::of(alloc, variant, base)?;
-        affected.push(comparison.affected()?)?;
-        beside.push(comparison.turned())?;
+        push_points(alloc, base, variant, &mut affected, &mut beside)?;
     }
     let preserved = preserved_by(alloc, base, &beside)?;
     Ok(Points {
         affected,
         preserved,
     })
+}
+
+/// Puts the affected points of a variant, and the base beside it, behind those of the others.
+fn push_points<'a>(
+    alloc: Global,
+    base: &'a Graph,
+    variant: &'a Graph,
+    affected: &mut Vec<Vec<usize>>,
+    beside: &mut Vec<Comparison<'a>>,
+) -> Result<(), NoMemory>
+    requires base { IsWhole (graph_in base.now) }
+    requires variant { IsWhole (graph_in variant.now) }
+    ensures affected { OnOk result ((row : Vec ℕ Global) × (affected.new.items ≡ affected.old.items ++ row ∷ [])
+        × AreNumbersOf variant.now (IsAffected (graph_in variant.now) (graph_in base.now)) row.items) }
+    ensures beside { OnOk result ((side : Sides) × (beside.new.items ≡ beside.old.items ++ side ∷ [])
+        × (side.graph ≡ base.now) × (side.other ≡ variant.now)) }
+{
+    let comparison = Comparison::of(alloc, variant, base)?;
+    affected.push(comparison.affected()?)?;
+    beside.push(comparison.turned())?;
+    Ok(())
 }
 
 /// The merged graph, from the affected and the preserved points.

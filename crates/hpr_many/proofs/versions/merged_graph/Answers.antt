@@ -5,10 +5,32 @@ use Rattle.hpr_graph.specs.Numbered.{graph_in, graphs_in}
 use Rattle.hpr_graph.specs.Points.{IsAffected, IsPreservedBy, changed, merged_all}
 use Rattle.hpr_graph.specs.Slices.{slice_of}
 use Rattle.hpr_graph.proofs.Laws.{same_then, union_same}
-use Rattle.hpr_merge.proofs.MergedParts.{points_slice}
-use Rattle.hpr_many.proofs.ManyParts.{united_all, united_more}
-use Rattle.hpr_many.proofs.ManyPoints.{own_points}
+use Rattle.hpr_merge.proofs.MergedParts.{points_slice, points_within}
+use Rattle.hpr_many.proofs.ManyParts.{nothing_in, united_all, united_more}
+use Rattle.hpr_many.proofs.ManyPoints.{own_points, row_inside}
 use Rattle.hpr_many.proofs.versions.merged_graph.Goals as goal
+
+pub loop-at-init : goal.loop-at-init
+loop-at-init c = nothing_in c.in_ok-merged.merged c.in_ok-merged.ensures.vertices c.in_ok-merged.ensures.none
+
+pub index-requires : goal.index-requires
+index-requires c =
+    let points = c.args.points.now in
+    let inside = row_inside c.args.base.now c.args.variants.now points.affected.items c.requires.affected c.loop-at.at c.loop-at-test.true in
+    omega (arith, inside, points.affected.ok.0)
+
+pub slice-requires : goal.slice-requires
+slice-requires c =
+    let base = c.args.base.now in
+    let g = c.index-variants-at.result in
+    let row = c.index.result.now in
+    let own = own_points base c.args.variants.now c.args.points.now.affected.items c.requires.affected c.loop-at.at c.loop-at-test.true g row c.index-variants-at.is c.index.ensures in
+    points_within g (IsAffected (graph_in g) (graph_in base)) row.items own c.deref.result.now c.deref.ensures.value
+
+pub slice-requires-2 : goal.slice-requires-2
+slice-requires-2 c =
+    let base = c.args.base.now in
+    points_within base (IsPreservedBy (graph_in base) (graphs_in c.args.variants.now)) c.args.points.now.preserved.items c.requires.preserved c.deref-2.result.now c.deref-2.ensures.value
 
 pub loop-at-preserved : goal.loop-at-preserved
 loop-at-preserved c =
