@@ -1,5 +1,5 @@
 -- The affected points of two files' graphs.
-use Rattle.std.proofs.Common.{◌≡◌, ℕ, ◌↔◌, List, [], ◌∷◌, Option, Err, Result, refl, inl, inr}
+use Rattle.std.proofs.Common.{◌≡◌, ℕ, ◌↔◌, List, [], ◌∷◌, Option, Err, Result, refl, ap, inl, inr}
 use Rattle.hpr_io.specs.Files.{Files}
 use Rattle.hpr_terms.proofs.Facts.{place_of}
 use Rattle.hpr_syntax.specs.Tree.{Tree}
@@ -15,7 +15,7 @@ use Rattle.hpr_report.proofs.OneText.{affected_text_same}
 use Rattle.hpr_words.specs.Request.{Text}
 use Rattle.hpr_decisions.specs.AffectedFiles.{AffectedOutcome, AffectedPoints}
 use Rattle.hpr_inputs.specs.Answer.{StopIs, Decides, Merges}
-use Rattle.hpr_inputs.specs.Decision.{Decision, prints}
+use Rattle.hpr_inputs.specs.Decision.{Decision, prints, refuses}
 use Rattle.hpr_inputs.specs.ReadsFile.{Fails}
 use Rattle.hpr_inputs.specs.Reads.{IfTold, IsReached}
 use Rattle.hpr_engine.specs.Limit.{HasTooManyEdges}
@@ -23,6 +23,8 @@ use Rattle.hpr_inputs.specs.Files.{OnFile}
 use Rattle.hpr_inputs.specs.declared.answer.Kind.TheVariants.{Done}
 use Rattle.hpr_inputs.specs.declared.answer.Report.{Report}
 use Rattle.hpr_inputs.specs.declared.answer.Stop.{Stop}
+use Rattle.hpr_inputs.specs.declared.answer.Stop.TheVariants as stop
+use Rattle.hpr_app.specs.Private.MakesGraph.{FailsGraph}
 use Rattle.hpr_inputs.proofs.ReadLemmas.{FileOf, fails_from, file_fails, past_file, past_last_file, spelled}
 
 -- the order of causes
@@ -50,6 +52,18 @@ module _ (files : Option Files) (base a : List ℕ) where
         → Decides Reaches Reads before now result
     decided p q result hp hq same h =
         past_file files Reads before now base AfterBase p result hp (past_last_file files Reads before now a (AffectedPoints base p a) q result hq same h)
+
+-- a graph that is not made decides
+module _ (base a : Text) (p q : Tree) where
+  pub base_graph_fails : (s : Stop) → FailsGraph base p s → Merges (AffectedPoints base p a q) (Err s)
+  base_graph_fails (stop.Refused message) h = inl (h.0, ap refuses h.1)
+  base_graph_fails (stop.ReadFault message) h = absurd h
+  base_graph_fails stop.Memory h = tt
+
+  pub a_graph_fails : (HasTooManyEdges p → ⊥) → (s : Stop) → FailsGraph a q s → Merges (AffectedPoints base p a q) (Err s)
+  a_graph_fails few (stop.Refused message) h = inr (few, inl (h.0, ap refuses h.1))
+  a_graph_fails few (stop.ReadFault message) h = absurd h
+  a_graph_fails few stop.Memory h = tt
 
 -- the points by their numbers are the points
 module _ (g h : Numbered) (numbers : List ℕ) (exact : AreNumbersOf h (IsAffected (graph_in h) (graph_in g)) numbers) where

@@ -1,11 +1,16 @@
 -- How a call ends, from what was decided and what was written.
-use Rattle.std.proofs.Common.{◌≡◌, ℕ, List, [], refl, ap, sym, subst, ◌∙◌, inl, inr, Option, Some, None, Ok, Err, Result, string_bytes}
+use Rattle.std.proofs.Common.{◌≡◌, ◌<◌, ◌⊎◌, ℕ, List, [], refl, ap, sym, subst, ◌∙◌, inl, inr, arith, Option, Some, None, Ok, Err, Result, string_bytes}
 use Rattle.std.proofs.lemmas.List.{append-nil}
+use Rattle.hpr_io.specs.Counts.{Rose}
+use Rattle.hpr_io.specs.Files.{Files}
 use Rattle.hpr_io.specs.Taken.{taken_then}
-use Rattle.hpr_inputs.specs.Decision.{Decision, prints, refuses}
+use Rattle.hpr_words.specs.Request.{Request}
+use Rattle.hpr_inputs.specs.Decision.{Decision, prints, refuses, usage}
 use Rattle.hpr_inputs.specs.Answer.{Decides}
 use Rattle.hpr_app.specs.Private.Writes.{Writes, PutsAll, PutsPrefix}
-use Rattle.hpr_decisions.specs.Ends.{Change, Ends, Says, status_of_kind}
+use Rattle.hpr_decisions.specs.Ends.{Change, Decided, Ends, Says, status_of_kind, usage_text}
+use Rattle.hpr_decisions.specs.Outcome.{OutcomeIfTold}
+use Rattle.hpr_decisions.specs.Reads.{MayReadIfTaken}
 use Rattle.hpr_inputs.specs.declared.answer.Kind.{Kind}
 use Rattle.hpr_inputs.specs.declared.answer.Kind.TheVariants as kind
 use Rattle.hpr_inputs.specs.declared.answer.Report.{Report}
@@ -49,3 +54,63 @@ module _ (P : Decision → Type 0) (reads : List ℕ → Type 0) (before now : �
   ends_of (Err (stop.ReadFault message)) s d w =
       at_status s status.ReadFault w.0 (record { count = d.0; untouched = w.1; file = d.1; named = d.2; says = subst (λ m. Says m err) d.3 w.2 })
   ends_of (Err stop.Memory) s d w = at_status s status.Memory w.0 (w.1, w.2)
+
+  -- a read or a write that failed was counted
+  pub read_rose : (s : Status) → s ≡ status.ReadFault → Ends s P reads before now out err → Rose before now
+  read_rose s e h = (at_status status.ReadFault s (sym e) h).count
+
+  pub write_rose : (s : Status) → s ≡ status.WriteFault → Ends s P reads before now out err → Rose out.before out.now
+  write_rose s e h = (at_status status.WriteFault s (sym e) h).count
+
+  shelf_kept : (s : Status) → Decided s P before now out err → before < now → ⊥
+  shelf_kept s d low = omega (arith, d.shelf)
+
+  out_kept : (s : Status) → Decided s P before now out err → out.before < out.now → ⊥
+  out_kept s d low = omega (arith, d.count)
+
+  -- a count that grew tells the status
+  pub read_grew : (s : Status) → Ends s P reads before now out err → before < now → (s ≡ status.ReadFault) ⊎ (s ≡ status.Memory)
+  read_grew status.ReadFault h low = inl refl
+  read_grew status.Memory h low = inr refl
+  read_grew status.WriteFault h low = absurd (omega (arith, h.shelf))
+  read_grew status.Done h low = absurd (shelf_kept status.Done h low)
+  read_grew status.Interference h low = absurd (shelf_kept status.Interference h low)
+  read_grew status.NoProgram h low = absurd (shelf_kept status.NoProgram h low)
+  read_grew status.Spent h low = absurd (shelf_kept status.Spent h low)
+  read_grew status.Refused h low = absurd (shelf_kept status.Refused h low)
+  read_grew status.Words h low = absurd (shelf_kept status.Words h low)
+  read_grew status.NotEnded h low = absurd (shelf_kept status.NotEnded h low)
+  read_grew status.Rejected h low = absurd (shelf_kept status.Rejected h low)
+
+  pub write_grew : (s : Status) → Ends s P reads before now out err → out.before < out.now → s ≡ status.WriteFault
+  write_grew status.WriteFault h low = refl
+  write_grew status.ReadFault h low = absurd (omega (arith, h.untouched.0))
+  write_grew status.Memory h low = absurd (omega (arith, h.0.0))
+  write_grew status.Done h low = absurd (out_kept status.Done h low)
+  write_grew status.Interference h low = absurd (out_kept status.Interference h low)
+  write_grew status.NoProgram h low = absurd (out_kept status.NoProgram h low)
+  write_grew status.Spent h low = absurd (out_kept status.Spent h low)
+  write_grew status.Refused h low = absurd (out_kept status.Refused h low)
+  write_grew status.Words h low = absurd (out_kept status.Words h low)
+  write_grew status.NotEnded h low = absurd (out_kept status.NotEnded h low)
+  write_grew status.Rejected h low = absurd (out_kept status.Rejected h low)
+
+-- words that are no call give the usage text
+pub words_end : (taken : Option Request) (files : Option Files) (count faults : ℕ) (old : Option (List ℕ)) (err : Change) → taken ≡ None
+    → Says usage_text err → Ends status.Words (OutcomeIfTold taken files) (MayReadIfTaken taken files) count count (record { before = faults; now = faults; old = old; new = old }) err
+words_end taken files count faults old err none says = record {
+  r = usage;
+  outcome = rw none (λ fs is. refl);
+  status_is = refl;
+  shelf = refl;
+  count = refl;
+  took = taken_nothing old;
+  says = says;
+}
+
+-- the same end, for the request that the words are taken as and the files that the shelf tells
+pub ends_asked : (taken : Option Request) (request : Request) (files : Option Files) (fs : Files) (reads : List ℕ → Type 0) (s : Status) (before now : ℕ) (out err : Change)
+    → taken ≡ Some request → files ≡ Some fs → Ends s (OutcomeIfTold taken files) reads before now out err → Ends s (OutcomeIfTold (Some request) (Some fs)) reads before now out err
+ends_asked taken request files fs reads s before now out err asked told h =
+    subst (λ o. Ends s (OutcomeIfTold o (Some fs)) reads before now out err) asked
+    (subst (λ f. Ends s (OutcomeIfTold taken f) reads before now out err) told h)

@@ -1,7 +1,10 @@
 pub mod EndsLemmas
+pub mod RangeLemmas
 pub mod IntegrateLemmas
 pub mod TrialLemmas
+pub mod RunLemmas
 pub mod SampleLemmas
+pub mod ServedLemmas
 pub mod TraceLemmas
 pub mod SliceLemmas
 pub mod AffectedLemmas

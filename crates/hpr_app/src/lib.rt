@@ -167,6 +167,25 @@ pub fn hpr<S: Shelf, O: Sink, E: Sink>(
     ensures rejected { WhereAsked words.now (S.files shelf.old) (λ asked files. result ≡ Status.Rejected
         → Took (O.taken out.old) (O.taken out.new) (IsRejected asked files)) }
 {
+    run_words(alloc, words, shelf, out, err)
+}
+
+/// The same, told by how the call ends.
+fn run_words<S: Shelf, O: Sink, E: Sink>(
+    alloc: Global,
+    words: &[String],
+    shelf: &mut S,
+    out: &mut O,
+    err: &mut E,
+) -> Status
+    requires { All (λ name. IsTrue (S.serves shelf.old name)) (files_of_taken (asked_by words.now)) }
+    ensures ends { Ends result (OutcomeIfTold (asked_by words.now) (S.files shelf.old))
+        (MayReadIfTaken (asked_by words.now) (S.files shelf.old))
+        (S.faults shelf.old) (S.faults shelf.new)
+        (record { before = O.faults out.old; now = O.faults out.new; old = O.taken out.old; new = O.taken out.new })
+        (record { before = E.faults err.old; now = E.faults err.new; old = E.taken err.old; new = E.taken err.new }) }
+    ensures words { result ≢ Status.Memory → ((result ≡ Status.Words) ↔ (asked_by words.now ≡ None)) }
+{
     match read_words(alloc, words) {
         Ok(asked) => run_asked(alloc, asked, shelf, out, err),
         Err(WordsError::Refused) => {
@@ -192,9 +211,6 @@ fn run_asked<S: Shelf, O: Sink, E: Sink>(
         (record { before = O.faults out.old; now = O.faults out.new; old = O.taken out.old; new = O.taken out.new })
         (record { before = E.faults err.old; now = E.faults err.new; old = E.taken err.old; new = E.taken err.new }) }
     ensures taken { result ≢ Status.Words }
-    ensures read_grew { S.faults shelf.old < S.faults shelf.new → (result ≡ Status.ReadFault)
-        ⊎ (result ≡ Status.Memory) }
-    ensures write_grew { O.faults out.old < O.faults out.new → result ≡ Status.WriteFault }
 {
     let answer = commands::decide(alloc, asked, shelf);
     answer::write_answer(answer, out, err)

@@ -53,7 +53,6 @@ use Rattle.hpr_decisions.specs.Ends.{Change, Ends, Decided, status_of, text_of}
 use Rattle.hpr_inputs.specs.declared.answer.Kind.TheVariants.{Done}
 use Rattle.hpr_decisions.specs.declared.status.Status.{Status}
 use Rattle.hpr_decisions.specs.declared.status.Status.TheVariants as status
-use Rattle.hpr_decisions.proofs.EndsLemmas.{asked_ends}
 use Rattle.hpr_inputs.proofs.VersionLemmas.{of_state}
 use Rattle.hpr_inputs.proofs.SpelledFiles.{of_program, of_programs, of_read}
 use Rattle.hpr_inputs.proofs.PointLemmas.{of_points}
@@ -258,20 +257,3 @@ module _ (request : Request) (fs : Files) (reads : List ℕ → Type 0) (before 
 
   pub prints_other : IsInRange request → (s : Status) → Ends s Outcomes reads before now out err → (s ≡ status.Memory) ⊎ PrintsOther request fs out.old out.new s
   prints_other range = settled (λ s. PrintsOther request fs out.old out.new s) (λ s d. request_prints_other request fs out.old out.new s d.r d.status_is d.took range (d.outcome fs refl))
-
--- the same, for a request and files that are known by other names
-pub asked_completes : (known request : Request) (taken : Option Request) (files : Option Files) (fs : Files) (reads : List ℕ → Type 0) (s : Status) (before now : ℕ) (out err : Change)
-    → Some known ≡ taken → taken ≡ Some request → files ≡ Some fs → (Rose before now → ⊥) → (Rose out.before out.now → ⊥)
-    → Ends s (OutcomeIfTold (Some known) files) reads before now out err → (s ≡ status.Memory) ⊎ RequestCompletes request fs out.old out.new s
-asked_completes known request taken files fs reads s before now out err is asked told read written h =
-    completes request fs reads before now out err read written s
-    (asked_ends known request taken files fs reads s before now out err is asked told h)
-
-pub known_range : (known request : Request) (taken : Option Request) → Some known ≡ taken → taken ≡ Some request → IsInRange known → IsInRange request
-known_range known request taken is asked range = let same : known ≡ request = cc in subst IsInRange same range
-
-pub asked_prints_other : (known request : Request) (taken : Option Request) (files : Option Files) (fs : Files) (reads : List ℕ → Type 0) (s : Status) (before now : ℕ) (out err : Change)
-    → Some known ≡ taken → taken ≡ Some request → files ≡ Some fs → IsInRange known → (Rose before now → ⊥) → (Rose out.before out.now → ⊥)
-    → Ends s (OutcomeIfTold (Some known) files) reads before now out err → (s ≡ status.Memory) ⊎ PrintsOther request fs out.old out.new s
-asked_prints_other known request taken files fs reads s before now out err is asked told range read written h =
-    prints_other request fs reads before now out err read written (known_range known request taken is asked range) s (asked_ends known request taken files fs reads s before now out err is asked told h)

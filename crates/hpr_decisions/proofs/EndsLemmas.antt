@@ -1,5 +1,5 @@
 -- How a call ends, for a request and files that are known by other names.
-use Rattle.std.proofs.Common.{◌≡◌, ℕ, List, refl, subst, ◌∙◌, Option, Some}
+use Rattle.std.proofs.Common.{◌≡◌, ℕ, List, refl, subst, Option, Some}
 use Rattle.hpr_io.specs.Taken.{taken_then}
 use Rattle.hpr_io.specs.Files.{Files}
 use Rattle.hpr_words.specs.Request.{Request}
@@ -15,14 +15,6 @@ use Rattle.hpr_decisions.specs.declared.status.Status.TheVariants as status
 pub Ends-for : (s : Status) (p q : Option Request) (files : Option Files) (before now : ℕ) (out err : Change)
     → p ≡ q → Ends s (OutcomeIfTold p files) (MayReadIfTaken p files) before now out err → Ends s (OutcomeIfTold q files) (MayReadIfTaken q files) before now out err
 Ends-for s p q files before now out err e h = subst (λ r. Ends s (OutcomeIfTold r files) (MayReadIfTaken r files) before now out err) e h
-
--- the same end, for a request and files that are known by other names
-pub asked_ends : (known request : Request) (taken : Option Request) (files : Option Files) (fs : Files) (reads : List ℕ → Type 0) (s : Status) (before now : ℕ) (out err : Change)
-    → Some known ≡ taken → taken ≡ Some request → files ≡ Some fs → Ends s (OutcomeIfTold (Some known) files) reads before now out err
-    → Ends s (OutcomeIfTold (Some request) (Some fs)) reads before now out err
-asked_ends known request taken files fs reads s before now out err is asked told h =
-    subst (λ o. Ends s (OutcomeIfTold o (Some fs)) reads before now out err) (is ∙ asked)
-    (subst (λ f. Ends s (OutcomeIfTold (Some known) f) reads before now out err) told h)
 
 -- what is so of each text of the status Done is so of what the output took
 module _ (P : Request → Files → List ℕ → Type 0)

@@ -46,7 +46,6 @@ use Rattle.hpr_words.specs.Request.{Request, Text, integrate, integrate_many, ru
 use Rattle.hpr_inputs.specs.declared.answer.Kind.TheVariants.{Done, Interference}
 use Rattle.hpr_decisions.specs.declared.status.Status.{Status}
 use Rattle.hpr_decisions.specs.declared.status.Status.TheVariants as status
-use Rattle.hpr_decisions.proofs.EndsLemmas.{asked_ends}
 use Rattle.hpr_decisions.proofs.GraphLemmas.{one_shown, one_slice_shown}
 use Rattle.hpr_decisions.proofs.TrialLemmas.{one_tried}
 use Rattle.hpr_inputs.proofs.PointLemmas.{not_stranger, one_stranger}
@@ -269,11 +268,3 @@ module _ (request : Request) (fs : Files) (reads : List ℕ → Type 0) (before 
   refused_ends status.Words h = decided status.Words h
   refused_ends status.NotEnded h = decided status.NotEnded h
   refused_ends status.Rejected h = decided status.Rejected h
-
--- the same, for a request and files that are known by other names
-pub asked_refused : (known request : Request) (taken : Option Request) (files : Option Files) (fs : Files) (reads : List ℕ → Type 0) (m : List ℕ) (s : Status) (before now : ℕ) (out err : Change)
-    → Some known ≡ taken → taken ≡ Some request → files ≡ Some fs → RequestOutcome request fs (refuses m) → (Rose before now → ⊥)
-    → Ends s (OutcomeIfTold (Some known) files) reads before now out err → IsRefusedCall m s err
-asked_refused known request taken files fs reads m s before now out err is asked told refused read h =
-    refused_ends request fs reads before now out err m refused read s
-    (asked_ends known request taken files fs reads s before now out err is asked told h)

@@ -1,9 +1,7 @@
-use Rattle.std.proofs.Common.{All, IsTrue, suc, arith, subst}
-use Rattle.hpr_words.specs.Asked.{request}
-use Rattle.hpr_words.specs.declared.asked.Asked.{Asked}
-use Rattle.hpr_decisions.specs.Reads.{files_of}
+use Rattle.std.proofs.Common.{IsTrue, refl}
 use Rattle.hpr_decisions.specs.Sampled.{SampleOutcome}
 use Rattle.hpr_app.proofs.SampleLemmas.{unread}
+use Rattle.hpr_app.proofs.ServedLemmas.{least_of, most_of, ranged, served_at, served_behind, served_first}
 use Rattle.hpr_app.proofs.commands.decide.Goals as goal
 
 pub returns-in-Integrate : goal.returns-in-Integrate
@@ -42,8 +40,70 @@ returns-in-Sample g c =
 pub returns-in-Verify : goal.returns-in-Verify
 returns-in-Verify g c = rw c.in-Verify.is c.verify_files.ensures
 
--- what a shelf serves of all words, it serves of those behind the first
-pub integrate_many_files-requires-clause-variants : goal.integrate_many_files-requires-clause-variants
-integrate_many_files-requires-clause-variants g c =
-    let all = subst (λ (a : Asked). All (λ name. IsTrue (g.S.Shelf.serves c.args.shelf.now name)) (files_of (request a))) c.in-IntegrateMany.is c.requires.serves in
-    rw c.as_slice.ensures.value (λ k d low. all (suc k) d (omega (arith, low)))
+-- what a shelf serves of all files that are asked for, it serves of each; and what is asked is in range
+
+pub integrate_files-requires : goal.integrate_files-requires
+integrate_files-requires g c = record {
+  base = served_at (λ name. IsTrue (g.S.Shelf.serves c.args.shelf.now name)) 0 _ _ c.in-Integrate.is refl c.requires.serves;
+  a = served_at (λ name. IsTrue (g.S.Shelf.serves c.args.shelf.now name)) 1 _ _ c.in-Integrate.is refl c.requires.serves;
+  b = served_at (λ name. IsTrue (g.S.Shelf.serves c.args.shelf.now name)) 2 _ _ c.in-Integrate.is refl c.requires.serves;
+  tries = (ranged _ _ c.in-Integrate.is c.requires.in_range).0;
+}
+
+pub integrate_many_files-requires : goal.integrate_many_files-requires
+integrate_many_files-requires g c = record {
+  base = served_first (λ name. IsTrue (g.S.Shelf.serves c.args.shelf.now name)) _ _ _ _ c.in-IntegrateMany.is refl c.requires.serves;
+  variants = rw c.as_slice.ensures.value (served_behind (λ name. IsTrue (g.S.Shelf.serves c.args.shelf.now name)) _ _ _ _ c.in-IntegrateMany.is refl c.requires.serves);
+  least = least_of _ _ _ c.as_slice.ensures.value (ranged _ _ c.in-IntegrateMany.is c.requires.in_range).0;
+  most = most_of _ _ _ c.as_slice.ensures.value _ (ranged _ _ c.in-IntegrateMany.is c.requires.in_range).1;
+  tries = (ranged _ _ c.in-IntegrateMany.is c.requires.in_range).2;
+}
+
+pub run_file-requires : goal.run_file-requires
+run_file-requires g c = served_at (λ name. IsTrue (g.S.Shelf.serves c.args.shelf.now name)) 0 _ _ c.in-Run.is refl c.requires.serves
+
+pub graph_file-requires : goal.graph_file-requires
+graph_file-requires g c = served_at (λ name. IsTrue (g.S.Shelf.serves c.args.shelf.now name)) 0 _ _ c.in-Graph.is refl c.requires.serves
+
+pub slice_file-requires : goal.slice_file-requires
+slice_file-requires g c = served_at (λ name. IsTrue (g.S.Shelf.serves c.args.shelf.now name)) 0 _ _ c.in-Slice.is refl c.requires.serves
+
+pub affected_files-requires : goal.affected_files-requires
+affected_files-requires g c = record {
+  base = served_at (λ name. IsTrue (g.S.Shelf.serves c.args.shelf.now name)) 0 _ _ c.in-Affected.is refl c.requires.serves;
+  a = served_at (λ name. IsTrue (g.S.Shelf.serves c.args.shelf.now name)) 1 _ _ c.in-Affected.is refl c.requires.serves;
+}
+
+pub trial_files-requires : goal.trial_files-requires
+trial_files-requires g c = record {
+  base = served_at (λ name. IsTrue (g.S.Shelf.serves c.args.shelf.now name)) 0 _ _ c.in-Trial.is refl c.requires.serves;
+  a = served_at (λ name. IsTrue (g.S.Shelf.serves c.args.shelf.now name)) 1 _ _ c.in-Trial.is refl c.requires.serves;
+  b = served_at (λ name. IsTrue (g.S.Shelf.serves c.args.shelf.now name)) 2 _ _ c.in-Trial.is refl c.requires.serves;
+  steps = (ranged _ _ c.in-Trial.is c.requires.in_range).1;
+}
+
+pub edit_file-requires : goal.edit_file-requires
+edit_file-requires g c = record {
+  file = served_at (λ name. IsTrue (g.S.Shelf.serves c.args.shelf.now name)) 0 _ _ c.in-Edit.is refl c.requires.serves;
+  script = served_at (λ name. IsTrue (g.S.Shelf.serves c.args.shelf.now name)) 1 _ _ c.in-Edit.is refl c.requires.serves;
+  author = (ranged _ _ c.in-Edit.is c.requires.in_range).0;
+}
+
+pub tag_file-requires : goal.tag_file-requires
+tag_file-requires g c = record {
+  serves = served_at (λ name. IsTrue (g.S.Shelf.serves c.args.shelf.now name)) 0 _ _ c.in-Tag.is refl c.requires.serves;
+  author = (ranged _ _ c.in-Tag.is c.requires.in_range).0;
+}
+
+pub verify_files-requires : goal.verify_files-requires
+verify_files-requires g c = record {
+  base = served_at (λ name. IsTrue (g.S.Shelf.serves c.args.shelf.now name)) 0 _ _ c.in-Verify.is refl c.requires.serves;
+  a = served_at (λ name. IsTrue (g.S.Shelf.serves c.args.shelf.now name)) 1 _ _ c.in-Verify.is refl c.requires.serves;
+  b = served_at (λ name. IsTrue (g.S.Shelf.serves c.args.shelf.now name)) 2 _ _ c.in-Verify.is refl c.requires.serves;
+  offered = served_at (λ name. IsTrue (g.S.Shelf.serves c.args.shelf.now name)) 3 _ _ c.in-Verify.is refl c.requires.serves;
+}
+
+pub sample_seed-requires : goal.sample_seed-requires
+sample_seed-requires g c =
+    let range = ranged _ _ c.in-Sample.is c.requires.in_range in
+    (range.1, range.2)
