@@ -138,7 +138,7 @@ impl Draft {
         is_link_of(self.vertices.as_slice(), to, link)
     }
 
-    /// The edges into the vertex with this number, which is below `vertex_count`, in the order of adding.
+    /// The edges into the vertex with this number, which is below `vertex_count`.
     pub fn edges_into(&self, at: usize) -> &[Link]
         requires { at < length self.now.vertices }
         ensures row { slice_get self.now.links at ≡ Some result.now }

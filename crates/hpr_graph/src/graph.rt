@@ -154,9 +154,8 @@ impl Graph {
         Ok(Graph { draft })
     }
 
-    /// The vertices and the edges of both graphs: those of this one under the same numbers, then the other
-    /// vertices. Looks each vertex of the other graph up by hash, and each edge of it by halving the row of
-    /// its target here; then sorts each row once.
+    /// The vertices and the edges of both graphs. Looks each vertex of the other graph up by hash, and each edge
+    /// of it by halving the row of its target here; then sorts each row once.
     pub fn union(&self, other: &Graph) -> Result<Graph, NoMemory>
         ensures { IfOk result (λ g. Same (graph_in g) (union_of (graph_in self.now) (graph_in other.now))) }
     {

@@ -1,7 +1,6 @@
 -- The sample: a base and two variants, made from the words of a seed.
 --
 -- tag author serial           == the tag of the author's part of this serial
--- infix op a b                == the expression of two operands
 -- assign t x e                == a block of the one part `x := e`
 -- assignment serial words     == `V := V + K;`, drawn from left to right, with K below 100; its part has this serial
 -- conditional serial words    == `if V < K then W := V + 1; else W := L; fi`, the predicate's variable twice and W twice

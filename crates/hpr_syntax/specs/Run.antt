@@ -1,4 +1,5 @@
--- What a program does, with so many steps to spend. A step is an assignment, a write or an evaluation of a predicate.
+-- What a program does, with so many steps to spend. A step is an assignment, a write, a store or an
+-- evaluation of a predicate.
 --
 -- After             == where a run is after some statements: it goes on from a state with some steps left, a part stopped it
 --                      with a fault, or it is spent and has a further step to do
