@@ -130,7 +130,6 @@ pub fn is_array(text: &[u8]) -> bool
 
 impl Name {
     /// The plain name with this text. `NotAName` comes exactly where the text is no plain name.
-    #[tactic(auto, using(crate::proofs::Plain::name_is_variable))]
     pub fn new(alloc: Global, text: &str) -> Result<Name, NameError>
         ensures ok { IfOk result (λ name. name ≡ text.now) }
         ensures not_a_name { IsErrOf result NameError.NotAName ↔ (¬ IsName text.now) }
@@ -214,7 +213,6 @@ impl Name {
     }
 
     /// Whether two names are the same.
-    #[tactic(auto, using(crate::proofs::Equal::name_equal))]
     pub fn is_same(&self, other: &Name) -> bool
         ensures { IsTrue result ↔ (self.now ≡ other.now) }
     {
