@@ -1,0 +1,11 @@
+use Rattle.std.proofs.Common.{rules}
+use Rattle.hpr_syntax.proofs.shape.refusal_of_parts.Goals as goal
+
+pub returns-in-Some : goal.returns-in-Some
+returns-in-Some c = search rules
+
+pub returns-in-Some-first_where : goal.returns-in-Some-first_where
+returns-in-Some-first_where c = search rules
+
+pub returns : goal.returns
+returns c = search rules
