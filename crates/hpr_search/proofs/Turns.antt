@@ -1,5 +1,5 @@
 -- A search between two of its turns.
-use Rattle.std.proofs.Common.{◌≡◌, ℕ, ◌+◌, ◌<◌, ◌≤◌, Bool, ◌≢◌, ◌⊎◌, inl, inr, List, [], ◌∷◌, ◌++◌, length, get_or, Contains, refl, sym, ap, subst, ◌∙◌, arith}
+use Rattle.std.proofs.Common.{◌≡◌, ℕ, ◌+◌, ◌<◌, ◌≤◌, Bool, ◌≢◌, ◌⊎◌, inl, inr, List, [], ◌∷◌, ◌++◌, All, length, get_or, Contains, refl, sym, ap, subst, ◌∙◌, arith}
 use Rattle.std.proofs.lemmas.List.{get_or_append_left, get_or_default, length-append}
 use Rattle.std.proofs.lemmas.List.Elements.{Contains-append_left}
 use Rattle.hpr_search.specs.Walks.{Walk, IsReached}
@@ -13,6 +13,9 @@ walk_more steps a (d ∷ via) b c (h, w) k = (h, walk_more steps d via b c w k)
 
 pub reached_more : (steps : ℕ → List ℕ) (starts : List ℕ) (b c : ℕ) → IsReached steps starts b → Contains (steps b) c → IsReached steps starts c
 reached_more steps starts b c (s, via, h, w) k = (s, via ++ c ∷ [], h, walk_more steps s via b c w k)
+
+pub within_marks : (marks : List Bool) (n : ℕ) (ps : List ℕ) → length marks ≡ n → All (λ p. p < n) ps → All (λ p. p < length marks) ps
+within_marks marks n ps size within = subst (λ m. All (λ p. p < m) ps) (sym size) within
 
 -- the first `at` points of the list have had their steps listed
 pub record Searching (steps : ℕ → List ℕ) (starts : List ℕ) (n at : ℕ) (marks : List Bool) (order : List ℕ) : Type 0 where
