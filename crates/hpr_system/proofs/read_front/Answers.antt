@@ -22,3 +22,6 @@ loop-buffer-preserved g c = record {
   so_far = put c.extend_from_slice.result _ _ _ c.loop-buffer.bytes.items _ c.read_some.new.buffer _ c.in-Ok.count c.if-is_err.ensures.value c.extend_from_slice.ensures.items
       c.in-Ok.ensures.within c.loop-buffer.invariant.so_far c.in-Ok.ensures.bytes.0;
 }
+
+pub returns-in-Err-clause-front : goal.returns-in-Err-clause-front
+returns-in-Err-clause-front g c = tt
