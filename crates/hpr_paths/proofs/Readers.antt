@@ -1,19 +1,25 @@
 -- What a point that was read says of the list of points.
-use Rattle.std.proofs.Common.{◌≡◌, ◌<◌, ℕ, Bool, IsTrue, Some, List, length, get_or, ◌↔◌, All, Result, Ok, Err, IfOk, refl, sym, ap, ◌∙◌, subst}
+use Rattle.std.proofs.Common.{◌≡◌, ◌<◌, ◌+◌, ◌⊎◌, ℕ, Bool, IsTrue, Some, None, List, length, get_or, ◌↔◌, All, Result, Ok, Err, IfOk, refl, sym, ap, ◌∙◌, subst}
 use Rattle.std.specs.List.{Contains}
-use Rattle.std.specs.Option.{option_map}
+use Rattle.std.specs.Option.{option_map, option_and_then}
 use Rattle.std.proofs.lemmas.Option.{slice_get_read, slice_get_within, same_Some}
 use Rattle.std.proofs.lemmas.List.Elements.{All-weaker}
 use Rattle.hpr_syntax.proofs.ActByUses.{uses_in}
 use Rattle.hpr_terms.proofs.Facts.{in_none}
 use Rattle.hpr_paths.specs.declared.spot.Step.{Step}
-use Rattle.hpr_paths.specs.Spots.{Role, enter, part, exit, Spot, names_of, uses_of, used_at, RoleUses, steps_of, loops_of, nest_at, role_at, UsesAt, IsLoopAt}
+use Rattle.hpr_paths.specs.Spots.{Role, enter, part, exit, Spot, tag_of, tag_at, names_of, uses_of, used_at, RoleUses, steps_of, loops_of, nest_at, role_at, UsesAt, IsLoopAt}
 use Rattle.hpr_paths.specs.Successors.{AreSpots}
 use Rattle.hpr_syntax.specs.declared.rows.Content.TheVariants.{While}
 use Rattle.hpr_paths.proofs.Names.{get_of_role}
 
 pub role_read : (xs : List Spot) (p : ℕ) (s : Spot) → p < length xs → s ≡ get_or xs p s → role_at xs p ≡ Some s.role
 role_read xs p s l is = ap (option_map (λ (t : Spot). t.role)) (slice_get_read xs (length xs) p s refl l is)
+
+pub tag_by_role : (xs : List Spot) (p : ℕ) (s : Spot) (r : Role) → p < length xs → s ≡ get_or xs p s → s.role ≡ r → tag_of r ≡ tag_at xs p
+tag_by_role xs p s r l is role = sym (ap (option_and_then tag_of) (role_read xs p s l is ∙ ap (λ (q : Role). Some q) role))
+
+pub none_by_role : (xs : List Spot) (p : ℕ) (s : Spot) (r : Role) → AreSpots xs → p < length xs → s ≡ get_or xs p s → s.role ≡ r → (tag_of r ≡ None) ↔ ((p ≡ 0) ⊎ (p + 1 ≡ length xs))
+none_by_role xs p s r sound l is role = rw (tag_by_role xs p s r l is role) (sound.ends p l)
 
 pub uses_by_role : (xs : List Spot) (p : ℕ) (s : Spot) (r : Role) (b : Bool) (x : List ℕ) → p < length xs → s ≡ get_or xs p s → s.role ≡ r → (IsTrue b ↔ RoleUses r x) → (IsTrue b ↔ UsesAt xs p x)
 uses_by_role xs p s r b x l is role h =

@@ -32,6 +32,36 @@ push_block-loop-i-preserved t c =
 pub push_block-returns-clause-spots : goal.push_block-returns-clause-spots
 push_block-returns-clause-spots t c = spots_done _ _ c.deref-stmt-items.result.now c.loop-i.i (vec_len c.loop-i.spots) c.args.follow c.args.nest.now c.loop-i-test.false c.loop-i.invariant.spots
 
+pub push_stmt-overflow_add-first : goal.push_stmt-overflow_add-first
+push_stmt-overflow_add-first t c = omega (arith, count_if c.args.stmt.now c.in-If.field-0 c.in-If.field-1 c.in-If.yes c.in-If.no c.in-If.is)
+
+pub push_stmt-overflow_add-first-in-If : goal.push_stmt-overflow_add-first-in-If
+push_stmt-overflow_add-first-in-If t c = omega (arith, count_if c.args.stmt.now c.in-If.field-0 c.in-If.field-1 c.in-If.yes c.in-If.no c.in-If.is)
+
+pub push_stmt-overflow_add-first-in-If-2 : goal.push_stmt-overflow_add-first-in-If-2
+push_stmt-overflow_add-first-in-If-2 t c = omega (arith, count_if c.args.stmt.now c.in-If.field-0 c.in-If.field-1 c.in-If.yes c.in-If.no c.in-If.is)
+
+pub push_stmt-push_block-requires : goal.push_stmt-push_block-requires
+push_stmt-push_block-requires t c =
+    let parts : part_count (before c.args.stmt.now done) ≡ part_count c.in-If.yes + part_count c.in-If.no + 1 = count_if c.args.stmt.now c.in-If.field-0 c.in-If.field-1 c.in-If.yes c.in-If.no c.in-If.is in
+    let smaller : 2 * part_count c.in-If.yes + 1 < 2 * part_count (before c.args.stmt.now done) = omega (arith, parts) in
+    (search (rules, smaller), omega (arith, parts, c.in_ok-push_part-in-If.ensures.len))
+
+pub push_stmt-push_block-requires-in-If : goal.push_stmt-push_block-requires-in-If
+push_stmt-push_block-requires-in-If t c =
+    let parts : part_count (before c.args.stmt.now done) ≡ part_count c.in-If.yes + part_count c.in-If.no + 1 = count_if c.args.stmt.now c.in-If.field-0 c.in-If.field-1 c.in-If.yes c.in-If.no c.in-If.is in
+    let smaller : 2 * part_count c.in-If.no + 1 < 2 * part_count (before c.args.stmt.now done) = omega (arith, parts) in
+    (search (rules, smaller), omega (arith, parts, c.in_ok-push_part-in-If.ensures.len, c.in_ok-push_block-in-If.ensures.len))
+
+pub push_stmt-overflow_add-first-in-While : goal.push_stmt-overflow_add-first-in-While
+push_stmt-overflow_add-first-in-While t c = omega (arith, count_while c.args.stmt.now c.in-While.field-0 c.in-While.field-1 c.in-While.body c.in-While.is)
+
+pub push_stmt-push_block-requires-in-While : goal.push_stmt-push_block-requires-in-While
+push_stmt-push_block-requires-in-While t c =
+    let parts : part_count (before c.args.stmt.now done) ≡ part_count c.in-While.body + 1 = count_while c.args.stmt.now c.in-While.field-0 c.in-While.field-1 c.in-While.body c.in-While.is in
+    let smaller : 2 * part_count c.in-While.body + 1 < 2 * part_count (before c.args.stmt.now done) = omega (arith, parts) in
+    (search (rules, smaller), omega (arith, parts, c.in_ok-push_part-in-While.ensures.len))
+
 pub push_stmt-returns-in_default-clause-spots : goal.push_stmt-returns-in_default-clause-spots
 push_stmt-returns-in_default-clause-spots t c = on_ok_weaker c.push_part-in_default.result
     (spots_simple c.args.stmt.now (c.in_default.not-If, c.in_default.not-While) c.args.spots.now.items c.push_part-in_default.new.spots.items (vec_len c.args.spots.now) c.args.after c.args.nest.now) c.push_part-in_default.ensures.spot
