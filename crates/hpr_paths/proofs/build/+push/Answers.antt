@@ -1,12 +1,27 @@
-use Rattle.std.proofs.Common.{◌≡◌, false, cond, ℕ, ◌*◌, ◌≤◌, ◌+◌, ◌<◌, ◌++◌, drop, vec_len, ap, ◌∙◌, subst, arith, rules}
+use Rattle.std.proofs.Common.{◌≡◌, false, cond, ℕ, List, ◌*◌, ◌≤◌, ◌+◌, ◌<◌, ◌++◌, drop, vec_len, ap, ◌∙◌, subst, sym, arith, rules}
+use Rattle.std.proofs.lemmas.List.{drop_all}
 use Rattle.std.proofs.lemmas.Result.{on_ok_weaker}
-use Rattle.hpr_syntax.specs.Body.{done, part_count}
+use Rattle.hpr_syntax.specs.declared.tree.Stmt.{Stmt}
+use Rattle.hpr_syntax.specs.Body.{Body, done, part_count}
 use Rattle.hpr_syntax.specs.BodyOf.{before, body_of}
 use lib.Dec.{ltb}
 use borrow.Author.Tests.{ltb-true, ltb-false}
 use Rattle.hpr_paths.specs.Successors.{spots_of}
 use Rattle.hpr_paths.proofs.Blocks.{count_if, count_simple, count_step, count_while, after_is, spots_if, spots_simple, spots_step, spots_while, spots_done}
 use Rattle.hpr_paths.proofs.build.+push.Goals as goal
+
+pub push_block-loop-i-init : goal.push_block-loop-i-init
+push_block-loop-i-init t c =
+    let view : c.args.block.now ≡ body_of c.deref-stmt-items.result.now = sym c.block.view_is ∙ ap body_of (sym c.deref-stmt-items.ensures.value) in
+    record {
+      view = view;
+      part = omega (arith, ap part_count view);
+      spots = ap (λ (b : Body). c.args.spots.now.items ++ spots_of b (vec_len c.args.spots.now) c.args.follow c.args.nest.now) (sym view);
+      len = ap (λ (b : Body). vec_len c.args.spots.now + part_count b) (sym view);
+    }
+
+pub push_block-overflow_add-len : goal.push_block-overflow_add-len
+push_block-overflow_add-len t c = omega (arith, c.loop-i.invariant.len, count_step c.deref-stmt-items.result.now c.loop-i.i c.stmt-item.result c.loop-i-test.true c.stmt-item.is)
 
 pub push_block-push_stmt-requires : goal.push_block-push_stmt-requires
 push_block-push_stmt-requires t c =
@@ -31,6 +46,9 @@ push_block-loop-i-preserved t c =
 
 pub push_block-returns-clause-spots : goal.push_block-returns-clause-spots
 push_block-returns-clause-spots t c = spots_done _ _ c.deref-stmt-items.result.now c.loop-i.i (vec_len c.loop-i.spots) c.args.follow c.args.nest.now c.loop-i-test.false c.loop-i.invariant.spots
+
+pub push_block-returns-clause-len : goal.push_block-returns-clause-len
+push_block-returns-clause-len t c = omega (arith, c.loop-i.invariant.len, ap (λ (xs : List Stmt). part_count (body_of xs)) (drop_all c.loop-i.i c.deref-stmt-items.result.now c.loop-i-test.false))
 
 pub push_stmt-overflow_add-first : goal.push_stmt-overflow_add-first
 push_stmt-overflow_add-first t c = omega (arith, count_if c.args.stmt.now c.in-If.field-0 c.in-If.field-1 c.in-If.yes c.in-If.no c.in-If.is)
