@@ -3,7 +3,7 @@ use Rattle.std.proofs.Common.{◌≡◌, ◌≢◌, ℕ, zero, suc, ◌+◌, ◌
 use Rattle.std.specs.Option.{option_map}
 use Rattle.std.proofs.lemmas.Option.{slice_get-get_or, slice_get-map}
 use Rattle.std.proofs.lemmas.Bool.{cases_eq}
-use Rattle.std.proofs.lemmas.List.{map-set}
+use Rattle.std.proofs.lemmas.List.{map-append, map-set}
 use Rattle.std.proofs.lemmas.List.Elements.{Contains-push, Contains-push_cases, Contains-append_left}
 use Rattle.std.proofs.lemmas.List.Sums.{sum_by-set, sum_by_push}
 use Rattle.hpr_graph.specs.declared.link.Link.{Link}
@@ -31,6 +31,9 @@ pub rows_new : (rows : List (Vec Link Global)) (to : ℕ) (row new : Vec Link Gl
 rows_new rows to row new link l e h =
     map-set (λ (r : Vec Link Global). r.items) rows to new
     ∙ ap (set (rows_of rows) to) (h ∙ ap (λ (xs : List Link). xs ++ link ∷ []) (sym (ap row_items (row_read rows to row l e))))
+
+pub rows_pushed : (rows new : List (Vec Link Global)) (row : Vec Link Global) → new ≡ rows ++ row ∷ [] → row.items ≡ [] → rows_of new ≡ with_row (rows_of rows)
+rows_pushed rows new row e none = ap rows_of e ∙ map-append (λ (r : Vec Link Global). r.items) rows (row ∷ []) ∙ ap (λ (xs : List Link). rows_of rows ++ xs ∷ []) none
 
 -- an empty row behind the rows changes none of them
 pub row_grown : (rows : List (List Link)) (at : ℕ) → row_items (slice_get (with_row rows) at) ≡ row_items (slice_get rows at)
