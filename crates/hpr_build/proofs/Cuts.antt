@@ -1,5 +1,5 @@
 -- Rows one by one: with each number of loops cut, and through the back edge of each loop.
-use Rattle.std.proofs.Common.{◌≡◌, ◌↔◌, ℕ, ◌+◌, ◌<◌, Bool, IsTrue, Option, None, List, [], ◌∷◌, ◌++◌, length, get_or, inl, inr, sym, ap, ◌∙◌, subst, arith, below_more, length-append}
+use Rattle.std.proofs.Common.{◌≡◌, ◌↔◌, ℕ, zero, suc, ◌+◌, ◌<◌, Bool, IsTrue, Option, None, List, [], ◌∷◌, ◌++◌, length, get_or, inl, inr, sym, ap, ◌∙◌, subst, arith, below_more, length-append}
 use Rattle.std.proofs.Math.Seq.{get_or-append_seam}
 use Rattle.std.proofs.lemmas.List.{get_or_append_left, get_or_default}
 use Rattle.hpr_terms.proofs.Facts.{taken_item}
@@ -22,6 +22,11 @@ places_more {X} P xs xs' x d n len is before here =
 module _ (spots : List Spot) (x : List ℕ) (d : ℕ) where
   abbrev Nest : List ℕ
   Nest = nest_at spots d
+
+  -- one row, with no loop cut
+  pub cuts_begun : (all : List Bool) (rows : List (List Bool)) (places : List ℕ) → rows ≡ all ∷ [] → places ≡ 0 ∷ [] → CutsTo spots x d 0 all → AreCuts spots x d 1 rows places
+  cuts_begun all rows places r p cuts zero l = rw (r, p) (omega arith, cuts)
+  cuts_begun all rows places r p cuts (suc n) l = absurd (omega (arith, l))
 
   -- a loop to which the value doesn't come round cuts nothing
   pub same_cut : (c : ℕ) (row : List Bool) → c < length Nest → ¬ ComesRound spots x (get_or Nest c 0) d → CutsTo spots x d c row → CutsTo spots x d (c + 1) row

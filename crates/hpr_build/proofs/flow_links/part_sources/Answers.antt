@@ -1,3 +1,5 @@
+use Rattle.std.proofs.Common.{◌∙◌, ap, map}
+use Rattle.std.proofs.lemmas.List.{take_all}
 use Rattle.hpr_build.proofs.FlowFamily.{source_of_point}
 use Rattle.hpr_build.proofs.Once.{map_more}
 use Rattle.hpr_build.proofs.flow_links.part_sources.Goals as goal
@@ -5,3 +7,6 @@ use Rattle.hpr_build.proofs.flow_links.part_sources.Goals as goal
 pub loop-point-preserved : goal.loop-point-preserved
 loop-point-preserved c =
     map_more source_of_point c.args.definitions.now c.loop-point.point-index 0 c.loop-point.sources.items c.push.new.self.items c.loop-point-test.true c.loop-point.invariant c.in_ok-push.ensures.items
+
+pub returns : goal.returns
+returns c = c.loop-point.invariant ∙ ap (map source_of_point) (take_all c.loop-point.point-index c.args.definitions.now c.loop-point-test.false)

@@ -1,9 +1,19 @@
-use Rattle.std.proofs.Common.{◌≡◌, ◌+◌, ◌-◌, ◌<◌, ◌↔◌, ℕ, [], List, IsTrue, length, get_or, vec_len, ap, subst, arith}
+use Rattle.std.proofs.Common.{◌≡◌, ◌+◌, ◌-◌, ◌<◌, ◌↔◌, ◌++◌, ◌∷◌, ◌∙◌, ℕ, Bool, [], List, IsTrue, length, get_or, vec_len, ap, subst, arith}
 use Rattle.hpr_search.specs.Marks.{IsMarked}
 use Rattle.hpr_paths.specs.Spots.{nest_at}
 use Rattle.hpr_build.specs.Flows.{CutsTo}
-use Rattle.hpr_build.proofs.Cuts.{last_place, same_cut, cuts_more}
+use Rattle.hpr_build.proofs.Cuts.{cuts_begun, last_place, same_cut, cuts_more}
 use Rattle.hpr_build.proofs.flows.cut_rows.Goals as goal
+
+pub loop-i-init : goal.loop-i-init
+loop-i-init c =
+    let rows = c.in_ok-push.ensures.items ∙ ap (λ (xs : List (List Bool)). xs ++ c.args.all ∷ []) c.new-rows.ensures.items in
+    let places = c.in_ok-push-2.ensures.items ∙ ap (λ (xs : List ℕ). xs ++ 0 ∷ []) c.new-places.ensures.items in
+    record {
+      count = omega (arith, c.in_ok-push-2.ensures.len, c.new-places.ensures.len);
+      last = omega (arith, c.in_ok-push.ensures.len, c.new-rows.ensures.len, ap (λ (xs : List ℕ). get_or xs 0 0) places);
+      exact = cuts_begun c.args.succ.now c.args.name.now c.args.from c.args.all _ _ rows places c.requires.all;
+    }
 
 pub add_row-requires-clause-last : goal.add_row-requires-clause-last
 add_row-requires-clause-last c = λ off.

@@ -35,3 +35,7 @@ returns-then-is_empty-clause-exact c =
 pub returns-then-is_empty-clause-once : goal.returns-then-is_empty-clause-once
 returns-then-is_empty-clause-once c = IfOk-weaker c.plain_flows.result _ _ (λ flows made.
     subst (λ (fs : List Flow). IsOnce fs) (sym (made ∙ ap (λ (us : List ℕ). map plain us) c.deref.ensures.value)) (plain_once c.in_ok-reached.reached.items c.in_ok-reached.ensures.once)) c.plain_flows.ensures
+
+pub returns-clause-once : goal.returns-clause-once
+returns-clause-once c = IfOk-weaker c.flows_to.result _ _ (λ flows once.
+    once (subst (λ (us : List ℕ). IsOnce us) (sym c.deref-2.ensures.value) c.in_ok-reached.ensures.once)) c.flows_to.ensures.once

@@ -1,7 +1,8 @@
 use Rattle.std.proofs.Common.{◌⊎◌, ◌↔◌, ◌+◌, ◌<◌, ℕ, [], Bool, Option, List, Contains, length, vec_len, get_or, take, sym, ap, subst, arith}
 use Rattle.std.proofs.lemmas.List.{take_all, get_or_default}
+use Rattle.hpr_search.specs.Marks.{IsMarked}
 use Rattle.hpr_paths.specs.Spots.{nest_at}
-use Rattle.hpr_reach.specs.Flows.{PartsAt}
+use Rattle.hpr_reach.specs.Flows.{ComesRound, PartsAt}
 use Rattle.hpr_build.specs.declared.flows.Flow.{Flow}
 use Rattle.hpr_build.specs.Flows.{IsFlowAt, IsFlowBelow}
 use Rattle.hpr_graph.specs.Graphs.{IsOnce}
@@ -9,6 +10,14 @@ use Rattle.hpr_graph.proofs.Lists.{not_before}
 use Rattle.hpr_build.proofs.Once.{nest_once}
 use Rattle.hpr_build.proofs.UserFlows.{flows_more}
 use Rattle.hpr_build.proofs.flows.flows_to.Goals as goal
+
+pub cut_rows-requires-clause-round : goal.cut_rows-requires-clause-round
+cut_rows-requires-clause-round c =
+    subst (λ (row : List Bool). (w : ℕ) → IsMarked row w ↔ ComesRound c.args.succ.now c.args.name.now w c.args.from) (sym c.deref.ensures.value) c.in_ok-round.ensures
+
+pub carried_rows-requires-clause-round : goal.carried_rows-requires-clause-round
+carried_rows-requires-clause-round c =
+    subst (λ (row : List Bool). (w : ℕ) → IsMarked row w ↔ ComesRound c.args.succ.now c.args.name.now w c.args.from) (sym c.deref-2.ensures.value) c.in_ok-round.ensures
 
 pub loop-user-preserved : goal.loop-user-preserved
 loop-user-preserved c =

@@ -1,9 +1,31 @@
-use Rattle.std.proofs.Common.{◌+◌, ◌∙◌, vec_len, arith}
+use Rattle.std.proofs.Common.{◌≡◌, ◌<◌, ◌+◌, ◌*◌, ◌++◌, ◌∙◌, List, drop, vec_len, sym, ap, arith, rules}
+use Rattle.std.proofs.lemmas.List.{append-nil, drop_all}
+use Rattle.hpr_syntax.specs.declared.tree.Stmt.{Stmt}
+use Rattle.hpr_syntax.specs.Body.{Body, done, part_count}
+use Rattle.hpr_syntax.specs.BodyOf.{before, body_of}
 use Rattle.hpr_syntax.proofs.RowLemmas.{drop_turn}
 use Rattle.hpr_paths.proofs.Blocks.{count_if, count_simple, count_while}
+use Rattle.hpr_build.specs.Places.{places_of}
 use Rattle.hpr_build.proofs.PlaceTurns.{turn_places, turn_parts, stmt_while, stmt_if, stmt_simple}
 use Rattle.hpr_build.proofs.StageTurns.{on_ok}
 use Rattle.hpr_build.proofs.places.+push.Goals as goal
+
+pub push_block-loop-stmt-init : goal.push_block-loop-stmt-init
+push_block-loop-stmt-init n c =
+    let view : c.args.block.now ≡ body_of c.deref-stmt-items.result.now = sym c.block.view_is ∙ ap body_of (sym c.deref-stmt-items.ensures.value) in
+    record {
+      view = view;
+      part = omega (arith, ap part_count view);
+      places = ap (λ (b : Body). c.args.places.now.items ++ places_of b (vec_len c.args.places.now + 1) c.args.parent c.args.others.now) (sym view);
+      len = ap (λ (b : Body). vec_len c.args.places.now + part_count b) (sym view);
+    }
+
+pub push_block-push_stmt-requires : goal.push_block-push_stmt-requires
+push_block-push_stmt-requires n c =
+    let parts : part_count (body_of (drop c.loop-stmt.stmt-index c.deref-stmt-items.result.now)) ≡ part_count (before c.stmt-item.result done) + part_count (body_of (drop (c.loop-stmt.stmt-index + 1) c.deref-stmt-items.result.now)) =
+    turn_parts _ _ _ (drop_turn c.deref-stmt-items.result.now c.loop-stmt.stmt-index c.stmt-item.result c.loop-stmt-test.true c.stmt-item.is) in
+    let smaller : 2 * part_count (before c.stmt-item.result done) < 2 * part_count c.args.block.now + 1 = omega (arith, parts, c.loop-stmt.invariant.part) in
+    (search (rules, smaller), omega (arith, parts))
 
 pub push_block-loop-stmt-preserved : goal.push_block-loop-stmt-preserved
 push_block-loop-stmt-preserved n c =
@@ -15,6 +37,33 @@ push_block-loop-stmt-preserved n c =
       places = turn_places c.args.parent c.args.others.now c.loop-stmt.places.items c.push_stmt.new.places.items _ _ _ c.stmt-item.result _ _ turn c.in_ok-push_stmt.ensures.places (omega (arith, c.in_ok-push_stmt.ensures.len)) c.loop-stmt.invariant.places;
       len = omega (arith, parts, c.in_ok-push_stmt.ensures.len, c.loop-stmt.invariant.len);
     }
+
+pub push_block-returns-clause-places : goal.push_block-returns-clause-places
+push_block-returns-clause-places n c =
+    sym (append-nil c.loop-stmt.places.items)
+    ∙ sym (ap (λ (xs : List Stmt). c.loop-stmt.places.items ++ places_of (body_of xs) (vec_len c.loop-stmt.places + 1) c.args.parent c.args.others.now) (drop_all c.loop-stmt.stmt-index c.deref-stmt-items.result.now c.loop-stmt-test.false))
+    ∙ c.loop-stmt.invariant.places
+
+pub push_block-returns-clause-len : goal.push_block-returns-clause-len
+push_block-returns-clause-len n c = omega (arith, c.loop-stmt.invariant.len, ap (λ (xs : List Stmt). part_count (body_of xs)) (drop_all c.loop-stmt.stmt-index c.deref-stmt-items.result.now c.loop-stmt-test.false))
+
+pub push_stmt-push_block-requires : goal.push_stmt-push_block-requires
+push_stmt-push_block-requires n c =
+    let parts : part_count (before c.args.stmt.now done) ≡ part_count c.in-If.yes + part_count c.in-If.no + 1 = count_if c.args.stmt.now c.in-If.field-0 c.in-If.field-1 c.in-If.yes c.in-If.no c.in-If.is in
+    let smaller : 2 * part_count c.in-If.yes + 1 < 2 * part_count (before c.args.stmt.now done) = omega (arith, parts) in
+    (search (rules, smaller), omega (arith, parts, c.in_ok-push_place.ensures.len))
+
+pub push_stmt-push_block-requires-in-If : goal.push_stmt-push_block-requires-in-If
+push_stmt-push_block-requires-in-If n c =
+    let parts : part_count (before c.args.stmt.now done) ≡ part_count c.in-If.yes + part_count c.in-If.no + 1 = count_if c.args.stmt.now c.in-If.field-0 c.in-If.field-1 c.in-If.yes c.in-If.no c.in-If.is in
+    let smaller : 2 * part_count c.in-If.no + 1 < 2 * part_count (before c.args.stmt.now done) = omega (arith, parts) in
+    (search (rules, smaller), omega (arith, parts, c.in_ok-push_place.ensures.len, c.in_ok-push_block-in-If.ensures.len))
+
+pub push_stmt-push_block-requires-in-While : goal.push_stmt-push_block-requires-in-While
+push_stmt-push_block-requires-in-While n c =
+    let parts : part_count (before c.args.stmt.now done) ≡ part_count c.in-While.body + 1 = count_while c.args.stmt.now c.in-While.field-0 c.in-While.field-1 c.in-While.body c.in-While.is in
+    let smaller : 2 * part_count c.in-While.body + 1 < 2 * part_count (before c.args.stmt.now done) = omega (arith, parts) in
+    (search (rules, smaller), omega (arith, parts, c.in_ok-push_place.ensures.len))
 
 pub push_stmt-returns-in_default-clause-places : goal.push_stmt-returns-in_default-clause-places
 push_stmt-returns-in_default-clause-places n c =
