@@ -1,14 +1,17 @@
 -- What is added for one item of a list after another.
-use Rattle.std.proofs.Common.{◌≡◌, ℕ, ◌+◌, ◌<◌, ◌≤◌, List, length, take, get_or, Contains, ◌↔◌, ◌⊎◌, inl, inr, refl, sym, subst}
+use Rattle.std.proofs.Common.{◌≡◌, ℕ, ◌+◌, ◌<◌, ◌≤◌, List, [], length, take, get_or, Contains, ◌↔◌, ◌⊎◌, inl, inr, refl, sym, subst}
 use Rattle.std.proofs.lemmas.List.{take_all}
 use Rattle.hpr_terms.proofs.Facts.{taken_item}
 use Rattle.hpr_graph.specs.Graphs.{IsOnce}
-use Rattle.hpr_graph.proofs.Lists.{not_before}
+use Rattle.hpr_graph.proofs.Lists.{in_none, not_before}
 use Rattle.hpr_build.proofs.Once.{taken_among}
 
 -- some item of the list has P
 abbrev pub SomeOf : {X : Type 0} → List X → (X → Type 0) → Type 0
 SomeOf {X} xs P = (x : X) × Contains xs x × P x
+
+pub begun_family : {X : Type 0} (P : X → Type 0) (A : Type 0) → A ↔ (A ⊎ SomeOf [] P)
+begun_family {X} P A = (λ h. inl h, λ h. elim h [ inl was ↦ was | inr (x, t, p) ↦ absurd (in_none x t) ])
 
 module _ {X : Type 0} (xs : List X) (P : X → Type 0) (k : ℕ) (A O : Type 0) (old : A ↔ (O ⊎ SomeOf (take k xs) P)) where
   pub whole_family : length xs ≤ k → A ↔ (O ⊎ SomeOf xs P)

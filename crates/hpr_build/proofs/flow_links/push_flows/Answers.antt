@@ -3,7 +3,7 @@ use Rattle.std.proofs.lemmas.Option.{slice_get_within, get_or_from_slice_get}
 use Rattle.hpr_graph.specs.Numbered.{HasLink}
 use Rattle.hpr_build.specs.Links.{IsFlowLink}
 use Rattle.hpr_build.specs.NewLinks.{FlowsOf}
-use Rattle.hpr_build.proofs.Families.{SomeOf, turn_family, fresh_family, whole_family, other_family}
+use Rattle.hpr_build.proofs.Families.{SomeOf, begun_family, turn_family, fresh_family, whole_family, other_family}
 use Rattle.hpr_build.proofs.FlowFamily.{flow_of_name, name_of_flow, some_name, name_of_some}
 use Rattle.hpr_graph.proofs.NamesOnce.{names_once}
 use Rattle.hpr_build.proofs.flow_links.push_flows.Goals as goal
@@ -44,3 +44,9 @@ returns-clause-added c = λ to l.
     other_family (HasLink c.loop-at.graph to l) (HasLink c.args.graph.now to l) (SomeOf xs (λ y. FlowsOf t inits y to l)) (IsFlowLink t inits to l)
     (some_name t inits xs c.requires.tables.names to l) (name_of_some t inits xs c.requires.tables.names to l)
     (whole_family xs (λ y. FlowsOf t inits y to l) k (HasLink c.loop-at.graph to l) (HasLink c.args.graph.now to l) (c.loop-at.invariant.added to l) (omega (arith, c.len-at-end.ensures, c.loop-at-test.false, c.args.tables.now.variables.names.ok.0)))
+
+pub loop-at-init : goal.loop-at-init
+loop-at-init c = record {
+  begun = c.requires.begun;
+  added = λ to l. begun_family (λ (x : List ℕ). FlowsOf c.args.tables.now.program.now c.args.tables.now.inits.items x to l) (HasLink c.args.graph.now to l);
+}

@@ -5,7 +5,7 @@ use Rattle.hpr_build.specs.declared.flow_links.Source.{Source}
 use Rattle.hpr_build.specs.Links.{IsSourceAt}
 use Rattle.hpr_build.specs.NewLinks.{FlowsFrom, FlowsOf}
 use Rattle.hpr_graph.specs.Graphs.{IsOnce}
-use Rattle.hpr_build.proofs.Families.{SomeOf, turn_family, fresh_family, whole_family, other_family}
+use Rattle.hpr_build.proofs.Families.{SomeOf, begun_family, turn_family, fresh_family, whole_family, other_family}
 use Rattle.hpr_build.proofs.FlowFamily.{no_source, flow_of_source, some_source, source_of_some, one_source}
 use Rattle.hpr_build.proofs.TargetNumbers.{users_within}
 use Rattle.hpr_build.proofs.flow_links.push_flows_of.Goals as goal
@@ -65,3 +65,9 @@ returns-clause-added c = λ to l.
     other_family (HasLink c.loop-source.graph to l) (HasLink c.args.graph.now to l) (SomeOf xs (λ r. FlowsFrom t x r.point r.number to l)) (FlowsOf t inits x to l)
     (some_source t inits x xs exact to l) (source_of_some t inits x xs exact to l)
     (whole_family xs (λ r. FlowsFrom t x r.point r.number to l) c.loop-source.source-index (HasLink c.loop-source.graph to l) (HasLink c.args.graph.now to l) (c.loop-source.invariant.added to l) (omega (arith, c.loop-source-test.false)))
+
+pub loop-source-init : goal.loop-source-init
+loop-source-init c = record {
+  begun = c.requires.begun;
+  added = λ to l. begun_family (λ (r : Source). FlowsFrom c.args.tables.now.program.now c.args.variable.now.name.now r.point r.number to l) (HasLink c.args.graph.now to l);
+}

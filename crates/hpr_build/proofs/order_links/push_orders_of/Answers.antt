@@ -5,7 +5,7 @@ use Rattle.hpr_build.proofs.ReachingRows.{row_reaching}
 use Rattle.hpr_paths.specs.Successors.{spots}
 use Rattle.hpr_graph.specs.Numbered.{HasLink}
 use Rattle.hpr_build.specs.NewLinks.{OrdersAt, OrdersOf}
-use Rattle.hpr_build.proofs.Families.{SomeOf, turn_family, fresh_family, whole_family, other_family}
+use Rattle.hpr_build.proofs.Families.{SomeOf, begun_family, turn_family, fresh_family, whole_family, other_family}
 use Rattle.hpr_build.proofs.OrderFamily.{one_use, some_use, use_of_some}
 use Rattle.hpr_build.proofs.order_links.push_orders_of.Goals as goal
 
@@ -73,3 +73,9 @@ returns-clause-added c = λ to l.
     other_family (HasLink c.loop-at.graph to l) (HasLink c.args.graph.now to l) (SomeOf xs (λ w. OrdersAt t v.name.now w to l)) (OrdersOf t v.name.now to l)
     (some_use t v c.requires.variable to l) (use_of_some t v c.requires.variable to l)
     (whole_family xs (λ w. OrdersAt t v.name.now w to l) c.loop-at.at (HasLink c.loop-at.graph to l) (HasLink c.args.graph.now to l) (c.loop-at.invariant.added to l) (omega (arith, c.loop-at-test.false)))
+
+pub loop-at-init : goal.loop-at-init
+loop-at-init c = record {
+  begun = c.requires.begun;
+  added = λ to l. begun_family (λ (u : ℕ). OrdersAt c.args.tables.now.program.now c.args.variable.now.name.now u to l) (HasLink c.args.graph.now to l);
+}
