@@ -1,5 +1,5 @@
 -- The links that are added to a slice are the edges that are added to it, in their order.
-use Rattle.std.proofs.Common.{◌≡◌, ℕ, zero, suc, ◌+◌, ◌<◌, ◌⊎◌, inl, inr, Bool, Some, None, List, [], ◌∷◌, ◌++◌, length, map, slice_get, sym, ap, ◌∙◌, subst, arith}
+use Rattle.std.proofs.Common.{◌≡◌, ℕ, zero, suc, ◌+◌, ◌<◌, ◌⊎◌, inl, inr, All, Bool, Some, None, List, [], ◌∷◌, ◌++◌, length, map, slice_get, sym, ap, ◌∙◌, subst, arith}
 use Rattle.std.specs.Ordering.{ordering_then}
 use Rattle.std.specs.declared.cmp.Ordering.TheVariants.{Less}
 use Rattle.std.proofs.lemmas.Bool.{cases_lt}
@@ -22,6 +22,10 @@ use Rattle.hpr_affected.proofs.SliceMarks.{third_marked, marked_third, marks_at}
 use Rattle.hpr_merge.specs.Added.{IsAddedLink, IsFirstAdded}
 use Rattle.hpr_merge.specs.Beside.{Pair, AreBeside, IsBeside, IsLeastAdded}
 use Rattle.hpr_graph.proofs.VertexOrder.{edge_never}
+
+pub one_within : (n m : ℕ) → n < m → All (λ k. k < m) (n ∷ [])
+one_within n m l zero d w = l
+one_within n m l (suc k) d w = absurd (omega (arith, w))
 
 -- the places of edges in the list of all edges row by row
 module _ {X : Type 0} where

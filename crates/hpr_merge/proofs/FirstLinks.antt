@@ -21,6 +21,9 @@ module _ (P : Link → Type 0) (ls : List Link) where
     | inr other ↦ before j m (omega (arith, less, other)) at p
   ]
 
+  pub first_here : (n : ℕ) (d : Link) → n < length ls → P (get_or ls n d) → NoneBefore n → IsFirst P ls (Some (get_or ls n d))
+  first_here n d l here before = (here, (n, slice_get-get_or ls n d l, before))
+
   pub none_whole : (n : ℕ) → length ls ≤ n → NoneBefore n → IsFirst P ls None
   none_whole n all before l has p = let (j, at) = place_of ls l has in before j l (let w = slice_get_within ls j l at in omega (arith, w, all)) at p
 
