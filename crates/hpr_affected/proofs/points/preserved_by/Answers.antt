@@ -6,7 +6,7 @@ use Rattle.hpr_graph.specs.Whole.{IsWhole}
 use Rattle.hpr_affected.specs.Comparison.{Sides}
 use Rattle.hpr_affected.specs.Numbers.{AreNumbersOf}
 use Rattle.hpr_affected.specs.Shared.{MarksUnshared, others_of}
-use Rattle.hpr_affected.proofs.SharedPoints.{all_others, other_at, others_more, unshared_read}
+use Rattle.hpr_affected.proofs.SharedPoints.{all_others, other_at, others_more, unshared_none, unshared_read}
 use Rattle.hpr_affected.proofs.points.preserved_by.Goals as goal
 
 pub mark_affected-requires-clause-other : goal.mark_affected-requires-clause-other
@@ -36,3 +36,6 @@ returns c =
     (unshared_read base (others_of cs) c.loop-comparison.unshared.items c.deref.result.now c.deref.ensures.value
     (all_others base cs c.loop-comparison.comparison-index c.loop-comparison.unshared.items c.loop-comparison-test.false c.loop-comparison.invariant)))
     c.shared_points.ensures
+
+pub loop-comparison-init : goal.loop-comparison-init
+loop-comparison-init c = unshared_none c.args.base.now _ _ c.vertex_count.ensures c.in_ok-unshared.ensures
