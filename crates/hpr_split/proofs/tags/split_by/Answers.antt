@@ -1,4 +1,4 @@
-use Rattle.std.proofs.Common.{◌≡◌, ◌∙◌, ℕ, ◌+◌, List, length, map, ap, sym, subst, arith}
+use Rattle.std.proofs.Common.{◌≡◌, ◌∙◌, ℕ, ◌+◌, List, length, map, ap, sym, subst, arith, rules}
 use Rattle.hpr_terms.specs.declared.tag.Tag.{Tag}
 use Rattle.hpr_syntax.specs.Issued.{issued_to}
 use Rattle.hpr_graph.specs.declared.vertex.Vertex.{Vertex}
@@ -38,3 +38,6 @@ returns-clause-author c =
     let tagged = ap (λ (rs : List (Vertex × Tag)). length rs) c.in_ok-renamed.ensures in
     let count : c.len.result ≡ length c.in_ok-renamed.renamed.items = omega (arith, c.len.ensures, c.args.parts.ok.0, tagged, new_tags_length c.get-serial.result c.args.parts.items) in
     c.in_ok-issued.ensures.author ∙ ap (λ (n : ℕ). issued_to 0 c.args.issued.now + n) count
+
+pub returns-clause-rank : goal.returns-clause-rank
+returns-clause-rank c = search rules
