@@ -2,11 +2,12 @@
 --
 -- Backs old steps k marks == the marks of old, and one at each loop to which one of the first k steps is a back edge
 -- Turns spots x d w p     == the value leaves p, from which a back edge leads to the loop w
-use Rattle.std.proofs.Common.{◌≡◌, ℕ, ◌+◌, ◌<◌, ◌≤◌, Bool, true, false, IsTrue, List, length, get_or, set, take, All, Contains, ◌⊎◌, ◌↔◌, inl, inr, refl, sym, ap, ◌∙◌, subst, arith}
+use Rattle.std.proofs.Common.{◌≡◌, ℕ, ◌+◌, ◌<◌, ◌≤◌, Bool, true, false, IsTrue, List, length, replicate, get_or, set, take, All, Contains, ◌⊎◌, ◌↔◌, inl, inr, refl, sym, ap, ◌∙◌, subst, arith}
 use Rattle.std.proofs.lemmas.Bool.{cases_eq}
 use Rattle.std.proofs.lemmas.List.{get_or-set_same, get_or-set_other, get_or_default}
 use Rattle.hpr_terms.proofs.Facts.{taken_item}
 use Rattle.hpr_search.specs.Marks.{IsMarked}
+use Rattle.hpr_search.proofs.Marked.{no_marks}
 use Rattle.hpr_paths.specs.declared.spot.Step.{Step}
 use Rattle.hpr_paths.specs.Spots.{Spot, next_at}
 use Rattle.hpr_reach.specs.Reaches.{back_to}
@@ -63,6 +64,19 @@ Turns spots x d w p = Contains (next_at spots p) (back_to w) × Leaves spots x d
 -- the value leaves d itself, or one of the first n of these points, from which a back edge leads to the loop
 abbrev pub Around : List Spot → List ℕ → ℕ → List ℕ → ℕ → ℕ → Type 0
 Around spots x d ps n w = Contains (next_at spots d) (back_to w) ⊎ Below (λ k. Turns spots x d w (get_or ps k 0)) n
+
+pub turns_begun : (spots : List Spot) (x : List ℕ) (d : ℕ) (ps : List ℕ) (blank marks : List Bool) (n : ℕ) (steps : List Step) → blank ≡ replicate n false → steps ≡ next_at spots d
+    → ((w : ℕ) → IsMarked marks w ↔ (IsMarked blank w ⊎ Contains steps (back_to w))) → (w : ℕ) → IsMarked marks w ↔ Around spots x d ps 0 w
+turns_begun spots x d ps blank marks n steps none is new w = (
+  (λ h. elim ((new w).0 h) [
+    | inl was ↦ absurd (no_marks n w (subst (λ (row : List Bool). IsMarked row w) none was))
+    | inr t ↦ inl (subst (λ (ss : List Step). Contains ss (back_to w)) is t)
+  ]),
+  (λ h. elim h [
+    | inl t ↦ (new w).1 (inr (subst (λ (ss : List Step). Contains ss (back_to w)) (sym is) t))
+    | inr (k, l, t) ↦ absurd (omega (arith, l))
+  ]),
+)
 
 module _ (spots : List Spot) (x : List ℕ) (d : ℕ) (ps : List ℕ) (n : ℕ) (marks : List Bool) (before : (w : ℕ) → IsMarked marks w ↔ Around spots x d ps n w) where
   one_more : (w : ℕ) → (Below (λ k. Turns spots x d w (get_or ps k 0)) n ⊎ Turns spots x d w (get_or ps n 0)) ↔ Below (λ k. Turns spots x d w (get_or ps k 0)) (n + 1)

@@ -1,10 +1,10 @@
-use Rattle.std.proofs.Common.{◌⊎◌, ◌↔◌, ℕ, List, Contains, get_or, sym, subst, arith}
-use Rattle.std.proofs.lemmas.List.{get_or_default}
+use Rattle.std.proofs.Common.{◌<◌, ◌⊎◌, ◌↔◌, ℕ, List, All, false, length, Contains, ap, get_or, sym, subst, arith}
+use Rattle.std.proofs.lemmas.List.{get_or_default, length-replicate}
 use Rattle.hpr_search.specs.Marks.{IsMarked}
 use Rattle.hpr_search.proofs.Marked.{marked_within}
 use Rattle.hpr_paths.specs.declared.spot.Step.{Step}
 use Rattle.hpr_reach.specs.Reaches.{back_to}
-use Rattle.hpr_build.proofs.Rounds.{turns_more, turns_same, turns_all}
+use Rattle.hpr_build.proofs.Rounds.{turns_begun, turns_more, turns_same, turns_all}
 use Rattle.hpr_build.proofs.flows.rounds.Goals as goal
 use Rattle.hpr_build.proofs.flows.rounds.Goals.{then-leaves, else-leaves}
 
@@ -46,3 +46,13 @@ loop-point-preserved c =
 
 pub returns : goal.returns
 returns c = λ w. turns_all c.args.succ.now c.args.name.now c.args.from c.points-points.result.now c.loop-point.point-index w c.args.row.now _ (omega (arith, c.loop-point-test.false)) c.points-points.ensures.marked c.requires.row (c.loop-point.invariant.marks w)
+
+pub loop-point-init : goal.loop-point-init
+loop-point-init c = record {
+  len = omega (arith, c.mark_backs.ensures.len, c.in_ok-round.round.ok.0, ap length c.in_ok-round.ensures, length-replicate c.points.result false, c.points.ensures.points);
+  marks = turns_begun c.args.succ.now c.args.name.now c.args.from c.points-points.result.now _ _ c.points.result c.next.result.now c.in_ok-round.ensures c.next.ensures.next c.mark_backs.ensures.marks;
+}
+
+pub mark_backs-requires-then-leaves : goal.mark_backs-requires-then-leaves
+mark_backs-requires-then-leaves c =
+    subst (λ (n : ℕ). All (λ s. s.to < n) c.next-then-leaves.result.now) (sym c.loop-point.invariant.len) c.next-then-leaves.ensures.within

@@ -3,7 +3,7 @@ use Rattle.std.proofs.lemmas.Option.{slice_get_within, get_or_from_slice_get}
 use Rattle.hpr_graph.specs.Numbered.{HasLink}
 use Rattle.hpr_build.specs.Links.{IsOrderLink}
 use Rattle.hpr_build.specs.NewLinks.{OrdersOf}
-use Rattle.hpr_build.proofs.Families.{SomeOf, turn_family, fresh_family, whole_family, other_family}
+use Rattle.hpr_build.proofs.Families.{SomeOf, begun_family, turn_family, fresh_family, whole_family, other_family}
 use Rattle.hpr_build.proofs.OrderFamily.{order_of_name, name_of_order, some_ordered, ordered_of_some}
 use Rattle.hpr_graph.proofs.NamesOnce.{names_once}
 use Rattle.hpr_build.proofs.Sources.{flows_kept}
@@ -47,3 +47,9 @@ pub push_orders_of-requires-clause-flows : goal.push_orders_of-requires-clause-f
 push_orders_of-requires-clause-flows c =
     let t = c.args.tables.now in
     flows_kept t.program.now t.inits.items (take c.loop-at.at t.variables.names.items) c.args.graph.now c.loop-at.graph c.requires.flows c.loop-at.invariant.added
+
+pub loop-at-init : goal.loop-at-init
+loop-at-init c = record {
+  begun = c.requires.begun;
+  added = λ to l. begun_family (λ (x : List ℕ). OrdersOf c.args.tables.now.program.now x to l) (HasLink c.args.graph.now to l);
+}
