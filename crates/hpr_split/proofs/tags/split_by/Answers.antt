@@ -3,6 +3,8 @@ use Rattle.hpr_terms.specs.declared.tag.Tag.{Tag}
 use Rattle.hpr_syntax.specs.Issued.{issued_to}
 use Rattle.hpr_graph.specs.declared.vertex.Vertex.{Vertex}
 use Rattle.hpr_graph.specs.Graphs.{IsOnce, name_of}
+use Rattle.hpr_graph.specs.InOrder.{Ascends}
+use Rattle.hpr_graph.specs.Order.{vertex_cmp}
 use Rattle.hpr_graph.specs.Split.{renamed, split_issued, with_new_tags}
 use Rattle.hpr_split.proofs.Renamed.{new_tags_length, renamed_names}
 use Rattle.hpr_split.proofs.NewTags.{below_ranked, renamed_once}
@@ -41,3 +43,15 @@ returns-clause-author c =
 
 pub returns-clause-rank : goal.returns-clause-rank
 returns-clause-rank c = search rules
+
+pub all_renamed-requires-clause-ascend : goal.all_renamed-requires-clause-ascend
+all_renamed-requires-clause-ascend c = subst (λ (vs : List Vertex). Ascends vertex_cmp vs) (sym c.deref.ensures.value) c.requires.ascend
+
+pub all_renamed-requires-clause-serials : goal.all_renamed-requires-clause-serials
+all_renamed-requires-clause-serials c = omega (arith, c.requires.fits, c.get-serial.ensures, ap (λ (vs : List Vertex). length vs) c.deref.ensures.value)
+
+pub all_renamed-requires-2-clause-ascend : goal.all_renamed-requires-2-clause-ascend
+all_renamed-requires-2-clause-ascend c = subst (λ (vs : List Vertex). Ascends vertex_cmp vs) (sym c.deref-2.ensures.value) c.requires.ascend
+
+pub all_renamed-requires-2-clause-serials : goal.all_renamed-requires-2-clause-serials
+all_renamed-requires-2-clause-serials c = omega (arith, c.requires.fits, c.get-serial.ensures, ap (λ (vs : List Vertex). length vs) c.deref-2.ensures.value)
