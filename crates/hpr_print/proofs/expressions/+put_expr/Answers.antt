@@ -1,8 +1,9 @@
-use Rattle.std.proofs.Common.{◌≡◌, ◌<◌, ◌^◌, ◌||◌, ◌&&◌, ◌==◌, nat_lt, nat_le, rules, arith, ap, sym, subst, IsUtf8}
+use Rattle.std.proofs.Common.{◌≡◌, ◌<◌, ◌^◌, ◌||◌, ◌&&◌, ◌==◌, nat_lt, nat_le, rules, arith, ap, ◌∙◌, subst, IsUtf8}
 use Rattle.std.proofs.lemmas.Result.{on_ok_weaker}
 use Rattle.hpr_terms.specs.Term.{num, prefix, infix', element}
 use Rattle.hpr_terms.specs.TermOf.{term_of}
 use Rattle.hpr_syntax.specs.Print.{level_of, level_of_sign, term_text}
+use Rattle.hpr_print.proofs.Texts.{piece, prefix_text, infix_text, element_pieces}
 use Rattle.hpr_print.proofs.Utf8.{num_utf8, prefix_utf8, bracketed_utf8, infix_utf8, element_utf8, elem_utf8}
 use Rattle.hpr_print.proofs.expressions.+put_expr.Goals as goal
 
@@ -31,11 +32,43 @@ put_expr-returns-in_ok-put-in-Infix-3-clause-utf8 t c =
     (λ h. infix_utf8 (term_of c.args.expr.now) op first second c.if-level-binds.is_loose _ is left right c.in_ok-put_operand-in-Infix.ensures.utf8 h)
     c.put_operand-in-Infix-2.ensures.utf8
 
+pub put_expr-returns-in_ok-put-in-Prefix-clause-text : goal.put_expr-returns-in_ok-put-in-Prefix-clause-text
+put_expr-returns-in_ok-put-in-Prefix-clause-text t c =
+    let out = c.args.out.now.items in
+    let inner = term_of c.expr-inner.result.now in
+    let is : term_of c.args.expr.now ≡ prefix c.in-Prefix.op inner = search rules in
+    let brackets : nat_lt c.level.result 6 ≡ nat_lt (level_of inner) 6 = ap (λ n. nat_lt n 6) c.level.ensures in
+    let one = piece out c.put-in-Prefix.new.out.items c.prefix_sign.result.now _ c.in_ok-put-in-Prefix.ensures c.prefix_sign.ensures in
+    on_ok_weaker c.put_operand.result (prefix_text (term_of c.args.expr.now) c.in-Prefix.op inner _ out c.put-in-Prefix.new.out.items c.put_operand.new.out.items is brackets one) c.put_operand.ensures.text
+
+pub put_expr-returns-in_ok-put-in-Infix-3-clause-text : goal.put_expr-returns-in_ok-put-in-Infix-3-clause-text
+put_expr-returns-in_ok-put-in-Infix-3-clause-text t c =
+    let op = c.in-Infix.op in
+    let first = term_of c.expr-first.result.now in
+    let second = term_of c.expr-second.result.now in
+    let is : term_of c.args.expr.now ≡ infix' op first second = search rules in
+    let left : c.if-level-binds.is_loose ≡ (nat_lt (level_of first) (level_of_sign op) || ((level_of_sign op == 3) && (level_of first == 3))) = search rules in
+    let right : nat_le c.level-in-Infix-2.result c.level_of_sign-binds.result ≡ nat_le (level_of second) (level_of_sign op) = cc in
+    let three = piece c.put-in-Infix.new.out.items c.put-in-Infix-2.new.out.items c.sign.result.now _ c.in_ok-put-in-Infix-2.ensures c.sign.ensures in
+    on_ok_weaker c.put_operand-in-Infix-2.result
+    (infix_text (term_of c.args.expr.now) op first second c.if-level-binds.is_loose _ c.args.out.now.items c.put_operand-in-Infix.new.out.items c.put-in-Infix.new.out.items
+    c.put-in-Infix-2.new.out.items c.put-in-Infix-3.new.out.items c.put_operand-in-Infix-2.new.out.items is left right c.in_ok-put_operand-in-Infix.ensures.text
+    c.in_ok-put-in-Infix.ensures three c.in_ok-put-in-Infix-3.ensures)
+    c.put_operand-in-Infix-2.ensures.text
+
 pub put_expr-returns-in-Elem-clause-utf8 : goal.put_expr-returns-in-Elem-clause-utf8
 put_expr-returns-in-Elem-clause-utf8 t c =
     let index = term_of c.expr.result.now in
     let is : term_of c.args.expr.now ≡ element c.in-Elem.array index = search rules in
     on_ok_weaker c.put_element.result (λ h. elem_utf8 (term_of c.args.expr.now) c.in-Elem.array index is h) c.put_element.ensures.utf8
+
+pub put_element-returns-clause-text : goal.put_element-returns-clause-text
+put_element-returns-clause-text t c =
+    let out = c.args.out.now.items in
+    let one = piece out c.put.new.out.items c.as_bytes.result.now _ c.in_ok-put.ensures (c.as_bytes.ensures.value ∙ c.base.ensures) in
+    on_ok_weaker c.put-3.result
+    (element_pieces out _ c.put.new.out.items c.put-2.new.out.items _ c.put_expr.new.out.items c.put-3.new.out.items one c.in_ok-put-2.ensures (c.in_ok-put_expr.ensures).text)
+    c.put-3.ensures
 
 pub put_element-returns-clause-utf8 : goal.put_element-returns-clause-utf8
 put_element-returns-clause-utf8 t c =
