@@ -6,14 +6,16 @@ use Rattle.hpr_terms.specs.declared.keyword.Keyword.TheVariants.{Then, Do}
 use Rattle.hpr_terms.specs.declared.token.Sign.TheVariants.{Semicolon}
 use Rattle.hpr_terms.specs.declared.token.Token.{Token}
 use Rattle.hpr_terms.specs.declared.token.Token.TheVariants.{Word, Mark}
+use Rattle.hpr_terms.specs.Names.{stream}
+use Rattle.hpr_syntax.specs.Action.{assigns, writes, stores}
 use Rattle.hpr_expressions.specs.Expression.{read, ended}
 use Rattle.hpr_expressions.specs.declared.expression.Reading.{Reading}
 use Rattle.hpr_text.specs.declared.found.Found.{Found}
 use Rattle.hpr_text.specs.declared.state.Purpose.{Purpose}
 use Rattle.hpr_text.specs.declared.state.Purpose.TheVariants.{Assign, Test, Guard, Output, Store}
 use Rattle.hpr_text.specs.declared.state.Place.{Place}
-use Rattle.hpr_text.specs.declared.state.Place.TheVariants.{InExpression}
-use Rattle.hpr_text.specs.Machine.{goes_on, index_ends, ends_here, expression_next}
+use Rattle.hpr_text.specs.declared.state.Place.TheVariants.{AtPart, InExpression}
+use Rattle.hpr_text.specs.Machine.{state_at, with_part, in_then, in_loop, goes_on, index_ends, ends_here, expression_next}
 use Rattle.hpr_text.specs.Private.EndsAt.{ends_at}
 
 pub goes_on_is_some : (f : Found) (p : Reading → Place) (o : Option Reading) → is_some (goes_on f p o) ≡ is_some o
@@ -52,3 +54,25 @@ ends_within l f p r t e = absurd cc
 pub either_way : {S P : Type 0} (b : Bool) (o p : Option S) (n : S) → (o ≡ Some n → P) → (p ≡ Some n → P) → cond b o p ≡ Some n → P
 either_way true o p n first second e = first e
 either_way false o p n first second e = second e
+
+-- ---- an expression ends for what it was read for
+
+pub assignment_ends : (l : Option ℕ) (f g : Found) (p : Purpose) (o : Option Expr) (t : Tag) (x : List ℕ) (e : Expr) → p ≡ Assign t x → o ≡ Some e → g ≡ with_part l t (assigns x e) f
+    → ends_here l f p o ≡ Some (state_at g AtPart)
+assignment_ends l f g p o t x e is some made = rw (made, is, some) refl
+
+pub test_ends : (l : Option ℕ) (f g : Found) (p : Purpose) (o : Option Expr) (t : Tag) (e : Expr) → p ≡ Test t → o ≡ Some e → g ≡ in_then t e f
+    → ends_here l f p o ≡ Some (state_at g AtPart)
+test_ends l f g p o t e is some made = rw (made, is, some) refl
+
+pub guard_ends : (l : Option ℕ) (f g : Found) (p : Purpose) (o : Option Expr) (t : Tag) (e : Expr) → p ≡ Guard t → o ≡ Some e → g ≡ in_loop t e f
+    → ends_here l f p o ≡ Some (state_at g AtPart)
+guard_ends l f g p o t e is some made = rw (made, is, some) refl
+
+pub output_ends : (l : Option ℕ) (f g : Found) (p : Purpose) (o : Option Expr) (t : Tag) (e : Expr) → p ≡ Output t → o ≡ Some e → g ≡ with_part l t (writes stream e) f
+    → ends_here l f p o ≡ Some (state_at g AtPart)
+output_ends l f g p o t e is some made = rw (made, is, some) refl
+
+pub store_ends : (l : Option ℕ) (f g : Found) (p : Purpose) (o : Option Expr) (t : Tag) (a : List ℕ) (i : Expr) (e : Expr) → p ≡ Store t a i → o ≡ Some e → g ≡ with_part l t (stores a i e) f
+    → ends_here l f p o ≡ Some (state_at g AtPart)
+store_ends l f g p o t a i e is some made = rw (made, is, some) refl

@@ -499,7 +499,6 @@ impl Found {
         }
     }
 
-    #[tactic(auto, using(crate::proofs::Going::goes_on_within, crate::proofs::Going::ends_within))]
     fn expression_next(
         &mut self,
         alloc: Global,

@@ -1,0 +1,5 @@
+use Rattle.std.proofs.Common.{rules}
+use Rattle.hpr_text.proofs.found.Found.colon_next.Goals as goal
+
+pub returns-in_default : goal.returns-in_default
+returns-in_default c = search rules
