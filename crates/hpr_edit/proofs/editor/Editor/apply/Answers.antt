@@ -1,4 +1,4 @@
-use Rattle.std.proofs.Common.{◌∙◌, ap, refl}
+use Rattle.std.proofs.Common.{◌∙◌, ap, refl, rules}
 use Rattle.hpr_edit.specs.Edited.{edited, new_tag}
 use Rattle.hpr_edit.proofs.Back.{ready}
 use Rattle.hpr_edit.proofs.Ends.{refused_by}
@@ -29,3 +29,6 @@ returns-in-Err-clause-refused c =
     let a = c.self.inside.author in
     let new = c.next_tag-new.ensures.tag ∙ ap (new_tag a) c.issued.ensures.issued in
     rw (← c.self.view_is) (refused_by (edited p c.args.command.now a) c.in-Err.why (c.in-Err.ensures a new))
+
+pub returns-in-Err-clause-unchanged : goal.returns-in-Err-clause-unchanged
+returns-in-Err-clause-unchanged c = search rules
