@@ -2,13 +2,15 @@
 use Rattle.std.proofs.Common.{◌≡◌, ℕ, zero, suc, ◌+◌, ◌<◌, ◌≤◌, inl, inr, Bool, true, false, if◌then◌else◌, Some, None, List, [], ◌∷◌, ◌++◌, length, reverse, drop, Contains, slice_get, refl, sym, ap, ◌∙◌, subst, arith}
 use Rattle.std.proofs.Math.Seq.{drop-cons}
 use Rattle.std.proofs.lemmas.Bool.{cases_Bool}
-use Rattle.std.proofs.lemmas.List.{reverse-append}
+use Rattle.std.proofs.lemmas.List.{drop_all, reverse-append}
 use Rattle.std.proofs.lemmas.Option.{get_or_from_slice_get}
 use Rattle.hpr_terms.specs.declared.tag.Tag.{Tag}
 use Rattle.hpr_syntax.specs.declared.rows.Content.{Content}
 use Rattle.hpr_syntax.specs.declared.tree.Stmt.{Stmt}
 use Rattle.hpr_syntax.specs.Body.{Body, done}
 use Rattle.hpr_syntax.specs.BodyOf.{body_of, before}
+use Rattle.hpr_syntax.specs.Issued.{Issued}
+use Rattle.hpr_syntax.specs.Tree.{Tree}
 use Rattle.hpr_syntax.specs.Rows.{made}
 use Rattle.hpr_syntax.proofs.ByStructure.{same_before}
 use Rattle.hpr_forest.proofs.Unique.{in_first, in_later}
@@ -18,7 +20,7 @@ use Rattle.hpr_forest.proofs.Grow.{same_slot_true, same_slot_itself}
 use Rattle.hpr_order.specs.declared.item.Item.{Item}
 use Rattle.hpr_order.specs.declared.building.Pending.{Pending}
 use Rattle.hpr_order.specs.Building.{AreBlocks, IsFree, row_at, body_at}
-use Rattle.hpr_order.specs.Items.{block_at, said, with_part}
+use Rattle.hpr_order.specs.Items.{block_at, program_of, said, with_part}
 use Rattle.hpr_order.proofs.ReadBack.{first_second}
 
 reversed : (xs : List Stmt) (s : Stmt) → reverse (xs ++ s ∷ []) ≡ s ∷ reverse xs
@@ -108,3 +110,17 @@ drop_more order at before' c e le get =
 
 pub fresh_there : (order : List ℕ) (at before' : ℕ) (c : ℕ) → IsDistinct order → drop before' order ≡ c ∷ drop at order → ¬ Contains (drop at order) c
 fresh_there order at before' c once e = (subst IsDistinct e (distinct_drop before' order once)).0
+
+-- nothing is put at the start
+pub none_put : (items : List Item) (order : List ℕ) (p : Pending) → ((v : Slot) → row_at p v ≡ []) → AreBlocks items (drop (length order) order) p
+none_put items order p none =
+    let all : drop (length order) order ≡ [] = drop_all (length order) order (omega arith) in
+    subst (λ z. AreBlocks items z p) (sym all) (λ v slot free. ap (λ z. body_of (reverse z)) (none v))
+
+abbrev pub made_of : Issued → Body → List (List ℕ) → Tree
+made_of issued body finals = record { issued = issued; body = body; finals = finals }
+
+pub program_by : (items : List Item) (order : List ℕ) (issued given : Issued) (body : Body) (finals xs : List (List ℕ)) → issued ≡ given → body ≡ block_at items order None → finals ≡ xs
+    → made_of issued body finals ≡ program_of items given xs order
+program_by items order issued given body finals xs is_issued is_body is_finals =
+    ap (λ z. made_of z body finals) is_issued ∙ ap (λ z. made_of given z finals) is_body ∙ ap (λ z. made_of given (block_at items order None) z) is_finals

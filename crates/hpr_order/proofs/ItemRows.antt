@@ -1,8 +1,8 @@
 -- Rows of items as they grow: what stands under each item, the items of first blocks, and the latest entries.
-use Rattle.std.proofs.Common.{◌≡◌, ℕ, ◌+◌, ◌<◌, ◌≤◌, ◌⊎◌, ◌↔◌, inl, inr, Bool, true, false, IsTrue, Option, Some, None, List, length, set, take, get_or, Contains, Vec, slice_get, sym, ap, ◌∙◌, subst, arith}
+use Rattle.std.proofs.Common.{◌≡◌, ℕ, ◌+◌, ◌<◌, ◌≤◌, ◌⊎◌, ◌↔◌, inl, inr, Bool, true, false, IsTrue, Option, Some, None, List, length, replicate, zero, suc, set, take, get_or, Contains, Vec, slice_get, sym, ap, ◌∙◌, subst, arith}
 use Rattle.std.specs.Global.{Global}
 use Rattle.std.proofs.lemmas.Bool.{cases_eq}
-use Rattle.std.proofs.lemmas.List.{length-set, take_all}
+use Rattle.std.proofs.lemmas.List.{length-replicate, length-set, take_all}
 use Rattle.hpr_terms.proofs.Facts.{some_inj}
 use Rattle.hpr_search.specs.Rows.{numbers_at, IsPushed}
 use Rattle.hpr_graph.proofs.Lists.{get_set_same, get_set_other}
@@ -29,6 +29,27 @@ latest_more asked more latest first second lt len pushed old = record {
     | inr other ↦ (pushed x d).1 (inl (old.there d x (sym (get_set_other latest first d (Some second) other) ∙ is)))
   ];
 }
+
+pub pushed_already : (asked : List (List ℕ)) (latest : List (Option ℕ)) (first second : ℕ) → AreLatest asked latest → slice_get latest first ≡ Some (Some second) → IsPushed asked second first asked
+pushed_already asked latest first second old at = λ from to. (
+  (λ h. inl h),
+  (λ h. elim h [
+    | inl there ↦ there
+    | inr new ↦ subst (λ k. Contains (numbers_at asked k) to) (sym new.0) (subst (λ k. Contains (numbers_at asked second) k) (sym new.1) (old.there first second at))
+  ]),
+)
+
+-- no number has an entry at the start
+pub none_latest : (asked : List (List ℕ)) (latest : List (Option ℕ)) (n : ℕ) → latest ≡ replicate n None → length asked ≡ n → AreLatest asked latest
+none_latest asked latest n is len = record {
+  count = ap length is ∙ length-replicate n None ∙ sym len;
+  there = λ d x at. absurd (never n d x (sym (ap (λ (xs : List (Option ℕ)). slice_get xs d) is) ∙ at));
+}
+  where
+    never : (n d x : ℕ) → slice_get (replicate n None) d ≡ Some (Some x) → ⊥
+    never zero d x at = absurd cc
+    never (suc n) zero x at = absurd cc
+    never (suc n) (suc d) x at = never n d x at
 
 -- children, up to one item
 abbrev pub AreUnderTo : List Item → ℕ → List (List ℕ) → Type 0

@@ -1,7 +1,7 @@
 -- What a list has after its runs were put in.
 use Rattle.std.proofs.Common.{◌≡◌, ℕ, zero, suc, ◌+◌, ◌-◌, ◌<◌, ◌≤◌, inl, inr, Option, Some, None, List, [], ◌∷◌, ◌++◌, Vec, Global, length, reverse, replicate, set, drop, get_or, Contains, slice_get, refl, sym, ap, ap₂, ◌∙◌, subst, append_assoc, arith, length-append, length-set}
 use Rattle.std.proofs.lemmas.Bool.{cases_eq}
-use Rattle.std.proofs.lemmas.List.{append-nil, map-append, map-set, get_or-map, get_or-set_same, get_or-set_other, length-map, length-replicate, reverse-append}
+use Rattle.std.proofs.lemmas.List.{append-nil, map-append, map-set, get_or-map, get_or-set_same, get_or-set_other, length-map, length-replicate, replicate_more, reverse-append}
 use Rattle.std.proofs.lemmas.Option.{slice_get_within}
 use Rattle.hpr_graph.specs.declared.vertex.Vertex.{Vertex}
 use Rattle.hpr_graph.specs.Graphs.{IsOnce}
@@ -157,6 +157,15 @@ taken_more xs all left rest v runs new_runs at next once last (done, parts, h) t
 -- the rows of the runs
 abbrev run_of : Vec Vertex Global → List Vertex
 run_of row = reverse row.items
+
+pub blank_runs_more : (rows more : List (Vec Vertex Global)) (row : Vec Vertex Global) (n : ℕ) → more ≡ rows ++ row ∷ [] → row.items ≡ []
+    → runs_of rows ≡ replicate n [] → runs_of more ≡ replicate (n + 1) []
+blank_runs_more rows more row n is empty blank =
+    ap runs_of is
+    ∙ map-append run_of rows (row ∷ [])
+    ∙ ap (λ (run : List Vertex). runs_of rows ++ run ∷ []) (ap reverse empty)
+    ∙ ap (λ (runs : List (List Vertex)). runs ++ [] ∷ []) blank
+    ∙ replicate_more n []
 
 pub first_put : (rows : List (Vec Vertex Global)) (at : ℕ) (row new : Vec Vertex Global) (v : Vertex) → at < length rows
     → row ≡ get_or rows at row → new.items ≡ row.items ++ v ∷ [] → runs_of (set rows at new) ≡ with_first (runs_of rows) at v

@@ -6,6 +6,7 @@ pub mod ListFacts
 pub mod BlockOf
 pub mod Lefts
 pub mod Shapes
+pub mod Slots
 pub mod ReadBack
 pub mod Sound
 pub mod Complete

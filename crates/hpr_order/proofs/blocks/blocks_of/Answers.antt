@@ -1,4 +1,5 @@
 use Rattle.std.proofs.Common.{sym, subst, arith}
+use Rattle.hpr_order.specs.Tables.{AreChildRows}
 use Rattle.hpr_order.proofs.Tabling.{HasTables, forest_there, has_tables, tables_there}
 use Rattle.hpr_order.proofs.blocks.blocks_of.Goals as goal
 
@@ -17,3 +18,6 @@ returns c =
     (subst (λ ps. HasTables c.args.items.now c.args.asked.now ps.items c.new.result.children.items c.new.result.before.items) (sym c.new.ensures.parents)
     (subst (λ ps. HasTables c.args.items.now c.args.asked.now c.in_ok-parents.parents.items ps.items c.new.result.before.items) (sym c.new.ensures.children)
     (subst (λ ps. HasTables c.args.items.now c.args.asked.now c.in_ok-parents.parents.items c.in_ok-children.children.items ps.items) (sym c.new.ensures.before) has)))
+
+pub push_first_blocks-requires-clause-children : goal.push_first_blocks-requires-clause-children
+push_first_blocks-requires-clause-children c = subst (AreChildRows c.args.items.now) (sym c.deref.ensures.value) c.in_ok-children.ensures

@@ -1,4 +1,4 @@
-use Rattle.std.proofs.Common.{ℕ, get_or}
+use Rattle.std.proofs.Common.{ℕ, ◌<◌, get_or, sym, subst}
 use Rattle.std.proofs.lemmas.List.{take_all}
 use Rattle.std.proofs.lemmas.Option.{slice_get-get_or}
 use Rattle.hpr_terms.proofs.Facts.{contains_at}
@@ -40,3 +40,15 @@ loop-source-preserved c =
 pub returns-clause-lifted : goal.returns-clause-lifted
 returns-clause-lifted c = λ _.
     lifted_whole c.args.items.now c.args.pairs.now c.loop-source.source-index c.loop-source.asked (take_all c.loop-source.source-index c.args.pairs.now c.loop-source-test.false) c.loop-source.invariant.lifted
+
+pub push_sibling-requires-clause-first : goal.push_sibling-requires-clause-first
+push_sibling-requires-clause-first c = subst (λ n. c.in-Siblings.first < n) (sym c.loop-source.invariant.lifted.count) c.in-Siblings.ensures.first
+
+pub push_sibling-requires-clause-second : goal.push_sibling-requires-clause-second
+push_sibling-requires-clause-second c = subst (λ n. c.in-Siblings.second < n) (sym c.loop-source.invariant.lifted.count) c.in-Siblings.ensures.second
+
+pub returns-in-Never-clause-never : goal.returns-in-Never-clause-never
+returns-in-Never-clause-never c = λ _.
+    let pair : ℕ × ℕ = get_or c.args.pairs.now c.loop-source.source-index (0, 0) in
+    let here = contains_at c.args.pairs.now c.loop-source.source-index pair (slice_get-get_or c.args.pairs.now c.loop-source.source-index (0, 0) c.loop-source-test.true) in
+    (pair.0, pair.1, here, c.in-Never.ensures)

@@ -1,7 +1,7 @@
-use Rattle.std.proofs.Common.{◌≡◌, ◌-◌, ◌+◌, ◌<◌, ◌∙◌, sym, subst, get_or, length, drop, ◌∷◌, arith}
+use Rattle.std.proofs.Common.{◌≡◌, ◌-◌, ◌+◌, ◌<◌, ◌∙◌, sym, subst, get_or, length, drop, ◌∷◌, None, arith}
 use Rattle.std.proofs.lemmas.Option.{slice_get-get_or}
 use Rattle.hpr_order.specs.Building.{AreBlocks}
-use Rattle.hpr_order.proofs.Built.{drop_more, fresh_there}
+use Rattle.hpr_order.proofs.Built.{drop_more, fresh_there, none_put}
 use Rattle.hpr_order.proofs.building.block_in.Goals as goal
 
 pub parts-preserved : goal.parts-preserved
@@ -19,3 +19,16 @@ parts-preserved c =
           (c.in_ok-put_item.ensures.blocks (drop c.parts.at c.args.order.now) c.parts.invariant.blocks
           (fresh_there c.args.order.now c.parts.at (c.parts.at - 1) (get_or c.args.order.now (c.parts.at - 1) 0) c.requires.once more));
     }
+
+pub parts-init : goal.parts-init
+parts-init c = record {
+  within = omega arith;
+  count = c.in_ok-pending.ensures.count;
+  blocks = none_put c.args.items.now c.args.order.now c.in_ok-pending.pending c.in_ok-pending.ensures.none;
+}
+
+pub returns : goal.returns
+returns c =
+    let first : c.parts.at ≡ 0 = omega (arith, c.parts-test.false) in
+    c.take_top.ensures
+    ∙ subst (λ k. AreBlocks c.args.items.now (drop k c.args.order.now) c.parts.pending) first c.parts.invariant.blocks None tt tt

@@ -1,6 +1,6 @@
 use Rattle.std.proofs.Common.{◌≡◌, Contains, sym, subst}
-use Rattle.hpr_forest.proofs.Unique.{in_later}
-use Rattle.hpr_order.specs.Arranging.{coming, orders_in}
+use Rattle.hpr_forest.proofs.Unique.{in_first, in_later}
+use Rattle.hpr_order.specs.Arranging.{IsProgramOrder, coming, orders_in}
 use Rattle.hpr_order.specs.Items.{AreSlots}
 use Rattle.hpr_order.proofs.Coming.{coming_same, coming_next}
 use Rattle.hpr_order.proofs.arrangements.Arrangements.next_one.Goals as goal
@@ -26,3 +26,14 @@ invariant_of-self-2 c =
           c.self.invariant.programs order (subst (λ z. Contains (coming z c.self.inside.ordered.orders) order) (sym c.in-Some.is)
           (in_later c.in-Some.order.items order (orders_in c.self.inside.ordered.orders) (subst (λ z. Contains z order) same h)));
     }
+
+pub program_in-requires-clause-order : goal.program_in-requires-clause-order
+program_in-requires-clause-order c =
+    let order = c.in-Some.order.items in
+    let issued = c.self.inside.issued in
+    let is : IsProgramOrder c.self.inside.ordered.items.items issued c.self.inside.finals.items order =
+    c.self.invariant.programs order (subst (λ z. Contains (coming z c.self.inside.ordered.orders) order) (sym c.in-Some.is)
+    (in_first order (orders_in c.self.inside.ordered.orders))) in
+    subst (λ z. IsProgramOrder z issued c.deref-3.result.now c.deref-2.result.now) (sym c.deref.ensures.value)
+    (subst (λ z. IsProgramOrder c.self.inside.ordered.items.items issued z c.deref-2.result.now) (sym c.deref-3.ensures.value)
+    (subst (λ z. IsProgramOrder c.self.inside.ordered.items.items issued c.self.inside.finals.items z) (sym c.deref-2.ensures.value) is))
