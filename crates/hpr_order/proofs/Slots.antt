@@ -16,64 +16,80 @@ pub always : {X E : Type 0} {P : Type 0} (r : Result X E) → P → OnOk r P
 always (Ok x) p = p
 always (Err e) p = tt
 
--- where the other block of the item stays
-pub record IsMore (old new : Branches) (b : Bool) (s : Stmt) : Type 0 where
-  pub put : row_in (Some new) b ≡ row_in (Some old) b ++ s ∷ []
-  pub rest : (f : Bool) → ¬ (f ≡ b) → row_in (Some new) f ≡ row_in (Some old) f
+abbrev pub with_first : Branches → Vec Stmt Global → Branches
+with_first old row = record { first = row; second = old.second }
 
-pub more_first : (old : Branches) (row : Vec Stmt Global) (s : Stmt) → row.items ≡ old.first.items ++ s ∷ [] → IsMore old (record { first = row; second = old.second }) true s
-more_first old row s is = record { put = is; rest = go }
-  where
-    go : (f : Bool) → ¬ (f ≡ true) → row_in (Some (record { first = row; second = old.second })) f ≡ row_in (Some old) f
-    go true ne = absurd (ne refl)
-    go false ne = refl
+abbrev pub with_second : Branches → Vec Stmt Global → Branches
+with_second old row = record { first = old.first; second = row }
 
-pub more_second : (old : Branches) (row : Vec Stmt Global) (s : Stmt) → row.items ≡ old.second.items ++ s ∷ [] → IsMore old (record { first = old.first; second = row }) false s
-more_second old row s is = record { put = is; rest = go }
-  where
-    go : (f : Bool) → ¬ (f ≡ false) → row_in (Some (record { first = old.first; second = row })) f ≡ row_in (Some old) f
-    go true ne = refl
-    go false ne = absurd (ne refl)
+abbrev pub with_branches : Pending → ℕ → Branches → Pending
+with_branches p n new = record { top = p.top; branches = with_item p.branches n new }
 
-pub put_in : (p : Pending) (n : ℕ) (b : Bool) (old new d : Branches) (s : Stmt) → n < vec_len p.branches → old ≡ get_or p.branches.items n d → IsMore old new b s
-    → row_at (record { top = p.top; branches = with_item p.branches n new }) (Some (n, b)) ≡ row_at p (Some (n, b)) ++ s ∷ []
-put_in p n b old new d s lt is more =
-    let within : n < length p.branches.items = subst (λ k. n < k) p.branches.ok.0 lt in
-    ap (λ o. row_in o b) (get_set_same p.branches.items n new within) ∙ more.put
-    ∙ ap (λ o. row_in o b ++ s ∷ []) (ap (λ z. Some z) is ∙ sym (slice_get-get_or p.branches.items n d within))
+abbrev pub IsKept : Branches → Branches → Bool → Type 0
+IsKept old new b = (f : Bool) → ¬ (f ≡ b) → row_in (Some new) f ≡ row_in (Some old) f
 
-pub put_out : (p : Pending) (n : ℕ) (b : Bool) (old new d : Branches) (s : Stmt) → n < vec_len p.branches → old ≡ get_or p.branches.items n d → IsMore old new b s
-    → (v : Slot) → ¬ (v ≡ Some (n, b)) → row_at (record { top = p.top; branches = with_item p.branches n new }) v ≡ row_at p v
-put_out p n b old new d s lt is more None ne = refl
-put_out p n b old new d s lt is more (Some (c, f)) ne =
-    let within : n < length p.branches.items = subst (λ k. n < k) p.branches.ok.0 lt in
-    elim (cases_eq c n) [
-      | inl same ↦ (
-          ap (λ k. row_in (slice_get (set p.branches.items n new) k) f) same
-          ∙ ap (λ o. row_in o f) (get_set_same p.branches.items n new within)
-          ∙ more.rest f (λ e. ne (ap (λ k. Some (k, f)) same ∙ ap (λ z. Some (n, z)) e))
-          ∙ ap (λ o. row_in o f) (ap (λ z. Some z) is ∙ sym (slice_get-get_or p.branches.items n d within))
-          ∙ ap (λ k. row_in (slice_get p.branches.items k) f) (sym same))
-      | inr other ↦ ap (λ o. row_in o f) (get_set_other p.branches.items n c new other)
-    ]
+pub second_kept : (old : Branches) (row : Vec Stmt Global) → IsKept old (with_first old row) true
+second_kept old row true ne = absurd (ne refl)
+second_kept old row false ne = refl
+
+pub first_kept : (old : Branches) (row : Vec Stmt Global) → IsKept old (with_second old row) false
+first_kept old row true ne = refl
+first_kept old row false ne = absurd (ne refl)
+
+-- the branches `old` of the item n
+module _ (p : Pending) (n : ℕ) (b : Bool) (old d : Branches) (lt : n < vec_len p.branches)
+    (is : old ≡ get_or p.branches.items n d) where
+  within : n < length p.branches.items
+  within = subst (λ k. n < k) p.branches.ok.0 lt
+
+  pub row_there : (f : Bool) → row_in (Some old) f ≡ row_at p (Some (n, f))
+  row_there f =
+      ap (λ o. row_in o f) (ap (λ z. Some z) is ∙ sym (slice_get-get_or p.branches.items n d within))
+
+  pub put_in : (new : Branches) (s : Stmt) → row_in (Some new) b ≡ row_in (Some old) b ++ s ∷ []
+      → row_at (with_branches p n new) (Some (n, b)) ≡ row_at p (Some (n, b)) ++ s ∷ []
+  put_in new s put =
+      ap (λ o. row_in o b) (get_set_same p.branches.items n new within) ∙ put
+      ∙ ap (λ row. row ++ s ∷ []) (row_there b)
+
+  pub put_out : (new : Branches) → IsKept old new b
+      → (v : Slot) → ¬ (v ≡ Some (n, b)) → row_at (with_branches p n new) v ≡ row_at p v
+  put_out new kept None ne = refl
+  put_out new kept (Some (c, f)) ne =
+      elim (cases_eq c n) [
+        | inl same ↦ (
+            ap (λ k. row_in (slice_get (set p.branches.items n new) k) f) same
+            ∙ ap (λ o. row_in o f) (get_set_same p.branches.items n new within)
+            ∙ kept f (λ e. ne (ap (λ k. Some (k, f)) same ∙ ap (λ z. Some (n, z)) e))
+            ∙ row_there f
+            ∙ ap (λ k. row_in (slice_get p.branches.items k) f) (sym same))
+        | inr other ↦ ap (λ o. row_in o f) (get_set_other p.branches.items n c new other)
+      ]
 
 -- for the slot by its parts
 pub record IsPutAt (p q : Pending) (slot : Slot) (s : Stmt) : Type 0 where
   pub put : row_at q slot ≡ row_at p slot ++ s ∷ []
   pub rest : (v : Slot) → ¬ (v ≡ slot) → row_at q v ≡ row_at p v
 
-pub put_at : (p : Pending) (slot : Slot) (n item : ℕ) (b : Bool) (old new d : Branches) (s : Stmt) → n ≡ item → slot ≡ Some (item, b) → IsSlot (vec_len p.branches) slot → old ≡ get_or p.branches.items n d
-    → IsMore old new b s → IsPutAt p (record { top = p.top; branches = with_item p.branches n new }) slot s
-put_at p slot n item b old new d s same is_slot within is more =
+pub put_at : (p : Pending) (slot : Slot) (n item : ℕ) (b : Bool) (old new d : Branches) (s : Stmt)
+    → n ≡ item → slot ≡ Some (item, b) → IsSlot (vec_len p.branches) slot → old ≡ get_or p.branches.items n d
+    → row_in (Some new) b ≡ row_in (Some old) b ++ s ∷ [] → IsKept old new b
+    → IsPutAt p (with_branches p n new) slot s
+put_at p slot n item b old new d s same is_slot within is put kept =
     let at : slot ≡ Some (n, b) = is_slot ∙ ap (λ k. Some (k, b)) (sym same) in
     let lt : n < vec_len p.branches = subst (IsSlot (vec_len p.branches)) at within in
-    subst (λ z. IsPutAt p (record { top = p.top; branches = with_item p.branches n new }) z s) (sym at)
-    (record { put = put_in p n b old new d s lt is more; rest = put_out p n b old new d s lt is more })
+    subst (λ z. IsPutAt p (with_branches p n new) z s) (sym at)
+    (record { put = put_in p n b old d lt is new s put; rest = put_out p n b old d lt is new kept })
 
 -- at the top
-pub put_top : (p : Pending) (slot : Slot) (row : Vec Stmt Global) (s : Stmt) → slot ≡ None → row.items ≡ p.top.items ++ s ∷ [] → IsPutAt p (record { top = row; branches = p.branches }) slot s
-put_top p slot row s at is = subst (λ z. IsPutAt p (record { top = row; branches = p.branches }) z s) (sym at) (record { put = is; rest = go })
+abbrev pub with_top : Pending → Vec Stmt Global → Pending
+with_top p row = record { top = row; branches = p.branches }
+
+pub put_top : (p : Pending) (slot : Slot) (row : Vec Stmt Global) (s : Stmt) → slot ≡ None
+    → row.items ≡ p.top.items ++ s ∷ [] → IsPutAt p (with_top p row) slot s
+put_top p slot row s at is =
+    subst (λ z. IsPutAt p (with_top p row) z s) (sym at) (record { put = is; rest = go })
   where
-    go : (v : Slot) → ¬ (v ≡ None) → row_at (record { top = row; branches = p.branches }) v ≡ row_at p v
+    go : (v : Slot) → ¬ (v ≡ None) → row_at (with_top p row) v ≡ row_at p v
     go None ne = absurd (ne refl)
     go (Some (c, f)) ne = refl

@@ -1,6 +1,6 @@
 use Rattle.std.proofs.Common.{◌≡◌, ◌∙◌, ◌++◌, ◌∷◌, [], Some, true, false, refl, sym, ap}
 use Rattle.std.proofs.lemmas.Result.{on_ok_weaker}
-use Rattle.hpr_order.proofs.Slots.{always, more_first, more_second, put_at, put_top}
+use Rattle.hpr_order.proofs.Slots.{always, first_kept, second_kept, put_at, put_top, with_first, with_second}
 use Rattle.hpr_order.proofs.building.Pending.put.Goals as goal
 
 pub returns-in-None : goal.returns-in-None
@@ -18,8 +18,8 @@ returns-in-Some-default-true c =
     let at : c.args.slot ≡ Some (c.in-Some-default-true.item, true) =
     c.in-Some-default-true.is ∙ ap (λ z. Some (c.in-Some-default-true.item, z)) (sym c.in-Some-default-true.field-0-1-is ∙ c.in-Some-default-true.field-0-1-test) in
     let there = λ (is : pushed.new.row.items ≡ c.index_mut.result.now.first.items ++ c.args.stmt ∷ []).
-    put_at c.args.self.now c.args.slot _ c.in-Some-default-true.item true c.index_mut.result.now _ c.index_mut.result.now c.args.stmt c.in-Some-default-true.item-is at c.requires c.index_mut.ensures.value
-    (more_first c.index_mut.result.now pushed.new.row c.args.stmt is) in
+    put_at c.args.self.now c.args.slot _ c.in-Some-default-true.item true c.index_mut.result.now (with_first c.index_mut.result.now pushed.new.row) c.index_mut.result.now c.args.stmt c.in-Some-default-true.item-is at c.requires c.index_mut.ensures.value
+    is (second_kept c.index_mut.result.now pushed.new.row) in
     record {
       put = on_ok_weaker pushed.result (λ is. (there is).put) pushed.ensures;
       rest = on_ok_weaker pushed.result (λ is. (there is).rest) pushed.ensures;
@@ -32,8 +32,8 @@ returns-in-Some-default-false c =
     let at : c.args.slot ≡ Some (c.in-Some-default-false.item, false) =
     c.in-Some-default-false.is ∙ ap (λ z. Some (c.in-Some-default-false.item, z)) (sym c.in-Some-default-false.field-0-1-is ∙ c.in-Some-default-false.field-0-1-test) in
     let there = λ (is : pushed.new.row.items ≡ c.index_mut-in-Some-default-false.result.now.second.items ++ c.args.stmt ∷ []).
-    put_at c.args.self.now c.args.slot _ c.in-Some-default-false.item false c.index_mut-in-Some-default-false.result.now _ c.index_mut-in-Some-default-false.result.now c.args.stmt c.in-Some-default-false.item-is at c.requires c.index_mut-in-Some-default-false.ensures.value
-    (more_second c.index_mut-in-Some-default-false.result.now pushed.new.row c.args.stmt is) in
+    put_at c.args.self.now c.args.slot _ c.in-Some-default-false.item false c.index_mut-in-Some-default-false.result.now (with_second c.index_mut-in-Some-default-false.result.now pushed.new.row) c.index_mut-in-Some-default-false.result.now c.args.stmt c.in-Some-default-false.item-is at c.requires c.index_mut-in-Some-default-false.ensures.value
+    is (first_kept c.index_mut-in-Some-default-false.result.now pushed.new.row) in
     record {
       put = on_ok_weaker pushed.result (λ is. (there is).put) pushed.ensures;
       rest = on_ok_weaker pushed.result (λ is. (there is).rest) pushed.ensures;
