@@ -3,7 +3,7 @@
 -- expr_of t         == the expression whose term it is
 -- expr_of-term_of e == an expression is that of its term
 -- expr_inj          == two expressions whose terms have the same code are the same
-use Rattle.std.proofs.Common.{◌≡◌, ℕ, List, refl, ap}
+use Rattle.std.proofs.Common.{◌≡◌, ℕ, List, refl, ap, sym, ◌∙◌}
 use Rattle.hpr_terms.specs.declared.expr.Expr.{Expr}
 use Rattle.hpr_terms.specs.declared.expr.Expr.TheVariants.{Num, Var, Prefix, Infix, Elem}
 use Rattle.hpr_terms.specs.Term.{Term, num, var, prefix, infix', element}
@@ -29,4 +29,4 @@ pub expr_inj : (e f : Expr) (s t : List ℕ) → term_code (term_of e) s ≡ ter
 expr_inj e f s t p =
     let q : (term_of e ≡ term_of f) × (s ≡ t) = term_inj (term_of e) (term_of f) s t p in
     let r : expr_of (term_of e) ≡ expr_of (term_of f) = ap expr_of q.0 in
-    (cc (expr_of-term_of e, expr_of-term_of f), q.1)
+    (sym (expr_of-term_of e) ∙ r ∙ expr_of-term_of f, q.1)

@@ -2,10 +2,13 @@
 --
 -- unary_back n  == the operator with this rank
 -- binary_back n == the operator of two operands with this rank
+-- cut           == what two equal lists begin with is the same, and what follows it
+-- apart         == two lists that begin otherwise are not the same
 -- name_inj      == two names with the same code are the same
 -- term_inj      == two terms with the same code are the same
 -- term_coded    == terms with their codes
-use Rattle.std.proofs.Common.{◌≡◌, ℕ, zero, suc, List, [], ◌∷◌, refl, ap}
+use Rattle.std.proofs.Common.{◌≡◌, ℕ, zero, suc, List, [], ◌∷◌, refl, ap, sym, ◌∙◌, false, eqb}
+use borrow.Author.Tests.{eqb-false}
 use Rattle.std.specs.Coded.{Coded, coded_list, coded_ℕ}
 use Rattle.hpr_terms.specs.declared.expr.Unary.{Unary}
 use Rattle.hpr_terms.specs.declared.expr.Unary.TheVariants.{Neg, Not}
@@ -53,32 +56,45 @@ binary_same Div = refl
 binary_same Rem = refl
 
 unary_inj : (x y : Unary) → unary_rank x ≡ unary_rank y → x ≡ y
-unary_inj x y p = let e : unary_back (unary_rank x) ≡ unary_back (unary_rank y) = ap unary_back p in cc (unary_same x, unary_same y)
+unary_inj x y p = sym (unary_same x) ∙ ap unary_back p ∙ unary_same y
 
 binary_inj : (x y : Binary) → binary_rank x ≡ binary_rank y → x ≡ y
-binary_inj x y p = let e : binary_back (binary_rank x) ≡ binary_back (binary_rank y) = ap binary_back p in cc (binary_same x, binary_same y)
+binary_inj x y p = sym (binary_same x) ∙ ap binary_back p ∙ binary_same y
+
+pub cut : {a b : ℕ} {s t : List ℕ} → a ∷ s ≡ b ∷ t → (a ≡ b) × (s ≡ t)
+cut p = (cc, cc)
+
+pub apart : {a b : ℕ} {s t : List ℕ} → a ∷ s ≡ b ∷ t → eqb a b ≡ false → ⊥
+apart {a} {b} p e = eqb-false a b e (cut p).0
 
 pub name_inj : (x y s t : List ℕ) → name_code x s ≡ name_code y t → (x ≡ y) × (s ≡ t)
-name_inj [] [] s t p = (refl, cc)
+name_inj [] [] s t p = (refl, (cut p).1)
 name_inj (b ∷ x) (c ∷ y) s t p =
-    let q : (x ≡ y) × (s ≡ t) = name_inj x y s t cc in (cc, q.1)
-name_inj [] (c ∷ y) s t p = absurd cc
-name_inj (b ∷ x) [] s t p = absurd cc
+    let a = cut (cut p).1 in
+    let q = name_inj x y s t a.1 in
+    (λ i. a.0 i ∷ q.0 i, q.1)
+name_inj [] (c ∷ y) s t p = absurd (apart p refl)
+name_inj (b ∷ x) [] s t p = absurd (apart p refl)
 
 pub term_inj : (x y : Term) (s t : List ℕ) → term_code x s ≡ term_code y t → (x ≡ y) × (s ≡ t)
-term_inj (num n) (num m) s t p = (cc, cc)
-term_inj (var x) (var y) s t p = let q : (x ≡ y) × (s ≡ t) = name_inj x y s t cc in (cc, q.1)
+term_inj (num n) (num m) s t p = let a = cut (cut p).1 in (ap num a.0, a.1)
+term_inj (var x) (var y) s t p = let q = name_inj x y s t (cut p).1 in (ap var q.0, q.1)
 term_inj (prefix op a) (prefix op' b) s t p =
-    let q : (a ≡ b) × (s ≡ t) = term_inj a b s t cc in
-    let o : op ≡ op' = unary_inj op op' cc in (cc, q.1)
+    let o = cut (cut p).1 in
+    let q = term_inj a b s t o.1 in
+    let same = unary_inj op op' o.0 in
+    (λ i. prefix (same i) (q.0 i), q.1)
 term_inj (infix' op a b) (infix' op' a' b') s t p =
-    let q : (a ≡ a') × (term_code b s ≡ term_code b' t) = term_inj a a' _ _ cc in
-    let r : (b ≡ b') × (s ≡ t) = term_inj b b' s t q.1 in
-    let o : op ≡ op' = binary_inj op op' cc in (cc, r.1)
+    let o = cut (cut p).1 in
+    let q = term_inj a a' _ _ o.1 in
+    let r = term_inj b b' s t q.1 in
+    let same = binary_inj op op' o.0 in
+    (λ k. infix' (same k) (q.0 k) (r.0 k), r.1)
 term_inj (element x i) (element y j) s t p =
-    let q : (x ≡ y) × (term_code i s ≡ term_code j t) = name_inj x y _ _ cc in
-    let r : (i ≡ j) × (s ≡ t) = term_inj i j s t q.1 in (cc, r.1)
-term_inj _ _ s t p = absurd cc
+    let q = name_inj x y _ _ (cut p).1 in
+    let r = term_inj i j s t q.1 in
+    (λ k. element (q.0 k) (r.0 k), r.1)
+term_inj _ _ s t p = absurd (apart p refl)
 
 -- the code by which a proof tells terms apart
 abbrev pub term_coded : Coded Term
