@@ -31,14 +31,30 @@ block_eq _ _ = false
 expr_part : (e f : Expr) (s t : List ℕ) → same (term_code (term_of e) s) (term_code (term_of f) t) ≡ (eqs.ghosts).eq e f && same s t
 expr_part e f s t = term_same (term_of e) (term_of f) s t ∙ ap (λ r. r && same s t) (sym (eq_codes e f))
 
+-- what holds of two codes holds with the same part before each
+part : (n p p' q o : Bool) → p ≡ n && p' → p' ≡ q && o → p ≡ (n && q) && o
+part n p p' q o first rest = first ∙ ap (λ r. n && r) rest ∙ sym (and_assoc n q o)
+
+tag_before : (t u : Tag) (p q o : Bool) → p ≡ q && o → (t.author == u.author) && ((t.serial == u.serial) && p) ≡ (tag_eq t u && q) && o
+tag_before t u p q o rest =
+    let a = t.author == u.author in
+    let b = t.serial == u.serial in
+    ap (λ r. a && (b && r)) rest ∙ sym (and_assoc a b (q && o)) ∙ sym (and_assoc (a && b) q o)
+
 block_same : (b c : Body) (s t : List ℕ) → same (body_code b s) (body_code c t) ≡ block_eq b c && same s t
 block_same done done s t = refl
-block_same (action t (assigns x e) r) (action u (assigns y f) q) s s' = rw (name_same x y _ _, expr_part e f _ _, block_same r q s s') (simp and_assoc)
-block_same (action t (writes x e) r) (action u (writes y f) q) s s' = rw (name_same x y _ _, expr_part e f _ _, block_same r q s s') (simp and_assoc)
+block_same (action t (assigns x e) r) (action u (assigns y f) q) s s' =
+    tag_before t u _ _ _ (part (same x y) _ _ _ _ (name_same x y _ _) (part ((eqs.ghosts).eq e f) _ _ _ _ (expr_part e f _ _) (block_same r q s s')))
+block_same (action t (writes x e) r) (action u (writes y f) q) s s' =
+    tag_before t u _ _ _ (part (same x y) _ _ _ _ (name_same x y _ _) (part ((eqs.ghosts).eq e f) _ _ _ _ (expr_part e f _ _) (block_same r q s s')))
 block_same (action t (stores x i e) r) (action u (stores y j f) q) s s' =
-    rw (name_same x y _ _, expr_part i j _ _, expr_part e f _ _, block_same r q s s') (simp and_assoc)
-block_same (branch t e a b r) (branch u f c d q) s s' = rw (expr_part e f _ _, block_same a c _ _, block_same b d _ _, block_same r q s s') (simp and_assoc)
-block_same (loop t e a r) (loop u f c q) s s' = rw (expr_part e f _ _, block_same a c _ _, block_same r q s s') (simp and_assoc)
+    tag_before t u _ _ _ (part (same x y) _ _ _ _ (name_same x y _ _) (part ((eqs.ghosts).eq i j) _ _ _ _ (expr_part i j _ _)
+    (part ((eqs.ghosts).eq e f) _ _ _ _ (expr_part e f _ _) (block_same r q s s'))))
+block_same (branch t e a b r) (branch u f c d q) s s' =
+    tag_before t u _ _ _ (part ((eqs.ghosts).eq e f) _ _ _ _ (expr_part e f _ _) (part (block_eq a c) _ _ _ _ (block_same a c _ _)
+    (part (block_eq b d) _ _ _ _ (block_same b d _ _) (block_same r q s s'))))
+block_same (loop t e a r) (loop u f c q) s s' =
+    tag_before t u _ _ _ (part ((eqs.ghosts).eq e f) _ _ _ _ (expr_part e f _ _) (part (block_eq a c) _ _ _ _ (block_same a c _ _) (block_same r q s s')))
 block_same done (action u (assigns y f) q) s s' = refl
 block_same done (action u (writes y f) q) s s' = refl
 block_same done (action u (stores y j f) q) s s' = refl
@@ -58,13 +74,16 @@ exactly : (a b : Body) → same (block_code a) (block_code b) ≡ block_eq a b
 exactly a b = block_same a b [] [] ∙ and_true' (block_eq a b)
 
 regroup_assign : (t x e r r' : Bool) → r ≡ r' → (t && (x && e)) && r ≡ t && (x && (e && r'))
-regroup_assign t x e r r' p = rw p (simp and_assoc)
+regroup_assign t x e r r' p = and_assoc t (x && e) r ∙ ap (λ k. t && k) (and_assoc x e r ∙ ap (λ k. x && (e && k)) p)
 
 regroup_store : (t x i e r r' : Bool) → r ≡ r' → (t && (x && (i && e))) && r ≡ t && (x && (i && (e && r')))
-regroup_store t x i e r r' p = rw p (simp and_assoc)
+regroup_store t x i e r r' p = and_assoc t (x && (i && e)) r ∙ ap (λ k. t && k) (regroup_assign x i e r r' p)
 
 regroup_branch : (t e a b r a' b' r' : Bool) → a ≡ a' → b ≡ b' → r ≡ r' → (t && (e && (a && b))) && r ≡ t && (e && (a' && (b' && r')))
-regroup_branch t e a b r a' b' r' p q s = rw (p, q, s) (simp and_assoc)
+regroup_branch t e a b r a' b' r' p q s = regroup_store t e a b r r' s ∙ (λ k. t && (e && (p k && (q k && r'))))
+
+regroup_loop : (t e a r a' r' : Bool) → a ≡ a' → r ≡ r' → (t && (e && a)) && r ≡ t && (e && (a' && r'))
+regroup_loop t e a r a' r' p s = regroup_assign t e a r r' s ∙ ap (λ k. t && (e && (k && r'))) p
 
 stmts_eq : (xs ys : List Stmt) → pointwise (stmt_eqs.ghosts).eq xs ys ≡ block_eq (body_of xs) (body_of ys)
 stmts_eq [] [] = refl
@@ -76,7 +95,7 @@ stmts_eq [] (Store u y j f ∷ ys) = refl
 stmts_eq (Assign t x e ∷ xs) (Assign u y f ∷ ys) = regroup_assign (tag_eq t u) (same x y) ((eqs.ghosts).eq e f) _ _ (stmts_eq xs ys)
 stmts_eq (If t e a b ∷ xs) (If u f c d ∷ ys) =
     regroup_branch (tag_eq t u) ((eqs.ghosts).eq e f) _ _ _ _ _ _ (exactly a c) (exactly b d) (stmts_eq xs ys)
-stmts_eq (While t e a ∷ xs) (While u f c ∷ ys) = rw (exactly a c, stmts_eq xs ys) (simp and_assoc)
+stmts_eq (While t e a ∷ xs) (While u f c ∷ ys) = regroup_loop (tag_eq t u) ((eqs.ghosts).eq e f) _ _ _ _ (exactly a c) (stmts_eq xs ys)
 stmts_eq (Write t x e ∷ xs) (Write u y f ∷ ys) = regroup_assign (tag_eq t u) (same x y) ((eqs.ghosts).eq e f) _ _ (stmts_eq xs ys)
 stmts_eq (Store t x i e ∷ xs) (Store u y j f ∷ ys) =
     regroup_store (tag_eq t u) (same x y) ((eqs.ghosts).eq i j) ((eqs.ghosts).eq e f) _ _ (stmts_eq xs ys)
