@@ -13,7 +13,10 @@ rows_before p i (If t e a b) rest = simp append_assoc
 rows_before p i (While t e b) rest = simp append_assoc
 rows_before p i s rest = refl
 
--- a row, and then the rows of two blocks
+-- a row, and then the rows of one block, or of two
+pub with_one : (old : List Row) (row : Row) (a : List Row) → (old ++ (row ∷ [])) ++ a ≡ old ++ (row ∷ (a ++ []))
+with_one old row a = append_assoc old (row ∷ []) a ∙ ap (λ r. old ++ (row ∷ r)) (sym (append-nil a))
+
 pub with_both : (old : List Row) (row : Row) (a b : List Row) → ((old ++ (row ∷ [])) ++ a) ++ b ≡ old ++ (row ∷ (a ++ b ++ []))
 with_both old row a b = rw append-nil (simp append_assoc)
 

@@ -1,4 +1,4 @@
-use Rattle.std.proofs.Common.{◌≡◌, ℕ, ◌+◌, ◌<◌, Bool, true, false, if◌then◌else◌, Option, Some, None, List, ◌∷◌, length, get_or, drop, drop-cons, drop_of_length-le, add-one, refl, ap, sym, ◌∙◌, rules}
+use Rattle.std.proofs.Common.{◌≡◌, ℕ, ◌+◌, ◌<◌, Bool, true, false, if◌then◌else◌, Option, Some, None, List, length, get_or, drop, drop_of_length-le, refl, ap, sym, ◌∙◌, rules}
 use Rattle.std.specs.Option.{option_or, option_copied}
 use Rattle.hpr_terms.specs.declared.tag.Tag.{Tag}
 use Rattle.hpr_syntax.specs.declared.tree.Stmt.{Stmt}
@@ -6,6 +6,7 @@ use Rattle.hpr_syntax.specs.declared.tree.Stmt.TheVariants.{Assign, If, While, W
 use Rattle.hpr_syntax.specs.Body.{Body, done}
 use Rattle.hpr_syntax.specs.BodyOf.{before, body_of}
 use Rattle.hpr_syntax.specs.Parts.{same_tag, find_stmt}
+use Rattle.hpr_syntax.proofs.RowLemmas.{drop_turn}
 use Rattle.hpr_syntax.proofs.tree.+find.Goals as goal
 
 after_none : (b : Bool) (s : Stmt) (o : Option Stmt) → (if b then Some s else o) ≡ option_or (if b then Some s else None) o
@@ -36,8 +37,7 @@ step : (t : Tag) (whole : Body) (items : List Stmt) (i : ℕ) (s : Stmt) (o : Op
     → s ≡ get_or items i s → i < length items → o ≡ find_stmt t (before s done) → find_stmt t whole ≡ option_or o (find_stmt t (body_of (drop (i + 1) items)))
 step t whole items i s o so is below found =
     let rest = body_of (drop (i + 1) items) in
-    so ∙ ap (λ l. find_stmt t (body_of l)) (drop-cons items i s below ∙ (λ k. sym is k ∷ drop (sym (add-one i) k) items))
-    ∙ first_or_rest t s rest ∙ ap (λ p. option_or p (find_stmt t rest)) (sym found)
+    so ∙ ap (find_stmt t) (drop_turn items i s below is) ∙ first_or_rest t s rest ∙ ap (λ p. option_or p (find_stmt t rest)) (sym found)
 
 pub Block::find-returns-in-Some : goal.Block::find-returns-in-Some
 Block::find-returns-in-Some t c =
