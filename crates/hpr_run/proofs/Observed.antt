@@ -6,7 +6,7 @@ use Rattle.hpr_syntax.specs.declared.tree.Stmt.{Stmt}
 use Rattle.hpr_syntax.specs.declared.tree.Stmt.TheVariants.{Assign, If, While, Write, Store}
 use Rattle.hpr_syntax.specs.declared.rows.Content.TheVariants as content
 use Rattle.hpr_syntax.specs.BodyOf.{before, body_of}
-use Rattle.hpr_syntax.specs.Parts.{tag_of}
+use Rattle.hpr_syntax.specs.Parts.{tag_of, expr_of}
 use Rattle.hpr_syntax.specs.Rows.{content_by, content_of, assigned}
 use Rattle.hpr_syntax.specs.Contents.{Given, answer_of, next_state, holds, shown_of}
 use Rattle.hpr_syntax.specs.Body.{Body, done, action, branch, loop}
@@ -139,6 +139,12 @@ module _ {O A : Type 0} (w : Observing O A) where
     failed_in stop o' s' left' did =
         subst (λ (y : Way O). Did (Err stop) y o' s' left') (sym whole_before) (stopped_before stop x (body_of (drop (i + 1) xs)) a o s left o' s' left' did)
 
+    -- and one that did not
+    pub done_in : (o' : O) (s' : Values) (left' : ℕ) → walk w (before x done) a o s left ≡ goes o' s' left' → whole ≡ walk w (body_of (drop (i + 1) xs)) a o' s' left'
+    done_in o' s' left' did =
+        let rest = body_of (drop (i + 1) xs) in
+        whole_before ∙ walk_before x rest a o s left ∙ ap (λ y. then_way y (walk w rest a)) did
+
   -- the turn k of a loop that may make `most` of them
   module _ (x : Stmt) (t : Tag) (e : Expr) (b : Body) (shape : x ≡ While t e b) (a : A) (most k : ℕ) (lt : k < most) (whole : Way O) (o : O) (s : Values) (l : ℕ)
       (so_far : whole ≡ walk_turns w k (most - k) t e (walk w b) a o s l) (inside : A) (at : inside ≡ w.in_turn a k) where
@@ -227,3 +233,14 @@ module _ {O A : Type 0} (w : Observing O A) (x : Stmt) (t : Tag) (e : Expr) (b c
   branch_goes z o' l' stepped k is r o'' s'' l'' did =
       let same = if_goes w t e b c a o s l z o' l' (subst (λ y. Takes w (Ok z) y a o s l o' l') shape stepped) k is in
       subst (λ (y : Way O). Did r y o'' s'' l'') (sym (ap (λ (y : Stmt). walk w (before y done) a o s l) shape ∙ same)) did
+
+-- a loop by itself
+pub loop_goes : {O A : Type 0} (w : Observing O A) (x : Stmt) (t : Tag) (e : Expr) (b : Body) → x ≡ While t e b → (a : A) (o : O) (s : Values) (l : ℕ)
+    → (r : Result (Unit {0}) Stop) (o' : O) (s' : Values) (l' : ℕ) → Did r (walk_turns w 0 (l + 1) (tag_of x) (expr_of x) (walk w b) a o s l) o' s' l'
+    → Did r (walk w (before x done) a o s l) o' s' l'
+loop_goes {O} w x t e b shape a o s l r o' s' l' did =
+    let turns : Way O = walk_turns w 0 (l + 1) t e (walk w b) a o s l in
+    let by_itself : walk w (before (While t e b) done) a o s l ≡ turns = then_goes turns in
+    subst (λ (y : Way O). Did r y o' s' l')
+    (ap (λ (y : Stmt). walk_turns w 0 (l + 1) (tag_of y) (expr_of y) (walk w b) a o s l) shape ∙ sym by_itself ∙ ap (λ (y : Stmt). walk w (before y done) a o s l) (sym shape))
+    did

@@ -1,10 +1,11 @@
-use Rattle.std.proofs.Common.{◌≡◌, ℕ, ◌+◌, ◌-◌, ◌<◌, ◌∙◌, ap, arith, sym, FitsSigned, w64, rules, true, false}
+use Rattle.std.proofs.Common.{◌≡◌, ℕ, ◌+◌, ◌-◌, ◌<◌, ◌∙◌, ap, arith, sym, FitsSigned, w64, rules, true, false, drop_of_length-le, le_refl, le_trans}
 use Rattle.std.proofs.lemmas.Int.{to_z-of_z}
 use Rattle.std.proofs.lemmas.Result.{err_from_is_err_and}
+use Rattle.hpr_syntax.specs.BodyOf.{body_of}
 use Rattle.hpr_syntax.specs.Value.{is_true}
 use Rattle.hpr_syntax.specs.Parts.{tag_of, expr_of}
 use Rattle.hpr_run.specs.Observed.{observing, walk, walk_turns}
-use Rattle.hpr_run.proofs.Observed.{branch_goes, branch_stopped, failed_in, turn_done, turn_failed, turn_last, turn_stopped}
+use Rattle.hpr_run.proofs.Observed.{branch_goes, branch_stopped, done_in, failed_in, loop_goes, turn_done, turn_failed, turn_last, turn_stopped}
 use Rattle.hpr_run.proofs.interpreter.+walk.Goals as goal
 
 pub walk_block-returns-in_err-walk_stmt-clause-did : goal.walk_block-returns-in_err-walk_stmt-clause-did
@@ -81,3 +82,47 @@ walk_stmt-returns-else-is_true-clause-did g t c =
     let test : is_true c.in_ok-take_step-in-If.field-0 ≡ false = rw to_z-of_z at (sym c.is_true.ensures ∙ c.if-is_true.false) in
     branch_goes w c.args.stmt.now c.in-If.field-0 c.in-If.field-1 c.in-If.yes c.in-If.no c.in-If.is c.args.around.now c.args.observer.now c.args.state.now c.args.left.now
     c.in_ok-take_step-in-If.field-0 _ _ c.in_ok-take_step-in-If.ensures.stepped false test c.walk_block-else-is_true.result _ _ _ c.walk_block-else-is_true.ensures.did
+
+pub walk_block-loop-stmt-init : goal.walk_block-loop-stmt-init
+walk_block-loop-stmt-init g t c =
+    let w = observing g.O.Observer.in_turn g.O.Observer.told g.O.Observer.assigned in
+    let view = ap body_of c.deref-stmt-items.ensures.value ∙ c.block.view_is in
+    (view, ap (λ b. walk w b c.args.around.now c.args.observer.now c.args.state.now c.args.left.now) (sym view), le_refl c.args.left.now)
+
+pub walk_block-loop-stmt-preserved : goal.walk_block-loop-stmt-preserved
+walk_block-loop-stmt-preserved g t c =
+    let w = observing g.O.Observer.in_turn g.O.Observer.told g.O.Observer.assigned in
+    (c.loop-stmt.invariant.0, done_in w c.deref-stmt-items.result.now c.loop-stmt.stmt-index c.stmt-item.result c.loop-stmt-test.true c.stmt-item.is _ _ _ _ _ c.loop-stmt.invariant.1 _ _ _
+    c.in_ok-walk_stmt.ensures.did, le_trans c.walk_stmt.ensures.fewer c.loop-stmt.invariant.2)
+
+pub walk_block-returns-clause-did : goal.walk_block-returns-clause-did
+walk_block-returns-clause-did g t c =
+    let w = observing g.O.Observer.in_turn g.O.Observer.told g.O.Observer.assigned in
+    let over = drop_of_length-le c.deref-stmt-items.result.now c.loop-stmt-test.false in
+    c.loop-stmt.invariant.1 ∙ ap (λ l. walk w (body_of l) c.args.around.now c.loop-stmt.observer c.loop-stmt.state c.loop-stmt.left) over
+
+pub walk_loop-loop-turn-init : goal.walk_loop-loop-turn-init
+walk_loop-loop-turn-init g t c =
+    let w = observing g.O.Observer.in_turn g.O.Observer.told g.O.Observer.assigned in
+    let all : c.args.left.now + 1 ≡ c.args.left.now + 1 - 0 = omega arith in
+    (ap (λ (n : ℕ). walk_turns w 0 n (tag_of c.args.stmt.now) (expr_of c.args.stmt.now) (walk w c.args.body.now) c.args.around.now c.args.observer.now c.args.state.now c.args.left.now) all,
+    le_refl c.args.left.now)
+
+pub walk_stmt-returns-in-Assign-clause-did : goal.walk_stmt-returns-in-Assign-clause-did
+walk_stmt-returns-in-Assign-clause-did g t c = c.walk_assignment.ensures.did
+
+pub walk_stmt-returns-in-Write-clause-did : goal.walk_stmt-returns-in-Write-clause-did
+walk_stmt-returns-in-Write-clause-did g t c = c.walk_write.ensures.did
+
+pub walk_stmt-returns-in-Store-clause-did : goal.walk_stmt-returns-in-Store-clause-did
+walk_stmt-returns-in-Store-clause-did g t c = c.walk_store.ensures.did
+
+pub walk_stmt-returns-in-While-clause-did : goal.walk_stmt-returns-in-While-clause-did
+walk_stmt-returns-in-While-clause-did g t c =
+    let w = observing g.O.Observer.in_turn g.O.Observer.told g.O.Observer.assigned in
+    loop_goes w c.args.stmt.now _ _ c.in-While.body c.in-While.is c.args.around.now c.args.observer.now c.args.state.now c.args.left.now c.walk_loop.result _ _ _ c.walk_loop.ensures.did
+
+pub walk_loop-returns-in_err-turns-clause-did : goal.walk_loop-returns-in_err-turns-clause-did
+walk_loop-returns-in_err-turns-clause-did g t c =
+    let p = err_from_is_err_and c.from_residual.result c.from_residual.ensures.1 in
+    rw (p.1, p.2) tt
