@@ -21,7 +21,7 @@ use Rattle.hpr_run.specs.declared.interpreter.Stop.TheVariants.{Faulty, Spent, M
 use Rattle.hpr_run.specs.Acts.{given}
 use Rattle.hpr_run.specs.Faults.{fault_of}
 use Rattle.hpr_run.specs.Outcomes.{Did, Stepped}
-use Rattle.hpr_run.specs.Observed.{Observing, Way, goes, stops, spent, step_way, then_way, walk_turns, after_action, walk, after_in}
+use Rattle.hpr_run.specs.Observed.{Observing, Way, goes, stops, spent, step_way, then_way, walk_turns, after_action, walk, after_in, known_in}
 
 -- without its observer, an observed run is the run
 step_after : {O : Type 0} (t : Tag) (a : Given) (o : O) (left : ℕ) (f : Value → ℕ → Way O) (g : Value → ℕ → After)
@@ -81,6 +81,19 @@ module _ {O A : Type 0} (w : Observing O A) where
       ap (λ (u : Tag). faults u (fault_of f') (n - left)) tag
       ∙ ap (λ (g : Fault). faults t (fault_of g) (n - left)) fault
       ∙ outcome_at p b a o s s' n body same (stops t (fault_of f) o' left) (subst (λ (x : Stop). Did (Err x) (walk w b a o s n) o' s'' left) is did)
+
+  -- what the observer knows at the end of a run
+  module _ (b b' : Body) (a : A) (o : O) (s s' : Values) (n : ℕ) (body : b ≡ b') (same : s ≡ s') where
+    pub knows : (way : Way O) → walk w b a o s n ≡ way → known_in way ≡ known_in (walk w b' a o s' n)
+    knows way is = ap known_in (sym is) ∙ (λ k. known_in (walk w (body k) a o (same k) n))
+
+    pub knows_stopped : (stop : Stop) (t : Tag) (f : Fault) → stop ≡ Faulty t f → (o' : O) (s'' : Values) (left : ℕ) → Did (Err stop) (walk w b a o s n) o' s'' left
+        → o' ≡ known_in (walk w b' a o s' n)
+    knows_stopped stop t f is o' s'' left did =
+        knows (stops t (fault_of f) o' left) (subst (λ (x : Stop). Did (Err x) (walk w b a o s n) o' s'' left) is did)
+
+    pub knows_spent : (stop : Stop) → stop ≡ Spent → (o' : O) (s'' : Values) (left : ℕ) → Did (Err stop) (walk w b a o s n) o' s'' left → o' ≡ known_in (walk w b' a o s' n)
+    knows_spent stop is o' s'' left did = knows (spent o') (subst (λ (x : Stop). Did (Err x) (walk w b a o s n) o' s'' left) is did)
 
 -- what follows a part that stopped is not reached
 step_ends : {O : Type 0} (t : Tag) (a : Given) (o : O) (left : ℕ) (f : Value → ℕ → Way O) (go : O → Values → ℕ → Way O)
