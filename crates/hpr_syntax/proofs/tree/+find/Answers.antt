@@ -47,9 +47,11 @@ Block::find-returns-in-Some t c =
 
 pub Block::find-loop-stmt-preserved : goal.Block::find-loop-stmt-preserved
 Block::find-loop-stmt-preserved t c =
-    let found = sym (ap option_copied c.in_default.is) ∙ c.find.ensures in
-    (c.loop-stmt.invariant.0, step c.args.tag c.args.self.now c.deref-stmt-items.result.now c.loop-stmt.stmt-index c.stmt-item.result None
-    c.loop-stmt.invariant.1 c.stmt-item.is c.loop-stmt-test.true found)
+    let found = sym (ap option_copied c.in_default.is) ∙ c.find.ensures in (
+      c.loop-stmt.invariant.0,
+      step c.args.tag c.args.self.now c.deref-stmt-items.result.now c.loop-stmt.stmt-index c.stmt-item.result None
+          c.loop-stmt.invariant.1 c.stmt-item.is c.loop-stmt-test.true found,
+    )
 
 pub Block::find-returns : goal.Block::find-returns
 Block::find-returns t c =
@@ -58,3 +60,15 @@ Block::find-returns t c =
 
 pub Stmt::find-returns-in-None : goal.Stmt::find-returns-in-None
 Stmt::find-returns-in-None t c = search rules
+
+pub Stmt::find-returns-then-eq : goal.Stmt::find-returns-then-eq
+Stmt::find-returns-then-eq t c = search rules
+
+pub Stmt::find-returns-in-Some : goal.Stmt::find-returns-in-Some
+Stmt::find-returns-in-Some t c = search rules
+
+pub Stmt::find-returns-in-While : goal.Stmt::find-returns-in-While
+Stmt::find-returns-in-While t c = search rules
+
+pub Stmt::find-returns-in_default : goal.Stmt::find-returns-in_default
+Stmt::find-returns-in_default t c = search rules
