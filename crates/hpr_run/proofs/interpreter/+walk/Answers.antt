@@ -91,9 +91,12 @@ walk_block-loop-stmt-init g t c =
 
 pub walk_block-loop-stmt-preserved : goal.walk_block-loop-stmt-preserved
 walk_block-loop-stmt-preserved g t c =
-    let w = observing g.O.Observer.in_turn g.O.Observer.told g.O.Observer.assigned in
-    (c.loop-stmt.invariant.0, done_in w c.deref-stmt-items.result.now c.loop-stmt.stmt-index c.stmt-item.result c.loop-stmt-test.true c.stmt-item.is _ _ _ _ _ c.loop-stmt.invariant.1 _ _ _
-    c.in_ok-walk_stmt.ensures.did, le_trans c.walk_stmt.ensures.fewer c.loop-stmt.invariant.2)
+    let w = observing g.O.Observer.in_turn g.O.Observer.told g.O.Observer.assigned in (
+      c.loop-stmt.invariant.0,
+      done_in w c.deref-stmt-items.result.now c.loop-stmt.stmt-index c.stmt-item.result c.loop-stmt-test.true c.stmt-item.is _ _ _ _ _ c.loop-stmt.invariant.1 _ _ _
+          c.in_ok-walk_stmt.ensures.did,
+      le_trans c.walk_stmt.ensures.fewer c.loop-stmt.invariant.2,
+    )
 
 pub walk_block-returns-clause-did : goal.walk_block-returns-clause-did
 walk_block-returns-clause-did g t c =
@@ -104,9 +107,10 @@ walk_block-returns-clause-did g t c =
 pub walk_loop-loop-turn-init : goal.walk_loop-loop-turn-init
 walk_loop-loop-turn-init g t c =
     let w = observing g.O.Observer.in_turn g.O.Observer.told g.O.Observer.assigned in
-    let all : c.args.left.now + 1 ≡ c.args.left.now + 1 - 0 = omega arith in
-    (ap (λ (n : ℕ). walk_turns w 0 n (tag_of c.args.stmt.now) (expr_of c.args.stmt.now) (walk w c.args.body.now) c.args.around.now c.args.observer.now c.args.state.now c.args.left.now) all,
-    le_refl c.args.left.now)
+    let all : c.args.left.now + 1 ≡ c.args.left.now + 1 - 0 = omega arith in (
+      ap (λ (n : ℕ). walk_turns w 0 n (tag_of c.args.stmt.now) (expr_of c.args.stmt.now) (walk w c.args.body.now) c.args.around.now c.args.observer.now c.args.state.now c.args.left.now) all,
+      le_refl c.args.left.now,
+    )
 
 pub walk_stmt-returns-in-Assign-clause-did : goal.walk_stmt-returns-in-Assign-clause-did
 walk_stmt-returns-in-Assign-clause-did g t c = c.walk_assignment.ensures.did
@@ -126,3 +130,39 @@ pub walk_loop-returns-in_err-turns-clause-did : goal.walk_loop-returns-in_err-tu
 walk_loop-returns-in_err-turns-clause-did g t c =
     let p = err_from_is_err_and c.from_residual.result c.from_residual.ensures.1 in
     rw (p.1, p.2) tt
+
+pub walk_block-returns-clause-fewer : goal.walk_block-returns-clause-fewer
+walk_block-returns-clause-fewer g t c = c.loop-stmt.invariant.2
+
+pub walk_block-returns-in_err-walk_stmt-clause-fewer : goal.walk_block-returns-in_err-walk_stmt-clause-fewer
+walk_block-returns-in_err-walk_stmt-clause-fewer g t c = le_trans c.walk_stmt.ensures.fewer c.loop-stmt.invariant.2
+
+pub walk_loop-returns-in_err-turns-clause-fewer : goal.walk_loop-returns-in_err-turns-clause-fewer
+walk_loop-returns-in_err-turns-clause-fewer g t c = c.loop-turn.invariant.1
+
+pub walk_loop-returns-clause-fewer : goal.walk_loop-returns-clause-fewer
+walk_loop-returns-clause-fewer g t c = c.loop-turn.invariant.1
+
+pub walk_loop-returns-in_err-take_step-clause-fewer : goal.walk_loop-returns-in_err-take_step-clause-fewer
+walk_loop-returns-in_err-take_step-clause-fewer g t c = le_trans c.take_step.ensures.fewer c.loop-turn.invariant.1
+
+pub walk_loop-returns-then-not-is_true-clause-fewer : goal.walk_loop-returns-then-not-is_true-clause-fewer
+walk_loop-returns-then-not-is_true-clause-fewer g t c = le_trans c.take_step.ensures.fewer c.loop-turn.invariant.1
+
+pub walk_loop-returns-in_err-walk_block-clause-fewer : goal.walk_loop-returns-in_err-walk_block-clause-fewer
+walk_loop-returns-in_err-walk_block-clause-fewer g t c = le_trans c.walk_block.ensures.fewer (le_trans c.take_step.ensures.fewer c.loop-turn.invariant.1)
+
+pub walk_loop-returns-in_ok-walk_block-clause-fewer : goal.walk_loop-returns-in_ok-walk_block-clause-fewer
+walk_loop-returns-in_ok-walk_block-clause-fewer g t c = le_trans c.walk_block.ensures.fewer (le_trans c.take_step.ensures.fewer c.loop-turn.invariant.1)
+
+pub walk_stmt-returns-in-Assign-clause-fewer : goal.walk_stmt-returns-in-Assign-clause-fewer
+walk_stmt-returns-in-Assign-clause-fewer g t c = c.walk_assignment.ensures.fewer
+
+pub walk_stmt-returns-in-While-clause-fewer : goal.walk_stmt-returns-in-While-clause-fewer
+walk_stmt-returns-in-While-clause-fewer g t c = c.walk_loop.ensures.fewer
+
+pub walk_stmt-returns-in-Write-clause-fewer : goal.walk_stmt-returns-in-Write-clause-fewer
+walk_stmt-returns-in-Write-clause-fewer g t c = c.walk_write.ensures.fewer
+
+pub walk_stmt-returns-in-Store-clause-fewer : goal.walk_stmt-returns-in-Store-clause-fewer
+walk_stmt-returns-in-Store-clause-fewer g t c = c.walk_store.ensures.fewer
