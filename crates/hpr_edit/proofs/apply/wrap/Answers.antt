@@ -1,4 +1,4 @@
-use Rattle.std.proofs.Common.{◌∙◌, sym, ap}
+use Rattle.std.proofs.Common.{rules, ◌∙◌, sym, ap}
 use Rattle.hpr_terms.specs.declared.tag.Tag.{Tag}
 use Rattle.hpr_syntax.specs.Parts.{find_stmt}
 use Rattle.hpr_syntax.specs.Issued.{raised}
@@ -9,6 +9,9 @@ use Rattle.hpr_edit.specs.Changes.{at_part, wrapped}
 use Rattle.hpr_edit.specs.Edited.{refuse, settled, is_action, is_spent, next_tag, with_new}
 use Rattle.hpr_edit.proofs.Ends.{spare, passed, passed_found, ended}
 use Rattle.hpr_edit.proofs.apply.wrap.Goals as goal
+
+pub returns-then-is_action : goal.returns-then-is_action
+returns-then-is_action c = search rules
 
 pub returns : goal.returns
 returns c = λ author is.
