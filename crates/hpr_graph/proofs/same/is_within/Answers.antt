@@ -1,5 +1,5 @@
 use Rattle.std.proofs.Common.{◌≡◌, ◌∙◌, ℕ, ◌<◌, true, Some, List, length, get_or, slice_get, ap, sym, subst, refl, arith, below_more}
-use Rattle.std.proofs.lemmas.Option.{slice_get-get_or}
+use Rattle.std.proofs.lemmas.Option.{slice_get-get_or, slice_get_within}
 use Rattle.hpr_graph.specs.declared.vertex.Vertex.{Vertex}
 use Rattle.hpr_graph.specs.Twins.{IsSomeLink}
 use Rattle.hpr_graph.proofs.Lists.{never}
@@ -37,3 +37,9 @@ pub returns : goal.returns
 returns c =
     let all : length c.vertices-vertices.result.now ≡ length c.args.graph.now.vertices = ap length c.vertices-vertices.ensures.vertices in
     (λ t. within_from_twins c.args.graph.now c.args.other.now (λ i l. c.loop-at.invariant i (omega (arith, l, all, c.loop-at-test.false))), λ w. refl)
+
+pub edges_into-requires : goal.edges_into-requires
+edges_into-requires c = subst (λ (vs : List Vertex). c.loop-at.at < length vs) c.vertices-vertices.ensures.vertices c.loop-at-test.true
+
+pub edges_into-requires-in-loop-at : goal.edges_into-requires-in-loop-at
+edges_into-requires-in-loop-at c = slice_get_within _ _ _ c.in-Some.ensures.found

@@ -1,4 +1,5 @@
 use Rattle.std.proofs.Common.{List, sym, subst}
+use Rattle.std.proofs.lemmas.Option.{slice_get_within}
 use Rattle.hpr_graph.specs.declared.vertex.Vertex.{Vertex}
 use Rattle.hpr_graph.specs.Moves.{ArePlaced}
 use Rattle.hpr_graph.proofs.Lists.{member_at}
@@ -39,3 +40,6 @@ add_moved-requires-clause-link c = c.edges_into-link-items.ensures.links _ (memb
 
 pub returns-clause-elsewhere : goal.returns-clause-elsewhere
 returns-clause-elsewhere c = c.loop-link.invariant.elsewhere
+
+pub edges_into-link-items-requires : goal.edges_into-link-items-requires
+edges_into-link-items-requires c = let (v, there, _) = c.requires.placed c.args.at c.args.to c.requires.number in slice_get_within _ _ v there
