@@ -1,4 +1,5 @@
 use Rattle.std.proofs.Common.{◌≡◌, ℕ, ◌+◌, ◌-◌, ◌<◌, true, false, List, [], ◌∷◌, ◌++◌, length, length-append, refl, sym, ap, subst, ◌∙◌, arith}
+use Rattle.std.proofs.lemmas.Result.{IfOk-from_err}
 use Rattle.hpr_forest.specs.Choices.{Follows, IsWhole}
 use Rattle.hpr_forest.specs.Cuts.{FindsFirst}
 use Rattle.hpr_forest.proofs.Leaves.{popped, follows_push}
@@ -311,3 +312,12 @@ walk-preserved g c =
 
 pub admissible-requires : goal.admissible-requires
 admissible-requires g c = record { sound = g.met.T.Backtracking.same_sound c.args.search.now c.walk.search c.walk.invariant.0 c.requires.sound; ready = c.in-Some.ensures.ready }
+
+pub returns-in_err-judge-clause-first : goal.returns-in_err-judge-clause-first
+returns-in_err-judge-clause-first g c = IfOk-from_err c.from_residual.result _ c.from_residual.ensures.0
+
+pub returns-in_err-judge-clause-none : goal.returns-in_err-judge-clause-none
+returns-in_err-judge-clause-none g c = IfOk-from_err c.from_residual.result _ c.from_residual.ensures.0
+
+pub returns-in_err-judge-clause-spent : goal.returns-in_err-judge-clause-spent
+returns-in_err-judge-clause-spent g c = IfOk-from_err c.from_residual.result _ c.from_residual.ensures.0
