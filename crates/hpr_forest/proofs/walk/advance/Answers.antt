@@ -1,4 +1,4 @@
-use Rattle.std.proofs.Common.{◌≡◌, ℕ, ◌∙◌, set, length-set, refl, sym, subst, arith, List, true, false, ◌≤◌, ◌<◌, ◌+◌, []}
+use Rattle.std.proofs.Common.{◌≡◌, ℕ, ◌∙◌, set, length-set, refl, sym, subst, arith, List, true, false, ◌≤◌, ◌<◌, ◌+◌, [], ◌∷◌, ap, length, length-append}
 use Rattle.hpr_forest.specs.Choices.{Follows, IsWhole}
 use Rattle.hpr_forest.specs.Marks.{IsMarksOf}
 use Rattle.hpr_forest.proofs.Marked.{marks_push, marks_pop}
@@ -80,3 +80,19 @@ descend-requires-clause-marks g c =
     (omega (arith, small, c.loop-last.invariant.0, c.requires.row, length-set c.loop-last.marks.items c.in-Some.last false))
     (marks_pop c.loop-last.marks.items _ c.pop.new.self.items c.loop-last.placed.items c.in-Some.last (omega (arith, p.2, c.loop-last.invariant.0, c.requires.row))
     c.loop-last.invariant.1 c.in-Some.ensures.items p.3 refl) refl c.push_reserved.ensures.items
+
+pub push_reserved-requires : goal.push_reserved-requires
+push_reserved-requires g c =
+    let p = popped (g.T.Choices.can c.args.choices.now) (g.T.Choices.size c.args.choices.now) c.loop-last.placed.items c.pop.new.self.items c.in-Some.last
+    c.requires.choices c.loop-last.invariant.2 c.in-Some.ensures.items (omega (arith, c.loop-last.invariant.3)) in
+    omega (arith, p.1, c.pop.ensures.capacity, c.loop-last.invariant.4, c.requires.room)
+
+pub index_mut-requires-in-Some-next_child : goal.index_mut-requires-in-Some-next_child
+index_mut-requires-in-Some-next_child g c =
+    let small : c.in-Some-next_child.child < g.T.Choices.size c.args.choices.now =
+        c.requires.choices.within c.deref-in-Some.result.now c.in-Some-next_child.child c.in-Some-next_child.ensures.can in
+    omega (arith, small, c.loop-last.invariant.0, c.requires.row)
+
+pub loop-last-smaller : goal.loop-last-smaller
+loop-last-smaller g c =
+    let items = c.in-Some.ensures.items in omega (arith, ap length items, length-append c.pop.new.self.items (c.in-Some.last ∷ []))

@@ -22,3 +22,11 @@ loop-marks-preserved g c =
       c.push_reserved.ensures.capacity ∙ c.loop-marks.invariant.4,
       step.2,
     )
+
+pub push_reserved-requires : goal.push_reserved-requires
+push_reserved-requires g c = omega (arith, c.loop-marks-test.true, c.len.ensures, c.size.ensures, c.loop-marks.invariant.4, c.requires.room)
+
+pub index_mut-requires : goal.index_mut-requires
+index_mut-requires g c =
+    let small : c.in-Some.child < g.T.Choices.size c.args.choices.now = c.requires.choices.within c.deref-in-loop-marks.result.now c.in-Some.child c.in-Some.ensures.can in
+    omega (arith, small, c.loop-marks.invariant.0, c.requires.row)
