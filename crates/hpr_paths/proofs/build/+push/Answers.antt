@@ -114,3 +114,13 @@ push_stmt-returns-in_ok-push_block-in-If-clause-spots t c =
 pub push_stmt-returns-in_ok-push_block-in-If-clause-len : goal.push_stmt-returns-in_ok-push_block-in-If-clause-len
 push_stmt-returns-in_ok-push_block-in-If-clause-len t c = on_ok_weaker c.push_block-in-If.result
     (λ more. omega (arith, more, c.in_ok-push_part-in-If.ensures.len, c.in_ok-push_block-in-If.ensures.len, count_if c.args.stmt.now c.in-If.field-0 c.in-If.field-1 c.in-If.yes c.in-If.no c.in-If.is)) c.push_block-in-If.ensures.len
+
+pub push_block-part_count-requires : goal.push_block-part_count-requires
+push_block-part_count-requires t c =
+    omega (arith, c.requires, c.loop-i.invariant.part, count_step c.deref-stmt-items.result.now c.loop-i.i c.stmt-item.result c.loop-i-test.true c.stmt-item.is)
+
+pub push_stmt-part_count-requires : goal.push_stmt-part_count-requires
+push_stmt-part_count-requires t c = omega (arith, c.requires, count_if c.args.stmt.now c.in-If.field-0 c.in-If.field-1 c.in-If.yes c.in-If.no c.in-If.is)
+
+pub push_block-loop-i-smaller : goal.push_block-loop-i-smaller
+push_block-loop-i-smaller t c = omega (arith, c.loop-i-test.true)
