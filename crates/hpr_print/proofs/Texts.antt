@@ -5,7 +5,7 @@ use Rattle.hpr_terms.specs.declared.tag.Tag.{Tag}
 use Rattle.hpr_terms.specs.declared.expr.Expr.{Expr}
 use Rattle.hpr_terms.specs.declared.expr.Unary.{Unary}
 use Rattle.hpr_terms.specs.declared.expr.Binary.{Binary}
-use Rattle.hpr_terms.specs.Term.{Term, prefix, infix'}
+use Rattle.hpr_terms.specs.Term.{Term, var, prefix, infix', element}
 use Rattle.hpr_terms.specs.TermOf.{term_of}
 use Rattle.hpr_terms.specs.Texts.{tag_text}
 use Rattle.hpr_syntax.specs.Tree.{Tree}
@@ -13,7 +13,7 @@ use Rattle.hpr_syntax.specs.declared.tree.Stmt.{Stmt}
 use Rattle.hpr_syntax.specs.declared.tree.Stmt.TheVariants.{If, While, Write}
 use Rattle.hpr_syntax.specs.Body.{Body, done, action, branch, loop, depth}
 use Rattle.hpr_syntax.specs.BodyOf.{before, body_of}
-use Rattle.hpr_syntax.specs.Print.{indent, body_text, is_done, else_text, line, term_text, bracketed, sign, prefix_sign, level_of, level_of_sign, text, issued_text, pair_text, joined, after_commas}
+use Rattle.hpr_syntax.specs.Print.{indent, element_text, body_text, is_done, else_text, line, term_text, bracketed, sign, prefix_sign, level_of, level_of_sign, text, issued_text, pair_text, joined, after_commas}
 use Rattle.hpr_syntax.proofs.RowLemmas.{drop_turn}
 
 pub more_indent : (n : ℕ) → indent (n + 1) ≡ indent n ++ (32 ∷ 32 ∷ [])
@@ -59,6 +59,15 @@ some_parts (s ∷ rest) h = refl
 -- a block with parts has an `else`
 pub else_shown : (n : ℕ) (stmts : List Stmt) (shown : List ℕ) → (length stmts == 0) ≡ false → else_text n (body_of stmts) shown ≡ line n (codes "else") ++ shown
 else_shown n stmts shown h = let e : is_done (body_of stmts) ≡ false = some_parts stmts h in rw e refl
+
+-- what stands before, and then the text of a variable and of an element
+pub var_text : (term : Term) (x out all : List ℕ) → term ≡ var x → all ≡ out ++ x → all ≡ out ++ term_text term
+unfolding term_text
+var_text term x out all is e = e ∙ ap (λ (t : Term). out ++ term_text t) (sym is)
+
+pub elem_text : (term : Term) (x : List ℕ) (i : Term) (out all : List ℕ) → term ≡ element x i → all ≡ out ++ element_text x (term_text i) → all ≡ out ++ term_text term
+unfolding term_text
+elem_text term x i out all is e = e ∙ ap (λ (t : Term). out ++ term_text t) (sym is)
 
 -- the line of an assignment or a store, of its three pieces
 pub assignment_line : (n : ℕ) (out one two all tag name value : List ℕ) → one ≡ out ++ indent n ++ tag → two ≡ one ++ codes ": " ++ name ++ codes " := "

@@ -7,7 +7,7 @@ use Rattle.hpr_terms.specs.declared.expr.Unary.{Unary}
 use Rattle.hpr_terms.specs.declared.expr.Unary.TheVariants.{Neg, Not}
 use Rattle.hpr_terms.specs.declared.expr.Binary.{Binary}
 use Rattle.hpr_terms.specs.declared.expr.Binary.TheVariants.{Or, And, Equal, Differ, Less, LessEqual, Greater, GreaterEqual, Add, Sub, Mul, Div, Rem}
-use Rattle.hpr_terms.specs.Term.{Term, num, prefix, infix', element}
+use Rattle.hpr_terms.specs.Term.{Term, num, var, prefix, infix', element}
 use Rattle.hpr_terms.specs.Names.{base_of}
 use Rattle.hpr_syntax.specs.Print.{sign, level_of_sign, level_of, prefix_sign, bracketed, term_text, element_text}
 
@@ -47,6 +47,10 @@ bracketed_utf8 false text h = h
 pub num_utf8 : (term : Term) (n : ℕ) → term ≡ num n → n < 2 ^ 64 → IsUtf8 (term_text term)
 unfolding term_text
 num_utf8 term n is h = subst (λ t. IsUtf8 (term_text t)) (sym is) (number_utf8 n h)
+
+pub var_utf8 : (term : Term) (x : List ℕ) → term ≡ var x → IsUtf8 x → IsUtf8 (term_text term)
+unfolding term_text
+var_utf8 term x is h = subst (λ t. IsUtf8 (term_text t)) (sym is) h
 
 pub prefix_utf8 : (term : Term) (op : Unary) (a : Term) (b : Bool) → term ≡ prefix op a → b ≡ nat_lt (level_of a) 6 → IsUtf8 (bracketed b (term_text a)) → IsUtf8 (term_text term)
 unfolding term_text
