@@ -21,6 +21,7 @@ use Rattle.hpr_syntax.specs.Grammar as grammar
 use Rattle.hpr_syntax.specs.Grammar.{Form, IsAuthor, IsSerial, IsTag, IsIssuedPair, Labels, SpellsExpr, SpellsStore, SpellsParts, SpellsPairs, SpellsHeader, SpellsFinal, SpellsNames, SpellsProgram, tag_pair, pair_then, issued_of}
 use Rattle.hpr_scan.specs.Steps.{and_then, runs}
 use Rattle.hpr_scan.proofs.SoundText.{guard_is}
+use Rattle.hpr_scan.proofs.Words.{none_some}
 use Rattle.hpr_expressions.specs.declared.expression.Reading.{Reading}
 use Rattle.hpr_text.specs.declared.blocks.Around.{Around}
 use Rattle.hpr_text.specs.declared.blocks.Begun.{Begun}
@@ -346,7 +347,7 @@ header_is : (m : Mode) (f : Found) (o : Mode) (ts : List Token) (n : State) → 
 header_is m f Tagged ts n h q e =
     let tagged : m ≡ Tagged = sym (ap (λ (g : Found). g.mode) h.0) ∙ q in
     to_state m (with_header f) BeforePair (ts ++ (Word Issued ∷ [])) n e (first_pair m f ts tagged h)
-header_is m f (Untagged a) ts n h q e = absurd cc
+header_is m f (Untagged a) ts n h q e = absurd (none_some e)
 
 -- ---- numbers
 
@@ -446,7 +447,7 @@ colon_is m f g (Name x) ts n h e = to_state m f (AfterTarget g x) (ts ++ (Name x
 colon_is m f g (Word If) ts n h e = to_state m f (InExpression (Test g) start) (ts ++ (Word If ∷ [])) n e ([], begin_is, behind m f g [] (Word If) ts h)
 colon_is m f g (Word While) ts n h e = to_state m f (InExpression (Guard g) start) (ts ++ (Word While ∷ [])) n e ([], begin_is, behind m f g [] (Word While) ts h)
 colon_is m f g (Word Write) ts n h e = to_state m f (InExpression (Output g) start) (ts ++ (Word Write ∷ [])) n e ([], begin_is, behind m f g [] (Word Write) ts h)
-colon_is m f g t ts n h e = absurd cc
+colon_is m f g t ts n h e = absurd (none_some e)
 
 -- a part that gets its tag from the machine
 untagged_begins : (m : Mode) (l a : ℕ) (f : Found) (ts : List Token) → m ≡ Untagged a → PartsAre m l f [] ts → length f.blocks < MAX_LEVELS
@@ -469,10 +470,10 @@ untagged_begins m l a f ts e h room =
 
 first_guard : (b : Bool) (u : Found × Tag) (t : Token) (n : State) → first_next (cond b (Some u) None) t ≡ Some n → (b ≡ true) × (colon_next u.0 u.1 t ≡ Some n)
 first_guard true u t n e = (refl, e)
-first_guard false u t n e = absurd cc
+first_guard false u t n e = absurd (none_some e)
 
 first_is : (m : Mode) (l : ℕ) (f : Found) (o : Mode) (t : Token) (ts : List Token) (n : State) → PartsAre m l f [] ts → f.mode ≡ o → first_next (begun_in None o f) t ≡ Some n → StateIs m n (ts ++ (t ∷ []))
-first_is m l f Tagged t ts n h q e = absurd cc
+first_is m l f Tagged t ts n h q e = absurd (none_some e)
 first_is m l f (Untagged a) t ts n h q e =
     let u : Found × Tag = given (f.count + 1) (tag_given None a (f.count + 1)) f in
     let g = first_guard (nat_lt (length f.blocks) MAX_LEVELS) u t n e in
@@ -484,7 +485,7 @@ tag_is m l f Tagged a ts n h q e =
     let two = and_both (nat_lt (length f.blocks) MAX_LEVELS) (nat_lt a (2 ^ 32)) g.0 in
     to_state m f (AfterAuthor a) (ts ++ (Number a ∷ [])) n (ap (λ s. Some s) g.1)
     (ltb-true a (2 ^ 32) two.1, record { tagged = sym h.mode ∙ q; level = l; past = ts; parts = h; room = ltb-true (length f.blocks) MAX_LEVELS two.0; tokens = refl })
-tag_is m l f (Untagged b) a ts n h q e = absurd cc
+tag_is m l f (Untagged b) a ts n h q e = absurd (none_some e)
 
 -- a part that does d and has no blocks, with its `;`
 action_ends : (m : Mode) (l : ℕ) (f : Found) (t : Tag) (d : Action) (past label said ts : List Token) (p : PartsAre m l f (t ∷ []) past) → length f.blocks < MAX_LEVELS
@@ -611,9 +612,9 @@ else_is m (begun.Then r ∷ os) l f g ts h e q =
       tokens = rw h.tokens (simp (append_assoc, append-nil));
     } in
     (l, subst (λ (x : Found). PartsAre m l x [] (ts ++ (Word Else ∷ []))) (some_inj _ _ q) made)
-else_is m [] l f g ts h e q = absurd cc
-else_is m (begun.Else r first ∷ os) l f g ts h e q = absurd cc
-else_is m (begun.Loop r ∷ os) l f g ts h e q = absurd cc
+else_is m [] l f g ts h e q = absurd (none_some q)
+else_is m (begun.Else r first ∷ os) l f g ts h e q = absurd (none_some q)
+else_is m (begun.Loop r ∷ os) l f g ts h e q = absurd (none_some q)
 
 fi_is : (m : Mode) (bs : List Begun) (l : ℕ) (f g : Found) (ts : List Token) → PartsAre m l f [] ts → f.blocks ≡ bs → fi_in None bs f ≡ Some g → (k : ℕ) × PartsAre m k g [] (ts ++ (Word Fi ∷ []))
 fi_is m (begun.Then r ∷ os) l f g ts h e q =
@@ -659,8 +660,8 @@ fi_is m (begun.Else r first ∷ os) l f g ts h e q =
       tokens = closes_second h.header h.around h.inside b.2 b.1 b.4.past b.4.before b.4.label b.4.test ts (Word If) (Word Then) (Word Else) (Word Fi) h.tokens b.5 b.4.tokens;
     } in
     (suc l, subst (λ (x : Found). PartsAre m (suc l) x [] (ts ++ (Word Fi ∷ []))) (some_inj _ _ q) made)
-fi_is m [] l f g ts h e q = absurd cc
-fi_is m (begun.Loop r ∷ os) l f g ts h e q = absurd cc
+fi_is m [] l f g ts h e q = absurd (none_some q)
+fi_is m (begun.Loop r ∷ os) l f g ts h e q = absurd (none_some q)
 
 od_is : (m : Mode) (bs : List Begun) (l : ℕ) (f g : Found) (ts : List Token) → PartsAre m l f [] ts → f.blocks ≡ bs → od_in None bs f ≡ Some g → (k : ℕ) × PartsAre m k g [] (ts ++ (Word Od ∷ []))
 od_is m (begun.Loop r ∷ os) l f g ts h e q =
@@ -685,9 +686,9 @@ od_is m (begun.Loop r ∷ os) l f g ts h e q =
       tokens = closes h.header h.around h.inside b.2.past b.2.before b.2.label b.2.test ts (Word While) (Word Do) (Word Od) h.tokens b.2.tokens;
     } in
     (suc l, subst (λ (x : Found). PartsAre m (suc l) x [] (ts ++ (Word Od ∷ []))) (some_inj _ _ q) made)
-od_is m [] l f g ts h e q = absurd cc
-od_is m (begun.Then r ∷ os) l f g ts h e q = absurd cc
-od_is m (begun.Else r first ∷ os) l f g ts h e q = absurd cc
+od_is m [] l f g ts h e q = absurd (none_some q)
+od_is m (begun.Then r ∷ os) l f g ts h e q = absurd (none_some q)
+od_is m (begun.Else r first ∷ os) l f g ts h e q = absurd (none_some q)
 
 top_parts : (m : Form) (l n k : ℕ) (inside : List Token) (b : Body) → l ≡ MAX_LEVELS → n ≡ 0 → SpellsParts m l n k inside b → SpellsParts m MAX_LEVELS 0 k inside b
 top_parts m l n k inside b p q s = subst (λ (j : ℕ). SpellsParts m MAX_LEVELS j k inside b) q (subst (λ (j : ℕ). SpellsParts m j n k inside b) p s)
@@ -710,10 +711,10 @@ body_ends m l f ts h e =
 
 parts_end_is : (m : Mode) (bs : List Begun) (l : ℕ) (f : Found) (ts : List Token) (n : State) → PartsAre m l f [] ts → f.blocks ≡ bs → ends_parts bs f ≡ Some n → StateIs m n (ts ++ (Word End ∷ []))
 parts_end_is m [] l f ts n h e q = to_state m f AfterEnd (ts ++ (Word End ∷ [])) n q (body_ends m l f ts h e)
-parts_end_is m (b ∷ bs) l f ts n h e q = absurd cc
+parts_end_is m (b ∷ bs) l f ts n h e q = absurd (none_some q)
 
 at_part_is : (m : Mode) (o : Option Found) (n : State) (ts : List Token) → at_part o ≡ Some n → ((g : Found) → o ≡ Some g → (k : ℕ) × PartsAre m k g [] ts) → StateIs m n ts
-at_part_is m None n ts q go = absurd cc
+at_part_is m None n ts q go = absurd (none_some q)
 at_part_is m (Some g) n ts q go = to_state m g AtPart ts n q (go g refl)
 
 part_is : (m : Mode) (l : ℕ) (f : Found) (t : Token) (ts : List Token) (n : State) → PartsAre m l f [] ts → part_next None f t ≡ Some n → StateIs m n (ts ++ (t ∷ []))
@@ -726,7 +727,7 @@ part_is m l f (Word End) ts n h e = parts_end_is m f.blocks l f ts n h refl e
 part_is m l f (Word Else) ts n h e = at_part_is m (else_in f.blocks f) n (ts ++ (Word Else ∷ [])) e (λ g q. else_is m f.blocks l f g ts h refl q)
 part_is m l f (Word Fi) ts n h e = at_part_is m (fi_in None f.blocks f) n (ts ++ (Word Fi ∷ [])) e (λ g q. fi_is m f.blocks l f g ts h refl q)
 part_is m l f (Word Od) ts n h e = at_part_is m (od_in None f.blocks f) n (ts ++ (Word Od ∷ [])) e (λ g q. od_is m f.blocks l f g ts h refl q)
-part_is m l f t ts n h e = absurd cc
+part_is m l f t ts n h e = absurd (none_some e)
 
 -- ---- steps in expressions
 
@@ -745,12 +746,12 @@ further m (Store g a i) f r k t ts h e = (
 )
 
 goes_on_is : (m : Mode) (f : Found) (p : Purpose) (r : Reading) (t : Token) (o : Option Reading) (ts : List Token) (n : State) → PurposeIs m p f r ts → read r t ≡ o → goes_on f (InExpression p) o ≡ Some n → StateIs m n (ts ++ (t ∷ []))
-goes_on_is m f p r t None ts n h e q = absurd cc
+goes_on_is m f p r t None ts n h e q = absurd (none_some q)
 goes_on_is m f p r t (Some k) ts n h e q = to_state m f (InExpression p k) (ts ++ (t ∷ [])) n q (further m p f r k t ts h e)
 
 value_ends : (m : Mode) (f : Found) (g : Tag) (x : List ℕ) (r : Reading) (o : Option Expr) (ts : List Token) (n : State) → PurposeIs m (Assign g x) f r ts → ended r ≡ o → ends_here None f (Assign g x) o ≡ Some n
     → StateIs m n (ts ++ (Mark Semicolon ∷ []))
-value_ends m f g x r None ts n h e q = absurd cc
+value_ends m f g x r None ts n h e q = absurd (none_some q)
 value_ends m f g x r (Some v) ts n h e q =
     let s = h.2 in
     to_state m (with_part None g (assigns x v) f) AtPart (ts ++ (Mark Semicolon ∷ [])) n q
@@ -758,7 +759,7 @@ value_ends m f g x r (Some v) ts n h e q =
 
 write_ends : (m : Mode) (f : Found) (g : Tag) (r : Reading) (o : Option Expr) (ts : List Token) (n : State) → PurposeIs m (Output g) f r ts → ended r ≡ o → ends_here None f (Output g) o ≡ Some n
     → StateIs m n (ts ++ (Mark Semicolon ∷ []))
-write_ends m f g r None ts n h e q = absurd cc
+write_ends m f g r None ts n h e q = absurd (none_some q)
 write_ends m f g r (Some v) ts n h e q =
     let s = h.2 in
     to_state m (with_part None g (writes stream v) f) AtPart (ts ++ (Mark Semicolon ∷ [])) n q
@@ -773,7 +774,7 @@ stored {form} {n} {t} k x a i e label index value name is l both =
 
 store_ends : (m : Mode) (f : Found) (g : Tag) (a : List ℕ) (i : Expr) (r : Reading) (o : Option Expr) (ts : List Token) (n : State) → PurposeIs m (Store g a i) f r ts → ended r ≡ o → ends_here None f (Store g a i) o ≡ Some n
     → StateIs m n (ts ++ (Mark Semicolon ∷ []))
-store_ends m f g a i r None ts n h e q = absurd cc
+store_ends m f g a i r None ts n h e q = absurd (none_some q)
 store_ends m f g a i r (Some v) ts n h e q =
     let said = ended_is (operators (term_of i)) r v h.1 h.3 e in
     let x : List ℕ = h.4.name in
@@ -784,14 +785,14 @@ store_ends m f g a i r (Some v) ts n h e q =
 
 test_ends : (m : Mode) (f : Found) (g : Tag) (r : Reading) (o : Option Expr) (ts : List Token) (n : State) → PurposeIs m (Test g) f r ts → ended r ≡ o → ends_here None f (Test g) o ≡ Some n
     → StateIs m n (ts ++ (Word Then ∷ []))
-test_ends m f g r None ts n h e q = absurd cc
+test_ends m f g r None ts n h e q = absurd (none_some q)
 test_ends m f g r (Some v) ts n h e q =
     let s = h.2 in
     to_state m (in_then g v f) AtPart (ts ++ (Word Then ∷ [])) n q (then_begins m s.level f g v s.past s.label h.0 ts s.parts s.room s.label_is (whole_is r v h.0 h.1 e) s.tokens)
 
 guard_ends : (m : Mode) (f : Found) (g : Tag) (r : Reading) (o : Option Expr) (ts : List Token) (n : State) → PurposeIs m (Guard g) f r ts → ended r ≡ o → ends_here None f (Guard g) o ≡ Some n
     → StateIs m n (ts ++ (Word Do ∷ []))
-guard_ends m f g r None ts n h e q = absurd cc
+guard_ends m f g r None ts n h e q = absurd (none_some q)
 guard_ends m f g r (Some v) ts n h e q =
     let s = h.2 in
     to_state m (in_loop g v f) AtPart (ts ++ (Word Do ∷ [])) n q (loop_begins m s.level f g v s.past s.label h.0 ts s.parts s.room s.label_is (whole_is r v h.0 h.1 e) s.tokens)
@@ -808,13 +809,13 @@ expression_is m f p r t ts n h e = goes_on_is m f p r t (read r t) ts n h refl e
 
 index_goes_is : (m : Mode) (f : Found) (g : Tag) (a : List ℕ) (r : Reading) (t : Token) (o : Option Reading) (ts : List Token) (n : State) → PlaceIs m (InIndex g a r) f ts → read r t ≡ o
     → goes_on f (InIndex g a) o ≡ Some n → StateIs m n (ts ++ (t ∷ []))
-index_goes_is m f g a r t None ts n h e q = absurd cc
+index_goes_is m f g a r t None ts n h e q = absurd (none_some q)
 index_goes_is m f g a r t (Some k) ts n h e q =
     to_state m f (InIndex g a k) (ts ++ (t ∷ [])) n q (h.0 ++ (t ∷ []), read_is 0 r t k h.0 h.1 e, array_behind m f g a h.0 t ts h.2)
 
 index_ends_is : (m : Mode) (f : Found) (g : Tag) (a : List ℕ) (r : Reading) (o : Option Expr) (ts : List Token) (n : State) → PlaceIs m (InIndex g a r) f ts → ended r ≡ o
     → index_ends f g a (counted_in r) o ≡ Some n → StateIs m n (ts ++ (Mark CloseSquare ∷ []))
-index_ends_is m f g a r None ts n h e q = absurd cc
+index_ends_is m f g a r None ts n h e q = absurd (none_some q)
 index_ends_is m f g a r (Some i) ts n h e q =
     to_state m f (AfterIndex g a i (counted_in r)) (ts ++ (Mark CloseSquare ∷ [])) n q
     (h.0, ended_is 0 r i h.0 h.1 e, omega (arith, count_is 0 r i h.0 h.1 e), array_behind m f g a h.0 (Mark CloseSquare) ts h.2)
@@ -974,7 +975,7 @@ next_is m f AfterFinal (Mark Comma) ts n h e = to_state m f AfterComma (ts ++ (M
 next_is m f AfterFinal (Mark Close) ts n h e = to_state m f AtEnd (ts ++ (Mark Close ∷ [])) n e (close_follows m f ts h)
 next_is m f AfterComma (Name x) ts n h e = to_state m f (AfterName x) (ts ++ (Name x ∷ [])) n e (name_begins m f x ts h)
 next_is m f AfterComma (Word Out) ts n h e = to_state m (with_name stream f) AfterFinal (ts ++ (Word Out ∷ [])) n e (stream_named m f ts h)
-next_is m f p t ts n h e = absurd cc
+next_is m f p t ts n h e = absurd (none_some e)
 
 step_is : (m : Mode) (s : State) (t : Token) (ts : List Token) (n : State) → StateIs m s ts → next None s t ≡ Some n → StateIs m n (ts ++ (t ∷ []))
 unfolding next
@@ -982,7 +983,7 @@ step_is m s t ts n h e = next_is m s.found s.place t ts n h e
 
 runs_at : (m : Mode) (s : State) (t : Token) (past ts : List Token) (o : Option State) (n : State) → StateIs m s past → next None s t ≡ o → and_then o (λ k. runs (next None) k ts) ≡ Some n
     → ((k : State) → StateIs m k (past ++ (t ∷ [])) → runs (next None) k ts ≡ Some n → StateIs m n ((past ++ (t ∷ [])) ++ ts)) → StateIs m n (past ++ (t ∷ ts))
-runs_at m s t past ts None n h e q go = absurd cc
+runs_at m s t past ts None n h e q go = absurd (none_some q)
 runs_at m s t past ts (Some k) n h e q go = rw append_assoc at (go k (step_is m s t past k h e) q)
 
 runs_is : (m : Mode) (s : State) (past ts : List Token) (n : State) → StateIs m s past → runs (next None) s ts ≡ Some n → StateIs m n (past ++ ts)
@@ -1009,7 +1010,7 @@ accepted_is m f AtEnd t ts h e =
       tokens_are = b.tokens;
     } in
     subst (λ (u : Tree). IsCounted m ts f u) (some_inj _ _ e) (made, b.counts)
-accepted_is m f p t ts h e = absurd cc
+accepted_is m f p t ts h e = absurd (none_some e)
 
 -- what is accepted is spelled
 pub found_spelled : (m : Mode) (ts : List Token) (s : State) (t : Tree) → runs (next None) (initially m) ts ≡ Some s → accepted s ≡ Some t → IsCounted m ts s.found t
