@@ -17,6 +17,8 @@ use Rattle.hpr_scan.specs.Place.{IsPlace, BeginsWith, Accepts}
 use Rattle.hpr_scan.specs.Steps.{and_then, runs, IsReading}
 use Rattle.hpr_scan.proofs.Place.{same_place}
 use Rattle.hpr_expressions.specs.declared.expression.Reading.{Reading}
+use Rattle.std.proofs.lemmas.Bool.{false≢true}
+use Rattle.hpr_scan.proofs.Words.{none_some}
 use Rattle.hpr_text.specs.declared.content.Aim.{Aim}
 use Rattle.hpr_text.specs.declared.content.Aim.TheVariants.{Assign, Test, Guard, Output, Store}
 use Rattle.hpr_text.specs.declared.content.ContentState.{ContentState}
@@ -84,26 +86,26 @@ spelled (Store a i) e front ts h s = stored a i e front ts h s
 
 goes_on_is : (aim : Aim) (r : Reading) (t : Token) (o : Option Reading) (n : ContentState) (ts : List Token) → ContentIs (InExpression aim r) ts → read r t ≡ o → content_goes_on (InExpression aim) o ≡ Some n
     → ContentIs n (ts ++ (t ∷ []))
-goes_on_is aim r t None n ts h q e = absurd cc
+goes_on_is aim r t None n ts h q e = absurd (none_some e)
 goes_on_is aim r t (Some m) n ts h q e =
     to_content (InExpression aim m) n (ts ++ (t ∷ [])) e
     (h.0, h.1 ++ (t ∷ []), h.2, read_is (operators_before aim) r t m h.1 h.3 q, ap (λ x. x ++ (t ∷ [])) h.4 ∙ append_assoc h.0 h.1 (t ∷ []))
 
 ends_is : (aim : Aim) (r : Reading) (o : Option Expr) (n : ContentState) (ts : List Token) → ContentIs (InExpression aim r) ts → ended r ≡ o → content_ends aim o ≡ Some n → ContentIs n (ts ++ (Mark Semicolon ∷ []))
-ends_is aim r None n ts h q e = absurd cc
+ends_is aim r None n ts h q e = absurd (none_some e)
 ends_is aim r (Some v) n ts h q e =
     to_content (Ended (content_of aim v)) n (ts ++ (Mark Semicolon ∷ [])) e
     (h.0 ++ h.1, spelled aim v h.0 h.1 h.2 (ended_is (operators_before aim) r v h.1 h.3 q), ap (λ x. x ++ (Mark Semicolon ∷ [])) h.4)
 
 index_goes_is : (a : List ℕ) (r : Reading) (t : Token) (o : Option Reading) (n : ContentState) (ts : List Token) → ContentIs (InIndex a r) ts → read r t ≡ o → content_goes_on (InIndex a) o ≡ Some n
     → ContentIs n (ts ++ (t ∷ []))
-index_goes_is a r t None n ts h q e = absurd cc
+index_goes_is a r t None n ts h q e = absurd (none_some e)
 index_goes_is a r t (Some m) n ts h q e =
     to_content (InIndex a m) n (ts ++ (t ∷ [])) e (h.0, h.1 ++ (t ∷ []), h.2, h.3, read_is 0 r t m h.1 h.4 q, ap (λ x. x ++ (t ∷ [])) h.5)
 
 index_ends_is : (a : List ℕ) (r : Reading) (o : Option Expr) (n : ContentState) (ts : List Token) → ContentIs (InIndex a r) ts → ended r ≡ o → content_index_ends a (counted_in r) o ≡ Some n
     → ContentIs n (ts ++ (Mark CloseSquare ∷ []))
-index_ends_is a r None n ts h q e = absurd cc
+index_ends_is a r None n ts h q e = absurd (none_some e)
 index_ends_is a r (Some i) n ts h q e =
     to_content (AfterIndex a i (counted_in r)) n (ts ++ (Mark CloseSquare ∷ [])) e (
       omega (arith, count_is 0 r i h.1 h.4 q),
@@ -143,23 +145,23 @@ content_step Start (Name x) n ts h e = to_content (AfterTarget x) n (ts ++ (Name
 content_step Start (Word keyword.If) n ts h e = to_content (InExpression Test start) n (ts ++ (Word keyword.If ∷ [])) e (Word keyword.If ∷ [], [], refl, begin_is, rw h refl)
 content_step Start (Word keyword.While) n ts h e = to_content (InExpression Guard start) n (ts ++ (Word keyword.While ∷ [])) e (Word keyword.While ∷ [], [], refl, begin_is, rw h refl)
 content_step Start (Word keyword.Write) n ts h e = to_content (InExpression Output start) n (ts ++ (Word keyword.Write ∷ [])) e (Word keyword.Write ∷ [], [], refl, begin_is, rw h refl)
-content_step Start t n ts h e = absurd cc
+content_step Start t n ts h e = absurd (none_some e)
 content_step (AfterTarget x) (Mark Becomes) n ts h e =
     to_content (InExpression (Assign x) start) n (ts ++ (Mark Becomes ∷ [])) e (Name x ∷ Mark Becomes ∷ [], [], refl, begin_is, rw h refl)
 content_step (AfterTarget x) (Mark OpenSquare) n ts h e =
     let q = guard_is (is_name x) (InIndex (array_of x) start) n e in
     to_content (InIndex (array_of x) start) n (ts ++ (Mark OpenSquare ∷ [])) (ap (λ s. Some s) q.1) (x, [], q.0, refl, begin_is, rw h refl)
-content_step (AfterTarget x) t n ts h e = absurd cc
+content_step (AfterTarget x) t n ts h e = absurd (none_some e)
 content_step (InIndex a r) t n ts h e = index_is a r t n ts h e
 content_step (AfterIndex a i k) (Mark Becomes) n ts h e = to_content (InExpression (Store a i) (start_after k)) n (ts ++ (Mark Becomes ∷ [])) e (number_begins a i k ts h)
-content_step (AfterIndex a i k) t n ts h e = absurd cc
+content_step (AfterIndex a i k) t n ts h e = absurd (none_some e)
 content_step (InExpression aim r) (Mark Semicolon) n ts h e = ends_is aim r (ended r) n ts h refl e
 content_step (InExpression aim r) t n ts h e = goes_on_is aim r t (read r t) n ts h refl e
-content_step (Ended c) t n ts h e = absurd cc
+content_step (Ended c) t n ts h e = absurd (none_some e)
 
 content_at : (s : ContentState) (t : Token) (past ts : List Token) (o : Option ContentState) (n : ContentState) → ContentIs s past → content_next s t ≡ o → and_then o (λ m. runs content_next m ts) ≡ Some n
     → ((m : ContentState) → ContentIs m (past ++ (t ∷ [])) → runs content_next m ts ≡ Some n → ContentIs n ((past ++ (t ∷ [])) ++ ts)) → ContentIs n (past ++ (t ∷ ts))
-content_at s t past ts None n h e q go = absurd cc
+content_at s t past ts None n h e q go = absurd (none_some q)
 content_at s t past ts (Some m) n h e q go = rw append_assoc at (go m (content_step s t m past h e) q)
 
 pub content_is : (s : ContentState) (past ts : List Token) (n : ContentState) → ContentIs s past → runs content_next s ts ≡ Some n → ContentIs n (past ++ ts)
@@ -181,7 +183,7 @@ GoesOn state = (r n : Reading) (t : Token) → read r t ≡ Some n → content_n
 
 reads_at : (state : Reading → ContentState) → GoesOn state → (r n : Reading) (t : Token) (ts rest : List Token) (o : Option Reading) → read r t ≡ o → and_then o (λ m. runs read m ts) ≡ Some n
     → ((m : Reading) → runs read m ts ≡ Some n → runs content_next (state m) (ts ++ rest) ≡ runs content_next (state n) rest) → runs content_next (state r) (t ∷ (ts ++ rest)) ≡ runs content_next (state n) rest
-reads_at state on r n t ts rest None e q go = absurd cc
+reads_at state on r n t ts rest None e q go = absurd (none_some q)
 reads_at state on r n t ts rest (Some m) e q go = run_one _ (state m) t (ts ++ rest) (on r m t e) ∙ go m q
 
 -- so do many tokens
@@ -235,19 +237,19 @@ content_text : (bytes : List ℕ) (ts : List Token) (s : ContentState) (c : Cont
 content_text bytes ts (Ended d) c x r e =
     let h = content_is Start [] ts (Ended d) refl r in
     record { tokens = h.0; spelled = subst (SpellsContent h.0) (some_inj d c e) h.1; text = subst (Text false bytes) h.2 x }
-content_text bytes ts Start c x r e = absurd cc
-content_text bytes ts (AfterTarget y) c x r e = absurd cc
-content_text bytes ts (InIndex a y) c x r e = absurd cc
-content_text bytes ts (AfterIndex a i k) c x r e = absurd cc
-content_text bytes ts (InExpression aim y) c x r e = absurd cc
+content_text bytes ts Start c x r e = absurd (none_some e)
+content_text bytes ts (AfterTarget y) c x r e = absurd (none_some e)
+content_text bytes ts (InIndex a y) c x r e = absurd (none_some e)
+content_text bytes ts (AfterIndex a i k) c x r e = absurd (none_some e)
+content_text bytes ts (InExpression aim y) c x r e = absurd (none_some e)
 
 read_at_end : (s : ContentState) → content_may_end s ≡ true → (c : Content) × (content_read s ≡ Some c)
 read_at_end (Ended c) e = (c, refl)
-read_at_end Start e = absurd cc
-read_at_end (AfterTarget y) e = absurd cc
-read_at_end (InIndex a y) e = absurd cc
-read_at_end (AfterIndex a i k) e = absurd cc
-read_at_end (InExpression aim y) e = absurd cc
+read_at_end Start e = absurd (false≢true e)
+read_at_end (AfterTarget y) e = absurd (false≢true e)
+read_at_end (InIndex a y) e = absurd (false≢true e)
+read_at_end (AfterIndex a i k) e = absurd (false≢true e)
+read_at_end (InExpression aim y) e = absurd (false≢true e)
 
 reading_content : (bytes : List ℕ) (s : ContentState) (c : Content) → IsReading content_next Start bytes s → content_read s ≡ Some c → IsContentText bytes c
 reading_content bytes s c r e = content_text bytes r.tokens s c r.text r.leads e

@@ -1,5 +1,5 @@
 -- An expression, and the index of a store, goes on where its reading does, and ends where its reading can end.
-use Rattle.std.proofs.Common.{◌≡◌, ℕ, Bool, true, false, cond, List, Option, Some, None, is_some, refl}
+use Rattle.std.proofs.Common.{◌≡◌, ℕ, Bool, true, false, cond, List, Option, Some, None, is_some, refl, sym}
 use Rattle.hpr_terms.specs.declared.tag.Tag.{Tag}
 use Rattle.hpr_terms.specs.declared.expr.Expr.{Expr}
 use Rattle.hpr_terms.specs.declared.keyword.Keyword.TheVariants.{Then, Do}
@@ -10,6 +10,7 @@ use Rattle.hpr_terms.specs.Names.{stream}
 use Rattle.hpr_syntax.specs.Action.{assigns, writes, stores}
 use Rattle.hpr_expressions.specs.Expression.{read, ended}
 use Rattle.hpr_expressions.specs.declared.expression.Reading.{Reading}
+use Rattle.std.proofs.lemmas.Bool.{false≢true}
 use Rattle.hpr_text.specs.declared.found.Found.{Found}
 use Rattle.hpr_text.specs.declared.state.Purpose.{Purpose}
 use Rattle.hpr_text.specs.declared.state.Purpose.TheVariants.{Assign, Test, Guard, Output, Store}
@@ -35,11 +36,11 @@ index_ends_is_some f t a k None = refl
 index_ends_is_some f t a k (Some i) = refl
 
 pub goes_on_within : (l : Option ℕ) (f : Found) (p : Purpose) (r : Reading) (t : Token) → ends_at p t ≡ false → expression_next l f p r t ≡ goes_on f (InExpression p) (read r t)
-goes_on_within l f (Assign t x) r (Mark Semicolon) e = absurd cc
-goes_on_within l f (Test t) r (Word Then) e = absurd cc
-goes_on_within l f (Guard t) r (Word Do) e = absurd cc
-goes_on_within l f (Output t) r (Mark Semicolon) e = absurd cc
-goes_on_within l f (Store t a i) r (Mark Semicolon) e = absurd cc
+goes_on_within l f (Assign t x) r (Mark Semicolon) e = absurd (false≢true (sym e))
+goes_on_within l f (Test t) r (Word Then) e = absurd (false≢true (sym e))
+goes_on_within l f (Guard t) r (Word Do) e = absurd (false≢true (sym e))
+goes_on_within l f (Output t) r (Mark Semicolon) e = absurd (false≢true (sym e))
+goes_on_within l f (Store t a i) r (Mark Semicolon) e = absurd (false≢true (sym e))
 goes_on_within l f p r t e = refl
 
 pub ends_within : (l : Option ℕ) (f : Found) (p : Purpose) (r : Reading) (t : Token) → ends_at p t ≡ true → expression_next l f p r t ≡ ends_here l f p (ended r)
@@ -48,7 +49,7 @@ ends_within l f (Test t) r (Word Then) e = refl
 ends_within l f (Guard t) r (Word Do) e = refl
 ends_within l f (Output t) r (Mark Semicolon) e = refl
 ends_within l f (Store t a i) r (Mark Semicolon) e = refl
-ends_within l f p r t e = absurd cc
+ends_within l f p r t e = absurd (false≢true e)
 
 -- by the answer of a test, the first step or the second
 pub either_way : {S P : Type 0} (b : Bool) (o p : Option S) (n : S) → (o ≡ Some n → P) → (p ≡ Some n → P) → cond b o p ≡ Some n → P

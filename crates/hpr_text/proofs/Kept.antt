@@ -15,6 +15,7 @@ use Rattle.hpr_syntax.specs.Action.{assigns, writes, stores}
 use Rattle.hpr_syntax.specs.Body.{Body, done, action, branch, loop}
 use Rattle.hpr_scan.specs.Steps.{runs}
 use Rattle.hpr_scan.proofs.SoundText.{then_of}
+use Rattle.hpr_scan.proofs.Words.{none_some}
 use Rattle.hpr_text.specs.declared.blocks.Around.{Around}
 use Rattle.hpr_text.specs.declared.blocks.Begun.{Begun}
 use Rattle.hpr_text.specs.declared.blocks.Begun.TheVariants as begun
@@ -307,49 +308,49 @@ counts_some s n c h e = subst (λ (x : State). OneMore c x.found.count) (some_in
 
 counts_guard : (b : Bool) (s n : State) (c : ℕ) → OneMore c s.found.count → cond b (Some s) None ≡ Some n → OneMore c n.found.count
 counts_guard true s n c h e = counts_some s n c h e
-counts_guard false s n c h e = absurd cc
+counts_guard false s n c h e = absurd (none_some e)
 
 colon_counts : (c : ℕ) (f : Found) (t : Tag) (k : Token) (n : State) → OneMore c f.count → colon_next f t k ≡ Some n → OneMore c n.found.count
 colon_counts c f t (Name x) n h e = counts_some (state_at f (AfterTarget t x)) n c h e
 colon_counts c f t (Word If) n h e = counts_some (state_at f (InExpression (Test t) start)) n c h e
 colon_counts c f t (Word While) n h e = counts_some (state_at f (InExpression (Guard t) start)) n c h e
 colon_counts c f t (Word Write) n h e = counts_some (state_at f (InExpression (Output t) start)) n c h e
-colon_counts c f t k n h e = absurd cc
+colon_counts c f t k n h e = absurd (none_some e)
 
 firsts_count : (c : ℕ) (b : Bool) (u : Found × Tag) (k : Token) (n : State) → OneMore c u.0.count → first_next (cond b (Some u) None) k ≡ Some n → OneMore c n.found.count
 firsts_count c true u k n h e = colon_counts c u.0 u.1 k n h e
-firsts_count c false u k n h e = absurd cc
+firsts_count c false u k n h e = absurd (none_some e)
 
 first_counts : (o : Mode) (f : Found) (k : Token) (n : State) → first_next (begun_in None o f) k ≡ Some n → OneMore f.count n.found.count
-first_counts Tagged f k n e = absurd cc
+first_counts Tagged f k n e = absurd (none_some e)
 first_counts (Untagged a) f k n e =
     firsts_count f.count (nat_lt (length f.blocks) MAX_LEVELS) (given (f.count + 1) (tag_given None a (f.count + 1)) f) k n (omega arith, omega arith) e
 
 tag_counts : (o : Mode) (f : Found) (a : ℕ) (n : State) → tag_next o f a ≡ Some n → OneMore f.count n.found.count
 tag_counts Tagged f a n e = counts_guard (nat_lt (length f.blocks) MAX_LEVELS && nat_lt a (2 ^ 32)) (state_at f (AfterAuthor a)) n f.count (as_many f.count) e
-tag_counts (Untagged b) f a n e = absurd cc
+tag_counts (Untagged b) f a n e = absurd (none_some e)
 
 else_counts : (bs : List Begun) (f : Found) (n : State) → at_part (else_in bs f) ≡ Some n → OneMore f.count n.found.count
 else_counts (begun.Then r ∷ os) f n e = counts_some (state_at (record f { blocks = begun.Else r f.parts ∷ os; parts = done }) AtPart) n f.count (as_many f.count) e
-else_counts [] f n e = absurd cc
-else_counts (begun.Else r first ∷ os) f n e = absurd cc
-else_counts (begun.Loop r ∷ os) f n e = absurd cc
+else_counts [] f n e = absurd (none_some e)
+else_counts (begun.Else r first ∷ os) f n e = absurd (none_some e)
+else_counts (begun.Loop r ∷ os) f n e = absurd (none_some e)
 
 fi_counts : (bs : List Begun) (f : Found) (n : State) → at_part (fi_in None bs f) ≡ Some n → OneMore f.count n.found.count
 fi_counts (begun.Then r ∷ os) f n e = counts_some (state_at (block_ended None os r.before (branch r.tag r.test f.parts done done) f) AtPart) n f.count (as_many f.count) e
 fi_counts (begun.Else r first ∷ os) f n e = counts_some (state_at (block_ended None os r.before (branch r.tag r.test first f.parts done) f) AtPart) n f.count (as_many f.count) e
-fi_counts [] f n e = absurd cc
-fi_counts (begun.Loop r ∷ os) f n e = absurd cc
+fi_counts [] f n e = absurd (none_some e)
+fi_counts (begun.Loop r ∷ os) f n e = absurd (none_some e)
 
 od_counts : (bs : List Begun) (f : Found) (n : State) → at_part (od_in None bs f) ≡ Some n → OneMore f.count n.found.count
 od_counts (begun.Loop r ∷ os) f n e = counts_some (state_at (block_ended None os r.before (loop r.tag r.test f.parts done) f) AtPart) n f.count (as_many f.count) e
-od_counts [] f n e = absurd cc
-od_counts (begun.Then r ∷ os) f n e = absurd cc
-od_counts (begun.Else r first ∷ os) f n e = absurd cc
+od_counts [] f n e = absurd (none_some e)
+od_counts (begun.Then r ∷ os) f n e = absurd (none_some e)
+od_counts (begun.Else r first ∷ os) f n e = absurd (none_some e)
 
 end_counts : (bs : List Begun) (f : Found) (n : State) → ends_parts bs f ≡ Some n → OneMore f.count n.found.count
 end_counts [] f n e = counts_some (state_at f AfterEnd) n f.count (as_many f.count) e
-end_counts (b ∷ bs) f n e = absurd cc
+end_counts (b ∷ bs) f n e = absurd (none_some e)
 
 part_counts : (f : Found) (t : Token) (n : State) → part_next None f t ≡ Some n → OneMore f.count n.found.count
 part_counts f (Number a) n e = tag_counts f.mode f a n e
@@ -361,14 +362,14 @@ part_counts f (Word End) n e = end_counts f.blocks f n e
 part_counts f (Word Else) n e = else_counts f.blocks f n e
 part_counts f (Word Fi) n e = fi_counts f.blocks f n e
 part_counts f (Word Od) n e = od_counts f.blocks f n e
-part_counts f t n e = absurd cc
+part_counts f t n e = absurd (none_some e)
 
 header_counts : (o : Mode) (f : Found) (n : State) → header_next o f ≡ Some n → OneMore f.count n.found.count
 header_counts Tagged f n e = counts_some (state_at (with_header f) BeforePair) n f.count (as_many f.count) e
-header_counts (Untagged a) f n e = absurd cc
+header_counts (Untagged a) f n e = absurd (none_some e)
 
 ends_counts : (f : Found) (p : Purpose) (o : Option Expr) (n : State) → ends_here None f p o ≡ Some n → OneMore f.count n.found.count
-ends_counts f p None n e = absurd cc
+ends_counts f p None n e = absurd (none_some e)
 ends_counts f (Assign t x) (Some v) n e = counts_some (state_at (with_part None t (assigns x v) f) AtPart) n f.count (as_many f.count) e
 ends_counts f (Test t) (Some v) n e = counts_some (state_at (in_then t v f) AtPart) n f.count (as_many f.count) e
 ends_counts f (Guard t) (Some v) n e = counts_some (state_at (in_loop t v f) AtPart) n f.count (as_many f.count) e
@@ -376,11 +377,11 @@ ends_counts f (Output t) (Some v) n e = counts_some (state_at (with_part None t 
 ends_counts f (Store t a i) (Some v) n e = counts_some (state_at (with_part None t (stores a i v) f) AtPart) n f.count (as_many f.count) e
 
 goes_counts : (f : Found) (p : Reading → Place) (o : Option Reading) (n : State) → goes_on f p o ≡ Some n → OneMore f.count n.found.count
-goes_counts f p None n e = absurd cc
+goes_counts f p None n e = absurd (none_some e)
 goes_counts f p (Some r) n e = counts_some (state_at f (p r)) n f.count (as_many f.count) e
 
 index_counts : (f : Found) (t : Tag) (a : List ℕ) (k : ℕ) (o : Option Expr) (n : State) → index_ends f t a k o ≡ Some n → OneMore f.count n.found.count
-index_counts f t a k None n e = absurd cc
+index_counts f t a k None n e = absurd (none_some e)
 index_counts f t a k (Some i) n e = counts_some (state_at f (AfterIndex t a i k)) n f.count (as_many f.count) e
 
 in_index_counts : (f : Found) (t : Tag) (a : List ℕ) (r : Reading) (k : Token) (n : State) → in_index_next f t a r k ≡ Some n → OneMore f.count n.found.count
@@ -430,7 +431,7 @@ step_counts f AfterFinal (Mark Comma) n e = counts_some (state_at f AfterComma) 
 step_counts f AfterFinal (Mark Close) n e = counts_some (state_at f AtEnd) n f.count (as_many f.count) e
 step_counts f AfterComma (Name x) n e = counts_some (state_at f (AfterName x)) n f.count (as_many f.count) e
 step_counts f AfterComma (Word Out) n e = counts_some (state_at (with_name stream f) AfterFinal) n f.count (as_many f.count) e
-step_counts f p t n e = absurd cc
+step_counts f p t n e = absurd (none_some e)
 
 -- ---- where each part is kept
 
@@ -453,12 +454,12 @@ colon_few f t (Name x) n e le = few (state_at f (AfterTarget t x)) n e le
 colon_few f t (Word If) n e le = few (state_at f (InExpression (Test t) start)) n e le
 colon_few f t (Word While) n e le = few (state_at f (InExpression (Guard t) start)) n e le
 colon_few f t (Word Write) n e le = few (state_at f (InExpression (Output t) start)) n e le
-colon_few f t k n e le = absurd cc
+colon_few f t k n e le = absurd (none_some e)
 
 firsts_same : (b : Bool) (u v : Found × Tag) (k : Token) (n : State) → (u.0.count ≤ MAX_PARTS → v ≡ u) → n.found.count ≤ MAX_PARTS
     → first_next (cond b (Some u) None) k ≡ Some n → first_next (cond b (Some v) None) k ≡ Some n
 firsts_same true u v k n h le e = ap (λ (w : Found × Tag). colon_next w.0 w.1 k) (h (colon_few u.0 u.1 k n e le)) ∙ e
-firsts_same false u v k n h le e = absurd cc
+firsts_same false u v k n h le e = absurd (none_some e)
 
 first_same : (o : Mode) (f : Found) (k : Token) (n : State) → n.found.count ≤ MAX_PARTS → first_next (begun_in None o f) k ≡ Some n → first_next (begun_in limit o f) k ≡ Some n
 first_same Tagged f k n le e = e
@@ -495,7 +496,7 @@ part_same f (Word Od) n le e = od_same f.blocks f n le e
 part_same f t n le e = e
 
 ends_same : (f : Found) (p : Purpose) (o : Option Expr) (n : State) → n.found.count ≤ MAX_PARTS → ends_here None f p o ≡ Some n → ends_here limit f p o ≡ Some n
-ends_same f p None n le e = absurd cc
+ends_same f p None n le e = absurd (none_some e)
 ends_same f (Assign t x) (Some v) n le e = kept_same f f.blocks f.parts (action t (assigns x v) done) n le e
 ends_same f (Test t) (Some v) n le e = e
 ends_same f (Guard t) (Some v) n le e = e
@@ -535,7 +536,7 @@ unfolding next
 same_step s t n le e = step_same s.found s.place t n le e
 
 shows_some : (n : State) (o : Option State) → Some (bare n) ≡ bared o → (m : State) × (o ≡ Some m) × (bare n ≡ bare m)
-shows_some n None e = absurd cc
+shows_some n None e = absurd (none_some (sym e))
 shows_some n (Some m) e = (m, refl, some_inj _ _ e)
 
 kept_step : (s k : State) (t : Token) (n : State) → Kept s k → next None s t ≡ Some n → (m : State) × (next limit k t ≡ Some m) × Kept n m
