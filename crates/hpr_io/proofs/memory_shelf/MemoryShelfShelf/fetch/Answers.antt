@@ -1,4 +1,5 @@
-use Rattle.std.proofs.Common.{◌≡◌, ◌∙◌, Some, false, sym, ap}
+use Rattle.std.proofs.Common.{◌≡◌, ◌∙◌, Some, false, sym, ap, arith, length, length-take}
+use Rattle.std.proofs.lemmas.Result.{IfOk-weaker}
 use Rattle.std.specs.Option.{option_copied}
 use Rattle.hpr_io.specs.Fakes.{stands_in}
 use Rattle.hpr_io.specs.Files.{lookup}
@@ -12,3 +13,7 @@ returns-in-Some-clause-failed c =
     let there : lookup c.args.self.now.files c.args.name.now ≡ Some c.in-Some.bytes.now =
     rw (← c.self.view_is) (rw (← c.as_slice.ensures.value) (sym c.file_bytes.ensures ∙ ap option_copied c.in-Some.is)) in
     not_failed _ c.args.self.now c.args.name.now c.in-Some.bytes.now idle there (memory_only c.front_of.result c.front_of.ensures.memory)
+
+pub returns-in-Some-clause-short : goal.returns-in-Some-clause-short
+returns-in-Some-clause-short c =
+    IfOk-weaker c.front_of.result _ _ (λ v e. omega (arith, ap length e, length-take c.args.most c.in-Some.bytes.now)) c.front_of.ensures.front
