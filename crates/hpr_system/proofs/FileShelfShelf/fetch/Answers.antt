@@ -10,3 +10,6 @@ returns-in-Err-Failed-clause-count g c = record {
   rose = λ h. grind (arith, c.self.view_is, c.saturating_add-self-inside.ensures);
   quiet = λ h. absurd (h refl);
 }
+
+pub returns-in-Ok-clause-short : goal.returns-in-Ok-clause-short
+returns-in-Ok-clause-short g c = c.in-Ok.ensures
