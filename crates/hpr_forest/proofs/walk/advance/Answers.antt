@@ -90,7 +90,7 @@ push_reserved-requires g c =
 pub index_mut-requires-in-Some-next_child : goal.index_mut-requires-in-Some-next_child
 index_mut-requires-in-Some-next_child g c =
     let small : c.in-Some-next_child.child < g.T.Choices.size c.args.choices.now =
-        c.requires.choices.within c.deref-in-Some.result.now c.in-Some-next_child.child c.in-Some-next_child.ensures.can in
+    c.requires.choices.within c.deref-in-Some.result.now c.in-Some-next_child.child c.in-Some-next_child.ensures.can in
     omega (arith, small, c.loop-last.invariant.0, c.requires.row)
 
 pub loop-last-smaller : goal.loop-last-smaller

@@ -10,7 +10,6 @@ use Rattle.hpr_graph.specs.contracts.link.LinkPartialEq.TheImpl as links
 use Rattle.hpr_graph.specs.contracts.link.LinkEq.TheImpl.Laws as laws
 use Rattle.hpr_graph.proofs.links.is_at.Goals as goal
 
-
 same_kind : (k m : LinkKind) → (kinds.ghosts).eq k m ≡ true → k ≡ m
 same_kind (Control true) (Control true) e = refl
 same_kind (Control false) (Control false) e = refl
@@ -33,9 +32,10 @@ same l m e =
 pub returns-in-Some : goal.returns-in-Some
 returns-in-Some c =
     let there : slice_get c.args.links.now c.args.at ≡ Some c.in-Some.there.now =
-        slice_get_read _ _ c.args.at _ refl c.in-Some.ensures.lookup.3.0 c.in-Some.ensures.lookup.1 in
-    (λ t. there ∙ ap Some (same _ _ (sym c.eq.ensures ∙ t)),
-     λ h. c.eq.ensures ∙ ap (λ (l : Link). (links.ghosts).eq l c.args.link) (some_inj _ _ (sym there ∙ h)) ∙ (laws.laws-law).refl c.args.link)
+    slice_get_read _ _ c.args.at _ refl c.in-Some.ensures.lookup.3.0 c.in-Some.ensures.lookup.1 in (
+      λ t. there ∙ ap Some (same _ _ (sym c.eq.ensures ∙ t)),
+      λ h. c.eq.ensures ∙ ap (λ (l : Link). (links.ghosts).eq l c.args.link) (some_inj _ _ (sym there ∙ h)) ∙ (laws.laws-law).refl c.args.link,
+    )
 
 pub returns-in-None : goal.returns-in-None
 returns-in-None c = (λ t. absurd (false≢true t), λ h. ap is_some (sym (slice_get_past c.args.links.now c.args.at c.in-None.ensures.lookup.3) ∙ h))
