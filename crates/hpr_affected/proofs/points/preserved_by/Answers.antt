@@ -6,8 +6,12 @@ use Rattle.hpr_graph.specs.Whole.{IsWhole}
 use Rattle.hpr_affected.specs.Comparison.{Sides}
 use Rattle.hpr_affected.specs.Numbers.{AreNumbersOf}
 use Rattle.hpr_affected.specs.Shared.{MarksUnshared, others_of}
-use Rattle.hpr_affected.proofs.SharedPoints.{all_others, other_at, others_more, unshared_none, unshared_read}
+use Rattle.hpr_affected.proofs.SharedPoints.{all_others, base_at, other_at, others_more, unshared_none, unshared_read}
 use Rattle.hpr_affected.proofs.points.preserved_by.Goals as goal
+
+pub mark_affected-requires-clause-base : goal.mark_affected-requires-clause-base
+mark_affected-requires-clause-base c =
+    ap (λ (s : Sides). s.graph) c.comparison-item.is ∙ base_at c.args.base.now c.args.comparisons.now c.loop-comparison.comparison-index c.comparison-item.result c.loop-comparison-test.true c.requires.base
 
 pub mark_affected-requires-clause-other : goal.mark_affected-requires-clause-other
 mark_affected-requires-clause-other c =
