@@ -37,3 +37,24 @@ returns-clause-none c =
       λ none. absurd cc,
       λ past. absurd (never_past (graph_in c.args.graph.now) (IsUnmarked c.args.graph.now c.args.keep.now) (issued_to 0 c.args.issued.now) c.in_ok-parts.parts.items c.in_ok-parts.ensures fits past),
     )
+
+pub returns-clause-numbers : goal.returns-clause-numbers
+returns-clause-numbers c = c.in_ok-split_by.ensures.numbers
+
+pub returns-clause-rank : goal.returns-clause-rank
+returns-clause-rank c = c.in_ok-split_by.ensures.rank
+
+pub returns-clause-issued : goal.returns-clause-issued
+returns-clause-issued c = c.in_ok-split_by.ensures.issued
+
+pub returns-clause-author : goal.returns-clause-author
+returns-clause-author c = c.in_ok-split_by.ensures.author
+
+pub returns-clause-others : goal.returns-clause-others
+returns-clause-others c = c.in_ok-split_by.ensures.others
+
+pub split_by-requires-clause-ranked : goal.split_by-requires-clause-ranked
+split_by-requires-clause-ranked c = c.requires.ranked
+
+pub split_by-requires-clause-serials : goal.split_by-requires-clause-serials
+split_by-requires-clause-serials c = c.requires.serials

@@ -55,3 +55,12 @@ all_renamed-requires-2-clause-ascend c = subst (λ (vs : List Vertex). Ascends v
 
 pub all_renamed-requires-2-clause-serials : goal.all_renamed-requires-2-clause-serials
 all_renamed-requires-2-clause-serials c = omega (arith, c.requires.fits, c.get-serial.ensures, ap (λ (vs : List Vertex). length vs) c.deref-2.ensures.value)
+
+pub returns-clause-others : goal.returns-clause-others
+returns-clause-others c = c.in_ok-issued.ensures.others
+
+pub returns-clause-renamed : goal.returns-clause-renamed
+returns-clause-renamed c = c.in_ok-renamed.ensures ∙ ap (λ (n : ℕ). with_new_tags n c.args.parts.items) c.get-serial.ensures
+
+pub with_new_tags-requires : goal.with_new_tags-requires
+with_new_tags-requires c = omega (arith, c.requires.fits, c.get-serial.ensures)
