@@ -71,3 +71,21 @@ loop-source-init c = record {
   begun = c.requires.begun;
   added = λ to l. begun_family (λ (r : Source). FlowsFrom c.args.tables.now.program.now c.args.variable.now.name.now r.point r.number to l) (HasLink c.args.graph.now to l);
 }
+
+pub sources_of-requires-clause-tables : goal.sources_of-requires-clause-tables
+sources_of-requires-clause-tables c = c.requires.tables
+
+pub sources_of-requires-clause-variable : goal.sources_of-requires-clause-variable
+sources_of-requires-clause-variable c = c.requires.variable
+
+pub returns-clause-begun : goal.returns-clause-begun
+returns-clause-begun c = c.loop-source.invariant.begun
+
+pub push_flows_from-requires-clause-tables : goal.push_flows_from-requires-clause-tables
+push_flows_from-requires-clause-tables c = c.requires.tables
+
+pub push_flows_from-requires-clause-variable : goal.push_flows_from-requires-clause-variable
+push_flows_from-requires-clause-variable c = c.requires.variable
+
+pub push_flows_from-requires-clause-begun : goal.push_flows_from-requires-clause-begun
+push_flows_from-requires-clause-begun c = c.loop-source.invariant.begun
