@@ -4,6 +4,7 @@
     bench/programs.py SEED PARTS    prints the three programs of `hpr sample SEED PARTS`, not indented: the base, A and B
     bench/programs.py               compares those of a stored row of hpr_calls with that row
 """
+import argparse
 import pathlib
 import random
 import sys
@@ -183,9 +184,15 @@ def sieve(numbers):
     )
 
 
-def main(words):
-    if words:
-        print("".join(variants(sample(int(words[1]), int(words[0])))), end="")
+def main():
+    words = argparse.ArgumentParser(usage="bench/programs.py [SEED PARTS]")
+    words.add_argument("numbers", nargs="*", type=int, metavar="SEED PARTS")
+    numbers = words.parse_args().numbers
+    if len(numbers) not in (0, 2):
+        words.error("a seed and a number of parts, or neither")
+    if numbers:
+        seed, parts = numbers
+        print("".join(variants(sample(parts, seed))), end="")
         return 0
     rows = pathlib.Path(__file__).resolve().parent.parent / "crates" / "hpr_calls" / "stdout"
     stored = rows.read_text().partition("# a sample of 12 parts: base, A and B\n")[2].partition("#")[0]
@@ -195,4 +202,4 @@ def main(words):
 
 
 if __name__ == "__main__":
-    sys.exit(main(sys.argv[1:]))
+    sys.exit(main())
