@@ -1,0 +1,66 @@
+# shellcheck shell=bash
+# How the scripts for git ask hpr: in the folder $work, which they have made for it and which goes at their end. There each
+# version of a program is a file with the version's name, so that messages have this name. Read by those scripts, never run.
+#
+# HPR names the command hpr; else it is the one two folders up. HPR_BUILD=never tells it not to prove and build itself now.
+hpr=${HPR:-$(dirname "$(realpath "${BASH_SOURCE[0]}")")/../../hpr}
+case $hpr in */*) hpr=$(realpath -m -- "$hpr") ;; esac
+work=${work:?}
+trap 'rm -rf -- "$work"' EXIT
+
+# Calls hpr there. What it prints goes to the file `printed`, and what it says on standard error to `said`. A status 0 or 1
+# without the text that belongs to it doesn't come from hpr, and 127 stands for it.
+ask() {
+  local status
+  (cd "$work" && HPR_BUILD=never exec "$hpr" "$@") >"$work/printed" 2>"$work/said" </dev/null
+  status=$?
+  case $status in
+    0) [ -s "$work/printed" ] || status=127 ;;
+    1) grep -q '^interference ' "$work/printed" || status=127 ;;
+  esac
+  return "$status"
+}
+
+# Calls `hpr integrate` with as many tries as git's settings say.
+integrate() {
+  tries=$(git config --get hpr.tries)
+  ask integrate "$@" ${tries:+--tries "$tries"}
+}
+
+# A base that isn't there, or is empty, is the program without parts.
+fill_base() {
+  [ -s "$work/base" ] || echo 'program end()' >"$work/base"
+}
+
+# What a status of hpr other than 0 means, in a sentence.
+meaning() {
+  local version why
+  case $1 in
+    1) echo "they interfere" ;;
+    2) echo "no program has the merged graph" ;;
+    3) echo "the tries are spent, and git config hpr.tries allows more" ;;
+    4)
+      IFS=: read -r _ version why <"$work/said"
+      echo "hpr takes no such program as ${version# }:$why"
+      ;;
+    7) echo "git config hpr.tries is ${tries:-not set}, and that is no number of tries" ;;
+    8) echo "memory ran out" ;;
+    70) echo "hpr isn't built" ;;
+    126 | 127) echo "hpr can't be run" ;;
+    *) echo "hpr ended with status $1" ;;
+  esac
+}
+
+# All that hpr tells with this status beside its meaning.
+details() {
+  case $1 in
+    4) ;;
+    1 | 2 | 3 | 10) cat "$work/printed" ;;
+    *) cat "$work/said" ;;
+  esac
+}
+
+# A path in one line.
+in_a_line() {
+  case $1 in *[[:cntrl:]]*) printf '%q' "$1" ;; *) printf '%s' "$1" ;; esac
+}
