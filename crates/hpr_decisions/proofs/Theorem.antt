@@ -28,6 +28,7 @@ use Rattle.hpr_decisions.proofs.Unrefused.{past_all_graphs, past_file, past_file
 use Rattle.hpr_refusals.specs.Refusals.{IsFileOf}
 use Rattle.hpr_decisions.specs.Outcome.{RequestOutcome}
 use Rattle.hpr_decisions.specs.Theorem.{IsManyMergedText, IsMergedText, KeepsAllMeaning, KeepsMeaning}
+use Rattle.hpr_merge.proofs.NoneListed.{none_told}
 use Rattle.hpr_decisions.specs.MergedText.{HasManyMergedGraph, HasMergedGraph, PrintsMerged}
 use Rattle.hpr_decisions.specs.LeftText.{IsLeftOf, PrintsLeft}
 use Rattle.hpr_decisions.specs.SliceFile.{IsSliceShown, SliceOutcome}
@@ -95,6 +96,7 @@ module _ (base a b : List ℕ) (tries : ℕ) (bytes : List ℕ) (p q r m : Tree)
         printed = m;
         program = is_m;
         spelled = printed_spelled m bytes is_m e;
+        free = answer.0;
         renamed = rs;
         split_off = split;
         fits = fits;
@@ -147,6 +149,7 @@ module _ (fs : Files) (base : Text) (names : List Text) (tries : ℕ) (bytes : L
         printed = m;
         program = is_m;
         spelled = printed_spelled m bytes is_m e;
+        free = none_told (λ (c : Told). c) (graph_of p) (graphs_of ps) (triples_tell (length (graphs_of ps))) answer.0;
         renamed = rs;
         split_off = split;
         fits = fits;

@@ -1,7 +1,7 @@
 -- The graph of the program that is printed.
 --
--- HasMergedGraph base a b bytes   == the bytes base, a and b are accepted files that spell three programs, and the bytes spell a program whose graph is
---                                    their merged graph, in which the parts that are split off are under their new tags
+-- HasMergedGraph base a b bytes   == the bytes base, a and b are accepted files that spell three programs, without a conflict, and the bytes spell a program whose graph
+--                                    is their merged graph, in which the parts that are split off are under their new tags
 -- HasManyMergedGraph files base names bytes == base's file and the variants' are accepted and spell programs, and the bytes spell a program whose graph is
 --                                    so made of theirs
 -- PrintsMerged request files bytes == for `integrate`: the bytes are such a text, of the files that it names
@@ -13,7 +13,9 @@ use Rattle.hpr_syntax.specs.Shape.{IsProgram}
 use Rattle.hpr_syntax.specs.Grammar.{tagged}
 use Rattle.hpr_syntax.specs.Spelling.{Spells}
 use Rattle.hpr_graph.specs.declared.vertex.Vertex.{Vertex}
-use Rattle.hpr_graph.specs.Answer.{Fits, AreSplitOff, searched_graph_of}
+use Rattle.hpr_graph.specs.Answer.{Fits, AreSplitOff, IsWithoutConflict, graphs_of, searched_graph_of}
+use Rattle.hpr_graph.specs.Conflicts.{HasNoConflict}
+use Rattle.hpr_graph.specs.ProgramGraph.{graph_of}
 use Rattle.hpr_refusals.specs.Refusals.{IsFileOf}
 use Rattle.hpr_inputs.specs.ReadsAll.{AreAllFilesOf}
 use Rattle.hpr_words.specs.Request.{Request, Text, integrate, integrate_many}
@@ -28,6 +30,7 @@ pub record HasMergedGraph (base a b bytes : List ℕ) : Type 0 where
   pub printed : Tree
   pub program : IsProgram printed
   pub spelled : Spells tagged bytes printed
+  pub free : IsWithoutConflict base_program a_program b_program
   pub renamed : List (Vertex × Tag)
   pub split_off : AreSplitOff base_program (a_program ∷ b_program ∷ []) renamed
   pub fits : Fits (searched_graph_of renamed base_program (a_program ∷ b_program ∷ [])) printed
@@ -40,6 +43,7 @@ pub record HasManyMergedGraph (files : Files) (base : Text) (names : List Text) 
   pub printed : Tree
   pub program : IsProgram printed
   pub spelled : Spells tagged bytes printed
+  pub free : HasNoConflict (graph_of base_program) (graphs_of variant_programs)
   pub renamed : List (Vertex × Tag)
   pub split_off : AreSplitOff base_program variant_programs renamed
   pub fits : Fits (searched_graph_of renamed base_program variant_programs) printed

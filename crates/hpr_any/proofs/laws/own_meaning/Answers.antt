@@ -1,0 +1,10 @@
+use Rattle.hpr_any.specs.Standard.{standard}
+use Rattle.hpr_any.proofs.Standard.{standard_laws, keeps_standard}
+use Rattle.hpr_any.proofs.SplitKeeps.{split_kept}
+use Rattle.hpr_any.proofs.laws.own_meaning.Goals as goal
+
+pub returns-clause-keeps : goal.returns-clause-keeps
+returns-clause-keeps c = λ base p vs keeps. keeps_standard base p vs keeps
+
+pub returns-clause-theorem : goal.returns-clause-theorem
+returns-clause-theorem c = λ base p vs rs is all is_p free split fits. split_kept standard standard_laws base p vs rs is all is_p free split fits

@@ -1,0 +1,76 @@
+//! The laws of meaning, whatever the contents mean: each function's contract is the law, for all values and
+//! faults, which are two types, and for all meanings over them.
+ghost use Rattle.std.specs.Prelude.{ℕ, List, [], ◌∷◌, Contains};
+ghost use Rattle.std.specs.List.{AllByRecursion};
+ghost use Rattle.hpr_terms.specs.declared.tag.Tag.{Tag};
+ghost use Rattle.hpr_syntax.specs.Tree.{Tree};
+ghost use Rattle.hpr_syntax.specs.Shape.{IsProgram};
+ghost use Rattle.hpr_graph.specs.declared.edge.Edge.{Edge};
+ghost use Rattle.hpr_graph.specs.declared.vertex.Vertex.{Vertex};
+ghost use Rattle.hpr_graph.specs.Answer.{Answer, AnswerBy, printed, IsAnswer, IsAnswerBy, AreSplitOff, Fits, IsWithoutConflict, graphs_of, merged_of, merged_of_all, searched_graph_of};
+ghost use Rattle.hpr_graph.specs.Conflicts.{HasNoConflict};
+ghost use Rattle.hpr_graph.specs.Graphs.{Same};
+ghost use Rattle.hpr_graph.specs.Numbered.{Numbered, graph_in};
+ghost use Rattle.hpr_graph.specs.ProgramGraph.{graph_of};
+ghost use Rattle.hpr_graph.specs.Slices.{slice_of};
+ghost use Rattle.hpr_prune.specs.KeptLaw.{IsSliceOf};
+ghost use Rattle.hpr_prune.specs.Programs.{IsPruned};
+ghost use Rattle.hpr_meaning.specs.CoverLaw.{Version, IsCovered, steps_of};
+ghost use Rattle.hpr_meaning.specs.KeptLaw as own;
+ghost use Rattle.hpr_meaning.specs.UnionLaw.{KeepsEach};
+ghost use Rattle.hpr_any.specs.Kept.{Ends, Keeps};
+ghost use Rattle.hpr_any.specs.KeptLaw.{KeepsAll};
+ghost use Rattle.hpr_any.specs.CoverLaw.{DoesEnd};
+ghost use Rattle.hpr_any.specs.TimeLaw.{IsTimely};
+ghost use Rattle.hpr_any.specs.OrderLaw.{IsOrdered};
+ghost use Rattle.hpr_any.specs.SliceLaw.{SharesSlice};
+ghost use Rattle.hpr_any.specs.PruneLaw.{IsKeptBy};
+ghost use Rattle.hpr_any.specs.MeaningOf.{MeaningOf, by_reads};
+ghost use Rattle.hpr_any.specs.Standard.{standard};
+
+/// The laws of time, of order by edges, of shared slices, of the covered end and of slices as programs.
+pub fn runs<V, F>()
+    ensures time { (m : MeaningOf V F) (p : Tree) (s : List ℕ → V) (n : ℕ) → IsProgram p → IsTimely (by_reads m) p s n }
+    ensures order { (m : MeaningOf V F) (p : Tree) (s : List ℕ → V) (n : ℕ) → IsProgram p → IsOrdered (by_reads m) p s n }
+    ensures slices { (m : MeaningOf V F) (p q : Tree) (points : List Vertex) (s : List ℕ → V) (n k : ℕ) (finals : List (List ℕ × V))
+        → IsProgram p → IsProgram q → Same (slice_of (graph_of p) (Contains points)) (slice_of (graph_of q) (Contains points))
+        → Ends (by_reads m) p s n finals → SharesSlice (by_reads m) p q (Contains points) s n k }
+    ensures covered { (m : MeaningOf V F) (p : Tree) (versions : List Version) (s : List ℕ → V) → IsProgram p
+        → ((i : Version) → Contains versions i → DoesEnd (by_reads m) s i) → IsCovered versions p
+        → (f : List (List ℕ × V)) × Ends (by_reads m) p s (steps_of versions) f }
+    ensures left { (m : MeaningOf V F) (p q : Tree) (slice : Numbered) (s : List ℕ → V) (n : ℕ) (f : List (List ℕ × V)) → IsProgram p
+        → IsSliceOf p (graph_in slice) → IsPruned (graph_in slice).vertex p q → Ends (by_reads m) p s n f
+        → IsKeptBy (by_reads m) p q s n f }
+{}
+
+/// A program with the merged graph, where each affected point keeps its variant's slice, keeps the meaning of all
+/// variants; so it does where there is no conflict, and so does a program with what is searched.
+pub fn merged_keeps<V, F>()
+    ensures kept { (m : MeaningOf V F) (base p : Tree) (vs : List Tree) → IsProgram base → AllByRecursion IsProgram vs
+        → IsProgram p → Fits (merged_of_all base vs) p → KeepsEach base vs → KeepsAll (by_reads m) base vs p }
+    ensures all { (m : MeaningOf V F) (base p : Tree) (vs : List Tree) → IsProgram base → AllByRecursion IsProgram vs
+        → IsProgram p → HasNoConflict (graph_of base) (graphs_of vs) → Fits (merged_of_all base vs) p
+        → KeepsAll (by_reads m) base vs p }
+    ensures split { (m : MeaningOf V F) (base p : Tree) (vs : List Tree) (rs : List (Vertex × Tag)) → IsProgram base
+        → AllByRecursion IsProgram vs → IsProgram p → HasNoConflict (graph_of base) (graphs_of vs)
+        → AreSplitOff base vs rs → Fits (searched_graph_of rs base vs) p → KeepsAll (by_reads m) base vs p }
+    ensures as_two { (m : MeaningOf V F) (base a b p : Tree) → KeepsAll (by_reads m) base (a ∷ b ∷ []) p
+        → Keeps (by_reads m) base a b p }
+{}
+
+/// The integration theorem, whatever the contents mean: what is printed keeps the meaning of all variants.
+pub fn printed_keeps<V, F>()
+    ensures all { (m : MeaningOf V F) (base : Tree) (vs : List Tree) (tries : ℕ) (p : Tree)
+        → IsProgram base → AllByRecursion IsProgram vs
+        → IsAnswerBy {X = ℕ × Vertex × Edge} (λ t. t) base vs tries (printed p) → KeepsAll (by_reads m) base vs p }
+    ensures two { (m : MeaningOf V F) (base a b : Tree) (tries : ℕ) (p : Tree) → IsProgram base → IsProgram a → IsProgram b
+        → IsAnswer base a b tries (printed p) → Keeps (by_reads m) base a b p }
+{}
+
+/// hpr's own meaning is one: what keeps the meaning by it keeps the meaning, in the words of hpr_meaning.
+pub fn own_meaning()
+    ensures keeps { (base p : Tree) (vs : List Tree) → KeepsAll standard base vs p → own.KeepsAll base vs p }
+    ensures theorem { (base p : Tree) (vs : List Tree) (rs : List (Vertex × Tag)) → IsProgram base
+        → AllByRecursion IsProgram vs → IsProgram p → HasNoConflict (graph_of base) (graphs_of vs)
+        → AreSplitOff base vs rs → Fits (searched_graph_of rs base vs) p → KeepsAll standard base vs p }
+{}
