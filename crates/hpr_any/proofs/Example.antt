@@ -7,7 +7,7 @@ use Rattle.hpr_terms.specs.Term.{num, var}
 use Rattle.hpr_syntax.specs.Action.{assigns}
 use Rattle.hpr_syntax.specs.Body.{done, action}
 use Rattle.hpr_syntax.specs.Tree.{Tree}
-use Rattle.hpr_any.specs.Kept.{Ends}
+use Rattle.hpr_meaning.specs.Any.Kept.{Ends}
 use Rattle.hpr_any.specs.MeaningOf.{MeaningOf, by_reads}
 use Rattle.hpr_any.specs.Opaque.{opaque}
 

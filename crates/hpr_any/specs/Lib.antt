@@ -1,15 +1,2 @@
-pub mod Meaning
-pub mod Run
-pub mod Kept
-pub mod Instances
-pub mod Due
-pub mod TimeLaw
-pub mod OrderLaw
-pub mod SliceLaw
-pub mod CoverLaw
-pub mod KeptLaw
-pub mod RenamedRuns
 pub mod MeaningOf
-pub mod PruneLaw
-pub mod Standard
 pub mod Opaque

@@ -9,7 +9,7 @@ use Rattle.std.specs.Ordering.{nat_cmp, is_eq}
 use Rattle.std.specs.Cmp.Lexicographic.{slice_cmp}
 use Rattle.hpr_syntax.specs.declared.rows.Content.{Content}
 use Rattle.hpr_syntax.specs.Contents.{used_names}
-use Rattle.hpr_any.specs.Meaning.{Meaning}
+use Rattle.hpr_meaning.specs.Any.Meaning.{Meaning}
 
 pub record MeaningOf (V F : Type 0) : Type 0 where
   pub gives : Content → List V → Result V F
@@ -28,4 +28,6 @@ by_reads {V} {F} m = record {
   set = with_name;
   answer = λ c s. m.gives c (map s (used_names c));
   holds = m.holds;
+  Shown = Unit {0};
+  shown = λ c s. tt;
 }

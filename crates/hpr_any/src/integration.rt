@@ -1,7 +1,7 @@
 //! Programs are merged whose contents mean something else than hpr's.
 ghost use Rattle.std.specs.Prelude.{◌≤◌, IfOk};
 ghost use Rattle.hpr_graph.specs.Answer.{printed, IsAnswer};
-ghost use Rattle.hpr_any.specs.Kept.{Keeps};
+ghost use Rattle.hpr_meaning.specs.Any.Kept.{Keeps};
 ghost use Rattle.hpr_any.specs.MeaningOf.{MeaningOf, by_reads};
 
 use hpr_engine::Stop;

@@ -1,7 +1,7 @@
 //! Programs are judged whose contents mean something else than hpr's.
 ghost use Rattle.std.specs.Prelude.{◌≡◌, ◌↔◌, IfOk};
 ghost use Rattle.hpr_verify.specs.Verdict.{HasSearchedGraph};
-ghost use Rattle.hpr_any.specs.Kept.{Keeps};
+ghost use Rattle.hpr_meaning.specs.Any.Kept.{Keeps};
 ghost use Rattle.hpr_any.specs.MeaningOf.{MeaningOf, by_reads};
 
 use hpr_syntax::Program;

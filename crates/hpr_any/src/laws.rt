@@ -18,15 +18,15 @@ ghost use Rattle.hpr_prune.specs.Programs.{IsPruned};
 ghost use Rattle.hpr_meaning.specs.CoverLaw.{Version, IsCovered, steps_of};
 ghost use Rattle.hpr_meaning.specs.KeptLaw as own;
 ghost use Rattle.hpr_meaning.specs.UnionLaw.{KeepsEach};
-ghost use Rattle.hpr_any.specs.Kept.{Ends, Keeps};
-ghost use Rattle.hpr_any.specs.KeptLaw.{KeepsAll};
-ghost use Rattle.hpr_any.specs.CoverLaw.{DoesEnd};
-ghost use Rattle.hpr_any.specs.TimeLaw.{IsTimely};
-ghost use Rattle.hpr_any.specs.OrderLaw.{IsOrdered};
-ghost use Rattle.hpr_any.specs.SliceLaw.{SharesSlice};
-ghost use Rattle.hpr_any.specs.PruneLaw.{IsKeptBy};
+ghost use Rattle.hpr_meaning.specs.Any.Kept.{Ends, Keeps};
+ghost use Rattle.hpr_meaning.specs.Any.KeptLaw.{KeepsAll};
+ghost use Rattle.hpr_meaning.specs.Any.CoverLaw.{DoesEnd};
+ghost use Rattle.hpr_meaning.specs.Any.TimeLaw.{IsTimely};
+ghost use Rattle.hpr_meaning.specs.Any.OrderLaw.{IsOrdered};
+ghost use Rattle.hpr_meaning.specs.Any.SliceLaw.{SharesSlice};
+ghost use Rattle.hpr_prune.specs.Any.KeptLaw.{IsKeptBy};
 ghost use Rattle.hpr_any.specs.MeaningOf.{MeaningOf, by_reads};
-ghost use Rattle.hpr_any.specs.Standard.{standard};
+ghost use Rattle.hpr_meaning.specs.Any.Standard.{standard};
 
 /// The laws of time, of order by edges, of shared slices, of the covered end and of slices as programs.
 pub fn runs<V, F>()

@@ -17,5 +17,6 @@ mod OneRank
 pub mod OneAnswer
 mod IssuedRows
 mod Unsearched
+pub mod AnyPrintedKeeps
 pub mod PrintedKeeps
 pub mod SomeAnswer

@@ -9,21 +9,20 @@ use Rattle.hpr_graph.specs.declared.vertex.Vertex.{Vertex}
 use Rattle.hpr_graph.specs.declared.edge.Edge.{Edge}
 use Rattle.hpr_graph.specs.Answer.{printed, graphs_of, searched_graph_of, AreSplitOff, Fits, IsAnswer, IsAnswerBy, IsWithoutConflict}
 use Rattle.hpr_graph.specs.Conflicts.{told_as}
-use Rattle.hpr_graph.specs.ProgramGraph.{graph_of}
-use Rattle.hpr_merge.proofs.NoneListed.{TellsEach, none_told, sides_tell}
+use Rattle.hpr_merge.proofs.NoneListed.{TellsEach, sides_tell}
 use Rattle.hpr_meaning.specs.KeptLaw.{KeepsAll}
-use Rattle.hpr_meaning.proofs.KeptMeaning.{keeps_two}
+use Rattle.hpr_meaning.proofs.Own.{keeps_two}
 use Rattle.hpr_meaning.proofs.SidesKept.{free_of_two}
-use Rattle.hpr_rename.proofs.SplitKeeps.{split_kept}
-use Rattle.hpr_engine.proofs.OneAnswer.{printed_fits_by}
+use Rattle.hpr_rename.proofs.Own.{split_kept}
+use Rattle.hpr_meaning.specs.Any.Standard.{standard}
+use Rattle.hpr_meaning.proofs.Standard.{standard_laws, keeps_standard}
+use Rattle.hpr_engine.proofs.AnyPrintedKeeps as any
 pub use Rattle.hpr_merge.proofs.NoneListed.{triples_tell}
 pub use Rattle.hpr_meaning.proofs.SidesKept.{sides_kept}
 
 pub printed_keeps_by : {X : Type 0} (at : X → ℕ × Vertex × Edge) (base : Tree) (vs : List Tree) → TellsEach at (length (graphs_of vs)) → (tries : ℕ) (m : Tree) → IsProgram base → AllByRecursion IsProgram vs
     → IsAnswerBy at base vs tries (printed m) → KeepsAll base vs m
-printed_keeps_by at base vs tells tries m is all answer =
-    let (is_m, (rs, split, fits)) = printed_fits_by at base vs tries m answer in
-    split_kept base m vs rs is all is_m (none_told at (graph_of base) (graphs_of vs) tells answer.0) split fits
+printed_keeps_by at base vs tells tries m is all answer = keeps_standard base m vs (any.printed_keeps_by standard standard_laws at base vs tells tries m is all answer)
 
 -- of two variants, whoever made the program
 pub split_kept_two : (base a b m : Tree) (rs : List (Vertex × Tag)) → IsProgram base → IsProgram a → IsProgram b → IsProgram m → IsWithoutConflict base a b → AreSplitOff base (a ∷ b ∷ []) rs

@@ -9,6 +9,7 @@ pub mod CommonLoops
 pub mod FlowWays
 pub mod Ordered
 pub mod Chains
+pub mod NextState
 pub mod Items
 pub mod FlowPaths
 pub mod TwoRuns
@@ -22,3 +23,5 @@ pub mod MergedEnd
 pub mod KeptMeaning
 pub mod WithoutConflict
 pub mod Origins
+pub mod Standard
+pub mod Own

@@ -1,4 +1,5 @@
 -- The law of order by edges: the turns on the loops around both, and then the edges of the graph, tell which of two steps is first.
+use Rattle.hpr_meaning.specs.Any.Meaning.{Meaning, HasLaws}
 use Rattle.std.proofs.Common.{◌≡◌, ℕ, zero, suc, List, [], ◌⊎◌, ◌↔◌, None, refl, sym, subst, inl, inr, arith, Some}
 use Rattle.hpr_terms.specs.declared.tag.Tag.{Tag}
 use Rattle.hpr_syntax.specs.declared.rows.Content.{Content}
@@ -6,7 +7,6 @@ use Rattle.hpr_syntax.specs.Contents.{UsesIn}
 use Rattle.hpr_syntax.specs.Body.{Body}
 use Rattle.hpr_syntax.specs.Tree.{Tree}
 use Rattle.hpr_syntax.specs.Shape.{IsProgram}
-use Rattle.hpr_syntax.specs.Values.{Values}
 use Rattle.hpr_syntax.specs.Skeleton.{at, Distinct, skeleton, Skeleton}
 use Rattle.hpr_paths.proofs.Ahead.{StandsAhead}
 use Rattle.hpr_syntax.specs.Nests.{Standing, StandsAsIn, Says}
@@ -15,7 +15,8 @@ use Rattle.hpr_syntax.specs.Rows.{assigned}
 use Rattle.hpr_graph.specs.declared.vertex.Vertex.{Vertex}
 use Rattle.hpr_syntax.specs.Paths.{DefinesAt}
 use Rattle.hpr_graph.specs.ProgramGraph.{IsIndependent, HasFlow, IsOrder}
-use Rattle.hpr_meaning.specs.OrderLaw.{common_loops, IsOrdered}
+use Rattle.hpr_meaning.specs.Any.OrderLaw.{IsOrdered}
+use Rattle.hpr_meaning.specs.OrderLaw.{common_loops}
 use Rattle.hpr_paths.proofs.TimeOrder.{HaveCommon, by_turns, before_by_turns}
 use Rattle.hpr_paths.proofs.ByEdges.{ByEdges, before_by_edges}
 use Rattle.hpr_meaning.proofs.CommonLoops.{loops_counted}
@@ -129,30 +130,31 @@ module _ (p : Tree) (di : Distinct (skeleton p.body)) where
         side' (inl l) = inl l
         side' (inr q) = inr (q.0, ahead_of_order u i.0 j.0 c e q.1)
 
-module _ (p : Tree) (s : Values) (n : ℕ) (prog : IsProgram p) where
-  -- where the turns on the loops around both are the same, the one is before exactly where P
-  same_so : (c : ℕ) (i j : List ℕ) {P Q : Type 0} → (Q ↔ (HaveLessTurns c 0 i j ⊎ (HaveSameTurns c 0 i j × P))) → HaveSameTurns c 0 i j → Q ↔ P
-  same_so c i j {P} {Q} r e = ((λ h. go (r.0 h)), (λ q. r.1 (inr (e, q))))
-    where
-      go : HaveLessTurns c 0 i j ⊎ (HaveSameTurns c 0 i j × P) → P
-      go (inl h) = absurd (less_not_same c 0 i j h e)
-      go (inr h) = h.1
+module _ (M : Meaning) (LW : HasLaws M) where
+  module _ (p : Tree) (s : M.State) (n : ℕ) (prog : IsProgram p) where
+    -- where the turns on the loops around both are the same, the one is before exactly where P
+    same_so : (c : ℕ) (i j : List ℕ) {P Q : Type 0} → (Q ↔ (HaveLessTurns c 0 i j ⊎ (HaveSameTurns c 0 i j × P))) → HaveSameTurns c 0 i j → Q ↔ P
+    same_so c i j {P} {Q} r e = ((λ h. go (r.0 h)), (λ q. r.1 (inr (e, q))))
+      where
+        go : HaveLessTurns c 0 i j ⊎ (HaveSameTurns c 0 i j × P) → P
+        go (inl h) = absurd (less_not_same c 0 i j h e)
+        go (inr h) = h.1
 
-  never_less : (c : ℕ) (i j : List ℕ) {P Q : Type 0} → (Q ↔ (HaveLessTurns c 0 i j ⊎ (HaveSameTurns c 0 i j × P))) → HaveLessTurns c 0 j i → ¬ Q
-  never_less c i j {P} {Q} r l h = go (r.0 h)
-    where
-      go : HaveLessTurns c 0 i j ⊎ (HaveSameTurns c 0 i j × P) → ⊥
-      go (inl g) = less_not_greater c 0 j i l g
-      go (inr g) = less_not_same_turned c 0 j i l g.0
+    never_less : (c : ℕ) (i j : List ℕ) {P Q : Type 0} → (Q ↔ (HaveLessTurns c 0 i j ⊎ (HaveSameTurns c 0 i j × P))) → HaveLessTurns c 0 j i → ¬ Q
+    never_less c i j {P} {Q} r l h = go (r.0 h)
+      where
+        go : HaveLessTurns c 0 i j ⊎ (HaveSameTurns c 0 i j × P) → ⊥
+        go (inl g) = less_not_greater c 0 j i l g
+        go (inr g) = less_not_same_turned c 0 j i l g.0
 
-  pub ordered : IsOrdered p s n
-  ordered = record {
-    by_flow = λ x i j a b ci cj ra rb f.
-        let r = flow_order p (distinct_program p prog) i.0 j.0 a b ra rb x i.1.content j.1.content f in
-        record {
-          lesser = λ l. r.1 (inl l);
-          greater = never_less (common_loops a.nest b.nest) i.0.1 j.0.1 r;
-          equal = same_so (common_loops a.nest b.nest) i.0.1 j.0.1 r;
-        };
-    by_use = λ x u i j a b ci cj ra rb f g. same_so (common_loops a.nest b.nest) i.0.1 j.0.1 (use_order p (distinct_program p prog) i.0 j.0 a b ra rb x u i.1.content j.1.content f g);
-  }
+    pub ordered : IsOrdered M p s n
+    ordered = record {
+      by_flow = λ x i j a b ci cj ra rb f.
+          let r = flow_order p (distinct_program p prog) i.0 j.0 a b ra rb x i.1.content j.1.content f in
+          record {
+            lesser = λ l. r.1 (inl l);
+            greater = never_less (common_loops a.nest b.nest) i.0.1 j.0.1 r;
+            equal = same_so (common_loops a.nest b.nest) i.0.1 j.0.1 r;
+          };
+      by_use = λ x u i j a b ci cj ra rb f g. same_so (common_loops a.nest b.nest) i.0.1 j.0.1 (use_order p (distinct_program p prog) i.0 j.0 a b ra rb x u i.1.content j.1.content f g);
+    }

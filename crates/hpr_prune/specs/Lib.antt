@@ -1,3 +1,4 @@
+pub mod Any
 pub mod Programs
 pub mod Private
 pub mod Pruned

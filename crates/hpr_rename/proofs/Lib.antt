@@ -10,3 +10,4 @@ pub mod SplitParts
 pub mod IssuedAll
 pub mod Retagged
 pub mod SplitKeeps
+pub mod Own

@@ -1,3 +1,4 @@
 pub mod Renamed
 pub mod RenamedRuns
 pub mod Replaced
+pub mod Any

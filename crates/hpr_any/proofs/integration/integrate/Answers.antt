@@ -1,6 +1,6 @@
 use Rattle.hpr_any.specs.MeaningOf.{by_reads}
 use Rattle.hpr_any.proofs.ByReads.{by_reads_lawful}
-use Rattle.hpr_any.proofs.PrintedKeeps.{printed_keeps}
+use Rattle.hpr_engine.proofs.AnyPrintedKeeps.{printed_keeps}
 use Rattle.hpr_any.proofs.integration.integrate.Goals as goal
 
 pub returns-clause-keeps : goal.returns-clause-keeps

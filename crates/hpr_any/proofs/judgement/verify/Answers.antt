@@ -1,6 +1,6 @@
 use Rattle.hpr_any.specs.MeaningOf.{by_reads}
 use Rattle.hpr_any.proofs.ByReads.{by_reads_lawful}
-use Rattle.hpr_any.proofs.PrintedKeeps.{split_kept_two}
+use Rattle.hpr_engine.proofs.AnyPrintedKeeps.{split_kept_two}
 use Rattle.hpr_any.proofs.judgement.verify.Goals as goal
 
 pub returns-clause-keeps : goal.returns-clause-keeps

@@ -1,8 +1,8 @@
 use Rattle.hpr_any.proofs.ByReads.{by_reads_lawful}
 use Rattle.hpr_any.specs.MeaningOf.{by_reads}
-use Rattle.hpr_any.proofs.WithoutConflict.{all_kept}
-use Rattle.hpr_any.proofs.KeptMeaning.{meaning_kept, keeps_two}
-use Rattle.hpr_any.proofs.SplitKeeps.{split_kept}
+use Rattle.hpr_meaning.proofs.WithoutConflict.{all_kept}
+use Rattle.hpr_meaning.proofs.KeptMeaning.{meaning_kept, keeps_two}
+use Rattle.hpr_rename.proofs.SplitKeeps.{split_kept}
 use Rattle.hpr_any.proofs.laws.merged_keeps.Goals as goal
 
 pub returns-clause-all : goal.returns-clause-all

@@ -1,6 +1,6 @@
-use Rattle.hpr_any.specs.Standard.{standard}
-use Rattle.hpr_any.proofs.Standard.{standard_laws, keeps_standard}
-use Rattle.hpr_any.proofs.SplitKeeps.{split_kept}
+use Rattle.hpr_meaning.specs.Any.Standard.{standard}
+use Rattle.hpr_meaning.proofs.Standard.{standard_laws, keeps_standard}
+use Rattle.hpr_rename.proofs.SplitKeeps.{split_kept}
 use Rattle.hpr_any.proofs.laws.own_meaning.Goals as goal
 
 pub returns-clause-keeps : goal.returns-clause-keeps

@@ -1,6 +1,7 @@
 use Rattle.hpr_any.proofs.ByReads.{by_reads_lawful}
 use Rattle.hpr_any.specs.MeaningOf.{by_reads}
-use Rattle.hpr_any.proofs.PrintedKeeps.{printed_keeps_by, printed_keeps, triples_tell}
+use Rattle.hpr_merge.proofs.NoneListed.{triples_tell}
+use Rattle.hpr_engine.proofs.AnyPrintedKeeps.{printed_keeps_by, printed_keeps}
 use Rattle.std.proofs.Common.{length}
 use Rattle.hpr_graph.specs.Answer.{graphs_of}
 use Rattle.hpr_any.proofs.laws.printed_keeps.Goals as goal

@@ -2,11 +2,11 @@ use Rattle.std.proofs.Common.{Contains}
 use Rattle.hpr_graph.specs.Numbered.{graph_in}
 use Rattle.hpr_any.specs.MeaningOf.{by_reads}
 use Rattle.hpr_any.proofs.ByReads.{by_reads_lawful}
-use Rattle.hpr_any.proofs.Timely.{timely}
-use Rattle.hpr_any.proofs.Ordered.{ordered}
-use Rattle.hpr_any.proofs.SharedSlices.{slice_shared}
-use Rattle.hpr_any.proofs.CoveredEnd.{covered_end}
-use Rattle.hpr_any.proofs.Sliced.{listed_kept}
+use Rattle.hpr_meaning.proofs.Timely.{timely}
+use Rattle.hpr_meaning.proofs.Ordered.{ordered}
+use Rattle.hpr_meaning.proofs.SharedSlices.{slice_shared}
+use Rattle.hpr_meaning.proofs.CoveredEnd.{covered_end}
+use Rattle.hpr_prune.proofs.Sliced.{listed_keeps}
 use Rattle.hpr_any.proofs.laws.runs.Goals as goal
 
 pub returns-clause-time : goal.returns-clause-time
@@ -22,4 +22,4 @@ pub returns-clause-covered : goal.returns-clause-covered
 returns-clause-covered g c = λ m p versions s is ended covered. covered_end (by_reads m) (by_reads_lawful m) p s versions is ended covered
 
 pub returns-clause-left : goal.returns-clause-left
-returns-clause-left g c = λ m p q slice s n f is sliced pruned e. listed_kept (by_reads m) (by_reads_lawful m) p q (graph_in slice) is sliced pruned s n f e
+returns-clause-left g c = λ m p q slice s n f is sliced pruned e. listed_keeps p q (graph_in slice) is sliced pruned (by_reads m) (by_reads_lawful m) s n f e

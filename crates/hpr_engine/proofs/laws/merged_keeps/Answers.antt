@@ -1,5 +1,5 @@
-use Rattle.hpr_meaning.proofs.WithoutConflict.{all_kept, kept_without_conflict}
-use Rattle.hpr_rename.proofs.SplitKeeps.{split_kept}
+use Rattle.hpr_meaning.proofs.Own.{all_kept, kept_without_conflict}
+use Rattle.hpr_rename.proofs.Own.{split_kept}
 use Rattle.hpr_engine.proofs.PrintedKeeps.{split_kept_two}
 use Rattle.hpr_engine.proofs.laws.merged_keeps.Goals as goal
 

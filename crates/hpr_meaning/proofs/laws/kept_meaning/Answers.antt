@@ -1,5 +1,5 @@
 use Rattle.std.proofs.Common.{[], ◌∷◌}
-use Rattle.hpr_meaning.proofs.KeptMeaning.{keeps_two, meaning_kept}
+use Rattle.hpr_meaning.proofs.Own.{keeps_two, meaning_kept}
 use Rattle.hpr_meaning.proofs.laws.kept_meaning.Goals as goal
 
 pub returns-clause-all : goal.returns-clause-all

@@ -1,4 +1,4 @@
-use Rattle.hpr_meaning.proofs.WithoutConflict.{all_kept, kept_without_conflict}
+use Rattle.hpr_meaning.proofs.Own.{all_kept, kept_without_conflict}
 use Rattle.hpr_meaning.proofs.laws.merged_end.Goals as goal
 
 pub returns-clause-all : goal.returns-clause-all

@@ -1,4 +1,4 @@
-use Rattle.hpr_meaning.proofs.Ordered.{ordered}
+use Rattle.hpr_meaning.proofs.Own.{ordered}
 use Rattle.hpr_meaning.proofs.laws.order_by_edges.Goals as goal
 
 pub returns : goal.returns

@@ -1,5 +1,5 @@
 use Rattle.std.proofs.Common.{Contains}
-use Rattle.hpr_meaning.proofs.SharedSlices.{slice_shared}
+use Rattle.hpr_meaning.proofs.Own.{slice_shared}
 use Rattle.hpr_meaning.proofs.laws.shared_slices.Goals as goal
 
 pub returns : goal.returns

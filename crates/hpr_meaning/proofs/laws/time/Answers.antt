@@ -1,4 +1,4 @@
-use Rattle.hpr_meaning.proofs.Timely.{timely}
+use Rattle.hpr_meaning.proofs.Own.{timely}
 use Rattle.hpr_meaning.proofs.laws.time.Goals as goal
 
 pub returns : goal.returns

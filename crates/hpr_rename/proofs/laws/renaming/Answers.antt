@@ -1,5 +1,5 @@
 use Rattle.hpr_rename.proofs.Graphs.{renamed_graph}
-use Rattle.hpr_rename.proofs.Courses.{renamed_run, renamed_instances}
+use Rattle.hpr_rename.proofs.Own.{renamed_run, renamed_instances}
 use Rattle.hpr_rename.proofs.Programs.{renamed_program}
 use Rattle.hpr_rename.proofs.laws.renaming.Goals as goal
 

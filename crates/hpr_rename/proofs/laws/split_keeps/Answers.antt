@@ -1,7 +1,7 @@
 use Rattle.std.proofs.Common.{[], ◌∷◌}
-use Rattle.hpr_meaning.proofs.KeptMeaning.{keeps_two}
+use Rattle.hpr_meaning.proofs.Own.{keeps_two}
 use Rattle.hpr_meaning.proofs.SidesKept.{free_of_two}
-use Rattle.hpr_rename.proofs.SplitKeeps.{split_kept}
+use Rattle.hpr_rename.proofs.Own.{split_kept}
 use Rattle.hpr_rename.proofs.laws.split_keeps.Goals as goal
 
 pub returns-clause-all : goal.returns-clause-all

@@ -1,4 +1,4 @@
--- hpr's own meaning is one of them, and to keep meaning by it is to keep meaning.
+-- hpr's own meaning is one of all: its runs are the runs by `standard`, and so the laws of runs and of kept meaning are laws of hpr's programs.
 use Rattle.std.proofs.Common.{◌≡◌, ℕ, zero, suc, ◌+◌, Bool, true, false, if◌then◌else◌, List, [], ◌∷◌, map, refl, sym, ap, subst, ◌∙◌, Ok, Err}
 use Rattle.std.specs.List.{AllByRecursion}
 use Rattle.std.specs.FinMap.{entries, same_entries_map}
@@ -20,21 +20,15 @@ use Rattle.hpr_syntax.specs.Values.{Values}
 use Rattle.hpr_syntax.specs.Contents.{Given, answer_of, next_state, holds}
 use Rattle.hpr_syntax.specs.Run as std
 use Rattle.hpr_syntax.specs.Meaning as kept
-use Rattle.hpr_syntax.proofs.ActByUses.{act_by_uses}
+use Rattle.hpr_syntax.proofs.ActByUses.{act_by_uses, shown_by_uses}
 use Rattle.hpr_syntax.proofs.StateLaws.{get_put, get_other}
 use Rattle.hpr_meaning.specs.KeptLaw as law
 use Rattle.hpr_meaning.proofs.Items.{lists_discrete}
-use Rattle.hpr_any.specs.Meaning.{HasLaws, next}
-use Rattle.hpr_any.specs.Standard.{standard}
-use Rattle.hpr_any.specs.Run as any
-use Rattle.hpr_syntax.specs.Shape.{IsProgram}
-use Rattle.hpr_graph.specs.declared.vertex.Vertex.{Vertex}
-use Rattle.hpr_graph.specs.Answer.{Fits, AreSplitOff, graphs_of, searched_graph_of}
-use Rattle.hpr_graph.specs.Conflicts.{HasNoConflict}
-use Rattle.hpr_graph.specs.ProgramGraph.{graph_of}
-use Rattle.hpr_any.proofs.SplitKeeps.{split_kept}
-use Rattle.hpr_any.specs.Kept.{Ends}
-use Rattle.hpr_any.specs.KeptLaw.{Finished, DoesFinish, HasChanged, HasValue, KeepsAll, programs_of, steps_in}
+use Rattle.hpr_meaning.specs.Any.Meaning.{HasLaws, next}
+use Rattle.hpr_meaning.specs.Any.Standard.{standard, own_outcome}
+use Rattle.hpr_meaning.specs.Any.Run as any
+use Rattle.hpr_meaning.specs.Any.Kept.{Ends}
+use Rattle.hpr_meaning.specs.Any.KeptLaw.{Finished, DoesFinish, HasChanged, HasValue, KeepsAll, programs_of, steps_in}
 
 elements? : (es fs : Elements) → Dec (es ≡ fs)
 elements? es fs = go (lists_discrete (×_discrete ℕ_discrete ℤ_discrete) (entries es) (entries fs))
@@ -55,10 +49,10 @@ stable_by (yes a) n = a
 stable_by (no m) n = absurd (n m)
 
 pub standard_laws : HasLaws standard
-standard_laws = record { by_uses = act_by_uses; set_gives = get_put; set_keeps = get_other; stable = λ v w. stable_by (value? v w) }
+standard_laws = record { by_uses = act_by_uses; shown_by_uses = shown_by_uses; set_gives = get_put; set_keeps = get_other; stable = λ v w. stable_by (value? v w) }
 
 -- a run by hpr's own meaning is the run
-abbrev after : any.After standard → std.After
+abbrev pub after : any.After standard → std.After
 after (any.goes s left) = std.goes s left
 after (any.stops t f left) = std.stops t f left
 after any.spent = std.spent
@@ -86,12 +80,12 @@ turns_is (suc n) t e body body' h s left =
     step_is t (answer_of (While e) s) left _ _ (λ v l.
     if_is (holds v) _ _ _ _ (then_is (body s l) (body' s l) _ _ (h s l) (λ s' l'. turns_is n t e body body' h s' l')) refl)
 
-next_is : (d : Action) (v : Value) (s : Values) → next standard (content_by d) v s ≡ next_state (content_by d) v s
+pub next_is : (d : Action) (v : Value) (s : Values) → next standard (content_by d) v s ≡ next_state (content_by d) v s
 next_is (assigns x e) v s = refl
 next_is (writes x e) v s = refl
 next_is (stores x i e) v s = refl
 
-body_is : (b : Body) (s : Values) (left : ℕ) → after (any.run_body standard b s left) ≡ std.run_body b s left
+pub body_is : (b : Body) (s : Values) (left : ℕ) → after (any.run_body standard b s left) ≡ std.run_body b s left
 body_is done s left = refl
 body_is (action t d rest) s left =
     step_is t (answer_of (content_by d) s) left _ _ (λ v l. body_is rest (next standard (content_by d) v s) l ∙ ap (λ r. std.run_body rest r l) (next_is d v s))
@@ -103,36 +97,32 @@ body_is (loop t e b rest) s left =
     then_is (any.turns standard (left + 1) t e (any.run_body standard b) s left) (std.turns (left + 1) t e (std.run_body b) s left) _ _
     (turns_is (left + 1) t e (any.run_body standard b) (std.run_body b) (body_is b) s left) (λ s' l'. body_is rest s' l')
 
-abbrev whole : any.Outcome standard → std.Outcome
-whole (any.ends f k) = std.ends f k
-whole (any.faults t f k) = std.faults t f k
-whole (any.more k) = std.more k
-
-back : std.Outcome → any.Outcome standard
+abbrev pub back : std.Outcome → any.Outcome standard
 back (std.ends f k) = any.ends f k
 back (std.faults t f k) = any.faults t f k
 back (std.more k) = any.more k
 
-there_and_back : (o : any.Outcome standard) → back (whole o) ≡ o
-unfolding back
+there_and_back : (o : any.Outcome standard) → back (own_outcome o) ≡ o
 there_and_back (any.ends f k) = refl
 there_and_back (any.faults t f k) = refl
 there_and_back (any.more k) = refl
 
-outcome_is : (names : List (List ℕ)) (n : ℕ) (x : any.After standard) → whole (any.outcome standard names n x) ≡ std.outcome names n (after x)
+outcome_is : (names : List (List ℕ)) (n : ℕ) (x : any.After standard) → own_outcome (any.outcome standard names n x) ≡ std.outcome names n (after x)
 outcome_is names n (any.goes s left) = refl
 outcome_is names n (any.stops t f left) = refl
 outcome_is names n any.spent = refl
 
-pub run_is : (p : Tree) (s : Values) (n : ℕ) → whole (any.run standard p s n) ≡ std.run p s n
+pub run_is : (p : Tree) (s : Values) (n : ℕ) → own_outcome (any.run standard p s n) ≡ std.run p s n
 run_is p s n = outcome_is p.finals n (any.run_body standard p.body s n) ∙ ap (std.outcome p.finals n) (body_is p.body s n)
 
-to_standard : (p : Tree) (s : Values) (n : ℕ) (f : std.FinalValues) → kept.Ends p s n f → Ends standard p s n f
-unfolding back
-to_standard p s n f (k, e) = (k, sym (there_and_back (any.run standard p s n)) ∙ ap back (run_is p s n ∙ e))
+pub to_outcome : (p : Tree) (s : Values) (n : ℕ) (o : std.Outcome) → std.run p s n ≡ o → any.run standard p s n ≡ back o
+to_outcome p s n o e = sym (there_and_back (any.run standard p s n)) ∙ ap back (run_is p s n ∙ e)
 
-from_standard : (p : Tree) (s : Values) (n : ℕ) (f : std.FinalValues) → Ends standard p s n f → kept.Ends p s n f
-from_standard p s n f (k, e) = (k, sym (run_is p s n) ∙ ap whole e)
+pub to_standard : (p : Tree) (s : Values) (n : ℕ) (f : std.FinalValues) → kept.Ends p s n f → Ends standard p s n f
+to_standard p s n f (k, e) = (k, to_outcome p s n (std.ends f k) e)
+
+pub from_standard : (p : Tree) (s : Values) (n : ℕ) (f : std.FinalValues) → Ends standard p s n f → kept.Ends p s n f
+from_standard p s n f (k, e) = (k, sym (run_is p s n) ∙ ap own_outcome e)
 
 -- finished programs by hpr's own meaning
 abbrev finished : law.Finished → Finished standard
@@ -169,8 +159,3 @@ keeps_standard base m vs keeps s n0 f0 rs are e0 ended =
         agreed = λ x v c0 cs. is_kept.agreed x v c0 (values_are x v rs cs);
       },
     )
-
--- and so hpr's own theorem is an instance
-pub split_kept_here : (base m : Tree) (vs : List Tree) (rs : List (Vertex × Tag)) → IsProgram base → AllByRecursion IsProgram vs → IsProgram m
-    → HasNoConflict (graph_of base) (graphs_of vs) → AreSplitOff base vs rs → Fits (searched_graph_of rs base vs) m → law.KeepsAll base vs m
-split_kept_here base m vs rs is all is_m free split fits = keeps_standard base m vs (split_kept standard standard_laws base m vs rs is all is_m free split fits)

@@ -2,7 +2,7 @@
 use Rattle.std.proofs.Common.{◌≡◌, ℕ, List, Option, Some, None, refl}
 use Rattle.hpr_syntax.specs.declared.rows.Content.{Content}
 use Rattle.hpr_syntax.specs.Rows.{assigned}
-use Rattle.hpr_any.specs.Meaning.{Meaning, HasLaws, put_in, next}
+use Rattle.hpr_meaning.specs.Any.Meaning.{Meaning, HasLaws, put_in, next}
 
 module _ (M : Meaning) (LW : HasLaws M) where
   gives_in : (o : Option (List ℕ)) (v : M.Value) (s : M.State) (x : List ℕ) → o ≡ Some x → M.get (put_in M o v s) x ≡ v

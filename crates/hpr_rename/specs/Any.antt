@@ -1,0 +1,2 @@
+-- Runs with other tags, whatever the contents mean.
+pub mod RenamedRuns
