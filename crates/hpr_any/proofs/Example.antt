@@ -1,15 +1,12 @@
 -- A program of another language: its one part says the text 7, which uses y.
 use Rattle.std.proofs.Common.{◌≡◌, ℕ, ◌+◌, true, List, [], ◌∷◌, Option, Some, Result, Ok, Err, refl}
 use native.Mathlib.Decide.{ℕ_discrete}
-use Rattle.hpr_terms.specs.declared.expr.Binary.TheVariants.{Rem}
-use Rattle.hpr_terms.specs.declared.expr.Expr.TheVariants.{Infix}
-use Rattle.hpr_terms.specs.Term.{num, var}
 use Rattle.hpr_syntax.specs.Action.{assigns}
 use Rattle.hpr_syntax.specs.Body.{done, action}
 use Rattle.hpr_syntax.specs.Tree.{Tree}
 use Rattle.hpr_meaning.specs.Any.Kept.{Ends}
 use Rattle.hpr_any.specs.MeaningOf.{MeaningOf, by_reads}
-use Rattle.hpr_any.specs.Opaque.{opaque}
+use Rattle.hpr_any.specs.Opaque.{foreign, opaque}
 
 stable_number : (v w : ℕ) → ¬ (¬ (v ≡ w)) → v ≡ w
 stable_number v w n = go (ℕ_discrete v w)
@@ -29,7 +26,7 @@ m = opaque text (λ v. true) stable_number
 abbrev program : Tree
 program = record {
   issued = [];
-  body = action (record { author = 1; serial = 1 }) (assigns (120 ∷ []) (Infix Rem (num 7) (var (121 ∷ [])))) done;
+  body = action (record { author = 1; serial = 1 }) (assigns (120 ∷ []) (foreign 7 ((121 ∷ []) ∷ []))) done;
   finals = (120 ∷ []) ∷ [];
 }
 

@@ -1,2 +1,4 @@
 pub mod ByReads
+pub mod Answered
+pub mod Opaque
 pub mod Example

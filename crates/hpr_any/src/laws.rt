@@ -1,10 +1,14 @@
 //! The laws of meaning, whatever the contents mean: each function's contract is the law, for all values and
 //! faults, which are two types, and for all meanings over them.
-ghost use Rattle.std.specs.Prelude.{ℕ, List, [], ◌∷◌, Contains};
+ghost use Rattle.std.specs.Prelude.{◌≡◌, ◌↔◌, ℕ, Bool, List, [], ◌∷◌, Contains, Option, Some, Result};
 ghost use Rattle.std.specs.List.{AllByRecursion};
 ghost use Rattle.hpr_terms.specs.declared.tag.Tag.{Tag};
 ghost use Rattle.hpr_syntax.specs.Tree.{Tree};
 ghost use Rattle.hpr_syntax.specs.Shape.{IsProgram};
+ghost use Rattle.hpr_syntax.specs.Contents.{used_names};
+ghost use Rattle.hpr_syntax.specs.Rows.{assigned};
+ghost use Rattle.hpr_syntax.specs.Run as own_run;
+ghost use Rattle.hpr_syntax.specs.Values.{Values};
 ghost use Rattle.hpr_graph.specs.declared.edge.Edge.{Edge};
 ghost use Rattle.hpr_graph.specs.declared.vertex.Vertex.{Vertex};
 ghost use Rattle.hpr_graph.specs.Answer.{Answer, AnswerBy, printed, IsAnswer, IsAnswerBy, AreSplitOff, Fits, IsWithoutConflict, graphs_of, merged_of, merged_of_all, searched_graph_of};
@@ -18,6 +22,8 @@ ghost use Rattle.hpr_prune.specs.Programs.{IsPruned};
 ghost use Rattle.hpr_meaning.specs.CoverLaw.{Version, IsCovered, steps_of};
 ghost use Rattle.hpr_meaning.specs.KeptLaw as own;
 ghost use Rattle.hpr_meaning.specs.UnionLaw.{KeepsEach};
+ghost use Rattle.hpr_meaning.specs.Any.Meaning.{HasLaws};
+ghost use Rattle.hpr_meaning.specs.Any.Run.{run};
 ghost use Rattle.hpr_meaning.specs.Any.Kept.{Ends, Keeps};
 ghost use Rattle.hpr_meaning.specs.Any.KeptLaw.{KeepsAll};
 ghost use Rattle.hpr_meaning.specs.Any.CoverLaw.{DoesEnd};
@@ -26,7 +32,14 @@ ghost use Rattle.hpr_meaning.specs.Any.OrderLaw.{IsOrdered};
 ghost use Rattle.hpr_meaning.specs.Any.SliceLaw.{SharesSlice};
 ghost use Rattle.hpr_prune.specs.Any.KeptLaw.{IsKeptBy};
 ghost use Rattle.hpr_any.specs.MeaningOf.{MeaningOf, by_reads};
-ghost use Rattle.hpr_meaning.specs.Any.Standard.{standard};
+ghost use Rattle.hpr_any.specs.Opaque.{Statement, defined_by, opaque, statement_content};
+ghost use Rattle.hpr_meaning.specs.Any.Standard.{own_outcome, standard};
+
+/// Each meaning that is given by the values of the used names has the laws of a meaning: what a part gives depends
+/// on the names that it uses alone, and a state has what was put last.
+pub fn lawful<V, F>()
+    ensures { (m : MeaningOf V F) → HasLaws (by_reads m) }
+{}
 
 /// The laws of time, of order by edges, of shared slices, of the covered end and of slices as programs.
 pub fn runs<V, F>()
@@ -67,10 +80,25 @@ pub fn printed_keeps<V, F>()
         → IsAnswer base a b tries (printed p) → Keeps (by_reads m) base a b p }
 {}
 
-/// hpr's own meaning is one: what keeps the meaning by it keeps the meaning, in the words of hpr_meaning.
+/// hpr's own meaning is one: it has the laws, a run by it is hpr's run, and what keeps the meaning by it keeps the
+/// meaning, in the words of hpr_meaning. So the integration theorem of hpr's own programs is one of these.
 pub fn own_meaning()
+    ensures laws { HasLaws standard }
+    ensures runs { (p : Tree) (s : Values) (n : ℕ) → own_outcome (run standard p s n) ≡ own_run.run p s n }
     ensures keeps { (base p : Tree) (vs : List Tree) → KeepsAll standard base vs p → own.KeepsAll base vs p }
     ensures theorem { (base p : Tree) (vs : List Tree) (rs : List (Vertex × Tag)) → IsProgram base
         → AllByRecursion IsProgram vs → IsProgram p → HasNoConflict (graph_of base) (graphs_of vs)
         → AreSplitOff base vs rs → Fits (searched_graph_of rs base vs) p → KeepsAll standard base vs p }
+{}
+
+/// Statements of another language, as a tool hands them over: each is one content, and no two are the same. Its part
+/// uses the names of its text in their order, defines the name that it defines, and gives what the tool's meaning
+/// gives for the number of its text.
+pub fn statements<V, F>()
+    ensures apart { (s t : Statement) → (statement_content s ≡ statement_content t) ↔ (s ≡ t) }
+    ensures uses { (s : Statement) → used_names (statement_content s) ≡ s.uses }
+    ensures defines { (s : Statement) → assigned (statement_content s) ≡ defined_by s.form }
+    ensures gives { (gives : Option ℕ → List V → Result V F) (holds : V → Bool)
+        (stable : (v w : V) → ¬ (¬ (v ≡ w)) → v ≡ w) (s : Statement) (values : List V)
+        → (opaque gives holds stable).gives (statement_content s) values ≡ gives (Some s.number) values }
 {}

@@ -3,9 +3,11 @@
 
 mod merging;
 mod running;
+mod statements;
 
 use crate::merging::merge_texts;
 use crate::running::final_values;
+use crate::statements::merge_statements;
 use std::io;
 
 const BASE: &[u8] = b"program issued 1:2 1.1: price := 40; 1.2: total := price * 3; end(total)";
@@ -16,7 +18,17 @@ const A: &[u8] =
 const B: &[u8] =
     b"program issued 1:2, 3:1 1.1: price := 40; 1.2: total := price * 3; 3.1: tax := total / 5; end(tax, total)";
 
-// Prints the merged program, and then its final values.
+// Statements of another language: 10 is the number of a text that counts items, 20 of one that adds them up, and 30 of one
+// that takes the last of so many.
+const COUNTED: &[u8] = b"program issued 1:1 1.1: count := 10 % items; end(count)";
+
+const SUMMED: &[u8] =
+    b"program issued 1:1, 2:1 1.1: count := 10 % items; 2.1: sum := 20 % items; end(count, sum)";
+
+const LAST: &[u8] =
+    b"program issued 1:1, 3:1 1.1: count := 10 % items; 3.1: last := 30 % items % count; end(count, last)";
+
+// Prints the merged program and its final values, and then a merged program of another language.
 fn main(rt: HostRuntime) -> io::Result<()> {
     let alloc = rt.alloc();
     let Ok(merged) = merge_texts(alloc, BASE, A, B) else {
@@ -30,6 +42,12 @@ fn main(rt: HostRuntime) -> io::Result<()> {
             let number = value.number();
             println!(rt; "{name} {number}")?;
         }
+    }
+    let Ok(statements) = merge_statements::<u64, u64>(alloc, COUNTED, SUMMED, LAST) else {
+        return println!(rt; "not merged");
+    };
+    if let Ok(text) = std::str::from_utf8(statements.as_slice()) {
+        print!(rt; "{text}")?;
     }
     Ok(())
 }

@@ -25,6 +25,14 @@ fn put_stop(alloc: Global, out: &mut Out, stop: &Stop) {
     }
 }
 
+/// Puts what an integration of two variants answers.
+pub(crate) fn put_integrated(alloc: Global, out: &mut Out, answer: Result<Program, Stop>) {
+    match answer {
+        Ok(merged) => put_program(alloc, out, &merged),
+        Err(stop) => put_stop(alloc, out, &stop),
+    }
+}
+
 fn answer(alloc: Global, out: &mut Out, programs: &[Program], tries: u64) -> Option<()> {
     let [base, a, b] = programs else {
         return None;
@@ -32,10 +40,7 @@ fn answer(alloc: Global, out: &mut Out, programs: &[Program], tries: u64) -> Opt
     if tries == 0 {
         return None;
     }
-    match integrate(alloc, base, a, b, tries) {
-        Ok(merged) => put_program(alloc, out, &merged),
-        Err(stop) => put_stop(alloc, out, &stop),
-    }
+    put_integrated(alloc, out, integrate(alloc, base, a, b, tries));
     Some(())
 }
 

@@ -16,6 +16,14 @@ fn put_stop(alloc: Global, out: &mut Out, stop: &ManyStop) {
     }
 }
 
+/// Puts what an integration of many variants answers.
+pub(crate) fn put_all_integrated(alloc: Global, out: &mut Out, answer: Result<Program, ManyStop>) {
+    match answer {
+        Ok(merged) => put_program(alloc, out, &merged),
+        Err(stop) => put_stop(alloc, out, &stop),
+    }
+}
+
 fn integrated(
     alloc: Global,
     out: &mut Out,
@@ -26,10 +34,7 @@ fn integrated(
     if tries == 0 || variants.len() < 2 || variants.len() > 16 {
         return None;
     }
-    match integrate_many(alloc, base, variants, tries) {
-        Ok(merged) => put_program(alloc, out, &merged),
-        Err(stop) => put_stop(alloc, out, &stop),
-    }
+    put_all_integrated(alloc, out, integrate_many(alloc, base, variants, tries));
     Some(())
 }
 
@@ -65,14 +70,10 @@ fn put_verdict(alloc: Global, out: &mut Out, verdict: Verdict) {
     }
 }
 
-/// `BASE A B M`: the verdict on M, a merged program of two variants and their base.
-pub(crate) fn call(row: Row<'_>, out: &mut Out) -> Option<()> {
-    let programs = row.programs(1, 5)?;
-    let [base, a, b, offered] = programs.as_slice() else {
-        return None;
-    };
-    match verify(row.alloc, base, a, b, offered) {
-        Ok(verdict) => put_verdict(row.alloc, out, verdict),
+/// Puts a judgement.
+pub(crate) fn put_judged(alloc: Global, out: &mut Out, judged: Result<Verdict, VerifyError>) {
+    match judged {
+        Ok(verdict) => put_verdict(alloc, out, verdict),
         Err(VerifyError::TooManyEdges(number)) => put_count(
             out,
             "too many edges in ",
@@ -80,5 +81,14 @@ pub(crate) fn call(row: Row<'_>, out: &mut Out) -> Option<()> {
         ),
         Err(VerifyError::Memory) => out.cut(),
     }
+}
+
+/// `BASE A B M`: the verdict on M, a merged program of two variants and their base.
+pub(crate) fn call(row: Row<'_>, out: &mut Out) -> Option<()> {
+    let programs = row.programs(1, 5)?;
+    let [base, a, b, offered] = programs.as_slice() else {
+        return None;
+    };
+    put_judged(row.alloc, out, verify(row.alloc, base, a, b, offered));
     Some(())
 }

@@ -2,6 +2,7 @@
 //! Its rows are those of hpr_rows.
 #![tactic(auto)]
 
+mod any;
 mod engine;
 mod forest;
 mod graph;
@@ -23,6 +24,7 @@ struct GraphCalls;
 impl Calls for GraphCalls {
     fn answer(row: Row<'_>, out: &mut Out) -> Option<()> {
         match row.word(0)? {
+            "any" => any::call(row, out),
             "graph" => graph::call(row, out),
             "slice" => slices::call(row, out),
             "order" => orders::call(row, out),

@@ -86,7 +86,8 @@ fn at_points(row: Row<'_>, out: &mut Out) -> Option<()> {
     at(row, out, &graph)
 }
 
-fn put_left(alloc: Global, out: &mut Out, left: Result<Program, NoMemory>) {
+/// Puts what is left of a program.
+pub(crate) fn put_left(alloc: Global, out: &mut Out, left: Result<Program, NoMemory>) {
     match left {
         Ok(program) => put_program(alloc, out, &program),
         Err(_) => out.cut(),
