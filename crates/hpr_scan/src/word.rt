@@ -8,7 +8,7 @@ ghost use Rattle.hpr_scan.specs.Words.{is_digit, is_numeral, value_after, number
 ghost use Rattle.hpr_scan.specs.Private.Advance.{keyword_or_number, IsNextWord};
 
 use crate::machine::{Fault, TokenMachine};
-use hpr_terms::{KEYWORDS, Keyword, Name, NameError, Token, is_name_byte, is_name_like};
+use hpr_terms::{Keyword, Name, NameError, Token, is_name_byte, is_name_like};
 use std::alloc::{AllocError, Global};
 use std::marker::Model;
 use std::str;
@@ -196,7 +196,7 @@ pub(crate) fn begins<M: TokenMachine>(machine: &M, word: &[u8]) -> bool
 {
     begins_name(machine, word)
         || begins_number(machine, word)
-        || begins_keyword_of(machine, word, &KEYWORDS)
+        || begins_keyword_of(machine, word, Keyword::all())
 }
 
 fn count_letters(bytes: &[u8]) -> usize

@@ -24,25 +24,6 @@ pub enum Keyword {
     Out,
 }
 
-/// All keywords, in the declared order.
-pub const KEYWORDS: [Keyword; 15] = [
-    Keyword::Program,
-    Keyword::Issued,
-    Keyword::If,
-    Keyword::Then,
-    Keyword::Else,
-    Keyword::Fi,
-    Keyword::While,
-    Keyword::Do,
-    Keyword::Od,
-    Keyword::End,
-    Keyword::And,
-    Keyword::Or,
-    Keyword::Not,
-    Keyword::Write,
-    Keyword::Out,
-];
-
 fn find_in(keywords: &[Keyword], text: &[u8]) -> Option<Keyword>
     ensures { result ≡ find (λ k. bytes_eq (keyword_text k) text.now) keywords.now }
 {
@@ -76,6 +57,29 @@ fn of_length(letters: usize) -> &'static [Keyword]
 }
 
 impl Keyword {
+    /// All keywords, in the declared order.
+    pub fn all() -> &'static [Keyword]
+        ensures { result.now ≡ keywords }
+    {
+        &[
+            Keyword::Program,
+            Keyword::Issued,
+            Keyword::If,
+            Keyword::Then,
+            Keyword::Else,
+            Keyword::Fi,
+            Keyword::While,
+            Keyword::Do,
+            Keyword::Od,
+            Keyword::End,
+            Keyword::And,
+            Keyword::Or,
+            Keyword::Not,
+            Keyword::Write,
+            Keyword::Out,
+        ]
+    }
+
     /// The keyword with this text, if it is one.
     pub fn of(text: &[u8]) -> Option<Keyword>
         ensures { result ≡ keyword_of text.now }

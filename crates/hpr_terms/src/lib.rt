@@ -12,7 +12,7 @@ mod tag;
 mod token;
 
 pub use expr::{Binary, Expr, Literal, Operand, Unary};
-pub use keyword::{KEYWORDS, Keyword};
+pub use keyword::Keyword;
 pub use memory::NoMemory;
 pub use name::{Name, NameError, copy_names, is_array, is_name, is_name_byte, is_name_like};
 pub use tag::Tag;
