@@ -60,7 +60,7 @@ module _ (can : List ℕ → ℕ → Bool) (fits : List ℕ → Type 0) (n : ℕ
       same_passed can fits n w tries left (rest can n w old from) (rest can n w q (c + 1))
       (ap (λ (p : List ℕ). rest can n w p from) e ∙ none_left can n w q c from (λ d h k. subst (λ (p : List ℕ). can p d ≡ false) e (none d h k))) (s w within)
 
-  is_found : (w : List ℕ → ℕ → Bool) (q : List ℕ) (from d : ℕ) → IsNext q from d → rest can n w q from ≡ child can n w q d ++ rest can n w q (d + 1)
+  pub is_found : (w : List ℕ → ℕ → Bool) (q : List ℕ) (from d : ℕ) → IsNext q from d → rest can n w q from ≡ child can n w q d ++ rest can n w q (d + 1)
   is_found w q from d (h, may, none) = found can n w q from d h (it.within q d may) none may
 
   pub given_up : (tries left left' : ℕ) (q : List ℕ) (from d : ℕ) → Follows can [] q → length q < n → IsNext q from d
@@ -85,7 +85,7 @@ module _ (can : List ℕ → ℕ → Bool) (fits : List ℕ → Type 0) (n : ℕ
       given_up tries left left' q from d f (omega arith) next
       (λ l r w e. subst (λ (x : List ℕ). ¬ fits x) (ap (λ (z : List ℕ). q ++ d ∷ z) (sym (no_more n q l r d len w.len e)) ∙ sym e) misfit) less s
 
-  is_whole_child : (w : List ℕ → ℕ → Bool) (q : List ℕ) (from d : ℕ) → length q + 1 ≡ n → IsNext q from d → rest can n w q from ≡ (q ++ d ∷ []) ∷ rest can n w q (d + 1)
+  pub is_whole_child : (w : List ℕ → ℕ → Bool) (q : List ℕ) (from d : ℕ) → length q + 1 ≡ n → IsNext q from d → rest can n w q from ≡ (q ++ d ∷ []) ∷ rest can n w q (d + 1)
   is_whole_child w q from d len next = is_found w q from d next ∙ ap (λ (xs : List (List ℕ)). xs ++ rest can n w q (d + 1)) (whole_child can n w q d len)
 
   pub whole_next : (q : List ℕ) (from d : ℕ) → Follows can [] q → length q + 1 ≡ n → IsNext q from d → IsWhole can n (q ++ d ∷ [])

@@ -14,7 +14,9 @@
 -- IsFirstFit can fits n clash x == the leaf x fits, and none before it
 -- AreSpent can fits n clash tries == there are more leaves than tries, and none of the first `tries` fits
 -- FindsFirst, FindsNone, FindsSpent == by each test within `clash`: x is the first leaf that fits; no leaf fits; the tries are spent on leaves
-use Rattle.std.specs.Prelude.{◌≡◌, ℕ, zero, suc, ◌<◌, Bool, true, false, List, [], ◌∷◌, ◌++◌, length, Contains, take}
+-- IsAmongFirst can n clash tries x == x is one of the first `tries` leaves
+-- AreAtMost can n clash tries == there are no more leaves than tries
+use Rattle.std.specs.Prelude.{◌≡◌, ℕ, zero, suc, ◌<◌, ◌≤◌, Bool, true, false, List, [], ◌∷◌, ◌++◌, length, Contains, take}
 use Rattle.hpr_forest.specs.Choices.{Follows, IsWhole}
 use Rattle.hpr_forest.specs.Leaves.{branch}
 
@@ -49,6 +51,12 @@ module _ (can : List ℕ → ℕ → Bool) (n : ℕ) (clash : List ℕ → ℕ �
 
   abbrev pub leaves_of : List (List ℕ)
   leaves_of = cuts n []
+
+  abbrev pub IsAmongFirst : ℕ → List ℕ → Type 0
+  IsAmongFirst tries x = Contains (take tries leaves_of) x
+
+  abbrev pub AreAtMost : ℕ → Type 0
+  AreAtMost tries = length leaves_of ≤ tries
 
 module _ (can : List ℕ → ℕ → Bool) (fits : List ℕ → Type 0) (n : ℕ) where
   abbrev pub Fails : List ℕ → Type 0

@@ -46,12 +46,13 @@ pub trait Backtracking {
         ensures least { IfSome result (λ c. (d : ℕ) → from ≤ d → d < c → can self.now (placed self.now) d ≡ false) }
         ensures none { IfNone result ((d : ℕ) → from ≤ d → d < size self.now → can self.now (placed self.now) d ≡ false) };
 
-    /// Whether to go on behind this number: false wherever it clashes, and only where no whole list that begins with
-    /// the placed numbers and then this one fits.
+    /// Whether to go on behind this number: false exactly where it clashes, and so only where no whole list that begins
+    /// with the placed numbers and then this one fits.
     fn admissible(&self, child: usize) -> bool
         requires sound { is_sound self.now }
         requires ready { can self.now (placed self.now) child ≡ true }
         ensures clash { clash self.now (placed self.now) child ≡ true → IsFalse result }
+        ensures only { IsFalse result → clash self.now (placed self.now) child ≡ true }
         ensures law { IsFalse result → (l r : List ℕ) → IsWhole (can self.now) (size self.now) l
             → l ≡ placed self.now ++ child ∷ r → ¬ fits self.now l };
 

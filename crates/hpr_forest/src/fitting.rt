@@ -2,7 +2,7 @@
 
 ghost use Rattle.std.specs.Prelude.{◌≡◌, ℕ, ◌<◌, [], IfOk};
 ghost use Rattle.hpr_forest.specs.Choices.{IsBacktrackFree};
-ghost use Rattle.hpr_forest.specs.Cuts.{IsLive, FindsFirst, FindsNone, FindsSpent};
+ghost use Rattle.hpr_forest.specs.Cuts.{AreAtMost, IsAmongFirst, IsLive, FindsFirst, FindsNone, FindsSpent};
 
 use crate::Backtracking;
 use std::alloc::AllocError;
@@ -21,10 +21,10 @@ pub enum Found {
 /// Searches for the first whole list that fits, in lexicographic order, and leaves it placed.
 ///
 /// A try is a whole list that was judged, or a front that was given up. A leaf is a whole list cut behind its first number that clashes
-/// with those before it; many whole lists share one. Each try holds a leaf at least, and no two tries hold one leaf, so the search spends at
-/// most one try on each. It gives up no list that fits.
+/// with those before it; many whole lists share one. Each try is on the next leaf, so with `tries` of them no leaf behind the first `tries` is
+/// looked at: what is found is one of these, and where none fits there are no more. The search gives up no list that fits.
 ///
-/// Each clause holds of the leaves by each test that rules out less than the one for clashes: so of the whole lists too, which are
+/// Each other clause holds of the leaves by each test that rules out less than the one for clashes: so of the whole lists too, which are
 /// the leaves where nothing clashes. With exactly as many leaves as tries all are judged. An error is want of memory.
 pub fn first_fitting<T: Backtracking>(search: &mut T, tries: u64) -> Result<Found, AllocError>
     requires sound { T.is_sound search.old }
@@ -33,8 +33,12 @@ pub fn first_fitting<T: Backtracking>(search: &mut T, tries: u64) -> Result<Foun
     requires first { T.placed search.old ≡ [] }
     ensures first { IfOk result (λ f. f ≡ Found.First
         → FindsFirst (T.can search.old) (T.fits search.old) (T.size search.old) (T.clash search.old) (T.placed search.new)) }
+    ensures first_within { IfOk result (λ f. f ≡ Found.First
+        → IsAmongFirst (T.can search.old) (T.size search.old) (T.clash search.old) tries (T.placed search.new)) }
     ensures none { IfOk result (λ f. f ≡ Found.NoneFits
         → FindsNone (T.can search.old) (T.fits search.old) (T.size search.old) (T.clash search.old)) }
+    ensures none_within { IfOk result (λ f. f ≡ Found.NoneFits
+        → AreAtMost (T.can search.old) (T.size search.old) (T.clash search.old) tries) }
     ensures spent { IfOk result (λ f. f ≡ Found.Spent
         → FindsSpent (T.can search.old) (T.fits search.old) (T.size search.old) (T.clash search.old) tries) }
     ensures same { T.is_same search.old search.new }
@@ -52,8 +56,12 @@ fn judge_empty<T: Backtracking>(search: &T, tries: u64) -> Result<Found, AllocEr
     requires first { T.placed search.now ≡ [] }
     ensures first { IfOk result (λ f. f ≡ Found.First
         → FindsFirst (T.can search.now) (T.fits search.now) (T.size search.now) (T.clash search.now) (T.placed search.now)) }
+    ensures first_within { IfOk result (λ f. f ≡ Found.First
+        → IsAmongFirst (T.can search.now) (T.size search.now) (T.clash search.now) tries (T.placed search.now)) }
     ensures none { IfOk result (λ f. f ≡ Found.NoneFits
         → FindsNone (T.can search.now) (T.fits search.now) (T.size search.now) (T.clash search.now)) }
+    ensures none_within { IfOk result (λ f. f ≡ Found.NoneFits
+        → AreAtMost (T.can search.now) (T.size search.now) (T.clash search.now) tries) }
     ensures spent { IfOk result (λ f. f ≡ Found.Spent
         → FindsSpent (T.can search.now) (T.fits search.now) (T.size search.now) (T.clash search.now) tries) }
 {
@@ -76,8 +84,12 @@ fn walk_to_first<T: Backtracking>(search: &mut T, tries: u64) -> Result<Found, A
     requires size { 0 < T.size search.old }
     ensures first { IfOk result (λ f. f ≡ Found.First
         → FindsFirst (T.can search.old) (T.fits search.old) (T.size search.old) (T.clash search.old) (T.placed search.new)) }
+    ensures first_within { IfOk result (λ f. f ≡ Found.First
+        → IsAmongFirst (T.can search.old) (T.size search.old) (T.clash search.old) tries (T.placed search.new)) }
     ensures none { IfOk result (λ f. f ≡ Found.NoneFits
         → FindsNone (T.can search.old) (T.fits search.old) (T.size search.old) (T.clash search.old)) }
+    ensures none_within { IfOk result (λ f. f ≡ Found.NoneFits
+        → AreAtMost (T.can search.old) (T.size search.old) (T.clash search.old) tries) }
     ensures spent { IfOk result (λ f. f ≡ Found.Spent
         → FindsSpent (T.can search.old) (T.fits search.old) (T.size search.old) (T.clash search.old) tries) }
     ensures same { T.is_same search.old search.new }

@@ -1,5 +1,6 @@
-use Rattle.std.proofs.Common.{◌≡◌, true, false, sym, ◌∙◌}
+use Rattle.std.proofs.Common.{◌≡◌, true, false, sym, ◌∙◌, arith}
 use Rattle.hpr_forest.proofs.CutStates.{empty_first, empty_is_whole, empty_none, empty_spent}
+use Rattle.hpr_forest.proofs.Spending.{empty_among, empty_at_most}
 use Rattle.hpr_forest.proofs.fitting.judge_empty.Goals as goal
 
 pub returns-then-branch-clause-first : goal.returns-then-branch-clause-first
@@ -29,3 +30,15 @@ returns-else-branch-clause-none g c = λ is.
     let s = c.args.search.now in
     empty_none (search.can s) (search.fits s) (search.size s) (search.clash s) c.requires.size (search.placed s) c.requires.first
     (λ yes_. true_not_false (sym (c.in_ok-judge.ensures.1 yes_) ∙ c.if-branch.false))
+
+pub returns-then-branch-clause-first_within : goal.returns-then-branch-clause-first_within
+returns-then-branch-clause-first_within g c = λ is.
+    let search = g.T.Backtracking in
+    let s = c.args.search.now in
+    empty_among (search.can s) (search.size s) (search.clash s) c.requires.size c.args.tries (search.placed s) c.requires.first (omega (arith, c.if-tries-eq0.false))
+
+pub returns-else-branch-clause-none_within : goal.returns-else-branch-clause-none_within
+returns-else-branch-clause-none_within g c = λ is.
+    let search = g.T.Backtracking in
+    let s = c.args.search.now in
+    empty_at_most (search.can s) (search.size s) (search.clash s) c.requires.size c.args.tries (omega (arith, c.if-tries-eq0.false))

@@ -1,13 +1,18 @@
-use Rattle.std.proofs.Common.{◌≡◌, ℕ, ◌+◌, ◌-◌, ◌<◌, true, false, List, [], ◌∷◌, ◌++◌, length, length-append, refl, sym, ap, subst, ◌∙◌, arith}
+use Rattle.std.proofs.Common.{◌≡◌, ℕ, ◌+◌, ◌-◌, ◌<◌, Bool, true, false, List, [], ◌∷◌, ◌++◌, length, length-append, refl, sym, ap, subst, ◌∙◌, arith}
 use Rattle.std.proofs.lemmas.Result.{IfOk-from_err}
 use Rattle.hpr_forest.specs.Choices.{Follows, IsWhole}
-use Rattle.hpr_forest.specs.Cuts.{FindsFirst}
+use Rattle.hpr_forest.specs.Cuts.{FindsFirst, IsAmongFirst}
 use Rattle.hpr_forest.proofs.Leaves.{popped, follows_push}
 use Rattle.hpr_forest.proofs.CutStates.{State, IsNext, next_of, none_of, taken_back, start_state, looked_past, pop_state, given_up, down_state, judged, whole_next, first_state, spent_state, none_state, fewer_tries, fewer_down, fewer_up}
+use Rattle.hpr_forest.proofs.Spending.{Spends, ends, finds, gives_up, goes_down, judges, pops, starts}
 use Rattle.hpr_forest.proofs.fitting.walk_to_first.Goals as goal
 
 true_not_false : true ≡ false → ⊥
 true_not_false e = absurd cc
+
+calm : (b : Bool) → (b ≡ true → ⊥) → b ≡ false
+calm true free = absurd (free refl)
+calm false free = refl
 
 pub walk-init : goal.walk-init
 walk-init g c =
@@ -19,6 +24,7 @@ walk-init g c =
       subst (Follows can []) (sym c.requires.first) tt,
       omega (arith, ap length c.requires.first, c.requires.size),
       start_state can (search.fits s) n (search.clash s) c.requires.choices c.requires.live c.args.tries (search.placed s) c.requires.first c.requires.size,
+      starts can n (search.clash s) c.args.tries (search.placed s) c.requires.first c.requires.size,
     )
 
 pub returns-in_default-take_back-clause-none : goal.returns-in_default-take_back-clause-none
@@ -39,6 +45,25 @@ returns-in_default-take_back-clause-none g c =
     let same_can : can ≡ search.can now = laws.same_can first now same in
     let none = none_of can fits n clash it live (search.can now) (search.size now) same_can (laws.same_size first now same) q c.walk.from c.in_default.ensures.none in
     λ is. none_state can fits n clash it live c.args.tries c.walk.left q c.walk.from c.in_default-take_back.ensures.none none state
+
+pub returns-in_default-take_back-clause-none_within : goal.returns-in_default-take_back-clause-none_within
+returns-in_default-take_back-clause-none_within g c =
+    let search = g.T.Backtracking in
+    let laws = g.met.T.Backtracking in
+    let first = c.args.search.now in
+    let now = c.walk.search in
+    let can = search.can first in
+    let fits = search.fits first in
+    let n = search.size first in
+    let clash = search.clash first in
+    let it = c.requires.choices in
+    let live = c.requires.live in
+    let q = search.placed now in
+    let same = c.walk.invariant.0 in
+    let spends = c.walk.invariant.4 in
+    let same_can : can ≡ search.can now = laws.same_can first now same in
+    let none = none_of can fits n clash it live (search.can now) (search.size now) same_can (laws.same_size first now same) q c.walk.from c.in_default.ensures.none in
+    λ is. ends can n clash c.args.tries c.walk.left q c.walk.from c.in_default-take_back.ensures.none none spends
 
 pub overflow_add-from : goal.overflow_add-from
 overflow_add-from g c =
@@ -103,6 +128,7 @@ walk-preserved-in_default g c =
       p.0,
       omega (arith, p.1),
       pop_state can fits n clash it live c.args.tries c.walk.left q q' last c.walk.from c.in-Some-take_back.ensures.last none state,
+      pops can n clash c.args.tries c.walk.left q q' last c.walk.from c.in-Some-take_back.ensures.last none c.walk.invariant.4,
     )
 
 pub returns-then-left-eq0-clause-spent : goal.returns-then-left-eq0-clause-spent
@@ -163,6 +189,8 @@ walk-preserved-then-not-admissible g c =
       given_up can fits n clash it live c.args.tries c.walk.left (c.walk.left - 1) q c.walk.from d follows short next
           (λ l r whole is yes_. c.if-not-admissible.ensures.law refl l r (subst (λ f. IsWhole f (search.size now) l) same_can (subst (λ m. IsWhole can m l) (laws.same_size first now same) whole)) is (laws.same_fits first now same l yes_))
           (omega (arith, c.if-left-eq0.false)) state,
+      gives_up can n clash fits it live c.args.tries c.walk.left (c.walk.left - 1) q c.walk.from d next
+          (ap (λ f. f q d) (laws.same_clash first now same) ∙ c.if-not-admissible.ensures.only refl) (omega (arith, c.if-left-eq0.false)) c.walk.invariant.4,
     )
 
 pub walk-smaller-then-count-size : goal.walk-smaller-then-count-size
@@ -203,6 +231,8 @@ walk-preserved-then-count-size g c =
       omega (arith, c.if-count-size.true, c.count.ensures, c.size-size.ensures),
       down_state can fits n clash it live c.args.tries c.walk.left q (search.placed c.place.new.self) c.walk.from d next free
           (omega (arith, len, c.if-count-size.true, c.count.ensures, c.size-size.ensures)) more state,
+      goes_down can n clash fits it live c.args.tries c.walk.left q (search.placed c.place.new.self) c.walk.from d next (calm (clash q d) free)
+          (omega (arith, len, c.if-count-size.true, c.count.ensures, c.size-size.ensures)) more c.walk.invariant.4,
     )
 
 pub judge-requires : goal.judge-requires
@@ -261,6 +291,32 @@ returns-then-branch-clause-first g c =
     λ is. subst (λ (x : List ℕ). FindsFirst can fits n clash x) (sym more)
     (first_state can fits n clash it live c.args.tries c.walk.left q c.walk.from d follows full next (subst fits more fit) state)
 
+pub returns-then-branch-clause-first_within : goal.returns-then-branch-clause-first_within
+returns-then-branch-clause-first_within g c =
+    let search = g.T.Backtracking in
+    let laws = g.met.T.Backtracking in
+    let first = c.args.search.now in
+    let now = c.walk.search in
+    let can = search.can first in
+    let fits = search.fits first in
+    let n = search.size first in
+    let clash = search.clash first in
+    let it = c.requires.choices in
+    let live = c.requires.live in
+    let q = search.placed now in
+    let same = c.walk.invariant.0 in
+    let follows = c.walk.invariant.1 in
+    let short = c.walk.invariant.2 in
+    let spends = c.walk.invariant.4 in
+    let same_can : can ≡ search.can now = laws.same_can first now same in
+    let d = c.in-Some.child in
+    let next : IsNext can fits n clash it live q c.walk.from d = next_of can fits n clash it live (search.can now) same_can q c.walk.from d c.in-Some.ensures.from c.in-Some.ensures.ready c.in-Some.ensures.least in
+    let more = c.place.ensures.placed in
+    let len : length (search.placed c.place.new.self) ≡ length q + 1 = omega (arith, ap length more, length-append q (d ∷ [])) in
+    let full : length q + 1 ≡ n = omega (arith, len, short, c.if-count-size.false, c.count.ensures, c.size-size.ensures) in
+    λ is. subst (λ (x : List ℕ). IsAmongFirst can n clash c.args.tries x) (sym more)
+    (finds can n clash fits it live c.args.tries c.walk.left q c.walk.from d full next (omega (arith, c.if-left-eq0.false)) spends)
+
 pub walk-smaller : goal.walk-smaller
 walk-smaller g c =
     let search = g.T.Backtracking in
@@ -308,6 +364,8 @@ walk-preserved g c =
       omega (arith, ap length back, short),
       subst (λ (x : List ℕ). State can fits n clash c.args.tries (c.walk.left - 1) x (d + 1)) (sym back)
           (judged can fits n clash it live c.args.tries c.walk.left (c.walk.left - 1) q c.walk.from d follows full next misfit (omega (arith, c.if-left-eq0.false)) state),
+      subst (λ (x : List ℕ). Spends can n clash c.args.tries (c.walk.left - 1) x (d + 1)) (sym back)
+          (judges can n clash fits it live c.args.tries c.walk.left (c.walk.left - 1) q c.walk.from d full next (omega (arith, c.if-left-eq0.false)) c.walk.invariant.4),
     )
 
 pub admissible-requires : goal.admissible-requires
@@ -321,3 +379,9 @@ returns-in_err-judge-clause-none g c = IfOk-from_err c.from_residual.result _ c.
 
 pub returns-in_err-judge-clause-spent : goal.returns-in_err-judge-clause-spent
 returns-in_err-judge-clause-spent g c = IfOk-from_err c.from_residual.result _ c.from_residual.ensures.0
+
+pub returns-in_err-judge-clause-first_within : goal.returns-in_err-judge-clause-first_within
+returns-in_err-judge-clause-first_within g c = IfOk-from_err c.from_residual.result _ c.from_residual.ensures.0
+
+pub returns-in_err-judge-clause-none_within : goal.returns-in_err-judge-clause-none_within
+returns-in_err-judge-clause-none_within g c = IfOk-from_err c.from_residual.result _ c.from_residual.ensures.0
