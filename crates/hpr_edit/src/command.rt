@@ -2,7 +2,7 @@
 //!
 //! Commands change a tree, and the editor keeps the tags: Horwitz, Prins and Reps 1989 suppose such an
 //! editor, and leave its commands open.
-ghost use Rattle.std.specs.Prelude.{◌≡◌, [], ◌∷◌, ◌++◌, OnOk};
+ghost use Rattle.std.specs.Prelude.{◌≡◌, [], ◌∷◌, ◌++◌, OnErr, OnOk};
 ghost use Rattle.std.proofs.Common.{rules, ◌==◌};
 ghost use Rattle.std.specs.Cmp.Rules.{comparing};
 ghost use Rattle.std.specs.Cmp.Lexicographic.{pointwise};
@@ -56,9 +56,10 @@ impl FinalNames {
         &self.names
     }
 
-    /// One more name, behind these.
+    /// One more name, behind these. Without memory they stay as they are.
     pub fn push(&mut self, name: Name) -> Result<(), NoMemory>
-        ensures { OnOk result (self.new ≡ self.old ++ (name ∷ [])) }
+        ensures ok { OnOk result (self.new ≡ self.old ++ (name ∷ [])) }
+        ensures err { OnErr result (self.new ≡ self.old) }
     {
         self.names.push(name)?;
         Ok(())
