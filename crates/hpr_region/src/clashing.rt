@@ -7,7 +7,7 @@ ghost use Rattle.hpr_region.specs.Flows.{same_variable, slot_of, variable_of, us
 ghost use Rattle.hpr_region.specs.Private.Needs.{AreNeeds, AreRivals};
 ghost use Rattle.hpr_region.specs.Private.Summaries.{IsSummary, is_reached_by, some_reach};
 
-use crate::Flows;
+use crate::flows::Flows;
 use crate::rivals::Rivals;
 use crate::summary::Summary;
 use hpr_graph::links::number_at;

@@ -4,12 +4,12 @@ ghost use Rattle.hpr_forest.specs.Blocks.{row_at};
 
 /// Tables of items: where each stands, which variable it defines, which it uses, and into which an independent
 /// flow edge goes from it. Variables have numbers of their own, below `names`.
-pub struct Flows {
-    pub slots: Vec<Option<(usize, bool)>>,
-    pub variables: Vec<Option<usize>>,
-    pub uses: Vec<Vec<usize>>,
-    pub readers: Vec<Vec<usize>>,
-    pub names: usize,
+pub(crate) struct Flows {
+    pub(crate) slots: Vec<Option<(usize, bool)>>,
+    pub(crate) variables: Vec<Option<usize>>,
+    pub(crate) uses: Vec<Vec<usize>>,
+    pub(crate) readers: Vec<Vec<usize>>,
+    pub(crate) names: usize,
     ghost variable_count: { vec_len variables ≡ vec_len slots },
     ghost use_count: { vec_len uses ≡ vec_len slots },
     ghost reader_count: { vec_len readers ≡ vec_len slots },

@@ -13,7 +13,5 @@ mod search;
 mod summary;
 mod tables;
 
-pub use flows::Flows;
 pub use hpr_graph::{Graph, NoMemory, Vertex};
-pub use plan::Plan;
 pub use search::Search;

@@ -5,8 +5,9 @@ ghost use Rattle.hpr_forest.specs.Marks.{IsMarksOf, is_in};
 ghost use Rattle.hpr_region.specs.Private.Needs.{AreNeeds, AreReleased, AreRestored, AreRivals, left_over, sources_of, tie, tied};
 
 use crate::clashing::is_same_variable;
+use crate::flows::Flows;
+use crate::plan::Plan;
 use crate::rivals::Rivals;
-use crate::{Flows, Plan};
 use std::alloc::{AllocError, Global};
 
 impl Flows {

@@ -7,13 +7,13 @@ use crate::flows::Flows;
 use hpr_forest::Blocks;
 
 /// The parts of a graph in the order of a rank, as items: what may stand one behind the other, and what clashes.
-pub struct Plan {
+pub(crate) struct Plan {
     /// The number of each part's vertex.
-    pub numbers: Vec<usize>,
+    pub(crate) numbers: Vec<usize>,
     /// By which tables the items may stand one behind the other; none where there is no arrangement.
-    pub choices: Option<Blocks>,
+    pub(crate) choices: Option<Blocks>,
     /// By which tables they clash.
-    pub flows: Flows,
+    pub(crate) flows: Flows,
     ghost once: { IsOnce numbers.items },
     ghost choice_count: { IfSome choices (λ b. vec_len b.parents ≡ vec_len numbers) } by { Prim.hlevel props },
     ghost flow_count: { vec_len flows.slots ≡ vec_len numbers },

@@ -9,7 +9,7 @@ ghost use Rattle.hpr_order.specs.Regions.{AreRegionsOf};
 ghost use Rattle.hpr_region.specs.Openings.{IsOpen, IsShut};
 ghost use Rattle.hpr_region.specs.Plans.{IsPlanOf};
 
-use crate::Plan;
+use crate::plan::Plan;
 use crate::tables::flows_of;
 use hpr_forest::{Blocks, descend};
 use hpr_graph::{Graph, NoMemory, Vertex};

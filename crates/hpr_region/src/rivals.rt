@@ -7,8 +7,8 @@ ghost use Rattle.hpr_region.specs.Flows.{readers_of};
 ghost use Rattle.hpr_region.specs.Private.Needs.{AreRivals, group_of, occurrences, sources_of};
 ghost use Rattle.hpr_region.specs.Private.Rivals.{AreDefiners, AreGroupsBy, AreTurned, first_in, group_by};
 
-use crate::Flows;
 use crate::clashing::has;
+use crate::flows::Flows;
 use crate::tables::{blank_rows, push_at};
 use hpr_graph::NoMemory;
 use std::alloc::Global;

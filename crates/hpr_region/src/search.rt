@@ -12,8 +12,8 @@ ghost use Rattle.hpr_order.specs.Regions.{AreRegionsOf};
 ghost use Rattle.hpr_order.specs.Arranging.{IsRanking};
 ghost use Rattle.hpr_region.specs.Plans.{BeginsWith, IsBegun, IsPlanOf, IsReady, clash_in, may_follow, number_at, placed_in, size_of, vertex_at, vertices_at};
 
-use crate::Plan;
 use crate::needs::{add_needs, no_needs, take_needs};
+use crate::plan::Plan;
 use crate::planning::{blank_row, plan_of};
 use crate::rivals::Rivals;
 use crate::summary::Summary;

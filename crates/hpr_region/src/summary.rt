@@ -3,7 +3,8 @@ ghost use Rattle.std.specs.Prelude.{◌≡◌, ℕ, ◌<◌, None, List, [], ◌
 ghost use Rattle.hpr_forest.specs.Marks.{is_in};
 ghost use Rattle.hpr_region.specs.Private.Summaries.{IsSized, IsSummary};
 
-use crate::{Flows, Plan};
+use crate::flows::Flows;
+use crate::plan::Plan;
 use hpr_graph::NoMemory;
 use std::alloc::{AllocError, Global};
 

@@ -14,7 +14,7 @@ ghost use Rattle.hpr_order.specs.Numbers.{ArePartsOf, AreItemsOf, ArePlaces};
 ghost use Rattle.hpr_region.specs.Making.{AreDefinedIn, AreSlotsOf, AreVariablesOf, AreUsesOf, IsReadFrom};
 ghost use Rattle.hpr_region.specs.Tables.{AreFlowsOf, AreReaders, AreUsed, IsVariable};
 
-use crate::Flows;
+use crate::flows::Flows;
 use hpr_graph::links::number_at;
 use hpr_graph::{Graph, Link, LinkKind, Name, NoMemory};
 use hpr_order::{Item, places_of};
