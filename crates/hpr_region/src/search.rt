@@ -227,6 +227,16 @@ impl Search {
         }
     }
 
+    /// The item with this vertex number, which is ready.
+    fn item_of(&self, child: usize) -> usize
+        requires { IsReady self.now child }
+        ensures item { slice_get self.now.plan.numbers.items result ≡ Some child }
+        ensures follows { may_follow self.now.plan self.now.placed result ≡ true }
+        ensures front { Follows (may_follow self.now.plan) [] self.now.placed }
+    {
+        number_at(&self.places, child).unwrap()
+    }
+
     /// Whether the part with this vertex number, which is ready, may be worth placing. False wherever it clashes
     /// with the vertices placed so far, and false only where no arrangement that has the graph begins so.
     pub fn admissible(&self, child: usize) -> bool
@@ -239,10 +249,7 @@ impl Search {
             → IsPlanOf g rank self.now.plan → result ≡ false → IsArrangement (graph_in g) issued p
             → BeginsWith g (placed_in self.now ++ child ∷ []) p → ¬ Fits (graph_in g) p }
     {
-        match number_at(&self.places, child) {
-            None => true,
-            Some(item) => self.admits(item),
-        }
+        self.admits(self.item_of(child))
     }
 
     /// Places the part with this vertex number, which is ready.
@@ -251,9 +258,8 @@ impl Search {
         ensures plan { self.new.plan ≡ self.old.plan }
         ensures placed { placed_in self.new ≡ placed_in self.old ++ child ∷ [] }
     {
-        if let Some(item) = number_at(&self.places, child) {
-            self.push(item);
-        }
+        let item = self.item_of(child);
+        self.push(item);
     }
 
     /// Takes the last vertex back, and answers its number; `None` exactly where nothing is placed.
