@@ -1,10 +1,9 @@
--- At which vertices a graph has edges that another lacks.
+-- At which vertices a graph has edges that another lacks. An order edge counts at its shared use, each other edge at its target (`counts_at`
+-- and `Counts` of hpr_closure).
 --
---                                   it is an order link, else `to`
 -- CountsAmong links to n         == one of these links into the vertex `to` counts at n
 -- CountsIn rows n                == one of the rows' links counts at n
 -- AreDiffering rows marks        == there is a mark for each row, and exactly those are marked at which some link counts
---                                   else at its target
 -- HasOwn g h v                   == some edge of g that h lacks counts at v
 -- IsDiffering g h ns marks       == the numbers in h of the vertices of g; exactly those of these are marked at which an
 --                                   edge counts that h lacks
