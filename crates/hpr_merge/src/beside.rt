@@ -52,22 +52,18 @@ impl<'a> Model for Beside<'a> {
 }
 
 impl<'a> Beside<'a> {
-    /// The two graphs. Looks once at each edge.
-    pub(crate) fn of(
-        alloc: Global,
-        merged: &'a Graph,
-        variant: &'a Graph,
-    ) -> Result<Beside<'a>, NoMemory>
+    /// The two graphs. Takes constant time.
+    pub(crate) fn of(alloc: Global, merged: &'a Graph, variant: &'a Graph) -> Beside<'a>
         requires { AreBeside ⟦<Link as Ord>⟧.cmp merged.now variant.now }
-        ensures merged { IfOk result (λ b. b.merged ≡ merged.now) }
-        ensures own { IfOk result (λ b. b.own ≡ variant.now) }
+        ensures merged { result.merged ≡ merged.now }
+        ensures own { result.own ≡ variant.now }
     {
-        Ok(Beside {
+        Beside {
             merged,
             variant,
-            wide: Sources::of(alloc, merged)?,
-            narrow: Sources::of(alloc, variant)?,
-        })
+            wide: Sources::of(alloc, merged),
+            narrow: Sources::of(alloc, variant),
+        }
     }
 
     /// The least edge that the merged graph adds to the variant's slice at the vertex with this number and

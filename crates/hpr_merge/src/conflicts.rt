@@ -113,7 +113,7 @@ fn conflicts_at(
 {
     let wide = widened(alloc, merged, variant)?;
     let narrow = widened(alloc, variant, merged)?;
-    let beside = Beside::of(alloc, &wide, &narrow)?;
+    let beside = Beside::of(alloc, &wide, &narrow);
     conflicts_in(alloc, variant, points, &wide, &beside)
 }
 

@@ -18,7 +18,7 @@ pub fn slice(alloc: Global, graph: &Graph, points: &[usize]) -> Result<Graph, No
     requires { All (λ p. p < length graph.now.vertices) points.now }
     ensures { IfOk result (λ g. Same (graph_in g) (slice_of (graph_in graph.now) (IsOneOf graph.now points.now))) }
 {
-    let sources = Sources::of(alloc, graph)?;
+    let sources = Sources::of(alloc, graph);
     let keep = sources.reaching(points)?;
     graph.restrict(&keep)
 }

@@ -52,11 +52,11 @@ impl Digraph for Sources<'_> {
 
 impl Sources<'_> {
     /// Those of a graph. Takes constant time.
-    pub fn of(alloc: Global, graph: &Graph) -> Result<Sources<'_>, NoMemory>
-        ensures { IfOk result (λ s. s ≡ graph.now) }
+    pub fn of(alloc: Global, graph: &Graph) -> Sources<'_>
+        ensures { result ≡ graph.now }
     {
         let _vertices = graph.vertices();
-        Ok(Sources { graph, alloc })
+        Sources { graph, alloc }
     }
 
     /// Marks the vertices from which control and flow edges lead to one of these, these included: the
