@@ -1,6 +1,6 @@
 //! The laws of meaning, whatever the contents mean: each function's contract is the law, for all values and
 //! faults, which are two types, and for all meanings over them.
-ghost use Rattle.std.specs.Prelude.{◌≡◌, ◌↔◌, ℕ, Bool, List, [], ◌∷◌, Contains, Option, Some, Result};
+ghost use Rattle.std.specs.Prelude.{◌≡◌, ◌↔◌, ℕ, ◌+◌, Bool, List, [], ◌∷◌, Contains, Option, Some, Result};
 ghost use Rattle.std.specs.List.{AllByRecursion};
 ghost use Rattle.hpr_terms.specs.declared.tag.Tag.{Tag};
 ghost use Rattle.hpr_syntax.specs.Tree.{Tree};
@@ -25,7 +25,7 @@ ghost use Rattle.hpr_meaning.specs.UnionLaw.{KeepsEach};
 ghost use Rattle.hpr_meaning.specs.Any.Meaning.{HasLaws};
 ghost use Rattle.hpr_meaning.specs.Any.Run.{run};
 ghost use Rattle.hpr_meaning.specs.Any.Kept.{Ends, Keeps};
-ghost use Rattle.hpr_meaning.specs.Any.KeptLaw.{KeepsAll};
+ghost use Rattle.hpr_meaning.specs.Any.KeptLaw.{Finished, DoesFinish, KeepsAll, programs_of, steps_in};
 ghost use Rattle.hpr_meaning.specs.Any.CoverLaw.{DoesEnd};
 ghost use Rattle.hpr_meaning.specs.Any.TimeLaw.{IsTimely};
 ghost use Rattle.hpr_meaning.specs.Any.OrderLaw.{IsOrdered};
@@ -54,6 +54,22 @@ pub fn runs<V, F>()
     ensures left { (m : MeaningOf V F) (p q : Tree) (slice : Numbered) (s : List ℕ → V) (n : ℕ) (f : List (List ℕ × V)) → IsProgram p
         → IsSliceOf p (graph_in slice) → IsPruned (graph_in slice).vertex p q → Ends (by_reads m) p s n f
         → IsKeptBy (by_reads m) p q s n f }
+{}
+
+/// The law of the merged end: where there is no conflict, a program with the merged graph ends on every state on which
+/// base and all variants end, within as many steps as they have together; and so does a program with what is searched.
+pub fn merged_end<V, F>()
+    ensures all { (m : MeaningOf V F) (base p : Tree) (vs : List Tree) → IsProgram base → AllByRecursion IsProgram vs
+        → IsProgram p → Fits (merged_of_all base vs) p → HasNoConflict (graph_of base) (graphs_of vs)
+        → (s : List ℕ → V) (n0 : ℕ) (f0 : List (List ℕ × V)) (rs : List (Finished (by_reads m)))
+        → programs_of (by_reads m) rs ≡ vs → Ends (by_reads m) base s n0 f0 → AllByRecursion (DoesFinish (by_reads m) s) rs
+        → (f : List (List ℕ × V)) × Ends (by_reads m) p s (n0 + steps_in (by_reads m) rs) f }
+    ensures split { (m : MeaningOf V F) (base p : Tree) (vs : List Tree) (parts : List (Vertex × Tag)) → IsProgram base
+        → AllByRecursion IsProgram vs → IsProgram p → AreSplitOff base vs parts
+        → Fits (searched_graph_of parts base vs) p → HasNoConflict (graph_of base) (graphs_of vs)
+        → (s : List ℕ → V) (n0 : ℕ) (f0 : List (List ℕ × V)) (rs : List (Finished (by_reads m)))
+        → programs_of (by_reads m) rs ≡ vs → Ends (by_reads m) base s n0 f0 → AllByRecursion (DoesFinish (by_reads m) s) rs
+        → (f : List (List ℕ × V)) × Ends (by_reads m) p s (n0 + steps_in (by_reads m) rs) f }
 {}
 
 /// A program with the merged graph, where each affected point keeps its variant's slice, keeps the meaning of all

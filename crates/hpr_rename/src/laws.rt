@@ -1,10 +1,10 @@
 //! Laws of other tags: each function's contract is the law, for all values.
-ghost use Rattle.std.specs.Prelude.{◌≡◌, ℕ, List, [], ◌∷◌, map};
+ghost use Rattle.std.specs.Prelude.{◌≡◌, ℕ, ◌+◌, List, [], ◌∷◌, map};
 ghost use Rattle.std.specs.List.{AllByRecursion};
 ghost use Rattle.hpr_terms.specs.declared.tag.Tag.{Tag};
 ghost use Rattle.hpr_syntax.specs.Issued.{Issued};
-ghost use Rattle.hpr_syntax.specs.Meaning.{Keeps};
-ghost use Rattle.hpr_syntax.specs.Run.{run};
+ghost use Rattle.hpr_syntax.specs.Meaning.{Ends, Keeps};
+ghost use Rattle.hpr_syntax.specs.Run.{FinalValues, run};
 ghost use Rattle.hpr_syntax.specs.Shape.{IsProgram};
 ghost use Rattle.hpr_syntax.specs.Tree.{Tree};
 ghost use Rattle.hpr_syntax.specs.Values.{Values};
@@ -14,7 +14,7 @@ ghost use Rattle.hpr_graph.specs.Conflicts.{HasNoConflict};
 ghost use Rattle.hpr_graph.specs.Graphs.{Same};
 ghost use Rattle.hpr_graph.specs.ProgramGraph.{graph_of};
 ghost use Rattle.hpr_meaning.specs.Instances.{instances};
-ghost use Rattle.hpr_meaning.specs.KeptLaw.{KeepsAll};
+ghost use Rattle.hpr_meaning.specs.KeptLaw.{Finished, DoesFinish, KeepsAll, programs_of, steps_in};
 ghost use Rattle.hpr_rename.specs.Renamed.{GoesBack, graph_with, tree_with};
 ghost use Rattle.hpr_rename.specs.RenamedRuns.{instance_with, outcome_with};
 ghost use Rattle.hpr_rename.specs.Replaced.{AreAllowed, IsReplacement, IsTagOf};
@@ -54,4 +54,22 @@ pub fn split_keeps()
     ensures two { (base a b m : Tree) (rs : List (Vertex × Tag)) → IsProgram base → IsProgram a → IsProgram b
         → IsProgram m → IsWithoutConflict base a b → AreSplitOff base (a ∷ b ∷ []) rs
         → Fits (searched_graph_of rs base (a ∷ b ∷ [])) m → Keeps base a b m }
+{}
+
+/// The law of the merged end, over what is searched: the merged graph, in which the parts that are split off have their
+/// new tags, if there are serials enough. Each program with that graph ends, where there is no conflict, on every state
+/// on which base and all variants end, within as many steps as they have together. Where nothing is split off, it is the
+/// law over the merged graph itself (`hpr_meaning::laws::merged_end`).
+pub fn merged_end()
+    ensures all { (base m : Tree) (vs : List Tree) (parts : List (Vertex × Tag)) → IsProgram base
+        → AllByRecursion IsProgram vs → IsProgram m → AreSplitOff base vs parts
+        → Fits (searched_graph_of parts base vs) m → HasNoConflict (graph_of base) (graphs_of vs)
+        → (s : Values) (n0 : ℕ) (f0 : FinalValues) (rs : List Finished) → programs_of rs ≡ vs → Ends base s n0 f0
+        → AllByRecursion (DoesFinish s) rs
+        → (f : FinalValues) × Ends m s (n0 + steps_in rs) f }
+    ensures two { (base a b m : Tree) (parts : List (Vertex × Tag)) → IsProgram base → IsProgram a → IsProgram b
+        → IsProgram m → AreSplitOff base (a ∷ b ∷ []) parts
+        → Fits (searched_graph_of parts base (a ∷ b ∷ [])) m → IsWithoutConflict base a b
+        → (s : Values) (n0 n1 n2 : ℕ) (f0 f1 f2 : FinalValues) → Ends base s n0 f0 → Ends a s n1 f1 → Ends b s n2 f2
+        → (f : FinalValues) × Ends m s (n0 + n1 + n2) f }
 {}
