@@ -1,4 +1,4 @@
--- The graph of a program with other tags is its graph with these tags.
+-- The graph of a program with other tags, where the renaming takes each tag back: it is what is in the program's graph once that is renamed.
 use Rattle.std.proofs.Common.{◌≡◌, ℕ, List, [], ◌∷◌, ◌⊎◌, Option, Some, None, refl, ap, sym, subst, ◌∙◌, inl, inr}
 use Rattle.hpr_terms.specs.declared.tag.Tag.{Tag}
 use Rattle.hpr_syntax.specs.Body.{Body}
@@ -13,11 +13,15 @@ use Rattle.hpr_graph.specs.declared.vertex.Vertex.TheVariants.{Entry, Init, Part
 use Rattle.hpr_graph.specs.declared.edge.Kind.{Kind}
 use Rattle.hpr_graph.specs.declared.edge.Kind.TheVariants.{Control, Independent, Carried, Order}
 use Rattle.hpr_graph.specs.declared.edge.Edge.{Edge}
-use Rattle.hpr_graph.specs.Graphs.{Same}
+use Rattle.hpr_graph.specs.Graphs.{Graph, Same}
 use Rattle.hpr_graph.specs.ProgramGraph.{Defines, Reads, IsIndependent, IsCarried, HasFlow, IsTop, IsVertexOf, IsEdgeBy, graph_of}
 use Rattle.hpr_paths.proofs.Among.{Among, here, there, among_cons, among_none, among_contains, contains_among}
-use Rattle.hpr_rename.specs.Renamed.{GoesBack, body_with, tree_with, vertex_with, kind_with, edge_with, graph_with}
-use Rattle.hpr_rename.proofs.Skeletons.{point_with, mark_with, sk_of, says_with, parent_with, standing_with, stands_with, left_with, parted_with, encloses_with, pair_with, body_twice, point_twice}
+use Rattle.hpr_rename.specs.Renamed.{body_with, tree_with, vertex_with, kind_with, edge_with}
+use Rattle.hpr_rename.proofs.Skeletons.{GoesBack, point_with, mark_with, sk_of, says_with, parent_with, standing_with, stands_with, left_with, parted_with, encloses_with, pair_with, body_twice, point_twice}
+
+-- what is in a graph once it is renamed
+abbrev pub graph_back : (Tag → Tag) → Graph → Graph
+graph_back f g = record { vertex = λ v. g.vertex (vertex_with f v); edge = λ e. g.edge (edge_with f e) }
 
 module _ (f : Tag → Tag) (back : GoesBack f) where
   abbrev marks_with : List (Option Tag) → List (Option Tag)
@@ -172,8 +176,8 @@ module _ (f : Tag → Tag) (back : GoesBack f) where
     again : tree_with f t.issued (tree_with f issued t) ≡ t
     again = let p = body_twice f back t.body in (λ i. record { issued = t.issued; body = p i; finals = t.finals })
 
-    pub renamed_graph : Same (graph_of (tree_with f issued t)) (graph_with f (graph_of t))
-    renamed_graph = (
+    pub graph_there : Same (graph_of (tree_with f issued t)) (graph_back f (graph_of t))
+    graph_there = (
       (λ v. (
         (λ h. subst (λ s. IsVertexOf s (vertex_with f v)) again (vertex_too t.issued (tree_with f issued t) v h)),
         (λ h. subst (IsVertexOf (tree_with f issued t)) (vertex_twice v) (vertex_too issued t (vertex_with f v) h)),

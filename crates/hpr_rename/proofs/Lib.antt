@@ -6,6 +6,7 @@ pub mod Programs
 pub mod Swaps
 pub mod Mapped
 pub mod MappedAlike
+pub mod OneToOne
 pub mod SplitParts
 pub mod IssuedAll
 pub mod Retagged

@@ -1,12 +1,12 @@
--- A program with other tags is a program, where the issued numbers allow them: each test says of it what it says of the program.
-use Rattle.std.proofs.Common.{◌≡◌, ℕ, zero, suc, ◌+◌, ◌<◌, ◌≤◌, ◌^◌, Bool, true, false, ◌||◌, eqb, List, [], ◌∷◌, map, Option, Some, None, refl, sym, ap, subst, ◌∙◌, inl, inr, arith, if◌then◌else◌}
+-- A program whose tags are replaced one to one is a program, where the issued numbers allow them: each test says of it what it says of the program.
+use Rattle.std.proofs.Common.{◌≡◌, ℕ, zero, suc, ◌+◌, ◌<◌, ◌≤◌, ◌^◌, Bool, true, false, ◌||◌, eqb, List, [], ◌∷◌, map, Option, Some, None, Contains, refl, sym, ap, subst, ◌∙◌, inl, inr, arith, if◌then◌else◌}
 use Rattle.std.specs.List.{AllByRecursion, list_any}
 use Rattle.std.specs.Option.{option_map, option_or}
 use Rattle.std.proofs.lemmas.Bool.{eqb-true}
 use Rattle.std.proofs.lemmas.List.Elements.{recursion_from_All}
 use Rattle.hpr_terms.specs.declared.limits.TheConstants.{MAX_LEVELS}
 use Rattle.hpr_terms.specs.declared.tag.Tag.{Tag}
-use Rattle.hpr_terms.proofs.Facts.{unless}
+use Rattle.hpr_terms.proofs.Facts.{unless, in_none, in_cons, in_here, in_later}
 use Rattle.hpr_syntax.specs.declared.rows.Content.{Content}
 use Rattle.hpr_syntax.specs.declared.rows.Content.TheVariants.{If, While}
 use Rattle.hpr_syntax.specs.Action.{assigns, writes, stores}
@@ -21,8 +21,8 @@ use Rattle.hpr_syntax.specs.Tree.{Tree}
 use Rattle.hpr_syntax.proofs.IssuedLemmas.{bounds_issued}
 use Rattle.hpr_syntax.proofs.NoRefusal.{no_refusal, shaped}
 use Rattle.hpr_syntax.proofs.TagLemmas.{same_tag_is, same_tag_itself}
-use Rattle.hpr_rename.specs.Renamed.{GoesBack, body_with, tree_with}
-use Rattle.hpr_rename.specs.Replaced.{AreAllowed}
+use Rattle.hpr_rename.specs.Renamed.{body_with, tree_with}
+use Rattle.hpr_rename.specs.Replaced.{AreAllowed, IsOneToOne, IsTagOf}
 use Rattle.hpr_rename.proofs.Tags.{listed}
 
 -- an author with an issued number is in range, and so is the number
@@ -85,7 +85,7 @@ module _ (f : Tag → Tag) where
   count_with (branch t e a b rest) = omega (arith, count_with a, count_with b, count_with rest)
   count_with (loop t e b rest) = omega (arith, count_with b, count_with rest)
 
-  tags_with : (b : Body) (after : List Tag) → tags_of (body_with f b) (map f after) ≡ map f (tags_of b after)
+  pub tags_with : (b : Body) (after : List Tag) → tags_of (body_with f b) (map f after) ≡ map f (tags_of b after)
   tags_with done after = refl
   tags_with (action t d rest) after = ap (λ (ts : List Tag). f t ∷ ts) (tags_with rest after)
   tags_with (branch t e a b rest) after =
@@ -134,27 +134,36 @@ module _ (f : Tag → Tag) where
     proper_with rest (λ u g. all u (inr (inr g))) h.3,
   )
 
-  module _ (back : GoesBack f) where
-    -- no tag stands twice
-    same_with : (t u : Tag) → same_tag (f t) (f u) ≡ same_tag t u
-    same_with t u =
-        both_or_none (same_tag (f t) (f u)) (same_tag t u)
-        (λ h. subst (λ v. same_tag t v ≡ true) (sym (back t) ∙ ap f (same_tag_is (f t) (f u) h) ∙ back u) (same_tag_itself t))
-        (λ h. subst (λ v. same_tag (f t) (f v) ≡ true) (same_tag_is t u h) (same_tag_itself (f t)))
+  -- no tag stands twice
+  same_with : (t u : Tag) → (f t ≡ f u → t ≡ u) → same_tag (f t) (f u) ≡ same_tag t u
+  same_with t u once =
+      both_or_none (same_tag (f t) (f u)) (same_tag t u)
+      (λ h. subst (λ v. same_tag t v ≡ true) (once (same_tag_is (f t) (f u) h)) (same_tag_itself t))
+      (λ h. subst (λ v. same_tag (f t) (f v) ≡ true) (same_tag_is t u h) (same_tag_itself (f t)))
 
-    any_with : (t : Tag) (earlier : List Tag) → list_any (same_tag (f t)) (map f earlier) ≡ list_any (same_tag t) earlier
-    any_with t [] = refl
-    any_with t (u ∷ earlier) = let p = same_with t u in let q = any_with t earlier in (λ i. p i || q i)
+  module _ (tree : Tree) (once : IsOneToOne f tree) where
+    any_with : (t : Tag) → IsTagOf tree t → (earlier : List Tag) → ((u : Tag) → Contains earlier u → IsTagOf tree u)
+        → list_any (same_tag (f t)) (map f earlier) ≡ list_any (same_tag t) earlier
+    any_with t own [] those = refl
+    any_with t own (u ∷ earlier) those =
+        let p = same_with t u (once t u own (those u (in_here u earlier))) in
+        let q = any_with t own earlier (λ v h. those v (in_later u v earlier h)) in
+        (λ i. p i || q i)
 
-    repeated_with : (earlier ts : List Tag) → first_repeated same_tag (map f earlier) (map f ts) ≡ found (first_repeated same_tag earlier ts)
-    repeated_with earlier [] = refl
-    repeated_with earlier (t ∷ ts) =
-        let p = any_with t earlier in
-        let q = repeated_with (t ∷ earlier) ts in
+    repeated_with : (earlier ts : List Tag) → ((u : Tag) → Contains earlier u → IsTagOf tree u) → ((u : Tag) → Contains ts u → IsTagOf tree u)
+        → first_repeated same_tag (map f earlier) (map f ts) ≡ found (first_repeated same_tag earlier ts)
+    repeated_with earlier [] those these = refl
+    repeated_with earlier (t ∷ ts) those these =
+        let own = these t (in_here t ts) in
+        let p = any_with t own earlier those in
+        let q =
+        repeated_with (t ∷ earlier) ts
+        (λ u h. elim (in_cons t u earlier h) [ inl same ↦ subst (IsTagOf tree) same own | inr later ↦ those u later ])
+        (λ u h. these u (in_later t u ts h)) in
         (λ i. if p i then Some (f t) else q i) ∙ found_if (list_any (same_tag t) earlier) t (first_repeated same_tag (t ∷ earlier) ts)
 
-  pub renamed_program : GoesBack f → (issued : Issued) (t : Tree) → AreAllowed f issued t → IsProgram t → IsProgram (tree_with f issued t)
-  renamed_program back issued t allowed prog =
+  pub renamed_program : (issued : Issued) (t : Tree) → IsOneToOne f t → AreAllowed f issued t → IsProgram t → IsProgram (tree_with f issued t)
+  renamed_program issued t once allowed prog =
       let n = no_refusal t prog.shape in
       let ranges = recursion_from_All IsProperPair issued allowed.numbers.1 in
       let tag_in : (u : Tag) → StandsIn (skeleton t.body) (at u) → IsProperTag (f u) =
@@ -169,7 +178,10 @@ module _ (f : Tag → Tag) where
           finals = prog.proper.finals;
         };
         shape = shaped (tree_with f issued t) (record {
-          tags = ap (first_repeated same_tag []) (tags_with t.body []) ∙ repeated_with back [] (tags_of t.body []) ∙ ap found n.tags;
+          tags =
+              ap (first_repeated same_tag []) (tags_with t.body [])
+              ∙ repeated_with t once [] (tags_of t.body []) (λ u h. absurd (in_none u h)) (λ u h. h)
+              ∙ ap found n.tags;
           issued = issued_with issued t.body [] (λ u h. let (one, most) = allowed.tags u (listed t.body [] u h) in bounds_issued issued (f u) one most) refl;
           levels = deep_with MAX_LEVELS t.body ∙ ap found n.levels;
           expressions = where_with says_large t.body ∙ ap found n.expressions;

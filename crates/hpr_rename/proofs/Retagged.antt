@@ -25,7 +25,6 @@ use Rattle.hpr_graph.specs.Graphs.{Graph, Same}
 use Rattle.hpr_graph.specs.ProgramGraph.{IsVertexOf, graph_of}
 use Rattle.hpr_graph.specs.Split.{max_serial, new_tag, renamed, with_new_tags}
 use Rattle.hpr_graph.proofs.Laws.{part_tag, same_then}
-use Rattle.hpr_paths.proofs.Says.{says_stands}
 use Rattle.hpr_closure.proofs.Decided.{Decided, both}
 use Rattle.hpr_closure.proofs.Decisions.{some_decided}
 use Rattle.hpr_closure.proofs.EdgesDecided.{vertex_of_decided}
@@ -34,14 +33,12 @@ use Rattle.hpr_closure.proofs.TreeDecided.{tag_decided}
 use Rattle.hpr_split.proofs.NewTags.{IsBelow}
 use Rattle.hpr_split.proofs.Renamed.{placed_or_stranger, renamed_stranger}
 use Rattle.hpr_rename.specs.Renamed.{tree_with, vertex_with, graph_with}
-use Rattle.hpr_rename.specs.Replaced.{IsTagOf, IsReplacement, AreAllowed}
-use Rattle.hpr_rename.proofs.Graphs.{renamed_graph, vertex_twice}
+use Rattle.hpr_rename.specs.Replaced.{IsTagOf, IsOneToOne, AreAllowed}
 use Rattle.hpr_rename.proofs.Mapped.{mapped}
-use Rattle.hpr_rename.proofs.MappedAlike.{mapped_alike, with_mapped}
+use Rattle.hpr_rename.proofs.MappedAlike.{with_mapped}
+use Rattle.hpr_rename.proofs.OneToOne.{renamed_graph}
 use Rattle.hpr_rename.proofs.Programs.{renamed_program}
 use Rattle.hpr_rename.proofs.SplitParts.{split_swap, split_swap_back, split_swap_is, split_swap_other}
-use Rattle.hpr_rename.proofs.Swaps.{replaced}
-use Rattle.hpr_rename.proofs.Tags.{listed}
 
 -- what has a listed tag says something
 abbrev SaysOr : Body → List Tag → Tag → Type 0
@@ -203,17 +200,11 @@ module _ (z : ℕ) (vs : List Vertex) (p : Tree) where
       same_tag u v c d su sv (inr e) (inl (m, at', e')) same = absurd (not_new u c m su (sym e ∙ same ∙ e'))
       same_tag u v c d su sv (inr e) (inr e') same = sym e ∙ same ∙ e'
 
-      own_or_new : (u : Tag) (c : Content) → Becomes u c → (retag u ≡ u) ⊎ ¬ IsTagOf p (retag u)
-      own_or_new u c (inl (k, at, e)) = inr (λ h. (let (d, says) = said p (retag u) h in not_new (retag u) d k says e))
-      own_or_new u c (inr e) = inl e
-
-      replaces : IsReplacement retag p
-      replaces = record {
-        one_to_one = λ u v hu hv same. (let (c, su) = said p u hu in
-            let (d, sv) = said p v hv in
-            same_tag u v c d su sv (becomes u c su) (becomes v d sv) same);
-        own_or_new = λ u hu. (let (c, su) = said p u hu in own_or_new u c (becomes u c su));
-      }
+      retag_once : IsOneToOne retag p
+      retag_once u v hu hv same =
+          let (c, su) = said p u hu in
+          let (d, sv) = said p v hv in
+          same_tag u v c d su sv (becomes u c su) (becomes v d sv) same
 
       module _ (most : z + length vs ≤ max_serial) where
         abbrev IsAllowed : Tag → Type 0
@@ -231,43 +222,25 @@ module _ (z : ℕ) (vs : List Vertex) (p : Tree) where
             let own : IsAllowed u = (one, omega (arith, le, up)) in
             subst IsAllowed (sym e) own
 
-        allowed : (f : Tag → Tag) → ((u : Tag) → IsTagOf p u → f u ≡ retag u) → AreAllowed f (all_issued p) p
-        allowed f agree = record {
-          numbers = proper_issued p is;
-          tags = λ u h. (let (c, says) = said p u h in subst IsAllowed (sym (agree u h)) (allowed_by u c says (becomes u c says)));
-        }
+        allowed : AreAllowed retag (all_issued p) p
+        allowed = record { numbers = proper_issued p is; tags = λ u h. (let (c, says) = said p u h in allowed_by u c says (becomes u c says)) }
 
         pub retagged_program : IsProgram retagged
-        retagged_program =
-            let (f, back, agree, same) = replaced retag p replaces in
-            subst IsProgram (same (all_issued p)) (renamed_program f back (all_issued p) p (allowed f agree) is)
+        retagged_program = renamed_program retag (all_issued p) p retag_once allowed is
 
       -- each of the program's vertices gets its new tag or stays, as in the map
       module _ (parts : (v : Vertex) → Contains vs v → IsPart v) (low_too : (v : Vertex) → Contains vs v → IsBelow z v) where
         abbrev swapped : Vertex → Vertex
         swapped v = split_swap z vs parts low_too v
 
-        other_same : (f : Tag → Tag) (v : Vertex) → vertex_with f v ≡ v → ¬ IsPart v → vertex_with f v ≡ swapped v
-        other_same f v e other = e ∙ sym (split_swap_other z vs parts low_too v other)
-
-        swapped_by : (f : Tag → Tag) → ((u : Tag) → IsTagOf p u → f u ≡ retag u) → (v : Vertex) → IsVertexOf p v
-            → vertex_with f v ≡ swapped v
-        swapped_by f agree Entry has = other_same f Entry refl (λ (t, c, e). absurd cc)
-        swapped_by f agree (Init x) has = other_same f (Init x) refl (λ (t, c, e). absurd cc)
-        swapped_by f agree (Part u c) has =
-            ap (λ (t : Tag). Part t c) (agree u (listed p.body [] u (says_stands p.body u c has)))
-            ∙ retagged_part u c has
-            ∙ sym (split_swap_is z vs parts low_too (Part u c) (low (Part u c) has))
-        swapped_by f agree (Final x) has = other_same f (Final x) refl (λ (t, c, e). absurd cc)
+        swapped_by : (v : Vertex) → IsVertexOf p v → swapped v ≡ vertex_with retag v
+        swapped_by Entry has = split_swap_other z vs parts low_too Entry (λ (t, c, e). absurd cc)
+        swapped_by (Init x) has = split_swap_other z vs parts low_too (Init x) (λ (t, c, e). absurd cc)
+        swapped_by (Part u c) has = split_swap_is z vs parts low_too (Part u c) (low (Part u c) has) ∙ sym (retagged_part u c has)
+        swapped_by (Final x) has = split_swap_other z vs parts low_too (Final x) (λ (t, c, e). absurd cc)
 
         pub retagged_graph : Same (graph_of retagged) (mapped swapped (graph_of p))
         retagged_graph =
-            let (f, back, agree, same) = replaced retag p replaces in
             let g : Graph = graph_of p in
-            let renamed_tree : Tree = tree_with f (all_issued p) p in
-            let back' = split_swap_back z vs parts low_too in
-            let own : Same (graph_of renamed_tree) (mapped swapped g) =
-            same_then (graph_of renamed_tree) (graph_with f g) (mapped swapped g) (renamed_graph f back p (all_issued p))
-            (same_then (graph_with f g) (mapped (vertex_with f) g) (mapped swapped g) (with_mapped f g)
-            (mapped_alike g (program_ends p) (vertex_with f) swapped (vertex_twice f back) back' (swapped_by f agree))) in
-            subst (λ (t : Tree). Same (graph_of t) (mapped swapped g)) (same (all_issued p)) own
+            same_then (graph_of retagged) (graph_with retag g) (mapped swapped g) (renamed_graph retag p retag_once (all_issued p))
+            (with_mapped g (program_ends p) retag swapped (split_swap_back z vs parts low_too) swapped_by)

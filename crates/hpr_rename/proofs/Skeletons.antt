@@ -9,7 +9,11 @@ use Rattle.hpr_syntax.specs.Skeleton.{Skeleton, nil, act, fork, round, Point, en
 use Rattle.hpr_syntax.specs.Pairs.{Next, first_of, FollowsIn, IsPair}
 use Rattle.hpr_syntax.specs.Places.{StandsLeft, Parted, EnclosesBoth}
 use Rattle.hpr_syntax.specs.Nests.{Standing, StandsAs, Says}
-use Rattle.hpr_rename.specs.Renamed.{GoesBack, body_with}
+use Rattle.hpr_rename.specs.Renamed.{body_with}
+
+-- a tag that is renamed twice is as it was, as where some tags are swapped with others
+abbrev pub GoesBack : (Tag → Tag) → Type 0
+GoesBack f = (t : Tag) → f (f t) ≡ t
 
 module _ (f : Tag → Tag) where
   abbrev pub point_with : Point → Point

@@ -9,8 +9,9 @@ use Rattle.hpr_syntax.specs.Tree.{Tree}
 use Rattle.hpr_closure.proofs.Decided.{Decided}
 use Rattle.hpr_closure.proofs.Decisions.{some_decided}
 use Rattle.hpr_closure.proofs.TreeDecided.{tag_decided}
-use Rattle.hpr_rename.specs.Renamed.{GoesBack, body_with, tree_with}
-use Rattle.hpr_rename.specs.Replaced.{IsTagOf, IsReplacement}
+use Rattle.hpr_rename.specs.Renamed.{body_with, tree_with}
+use Rattle.hpr_rename.specs.Replaced.{IsTagOf}
+use Rattle.hpr_rename.proofs.Skeletons.{GoesBack}
 use Rattle.hpr_rename.proofs.Tags.{listed}
 
 module _ {X : Type 0} (decided : (t u : X) → Decided (t ≡ u)) (r : X → X) (ts : List X) where
@@ -86,6 +87,11 @@ agree f r (loop t e b rest) same =
     let inside = agree f r b (λ u h. same u (inr (inl h))) in
     let q = agree f r rest (λ u h. same u (inr (inr h))) in
     (λ i. loop (p i) e (inside i) (q i))
+
+-- different tags of the tree become different ones, and each of them itself or a tag that the tree doesn't have
+pub record IsReplacement (r : Tag → Tag) (t : Tree) : Type 0 where
+  pub one_to_one : (u v : Tag) → IsTagOf t u → IsTagOf t v → r u ≡ r v → u ≡ v
+  pub own_or_new : (u : Tag) → IsTagOf t u → (r u ≡ u) ⊎ ¬ IsTagOf t (r u)
 
 pub replaced : (r : Tag → Tag) (t : Tree) → IsReplacement r t
     → (f : Tag → Tag) × GoesBack f × ((u : Tag) → IsTagOf t u → f u ≡ r u) × ((issued : Issued) → tree_with f issued t ≡ tree_with r issued t)

@@ -1,13 +1,11 @@
--- Programs and their graphs with other tags. A renaming gives for each tag a tag. One that takes each tag back, as one
--- that swaps some tags with others does, is its own inverse.
+-- Programs and their graphs with other tags. A renaming gives for each tag a tag.
 --
--- GoesBack f       == f takes each tag back: a tag that is renamed twice is as it was
 -- body_with f b    == the block with its tags renamed
 -- tree_with f i t  == the tree with its tags renamed, and with the issued numbers i
 -- vertex_with f v  == the vertex with its tag renamed, if it has one
 -- kind_with f k    == the kind of edge with the tag of its loop or of its shared use renamed
 -- edge_with f e    == the edge with all its tags renamed
--- graph_with f g   == the graph with its tags renamed, where f takes each tag back: what is in g once f renamed it
+-- graph_with f g   == what each vertex and each edge of the graph is with its tags renamed
 use Rattle.std.specs.Prelude.{◌≡◌}
 use Rattle.hpr_terms.specs.declared.tag.Tag.{Tag}
 use Rattle.hpr_syntax.specs.Body.{Body, done, action, branch, loop}
@@ -19,9 +17,6 @@ use Rattle.hpr_graph.specs.declared.edge.Kind.{Kind}
 use Rattle.hpr_graph.specs.declared.edge.Kind.TheVariants.{Control, Independent, Carried, Order}
 use Rattle.hpr_graph.specs.declared.edge.Edge.{Edge}
 use Rattle.hpr_graph.specs.Graphs.{Graph}
-
-abbrev pub GoesBack : (Tag → Tag) → Type 0
-GoesBack f = (t : Tag) → f (f t) ≡ t
 
 abbrev pub body_with : (Tag → Tag) → Body → Body
 body_with f done = done
@@ -48,4 +43,7 @@ abbrev pub edge_with : (Tag → Tag) → Edge → Edge
 edge_with f e = record { to = vertex_with f e.to; from = vertex_with f e.from; kind = kind_with f e.kind }
 
 abbrev pub graph_with : (Tag → Tag) → Graph → Graph
-graph_with f g = record { vertex = λ v. g.vertex (vertex_with f v); edge = λ e. g.edge (edge_with f e) }
+graph_with f g = record {
+  vertex = λ w. (v : Vertex) × g.vertex v × (vertex_with f v ≡ w);
+  edge = λ d. (e : Edge) × g.edge e × (edge_with f e ≡ d);
+}

@@ -1,13 +1,13 @@
-use Rattle.hpr_rename.proofs.Graphs.{renamed_graph}
+use Rattle.hpr_rename.proofs.OneToOne.{renamed_graph}
 use Rattle.hpr_rename.proofs.Own.{renamed_run, renamed_instances}
 use Rattle.hpr_rename.proofs.Programs.{renamed_program}
 use Rattle.hpr_rename.proofs.laws.renaming.Goals as goal
 
 pub returns-clause-graph : goal.returns-clause-graph
-returns-clause-graph c = λ f issued t back. renamed_graph f back t issued
+returns-clause-graph c = λ f issued t one. renamed_graph f t one issued
 
 pub returns-clause-program : goal.returns-clause-program
-returns-clause-program c = λ f issued t back. renamed_program f back issued t
+returns-clause-program c = λ f issued t one. renamed_program f issued t one
 
 pub returns-clause-run : goal.returns-clause-run
 returns-clause-run c = renamed_run
