@@ -1,8 +1,9 @@
 //! The laws of meaning, whatever the contents mean: each function's contract is the law, for all values and
 //! faults, which are two types, and for all meanings over them.
-ghost use Rattle.std.specs.Prelude.{◌≡◌, ◌↔◌, ℕ, ◌+◌, Bool, List, [], ◌∷◌, Contains, Option, Some, Result};
+ghost use Rattle.std.specs.Prelude.{◌≡◌, ◌↔◌, ℕ, ◌+◌, Bool, List, [], ◌∷◌, map, Contains, Option, Some, Result};
 ghost use Rattle.std.specs.List.{AllByRecursion};
 ghost use Rattle.hpr_terms.specs.declared.tag.Tag.{Tag};
+ghost use Rattle.hpr_syntax.specs.Issued.{Issued};
 ghost use Rattle.hpr_syntax.specs.Tree.{Tree};
 ghost use Rattle.hpr_syntax.specs.Shape.{IsProgram};
 ghost use Rattle.hpr_syntax.specs.Contents.{used_names};
@@ -24,6 +25,7 @@ ghost use Rattle.hpr_meaning.specs.KeptLaw as own;
 ghost use Rattle.hpr_meaning.specs.UnionLaw.{KeepsEach};
 ghost use Rattle.hpr_meaning.specs.Any.Meaning.{HasLaws};
 ghost use Rattle.hpr_meaning.specs.Any.Run.{run};
+ghost use Rattle.hpr_meaning.specs.Any.Instances.{instances};
 ghost use Rattle.hpr_meaning.specs.Any.Kept.{Ends, Keeps};
 ghost use Rattle.hpr_meaning.specs.Any.KeptLaw.{Finished, DoesFinish, KeepsAll, programs_of, steps_in};
 ghost use Rattle.hpr_meaning.specs.Any.CoverLaw.{DoesEnd};
@@ -31,6 +33,8 @@ ghost use Rattle.hpr_meaning.specs.Any.TimeLaw.{IsTimely};
 ghost use Rattle.hpr_meaning.specs.Any.OrderLaw.{IsOrdered};
 ghost use Rattle.hpr_meaning.specs.Any.SliceLaw.{SharesSlice};
 ghost use Rattle.hpr_prune.specs.Any.KeptLaw.{IsKeptBy};
+ghost use Rattle.hpr_rename.specs.Renamed.{tree_with};
+ghost use Rattle.hpr_rename.specs.Any.RenamedRuns.{instance_with, outcome_with};
 ghost use Rattle.hpr_any.specs.MeaningOf.{MeaningOf, by_reads};
 ghost use Rattle.hpr_any.specs.Opaque.{Statement, defined_by, opaque, statement_content};
 ghost use Rattle.hpr_meaning.specs.Any.Standard.{own_outcome, standard};
@@ -54,6 +58,16 @@ pub fn runs<V, F>()
     ensures left { (m : MeaningOf V F) (p q : Tree) (slice : Numbered) (s : List ℕ → V) (n : ℕ) (f : List (List ℕ × V)) → IsProgram p
         → IsSliceOf p (graph_in slice) → IsPruned (graph_in slice).vertex p q → Ends (by_reads m) p s n f
         → IsKeptBy (by_reads m) p q s n f }
+{}
+
+/// The law of renaming: whatever a tree's tags are replaced by, from each state and with so many steps to spend it does
+/// what the tree does. Its run differs in the tag of a fault alone, and its instances are the same ones with these tags.
+/// What `hpr_rename::laws::renaming` says of its graph needs no meaning.
+pub fn renaming<V, F>()
+    ensures run { (m : MeaningOf V F) (f : Tag → Tag) (issued : Issued) (t : Tree) (s : List ℕ → V) (n : ℕ)
+        → run (by_reads m) (tree_with f issued t) s n ≡ outcome_with (by_reads m) f (run (by_reads m) t s n) }
+    ensures instances { (m : MeaningOf V F) (f : Tag → Tag) (issued : Issued) (t : Tree) (s : List ℕ → V) (n : ℕ)
+        → instances (by_reads m) (tree_with f issued t) s n ≡ map (instance_with (by_reads m) f) (instances (by_reads m) t s n) }
 {}
 
 /// The law of the merged end: where there is no conflict, a program with the merged graph ends on every state on which
