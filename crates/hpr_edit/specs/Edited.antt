@@ -12,6 +12,7 @@
 -- new_tag author issued   == the tag of the author's next part, if it has a next serial
 -- edited p command author == what the command makes of p, with this author of new parts
 use Rattle.std.specs.Prelude.{ℕ, ◌+◌, Bool, true, false, not, nat_le, Option, Some, None, is_some, if◌then◌else◌}
+use Rattle.hpr_terms.specs.declared.limits.TheConstants.{MAX_TAG_NUMBER}
 use Rattle.hpr_terms.specs.declared.tag.Tag.{Tag}
 use Rattle.hpr_syntax.specs.declared.tree.Stmt.{Stmt}
 use Rattle.hpr_syntax.specs.declared.rows.Content.{Content}
@@ -74,7 +75,7 @@ same_kind (Store x i e) (Store y j f) = true
 same_kind _ _ = false
 
 abbrev pub max_serial : ℕ
-max_serial = 4294967295
+max_serial = MAX_TAG_NUMBER
 
 abbrev pub next_tag : ℕ → Issued → Tag
 next_tag author issued = record { author = author; serial = issued_to author issued + 1 }

@@ -19,6 +19,7 @@ use crate::places::{is_place, place_of, stands_in, width};
 use hpr_syntax::{
     Block, Content, Issued, NoMemory, Program, ShapeError, Stmt, content_of, structure_of,
 };
+use hpr_terms::limits::MAX_TAG_NUMBER;
 use hpr_terms::{Name, Tag, copy_names};
 use std::alloc::Global;
 
@@ -251,7 +252,7 @@ pub(crate) fn next_tag(issued: &Issued, author: u32) -> Option<Tag>
     ensures serial { IfSome result (λ tag. 1 ≤ tag.serial) }
 {
     let serial = issued.get(author);
-    if serial == u32::MAX {
+    if serial == MAX_TAG_NUMBER {
         return None;
     }
     Some(Tag {

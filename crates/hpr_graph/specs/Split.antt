@@ -21,6 +21,7 @@
 -- AreIssuedAmong P issued == the serial of each part that has P is at least 1 and at most its author's issued number
 use Rattle.std.specs.Prelude.{◌≡◌, ℕ, ◌+◌, ◌<◌, ◌≤◌, ◌==◌, ◌↔◌, ◌⊎◌, if◌then◌else◌, List, [], ◌∷◌, map, length, Contains}
 use Rattle.std.specs.Ordering.{is_eq}
+use Rattle.hpr_terms.specs.declared.limits.TheConstants.{MAX_TAG_NUMBER}
 use Rattle.hpr_terms.specs.declared.tag.Tag.{Tag}
 use Rattle.hpr_syntax.specs.declared.rows.Content.{Content}
 use Rattle.hpr_syntax.specs.Issued.{Issued, issued_to, raised}
@@ -47,7 +48,7 @@ abbrev pub IsSplitOff : List Graph → Graph → Vertex → Type 0
 IsSplitOff hs g v = (t : Tag) × HasTag g t v × ((w : Vertex) × HasTag g t w × ¬ (w ≡ v)) × ¬ KeepsTag hs g t v
 
 abbrev pub max_serial : ℕ
-max_serial = 4294967295
+max_serial = MAX_TAG_NUMBER
 
 abbrev pub new_tag : ℕ → Tag
 new_tag n = record { author = 0; serial = n }

@@ -5,9 +5,7 @@ ghost use Rattle.hpr_script.specs.Stages as stages;
 use crate::word::ScriptWord;
 use hpr_edit::Place;
 use hpr_terms::Tag;
-
-/// Authors, serials and places in a block are below this.
-const NUMBERS: u64 = 4_294_967_296;
+use hpr_terms::limits::TAG_NUMBERS;
 
 /// What is to stand at a place.
 #[derive(Clone, Copy)]
@@ -102,7 +100,7 @@ pub enum Turn {
 fn is_count(number: u64) -> bool
     ensures { result ≡ stages.is_count number }
 {
-    number < NUMBERS
+    number < TAG_NUMBERS
 }
 
 fn is_serial(number: u64) -> bool

@@ -5,13 +5,14 @@ ghost use Rattle.hpr_graph.specs.Split.{max_serial, split_issued};
 
 use hpr_graph::NoMemory;
 use hpr_syntax::Issued;
+use hpr_terms::limits::MAX_TAG_NUMBER;
 use std::alloc::Global;
 
 /// Whether there are so many serials behind this one.
 pub(crate) fn has_serials(serial: u32, count: usize) -> bool
     ensures { IsTrue result ↔ (serial + count ≤ max_serial) }
 {
-    count <= (u32::MAX - serial) as usize
+    count <= (MAX_TAG_NUMBER - serial) as usize
 }
 
 /// The issued numbers after author 0 got so many more serials.

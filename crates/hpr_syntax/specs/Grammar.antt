@@ -24,8 +24,8 @@
 -- The untagged form is the same without header and without `tag ":"`. Its parts get the serials 1, 2, .. of one author in preorder.
 --
 -- Form                          == tagged, or untagged with the author of the parts
--- IsAuthor n                    == n is at most 4294967295
--- IsSerial n                    == n is 1 to 4294967295
+-- IsAuthor n                    == n is below TAG_NUMBERS
+-- IsSerial n                    == n is at least 1, and below TAG_NUMBERS
 -- IsLiteral n                   == n is at most 9223372036854775807
 -- On r s                        == what the rule s derives, the rule r derives too
 -- Joins r t op                  == the token t stands for the sign op between operands of the rule r, grouped to the left
@@ -44,7 +44,7 @@
 -- issued_of header body         == the greatest number that the header gives each author, or without a header the greatest of its tags
 -- SpellsProgram form ts tree    == the tokens spell the tree
 use Rattle.std.specs.Prelude.{◌≡◌, ℕ, suc, ◌+◌, ◌≤◌, ◌<◌, ◌^◌, List, [], ◌∷◌, ◌++◌, map, Option, Some, None}
-use Rattle.hpr_terms.specs.declared.limits.TheConstants.{MAX_BRACKETS, MAX_LEVELS, MAX_OPERATORS}
+use Rattle.hpr_terms.specs.declared.limits.TheConstants.{MAX_BRACKETS, MAX_LEVELS, MAX_OPERATORS, TAG_NUMBERS}
 use Rattle.hpr_terms.specs.declared.tag.Tag.{Tag}
 use Rattle.hpr_terms.specs.declared.expr.Expr.{Expr}
 use Rattle.hpr_terms.specs.declared.expr.Unary.{Unary}
@@ -69,10 +69,10 @@ pub data Form : Type 0 where
   untagged : (author : ℕ) → Form
 
 abbrev pub IsAuthor : ℕ → Type 0
-IsAuthor n = n < 2 ^ 32
+IsAuthor n = n < TAG_NUMBERS
 
 abbrev pub IsSerial : ℕ → Type 0
-IsSerial n = (1 ≤ n) × (n < 2 ^ 32)
+IsSerial n = (1 ≤ n) × (n < TAG_NUMBERS)
 
 abbrev pub IsLiteral : ℕ → Type 0
 IsLiteral n = n < 2 ^ 63

@@ -1,13 +1,14 @@
 -- What the names and the numbers of a tree have to be.
 --
 -- IsProperTerm x     == each literal of the expression is at most 9223372036854775807, and each name and each array in it is a variable
--- IsProperTag t      == author and serial are at most 4294967295
+-- IsProperTag t      == author and serial are below TAG_NUMBERS
 -- IsProperContent c  == the same of the expressions of what a part says, and the name that it defines is a variable
 -- IsProperBody body  == the same of all tags and expressions of a block, and each name that a part defines is a variable
--- IsProperPair p     == author and number are at most 4294967295
+-- IsProperPair p     == author and number are below TAG_NUMBERS
 -- IsProperIssued ps  == the pairs are issued numbers, and each author and each number is in range
 -- IsProper tree      == the same of all that stands in the tree; the authors of its issued numbers ascend, and the numbers are at least 1
 use Rattle.std.specs.Prelude.{ℕ, ◌<◌, ◌^◌, All}
+use Rattle.hpr_terms.specs.declared.limits.TheConstants.{TAG_NUMBERS}
 use Rattle.hpr_terms.specs.declared.tag.Tag.{Tag}
 use Rattle.hpr_terms.specs.Names.{IsVariable}
 use Rattle.hpr_terms.specs.Term.{Term, num, var, prefix, infix', element}
@@ -27,7 +28,7 @@ IsProperTerm (infix' op a b) = IsProperTerm a × IsProperTerm b
 IsProperTerm (element x i) = IsVariable x × IsProperTerm i
 
 abbrev pub IsProperTag : Tag → Type 0
-IsProperTag t = (t.author < 2 ^ 32) × (t.serial < 2 ^ 32)
+IsProperTag t = (t.author < TAG_NUMBERS) × (t.serial < TAG_NUMBERS)
 
 abbrev pub IsProperContent : Content → Type 0
 IsProperContent (Assign x e) = IsVariable x × IsProperTerm (term_of e)
@@ -45,7 +46,7 @@ IsProperBody (branch t e a b rest) = IsProperTag t × IsProperTerm (term_of e) �
 IsProperBody (loop t e b rest) = IsProperTag t × IsProperTerm (term_of e) × IsProperBody b × IsProperBody rest
 
 abbrev pub IsProperPair : ℕ × ℕ → Type 0
-IsProperPair p = (p.0 < 2 ^ 32) × (p.1 < 2 ^ 32)
+IsProperPair p = (p.0 < TAG_NUMBERS) × (p.1 < TAG_NUMBERS)
 
 abbrev pub IsProperIssued : Issued → Type 0
 IsProperIssued issued = IsIssued issued × All IsProperPair issued

@@ -10,6 +10,12 @@ pub const MAX_FILE: usize = 4_194_304;
 /// How many bytes a name has at most.
 pub const MAX_NAME: usize = 64;
 
+/// How many numbers there are for authors, and for the serials of each: an author or a serial is below this.
+pub const TAG_NUMBERS: u64 = 4_294_967_296;
+
+/// The greatest author, and the greatest serial.
+pub const MAX_TAG_NUMBER: u32 = (TAG_NUMBERS - 1) as u32;
+
 /// How many parts a program has at most.
 pub const MAX_PARTS: usize = 4000;
 

@@ -12,17 +12,15 @@ use crate::found::Found;
 use crate::state::{Place, Purpose};
 use hpr_expressions::Reader;
 use hpr_scan::{Fault, TokenMachine};
+use hpr_terms::limits::TAG_NUMBERS;
 use hpr_terms::{Expr, Keyword, Name, Sign, Tag, Token};
 use std::alloc::Global;
-
-/// Authors and serials are below this.
-const NUMBERS: u64 = 4_294_967_296;
 
 /// Whether the number can be an author.
 pub fn is_author(number: u64) -> bool
     ensures { result ≡ nat_lt number (2 ^ 32) }
 {
-    number < NUMBERS
+    number < TAG_NUMBERS
 }
 
 /// Whether the number can be a serial.

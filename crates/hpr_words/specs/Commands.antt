@@ -38,7 +38,7 @@
 use Rattle.std.specs.Prelude.{ℕ, ◌-◌, Bool, true, false, not, List, [], ◌∷◌, ◌++◌, map, find, Option, Some, None, is_some, length, nat_le, option_to_list, option_and_then, option_map, if◌then◌else◌, codes}
 use Rattle.std.specs.Str.{bytes_eq}
 use Rattle.std.specs.Str.Parse.{digits_value, without_leading_plus}
-use Rattle.hpr_terms.specs.declared.limits.TheConstants.{DEFAULT_STEPS, DEFAULT_TRIES, MAX_PARTS, MAX_STEPS, MAX_TRIES, MAX_VARIANTS}
+use Rattle.hpr_terms.specs.declared.limits.TheConstants.{DEFAULT_STEPS, DEFAULT_TRIES, MAX_PARTS, MAX_STEPS, MAX_TAG_NUMBER, MAX_TRIES, MAX_VARIANTS}
 use Rattle.clap.specs.Simple.{on_top}
 use Rattle.clap.specs.ValueTests.{accepts}
 use Rattle.clap.specs.Words.{App, Rule, new_app, new_rule}
@@ -69,7 +69,7 @@ abbrev pub steps : NumberOption
 steps = record { id = codes "steps"; most = MAX_STEPS; default = Some DEFAULT_STEPS }
 
 abbrev pub author : NumberOption
-author = record { id = codes "author"; most = 4294967295; default = None }
+author = record { id = codes "author"; most = MAX_TAG_NUMBER; default = None }
 
 -- ---- what each command asks for
 

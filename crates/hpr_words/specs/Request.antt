@@ -17,7 +17,7 @@
 --                            its parts, if it has some, are from 1 to two below the limit of a program, its points, if it asks for some, are at least one,
 --                            and its variants, if it lists them, are from three to the limit of variants
 use Rattle.std.specs.Prelude.{◌≤◌, ◌<◌, ◌+◌, ◌^◌, ℕ, Bool, List, length}
-use Rattle.hpr_terms.specs.declared.limits.TheConstants.{MAX_PARTS, MAX_STEPS, MAX_TRIES, MAX_VARIANTS}
+use Rattle.hpr_terms.specs.declared.limits.TheConstants.{MAX_PARTS, MAX_STEPS, MAX_TAG_NUMBER, MAX_TRIES, MAX_VARIANTS}
 
 abbrev pub Text : Type 0
 Text = List ℕ
@@ -41,7 +41,7 @@ IsInRange (integrate_many base variants tries) = (3 ≤ length variants) × (len
 IsInRange (run file states steps trace) = (1 ≤ steps) × (steps ≤ MAX_STEPS)
 IsInRange (slice file points program) = 1 ≤ length points
 IsInRange (trial base a b states steps) = (1 ≤ steps) × (steps ≤ MAX_STEPS)
-IsInRange (edit file script author) = (1 ≤ author) × (author ≤ 4294967295)
-IsInRange (tag file author) = (1 ≤ author) × (author ≤ 4294967295)
+IsInRange (edit file script author) = (1 ≤ author) × (author ≤ MAX_TAG_NUMBER)
+IsInRange (tag file author) = (1 ≤ author) × (author ≤ MAX_TAG_NUMBER)
 IsInRange (sample seed parts) = (seed < 2 ^ 64) × (1 ≤ parts) × (parts + 2 ≤ MAX_PARTS)
 IsInRange _ = Unit {0}

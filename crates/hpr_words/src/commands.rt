@@ -8,11 +8,12 @@ ghost use Rattle.clap.specs.Words.{found_of, rows_of};
 use crate::arguments::Argument;
 use crate::asked::{Asked, WordsError};
 use crate::found::{
-    MOST_AUTHORS, author_from, flag_from, list_from, name_from, number_from, steps_from,
-    word_number_from,
+    author_from, flag_from, list_from, name_from, number_from, steps_from, word_number_from,
 };
 use clap::ArgMatches;
-use hpr_terms::limits::{DEFAULT_TRIES, MAX_PARTS, MAX_STEPS, MAX_TRIES, MAX_VARIANTS};
+use hpr_terms::limits::{
+    DEFAULT_TRIES, MAX_PARTS, MAX_STEPS, MAX_TAG_NUMBER, MAX_TRIES, MAX_VARIANTS,
+};
 use std::alloc::Global;
 
 const BASE: Argument = Argument::Word("base");
@@ -60,7 +61,7 @@ const STEPS: Argument = Argument::Number {
 
 const AUTHOR: Argument = Argument::Number {
     name: "author",
-    most: MOST_AUTHORS,
+    most: MAX_TAG_NUMBER,
     is_needed: true,
 };
 

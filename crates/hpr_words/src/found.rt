@@ -8,11 +8,8 @@ ghost use Rattle.clap.specs.Words.{first_of, found_of, rows_of};
 
 use crate::asked::WordsError;
 use clap::ArgMatches;
-use hpr_terms::limits::{DEFAULT_STEPS, MAX_STEPS};
+use hpr_terms::limits::{DEFAULT_STEPS, MAX_STEPS, MAX_TAG_NUMBER};
 use std::alloc::{AllocError, Global};
-
-/// The largest number of an author.
-pub const MOST_AUTHORS: u32 = 4_294_967_295;
 
 /// The word of a positional of one word.
 pub fn name_from<'a>(matches: &ArgMatches<'a>, id: &str) -> Result<&'a str, WordsError>
@@ -66,7 +63,7 @@ pub fn author_from(matches: &ArgMatches<'_>) -> Result<u32, WordsError>
     ensures { result_ok result ≡ number_in author (rows_of (found_of matches.now)) }
 {
     let text = name_from(matches, "author")?;
-    let number = number_of(text, MOST_AUTHORS).ok_or(WordsError::Refused)?;
+    let number = number_of(text, MAX_TAG_NUMBER).ok_or(WordsError::Refused)?;
     u32::try_from(number).map_err(|_| WordsError::Refused)
 }
 

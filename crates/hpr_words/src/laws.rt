@@ -1,7 +1,7 @@
 //! Laws of the words: each function's contract is the law, for all words.
 ghost use Rattle.std.specs.Prelude.{◌≡◌, ◌≤◌, ◌<◌, ℕ, ◌-◌, length, true, false, List, [], ◌∷◌, ◌++◌, Some, None, codes};
 ghost use Rattle.std.specs.List.{list_all};
-ghost use Rattle.hpr_terms.specs.declared.limits.TheConstants.{DEFAULT_STEPS, DEFAULT_TRIES, MAX_PARTS, MAX_STEPS, MAX_TRIES, MAX_VARIANTS};
+ghost use Rattle.hpr_terms.specs.declared.limits.TheConstants.{DEFAULT_STEPS, DEFAULT_TRIES, MAX_PARTS, MAX_STEPS, MAX_TAG_NUMBER, MAX_TRIES, MAX_VARIANTS};
 ghost use Rattle.hpr_words.specs.Request.{Request, Text, affected, edit, graph, integrate, integrate_many, run, sample, slice, tag, trial, verify};
 ghost use Rattle.hpr_words.specs.Taken.{taken};
 ghost use Rattle.hpr_words.specs.Commands.{number_within};
@@ -152,21 +152,21 @@ pub fn trial_words_are_plain()
 /// The words of `edit` are plain, with the option in each of its places.
 pub fn edit_words_are_plain()
     ensures first { (file script n : Text) (author : ℕ) → is_name file ≡ true → is_name script ≡ true
-        → number 4294967295 n ≡ Some author
+        → number MAX_TAG_NUMBER n ≡ Some author
         → plain (codes "edit" ∷ codes "--author" ∷ n ∷ file ∷ script ∷ []) ≡ Some (edit file script author) }
     ensures second { (file script n : Text) (author : ℕ) → is_name file ≡ true → is_name script ≡ true
-        → number 4294967295 n ≡ Some author
+        → number MAX_TAG_NUMBER n ≡ Some author
         → plain (codes "edit" ∷ file ∷ codes "--author" ∷ n ∷ script ∷ []) ≡ Some (edit file script author) }
     ensures last { (file script n : Text) (author : ℕ) → is_name file ≡ true → is_name script ≡ true
-        → number 4294967295 n ≡ Some author
+        → number MAX_TAG_NUMBER n ≡ Some author
         → plain (codes "edit" ∷ file ∷ script ∷ codes "--author" ∷ n ∷ []) ≡ Some (edit file script author) }
 {}
 
 /// The words of `tag` are plain, with the option in each of its places.
 pub fn tag_words_are_plain()
-    ensures first { (file n : Text) (author : ℕ) → is_name file ≡ true → number 4294967295 n ≡ Some author
+    ensures first { (file n : Text) (author : ℕ) → is_name file ≡ true → number MAX_TAG_NUMBER n ≡ Some author
         → plain (codes "tag" ∷ codes "--author" ∷ n ∷ file ∷ []) ≡ Some (tag file author) }
-    ensures last { (file n : Text) (author : ℕ) → is_name file ≡ true → number 4294967295 n ≡ Some author
+    ensures last { (file n : Text) (author : ℕ) → is_name file ≡ true → number MAX_TAG_NUMBER n ≡ Some author
         → plain (codes "tag" ∷ file ∷ codes "--author" ∷ n ∷ []) ≡ Some (tag file author) }
 {}
 
