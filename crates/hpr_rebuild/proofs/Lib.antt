@@ -7,6 +7,7 @@ pub mod First
 mod Tried
 mod Fitting
 pub mod Regular
+mod Refused
 pub mod Sames
 mod Amongst
 pub mod Unchanged

@@ -197,7 +197,7 @@ module _ (t : Tree) (prog : IsProgram t) where
     reached = reached_more G Entry v true (inl (refl, refl, top)) ([], refl);
   }
 
-  possible : (v : Vertex) → IsVertexOf t v → v ≢ Entry → IsPossible G v
+  pub possible : (v : Vertex) → IsVertexOf t v → v ≢ Entry → IsPossible G v
   possible Entry h ne = absurd (ne refl)
   possible (Init x) h ne = end_possible (Init x) h ne (λ w c e. absurd cc)
   possible (Part v c) h ne = part_possible v c h

@@ -1,5 +1,5 @@
 -- What a search of the orders of items says of the arrangements.
-use Rattle.std.proofs.Common.{◌≡◌, ℕ, ◌<◌, Bool, Some, List, [], ◌∷◌, ◌++◌, map, length, take, slice_get, Contains, get_or, Result, IfOk, refl, sym, ap, ap₂, ◌∙◌, subst, arith}
+use Rattle.std.proofs.Common.{◌≡◌, ℕ, ◌<◌, ◌≤◌, Bool, Some, List, [], ◌∷◌, ◌++◌, map, length, take, slice_get, Contains, get_or, Result, IfOk, refl, sym, ap, ap₂, ◌∙◌, subst, arith}
 use Rattle.std.proofs.lemmas.List.{map-append, length-map, take-map}
 use Rattle.std.proofs.lemmas.List.Elements.{Contains-append_left, Contains-append_right}
 use Rattle.std.proofs.lemmas.Result.{IfOk-weaker}
@@ -14,7 +14,7 @@ use Rattle.hpr_graph.specs.Numbered.{Numbered, graph_in}
 use Rattle.hpr_graph.specs.Rank.{parts_of}
 use Rattle.hpr_graph.specs.Arrangements.{IsArrangement, AreArrangements}
 use Rattle.hpr_graph.specs.Answer.{printed, spent, Fits, NoneFits, IsFirstFit, IsFound}
-use Rattle.hpr_graph.specs.Leaves.{AreLeavesSpent}
+use Rattle.hpr_graph.specs.Leaves.{AreLeaves, AreLeavesSpent}
 use Rattle.hpr_forest.specs.Choices.{IsWhole}
 use Rattle.hpr_forest.specs.Lists.{LexLess, IsListOf}
 use Rattle.hpr_forest.specs.Cuts as tree
@@ -24,6 +24,7 @@ use Rattle.hpr_order.specs.Arranging.{IsPreorderOf}
 use Rattle.hpr_region.specs.declared.plan.Plan.{Plan}
 use Rattle.hpr_region.specs.Plans.{AreListed, IsPlanOf, clash_in, may_follow, numbers_at, size_of, vertex_at, vertex_by, vertices_at}
 use Rattle.hpr_rebuild.specs.Candidates.{FitsInOrder}
+use Rattle.hpr_rebuild.specs.Tries.{AreAllWithin, IsFoundWithin}
 use Rattle.hpr_rebuild.proofs.LeafList.{AreBelow, follows_below, are_leaves, spent_on_leaves, taken}
 
 -- the same fact, with the result first
@@ -53,6 +54,9 @@ pub only_too : (g h : Numbered) (issued issued' : Issued) (plan plan' : Plan) �
 only_too g h issued issued' plan plan' same numbers_ stays x m only =
     subst (λ (y : Numbered). IsOnly y issued plan x m) (sym same)
     (subst (λ (i : Issued). IsOnly h i plan x m) (sym numbers_) (subst (λ (q : Plan). IsOnly h issued' q x m) (sym stays) only))
+
+pub parts_too : (g h : Numbered) (plan plan' : Plan) → g ≡ h → plan ≡ plan' → (x : List ℕ) (m : Tree) → parts_of m ≡ vertices_at h plan' x → parts_of m ≡ vertices_at g plan x
+parts_too g h plan plan' same stays x m parts = parts ∙ sym (ap₂ (λ (y : Numbered) (q : Plan). vertices_at y q x) same stays)
 
 -- where a function's values are split at one, so is the list
 map_split : {X Y : Type 0} (f : X → Y) (ps : List X) (ys bs : List Y) (b : Y) → map f ps ≡ ys ++ b ∷ bs
@@ -175,14 +179,37 @@ module _ (g : Numbered) (rank : List Vertex) (plan : Plan) (is : IsPlanOf g rank
         none_fit orders ps same all.sound (λ q h. (are.0 q).0 h)
         (subst (λ (xs : List (List ℕ)). tree.AllFail can fits n xs) (sym all_whole) (finds tree.never (none_within clash)))
 
+    -- the leaves of the orders are those of the programs
+    these : AreLeaves (graph_in g) ps (map (vertices_at g plan) (tree.leaves_of can n (clash_in plan)))
+    these = are_leaves (graph_in g) (vertex_at g plan) can n apart (clash_in plan) is.clashes is.no_clash is.free live orders all ps same
+
     pub leaves_spent : (tries : ℕ) → tree.FindsSpent can fits n (clash_in plan) tries → AreLeavesSpent (graph_in g) rank issued tries
     leaves_spent tries finds =
         let clash = clash_in plan in
         let name = vertex_at g plan in
-        let these = are_leaves (graph_in g) name can n apart clash is.clashes is.no_clash is.free live orders all ps same in
         let (more, misses) = spent_on_leaves (graph_in g) name can n apart clash is.clashes is.no_clash is.free live orders all ps same fits tries
         (λ l p parts has fit. (p, (are.0 p).0 has, parts, fit)) (finds clash (λ q c e. e)) in
         (ps, map (map name) (tree.leaves_of can n clash), are, these, more, misses)
+
+    abbrev leaves : List (List ℕ)
+    leaves = tree.leaves_of can n (clash_in plan)
+
+    pub found_within : (tries : ℕ) (x : List ℕ) (m : Tree) → parts_of m ≡ vertices_at g plan x → tree.IsAmongFirst can n (clash_in plan) tries x
+        → IsFoundWithin (graph_in g) rank issued tries m
+    found_within tries x m parts among =
+        let names = vertices_at g plan in
+        let (i, at) = place_of (take tries leaves) x among in
+        let named = subst (λ (r : List (List Vertex)). slice_get r i ≡ Some (names x)) (sym (take-map names tries leaves)) (get_in_map names (take tries leaves) i x at) in (
+          ps,
+          map names leaves,
+          are,
+          these,
+          subst (λ (vs : List Vertex). Contains (take tries (map names leaves)) vs) (sym parts) (contains_at (take tries (map names leaves)) i (names x) named),
+        )
+
+    pub all_within : (tries : ℕ) → tree.AreAtMost can n (clash_in plan) tries → AreAllWithin (graph_in g) rank issued tries
+    all_within tries few =
+        (ps, map (vertices_at g plan) leaves, are, these, subst (λ k. k ≤ tries) (sym (length-map leaves (vertices_at g plan))) few)
 
     pub tries_spent : (tries : ℕ) → tree.FindsSpent can fits n (clash_in plan) tries → IsFound {X = Conflict} (graph_in g) rank issued tries spent
     tries_spent tries finds =

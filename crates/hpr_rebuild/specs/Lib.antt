@@ -1,3 +1,4 @@
 pub mod Settled
 pub mod Parts
 pub mod Candidates
+pub mod Tries

@@ -1,14 +1,18 @@
 //! The first arrangement that has the graph.
 ghost use Rattle.std.specs.Prelude.{◌≡◌, ◌≢◌, ◌≤◌, List, [], IfOk, IsErrOf};
+ghost use Rattle.hpr_syntax.specs.Issued.{Issued};
+ghost use Rattle.hpr_syntax.specs.Tree.{Tree};
 ghost use Rattle.hpr_graph.specs.Numbered.{graph_in};
 ghost use Rattle.hpr_graph.specs.declared.conflict.Conflict.{Conflict};
 ghost use Rattle.hpr_graph.specs.declared.vertex.Vertex.{Vertex};
 ghost use Rattle.hpr_graph.specs.Answer.{printed, spent, HasNoProgram, IsFound};
+ghost use Rattle.hpr_graph.specs.Arrangements.{IsArrangement};
 ghost use Rattle.hpr_graph.specs.Leaves.{AreLeavesSpent};
 ghost use Rattle.hpr_order.specs.Regions.{AreRegionsOf};
 ghost use Rattle.hpr_order.specs.Arranging.{IsRanking, AreIssued};
 ghost use Rattle.hpr_region.specs.Plans.{IsPlanOf};
 ghost use Rattle.hpr_rebuild.specs.Candidates.{AreCandidates};
+ghost use Rattle.hpr_rebuild.specs.Tries.{AreAllWithin, IsFoundWithin};
 
 use crate::candidates::Candidates;
 use crate::error::RebuildError;
@@ -35,6 +39,8 @@ fn error_of(error: &OrderError) -> RebuildError
 fn regions_of(alloc: Global, graph: &Graph) -> Result<RegionTree, RebuildError>
     ensures ok { IfOk result (λ rs. AreRegionsOf graph.now rs) }
     ensures no_program { IsErrOf result RebuildError.NoProgram → HasNoProgram (graph_in graph.now) }
+    ensures no_arrangement { IsErrOf result RebuildError.NoProgram → (issued : Issued) (p : Tree)
+        → ¬ IsArrangement (graph_in graph.now) issued p }
     ensures never_spent { ¬ IsErrOf result RebuildError.Spent }
 {
     match regions(alloc, graph) {
@@ -49,7 +55,11 @@ fn first_candidate(mut candidates: Candidates, tries: u64) -> Result<Program, Re
     requires first { candidates.search.placed ≡ [] }
     ensures found { IfOk result (λ p. (rank : List Vertex) → IsPlanOf candidates.entry.graph.now rank candidates.entry.search.plan
         → IsFound {X = Conflict} (graph_in candidates.entry.graph.now) rank candidates.entry.issued.now tries (printed p)) }
+    ensures found_within { IfOk result (λ p. (rank : List Vertex) → IsPlanOf candidates.entry.graph.now rank candidates.entry.search.plan
+        → IsFoundWithin (graph_in candidates.entry.graph.now) rank candidates.entry.issued.now tries p) }
     ensures no_program { IsErrOf result RebuildError.NoProgram → HasNoProgram (graph_in candidates.entry.graph.now) }
+    ensures all_within { IsErrOf result RebuildError.NoProgram → (rank : List Vertex) → IsPlanOf candidates.entry.graph.now rank candidates.entry.search.plan
+        → AreAllWithin (graph_in candidates.entry.graph.now) rank candidates.entry.issued.now tries }
     ensures spent { IsErrOf result RebuildError.Spent → (rank : List Vertex) → IsPlanOf candidates.entry.graph.now rank candidates.entry.search.plan
         → IsFound {X = Conflict} (graph_in candidates.entry.graph.now) rank candidates.entry.issued.now tries spent }
     ensures leaves { IsErrOf result RebuildError.Spent → (rank : List Vertex) → IsPlanOf candidates.entry.graph.now rank candidates.entry.search.plan
@@ -78,6 +88,9 @@ fn first_candidate(mut candidates: Candidates, tries: u64) -> Result<Program, Re
 /// a preorder cut behind its first part that clashes with those before it, and many arrangements may
 /// share one. `Memory` is want of memory.
 ///
+/// No more than `tries` leaves are looked at: a program that is found is one of the first that many, and where
+/// no program has the graph there are no more.
+///
 /// A try takes the graph of one program, which isn't kept. So memory doesn't grow with the tries.
 pub fn rebuild(
     alloc: Global,
@@ -90,7 +103,10 @@ pub fn rebuild(
     requires issued { AreIssued (graph_in graph.now) issued.now }
     requires tries { 1 ≤ tries }
     ensures found { IfOk result (λ p. IsFound {X = Conflict} (graph_in graph.now) rank.now issued.now tries (printed p)) }
+    ensures found_within { IfOk result (IsFoundWithin (graph_in graph.now) rank.now issued.now tries) }
     ensures no_program { IsErrOf result RebuildError.NoProgram → HasNoProgram (graph_in graph.now) }
+    ensures all_within { IsErrOf result RebuildError.NoProgram
+        → AreAllWithin (graph_in graph.now) rank.now issued.now tries }
     ensures spent { IsErrOf result RebuildError.Spent
         → IsFound {X = Conflict} (graph_in graph.now) rank.now issued.now tries spent }
     ensures leaves { IsErrOf result RebuildError.Spent → AreLeavesSpent (graph_in graph.now) rank.now issued.now tries }

@@ -5,7 +5,7 @@ use Rattle.hpr_region.specs.declared.plan.Plan.{Plan}
 use Rattle.hpr_region.specs.Plans.{clash_in, may_follow, size_of}
 use Rattle.hpr_rebuild.specs.Candidates.{FitsInOrder}
 use Rattle.hpr_rebuild.proofs.Member.{none_has}
-use Rattle.hpr_rebuild.proofs.Searched.{are, first_whole, only_too, found, none_found, tries_spent, leaves_spent}
+use Rattle.hpr_rebuild.proofs.Searched.{are, all_within, first_whole, found, found_within, leaves_spent, none_found, only_too, parts_too, tries_spent}
 use Rattle.hpr_rebuild.proofs.search.first_candidate.Goals as goal
 
 pub program-requires-clause-whole : goal.program-requires-clause-whole
@@ -31,6 +31,19 @@ returns-in-Ok-First-clause-found c = λ rank is.
     (only_too s.graph.now t.graph.now s.issued.now t.issued.now plan t.search.plan same numbers_ stays placed m c.in_ok-program-in-Ok-First.ensures.only)
     (c.in-Ok-First.ensures.first c.in-Ok-First.field-0-is)
 
+pub returns-in-Ok-First-clause-found_within : goal.returns-in-Ok-First-clause-found_within
+returns-in-Ok-First-clause-found_within c = λ rank is.
+    let s = c.args.candidates in
+    let t = c.first_fitting.new.search in
+    let plan = s.search.plan in
+    let listed = is.listed s.issued.now c.requires.sound.proper c.requires.sound.allowed in
+    let placed = t.search.placed in
+    let m = c.in_ok-program-in-Ok-First.field-0 in
+    let (same, _, numbers_, stays) = c.in-Ok-First.ensures.same in
+    found_within s.graph.now rank plan is s.issued.now listed c.args.tries placed m
+    (parts_too s.graph.now t.graph.now plan t.search.plan same stays placed m c.in_ok-program-in-Ok-First.ensures.parts)
+    (c.in-Ok-First.ensures.first_within c.in-Ok-First.field-0-is)
+
 pub returns-in-Ok-NoneFits-clause-no_program : goal.returns-in-Ok-NoneFits-clause-no_program
 returns-in-Ok-NoneFits-clause-no_program c = λ _.
     let s = c.args.candidates in
@@ -51,3 +64,9 @@ returns-in-Ok-Spent-clause-leaves c = λ _ rank is.
     let s = c.args.candidates in
     let listed = is.listed s.issued.now c.requires.sound.proper c.requires.sound.allowed in
     leaves_spent s.graph.now rank s.search.plan is s.issued.now listed c.args.tries (c.in-Ok-Spent.ensures.spent c.in-Ok-Spent.field-0-is)
+
+pub returns-in-Ok-NoneFits-clause-all_within : goal.returns-in-Ok-NoneFits-clause-all_within
+returns-in-Ok-NoneFits-clause-all_within c = λ _ rank is.
+    let s = c.args.candidates in
+    let listed = is.listed s.issued.now c.requires.sound.proper c.requires.sound.allowed in
+    all_within s.graph.now rank s.search.plan is s.issued.now listed c.args.tries (c.in-Ok-NoneFits.ensures.none_within c.in-Ok-NoneFits.field-0-is)

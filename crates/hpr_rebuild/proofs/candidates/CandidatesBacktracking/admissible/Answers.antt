@@ -9,6 +9,11 @@ clashes : (b : Bool) → (b ≡ false → ⊥) → b ≡ true
 clashes true no_ = refl
 clashes false no_ = absurd (no_ refl)
 
+pub returns-clause-only : goal.returns-clause-only
+returns-clause-only c = λ refused.
+    let s = c.args.self.now in
+    clashes (clash_in s.search.plan s.search.placed c.args.child) (λ free. (let yes_ : c.admits.result ≡ true = c.admits.ensures.1 free in absurd cc))
+
 pub returns-clause-law : goal.returns-clause-law
 returns-clause-law c = λ refused l rest whole is (p, arrangement, parts, fit).
     let s = c.args.self.now in
