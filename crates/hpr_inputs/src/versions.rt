@@ -1,5 +1,5 @@
 //! The programs of a base and its two variants.
-ghost use Rattle.std.specs.Prelude.{IsTrue};
+ghost use Rattle.std.specs.Prelude.{◌≡◌, ℕ, List, IsTrue};
 ghost use Rattle.hpr_inputs.specs.ReadsFiles.{ReadsFiles};
 
 use crate::answer::Stop;
@@ -27,7 +27,10 @@ pub fn read_versions<S: Shelf>(
     requires base { IsTrue (S.serves shelf.old base.now) }
     requires a { IsTrue (S.serves shelf.old a.now) }
     requires b { IsTrue (S.serves shelf.old b.now) }
-    ensures { ReadsFiles (S.files shelf.old) base.now a.now b.now (S.faults shelf.old) (S.faults shelf.new) result }
+    ensures reads { ReadsFiles (S.files shelf.old) base.now a.now b.now (S.faults shelf.old)
+        (S.faults shelf.new) result }
+    ensures same_files { S.files shelf.new ≡ S.files shelf.old }
+    ensures same_names { (n : List ℕ) → S.serves shelf.new n ≡ S.serves shelf.old n }
 {
     let base_program = read_program(alloc, base, shelf)?;
     let a_program = read_program(alloc, a, shelf)?;
