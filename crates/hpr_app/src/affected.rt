@@ -1,5 +1,5 @@
 //! The command `affected`.
-ghost use Rattle.std.specs.Prelude.{IfOk, IsTrue};
+ghost use Rattle.std.specs.Prelude.{◌≡◌, ℕ, List, IfOk, IsTrue};
 ghost use Rattle.hpr_graph.specs.Numbered.{graph_in};
 ghost use Rattle.hpr_graph.specs.Points.{IsAffected};
 ghost use Rattle.hpr_graph.specs.Whole.{IsWhole};
@@ -27,8 +27,10 @@ pub fn affected_files<S: Shelf>(
 ) -> Result<Report, Stop>
     requires base { IsTrue (S.serves shelf.old base.now) }
     requires a { IsTrue (S.serves shelf.old a.now) }
-    ensures { Answers (affected base.now a.now)
+    ensures answers { Answers (affected base.now a.now)
         (S.files shelf.old) (S.faults shelf.old) (S.faults shelf.new) result }
+    ensures same_files { S.files shelf.new ≡ S.files shelf.old }
+    ensures same_names { (n : List ℕ) → S.serves shelf.new n ≡ S.serves shelf.old n }
 {
     let base_program = read_program(alloc, base, shelf)?;
     let a_program = read_program(alloc, a, shelf)?;

@@ -1,5 +1,5 @@
 //! The commands: each has its own decision.
-ghost use Rattle.std.specs.Prelude.{All, IsTrue};
+ghost use Rattle.std.specs.Prelude.{◌≡◌, ℕ, List, All, IsTrue};
 ghost use Rattle.hpr_words.specs.Asked.{request};
 ghost use Rattle.hpr_words.specs.Request.{IsInRange};
 ghost use Rattle.hpr_decisions.specs.Answered.{Answers};
@@ -25,8 +25,10 @@ use std::alloc::Global;
 pub fn decide<S: Shelf>(alloc: Global, asked: Asked<'_>, shelf: &mut S) -> Result<Report, Stop>
     requires serves { All (λ name. IsTrue (S.serves shelf.old name)) (files_of (request asked)) }
     requires in_range { IsInRange (request asked) }
-    ensures { Answers (request asked.entry)
+    ensures answers { Answers (request asked.entry)
         (S.files shelf.old) (S.faults shelf.old) (S.faults shelf.new) result }
+    ensures same_files { S.files shelf.new ≡ S.files shelf.old }
+    ensures same_names { (n : List ℕ) → S.serves shelf.new n ≡ S.serves shelf.old n }
 {
     match asked {
         Asked::Integrate { base, a, b, tries } => {

@@ -1,5 +1,5 @@
 //! The command `edit`.
-ghost use Rattle.std.specs.Prelude.{◌≡◌, ◌≤◌, IsTrue};
+ghost use Rattle.std.specs.Prelude.{◌≡◌, ◌≤◌, ℕ, List, IsTrue};
 ghost use Rattle.hpr_words.specs.Request.{edit};
 ghost use Rattle.hpr_edit.specs.Applied.{applied};
 ghost use Rattle.hpr_decisions.specs.Answered.{Answers};
@@ -27,8 +27,10 @@ pub fn edit_file<S: Shelf>(
     requires file { IsTrue (S.serves shelf.old file.now) }
     requires script { IsTrue (S.serves shelf.old script.now) }
     requires author { 1 ≤ author }
-    ensures { Answers (edit file.now script.now author)
+    ensures answers { Answers (edit file.now script.now author)
         (S.files shelf.old) (S.faults shelf.old) (S.faults shelf.new) result }
+    ensures same_files { S.files shelf.new ≡ S.files shelf.old }
+    ensures same_names { (n : List ℕ) → S.serves shelf.new n ≡ S.serves shelf.old n }
 {
     let program = read_program(alloc, file, shelf)?;
     let commands = read_commands(alloc, script, shelf)?;

@@ -1,5 +1,5 @@
 //! The command `graph`.
-ghost use Rattle.std.specs.Prelude.{IsTrue, IfOk};
+ghost use Rattle.std.specs.Prelude.{◌≡◌, ℕ, List, IsTrue, IfOk};
 ghost use Rattle.hpr_graph.specs.Numbered.{graph_in};
 ghost use Rattle.hpr_words.specs.Request.{graph};
 ghost use Rattle.hpr_decisions.specs.Answered.{Answers};
@@ -22,8 +22,10 @@ pub fn graph_file<S: Shelf>(
     shelf: &mut S,
 ) -> Result<Report, Stop>
     requires { IsTrue (S.serves shelf.old file.now) }
-    ensures { Answers (graph file.now json)
+    ensures answers { Answers (graph file.now json)
         (S.files shelf.old) (S.faults shelf.old) (S.faults shelf.new) result }
+    ensures same_files { S.files shelf.new ≡ S.files shelf.old }
+    ensures same_names { (n : List ℕ) → S.serves shelf.new n ≡ S.serves shelf.old n }
 {
     let program = read_program(alloc, file, shelf)?;
     show_graph(alloc, file, &program, json)

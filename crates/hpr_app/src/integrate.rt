@@ -1,5 +1,5 @@
 //! The command `integrate`.
-ghost use Rattle.std.specs.Prelude.{◌≡◌, ◌≤◌, [], ◌∷◌, ◌++◌, IfOk, IsTrue, codes, string_bytes};
+ghost use Rattle.std.specs.Prelude.{◌≡◌, ◌≤◌, [], ◌∷◌, ◌++◌, ℕ, List, IfOk, IsTrue, codes, string_bytes};
 ghost use Rattle.std.specs.Fmt.{decimal};
 ghost use Rattle.hpr_report.specs.ConflictsText.{conflicts_text};
 ghost use Rattle.hpr_inputs.specs.Reads.{IfTold, IsReached};
@@ -33,9 +33,11 @@ pub fn integrate_files<S: Shelf>(
     requires a { IsTrue (S.serves shelf.old a.now) }
     requires b { IsTrue (S.serves shelf.old b.now) }
     requires tries { 1 ≤ tries }
-    ensures { Decides (λ r. IfTold (S.files shelf.old) (λ fs. IntegrateOutcome fs base.now a.now b.now tries r))
+    ensures answers { Decides (λ r. IfTold (S.files shelf.old) (λ fs. IntegrateOutcome fs base.now a.now b.now tries r))
         (IsReached (S.files shelf.old) (base.now ∷ a.now ∷ b.now ∷ [])) (S.faults shelf.old)
         (S.faults shelf.new) result }
+    ensures same_files { S.files shelf.new ≡ S.files shelf.old }
+    ensures same_names { (n : List ℕ) → S.serves shelf.new n ≡ S.serves shelf.old n }
 {
     let versions = read_versions(alloc, base, a, b, shelf)?;
     integrate_versions(alloc, base, a, b, &versions, tries)

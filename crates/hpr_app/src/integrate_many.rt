@@ -1,5 +1,5 @@
 //! The command `integrate` of three variants or more.
-ghost use Rattle.std.specs.Prelude.{◌≡◌, ◌≤◌, ◌∷◌, All, IsTrue, get_or, length, map};
+ghost use Rattle.std.specs.Prelude.{◌≡◌, ◌≤◌, ◌∷◌, ℕ, List, All, IsTrue, get_or, length, map};
 ghost use Rattle.hpr_terms.specs.declared.limits.TheConstants.{MAX_VARIANTS};
 ghost use Rattle.hpr_report.specs.ConflictsText.{many_conflicts_text};
 ghost use Rattle.hpr_inputs.specs.Answer.{Decides, Merges};
@@ -34,10 +34,12 @@ pub fn integrate_many_files<S: Shelf>(
     requires least { 2 ≤ length variants.now }
     requires most { length variants.now ≤ MAX_VARIANTS }
     requires tries { 1 ≤ tries }
-    ensures { Decides (λ r. IfTold (S.files shelf.old)
+    ensures answers { Decides (λ r. IfTold (S.files shelf.old)
         (λ fs. IntegrateManyOutcome fs base.now (map (λ s. s.now) variants.now) tries r))
         (IsReached (S.files shelf.old) (base.now ∷ map (λ s. s.now) variants.now)) (S.faults shelf.old)
         (S.faults shelf.new) result }
+    ensures same_files { S.files shelf.new ≡ S.files shelf.old }
+    ensures same_names { (n : List ℕ) → S.serves shelf.new n ≡ S.serves shelf.old n }
 {
     let base_program = read_program(alloc, base, shelf)?;
     let programs = read_programs(alloc, variants, shelf)?;

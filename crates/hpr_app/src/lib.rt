@@ -79,6 +79,10 @@ pub fn hpr<S: Shelf, O: Sink, E: Sink>(
         (record { before = O.faults out.old; now = O.faults out.new; old = O.taken out.old; new = O.taken out.new })
         (record { before = E.faults err.old; now = E.faults err.new; old = E.taken err.old; new = E.taken err.new }) }
 
+    // The shelf tells the same files and serves the same names as before, so that a call can follow on it.
+    ensures same_files { S.files shelf.new ≡ S.files shelf.old }
+    ensures same_names { (n : List ℕ) → S.serves shelf.new n ≡ S.serves shelf.old n }
+
     // Each status has its cause, and plain words are a call.
     ensures words { result ≢ Status.Memory → ((result ≡ Status.Words) ↔ (asked_by words.now ≡ None)) }
     ensures plain { (asked : Request) → plain (map string_bytes words.now) ≡ Some asked → result ≢ Status.Words }
@@ -185,6 +189,8 @@ fn run_words<S: Shelf, O: Sink, E: Sink>(
         (record { before = O.faults out.old; now = O.faults out.new; old = O.taken out.old; new = O.taken out.new })
         (record { before = E.faults err.old; now = E.faults err.new; old = E.taken err.old; new = E.taken err.new }) }
     ensures words { result ≢ Status.Memory → ((result ≡ Status.Words) ↔ (asked_by words.now ≡ None)) }
+    ensures same_files { S.files shelf.new ≡ S.files shelf.old }
+    ensures same_names { (n : List ℕ) → S.serves shelf.new n ≡ S.serves shelf.old n }
 {
     match read_words(alloc, words) {
         Ok(asked) => run_asked(alloc, asked, shelf, out, err),
@@ -211,6 +217,8 @@ fn run_asked<S: Shelf, O: Sink, E: Sink>(
         (record { before = O.faults out.old; now = O.faults out.new; old = O.taken out.old; new = O.taken out.new })
         (record { before = E.faults err.old; now = E.faults err.new; old = E.taken err.old; new = E.taken err.new }) }
     ensures taken { result ≢ Status.Words }
+    ensures same_files { S.files shelf.new ≡ S.files shelf.old }
+    ensures same_names { (n : List ℕ) → S.serves shelf.new n ≡ S.serves shelf.old n }
 {
     let answer = commands::decide(alloc, asked, shelf);
     answer::write_answer(answer, out, err)

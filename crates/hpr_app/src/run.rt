@@ -1,5 +1,5 @@
 //! The command `run`.
-ghost use Rattle.std.specs.Prelude.{◌≡◌, true, IsTrue, map};
+ghost use Rattle.std.specs.Prelude.{◌≡◌, ℕ, List, true, IsTrue, map};
 ghost use Rattle.hpr_words.specs.Request.{run};
 ghost use Rattle.hpr_report.specs.Texts.{outcome_text};
 ghost use Rattle.hpr_run.specs.Outcomes.{outcome_of};
@@ -27,8 +27,10 @@ pub fn run_file<S: Shelf>(
     shelf: &mut S,
 ) -> Result<Report, Stop>
     requires { IsTrue (S.serves shelf.old file.now) }
-    ensures { Answers (run file.now (map (λ w. w.now) words.now) steps trace)
+    ensures answers { Answers (run file.now (map (λ w. w.now) words.now) steps trace)
         (S.files shelf.old) (S.faults shelf.old) (S.faults shelf.new) result }
+    ensures same_files { S.files shelf.new ≡ S.files shelf.old }
+    ensures same_names { (n : List ℕ) → S.serves shelf.new n ≡ S.serves shelf.old n }
 {
     let state = read_state(alloc, words)?;
     let program = read_program(alloc, file, shelf)?;

@@ -1,5 +1,5 @@
 //! The command `slice`.
-ghost use Rattle.std.specs.Prelude.{◌<◌, All, IfOk, IsTrue, length, map};
+ghost use Rattle.std.specs.Prelude.{◌≡◌, ◌<◌, ℕ, List, All, IfOk, IsTrue, length, map};
 ghost use Rattle.hpr_graph.specs.Numbered.{graph_in};
 ghost use Rattle.hpr_graph.specs.Slices.{slice_of};
 ghost use Rattle.hpr_slice.specs.Vertices.{IsOneOf};
@@ -30,8 +30,10 @@ pub fn slice_file<S: Shelf>(
     shelf: &mut S,
 ) -> Result<Report, Stop>
     requires { IsTrue (S.serves shelf.old file.now) }
-    ensures { Answers (slice file.now (map (λ w. w.now) points.now) as_program)
+    ensures answers { Answers (slice file.now (map (λ w. w.now) points.now) as_program)
         (S.files shelf.old) (S.faults shelf.old) (S.faults shelf.new) result }
+    ensures same_files { S.files shelf.new ≡ S.files shelf.old }
+    ensures same_names { (n : List ℕ) → S.serves shelf.new n ≡ S.serves shelf.old n }
 {
     let program = read_program(alloc, file, shelf)?;
     show_slice(alloc, file, &program, points, as_program)

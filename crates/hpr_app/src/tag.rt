@@ -1,5 +1,5 @@
 //! The command `tag`.
-ghost use Rattle.std.specs.Prelude.{◌≤◌, IsTrue};
+ghost use Rattle.std.specs.Prelude.{◌≡◌, ◌≤◌, ℕ, List, IsTrue};
 ghost use Rattle.hpr_words.specs.Request.{tag};
 ghost use Rattle.hpr_decisions.specs.Answered.{Answers};
 
@@ -18,8 +18,10 @@ pub fn tag_file<S: Shelf>(
 ) -> Result<Report, Stop>
     requires serves { IsTrue (S.serves shelf.old file.now) }
     requires author { 1 ≤ author }
-    ensures { Answers (tag file.now author)
+    ensures answers { Answers (tag file.now author)
         (S.files shelf.old) (S.faults shelf.old) (S.faults shelf.new) result }
+    ensures same_files { S.files shelf.new ≡ S.files shelf.old }
+    ensures same_names { (n : List ℕ) → S.serves shelf.new n ≡ S.serves shelf.old n }
 {
     let program = read_text(alloc, file, Mode::Untagged(author), shelf)?;
     print_program(alloc, &program)

@@ -1,5 +1,5 @@
 //! The command `trial`.
-ghost use Rattle.std.specs.Prelude.{◌≡◌, ◌≤◌, ◌*◌, [], ◌∷◌, IsTrue, IsOk, IfOk, map};
+ghost use Rattle.std.specs.Prelude.{◌≡◌, ◌≤◌, ◌*◌, [], ◌∷◌, ℕ, List, IsTrue, IsOk, IfOk, map};
 ghost use Rattle.hpr_terms.specs.declared.limits.TheConstants.{MAX_STEPS};
 ghost use Rattle.hpr_syntax.specs.Run.{run};
 ghost use Rattle.hpr_run.specs.Outcomes.{outcome_of};
@@ -36,10 +36,12 @@ pub fn trial_files<S: Shelf>(
     requires a { IsTrue (S.serves shelf.old a.now) }
     requires b { IsTrue (S.serves shelf.old b.now) }
     requires steps { steps ≤ MAX_STEPS }
-    ensures { Decides (λ r. IfTold (S.files shelf.old) (λ fs.
+    ensures answers { Decides (λ r. IfTold (S.files shelf.old) (λ fs.
         TrialOutcome fs base.now a.now b.now (map (λ w. w.now) words.now) steps r)) (λ file.
         IsReached (S.files shelf.old) (base.now ∷ a.now ∷ b.now ∷ []) file
         × IsOk (states_of (map (λ w. w.now) words.now))) (S.faults shelf.old) (S.faults shelf.new) result }
+    ensures same_files { S.files shelf.new ≡ S.files shelf.old }
+    ensures same_names { (n : List ℕ) → S.serves shelf.new n ≡ S.serves shelf.old n }
 {
     let state = read_state(alloc, words)?;
     let versions = read_versions(alloc, base, a, b, shelf)?;

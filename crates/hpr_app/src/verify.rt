@@ -1,5 +1,5 @@
 //! The command `verify`.
-ghost use Rattle.std.specs.Prelude.{◌≡◌, ◌<◌, [], ◌∷◌, IsTrue, get_or, length, map};
+ghost use Rattle.std.specs.Prelude.{◌≡◌, ◌<◌, [], ◌∷◌, ℕ, List, IsTrue, get_or, length, map};
 ghost use Rattle.hpr_inputs.specs.Answer.{Decides, Merges};
 ghost use Rattle.hpr_inputs.specs.Reads.{IfTold, IsReached};
 ghost use Rattle.hpr_decisions.specs.VerifyFiles.{VerifyOutcome, report_verdict};
@@ -27,9 +27,11 @@ pub fn verify_files<S: Shelf>(
     requires a { IsTrue (S.serves shelf.old a.now) }
     requires b { IsTrue (S.serves shelf.old b.now) }
     requires offered { IsTrue (S.serves shelf.old offered.now) }
-    ensures { Decides (λ r. IfTold (S.files shelf.old) (λ fs. VerifyOutcome fs base.now a.now b.now offered.now r))
+    ensures answers { Decides (λ r. IfTold (S.files shelf.old) (λ fs. VerifyOutcome fs base.now a.now b.now offered.now r))
         (IsReached (S.files shelf.old) (base.now ∷ a.now ∷ b.now ∷ offered.now ∷ [])) (S.faults shelf.old)
         (S.faults shelf.new) result }
+    ensures same_files { S.files shelf.new ≡ S.files shelf.old }
+    ensures same_names { (n : List ℕ) → S.serves shelf.new n ≡ S.serves shelf.old n }
 {
     let names = [base, a, b, offered];
     let programs = read_programs(alloc, &names, shelf)?;

@@ -28,6 +28,8 @@ run_words-requires g c = c.requires
 pub returns : goal.returns
 returns g c = record {
   ends = c.run_words.ensures.ends;
+  same_files = c.run_words.ensures.same_files;
+  same_names = c.run_words.ensures.same_names;
   words = c.run_words.ensures.words;
   plain = λ asked is. λ words.
       plain_is_taken (map string_bytes c.args.words.now) asked is ((c.run_words.ensures.words (not_memory _ words)).0 words);

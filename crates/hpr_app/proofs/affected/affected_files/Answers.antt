@@ -6,14 +6,14 @@ use Rattle.hpr_app.proofs.AffectedLemmas.{base_fails, a_fails, decided}
 use Rattle.hpr_inputs.proofs.ReadLemmas.{told_same, fails_same}
 use Rattle.hpr_app.proofs.affected.affected_files.Goals as goal
 
-pub returns-in_err-base_program : goal.returns-in_err-base_program
-returns-in_err-base_program g c =
+pub returns-in_err-base_program-clause-answers : goal.returns-in_err-base_program-clause-answers
+returns-in_err-base_program-clause-answers g c =
     let p = err_from_is_err_and c.from_residual.result c.from_residual.ensures.1 in
     rw (p.1, p.2) (base_fails (g.S.Shelf.files c.args.shelf.now) c.args.base.now c.args.a.now
     (g.S.Shelf.faults c.args.shelf.now) (g.S.Shelf.faults c.read_program.new.shelf) _ (c.in_err-base_program.ensures.reads))
 
-pub returns-in_err-a_program : goal.returns-in_err-a_program
-returns-in_err-a_program g c =
+pub returns-in_err-a_program-clause-answers : goal.returns-in_err-a_program-clause-answers
+returns-in_err-a_program-clause-answers g c =
     let p = err_from_is_err_and c.from_residual-in_err-a_program.result c.from_residual-in_err-a_program.ensures.1 in
     let base = c.in_ok-base_program.ensures in
     let told = g.S.Shelf.files c.args.shelf.now in
@@ -23,8 +23,8 @@ returns-in_err-a_program g c =
     c.in_ok-base_program.base_program _ base.reads.0 base.reads.1
     (fails_same told (g.S.Shelf.files c.read_program.new.shelf) name _ _ _ base.same_files c.in_err-a_program.ensures.reads))
 
-pub returns : goal.returns
-returns g c =
+pub returns-clause-answers : goal.returns-clause-answers
+returns-clause-answers g c =
     let base = c.in_ok-base_program.ensures in
     let a = c.in_ok-a_program.ensures in
     let told = g.S.Shelf.files c.args.shelf.now in

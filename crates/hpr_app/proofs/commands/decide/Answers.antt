@@ -4,41 +4,41 @@ use Rattle.hpr_app.proofs.SampleLemmas.{unread}
 use Rattle.hpr_app.proofs.ServedLemmas.{least_of, most_of, ranged, served_at, served_behind, served_first}
 use Rattle.hpr_app.proofs.commands.decide.Goals as goal
 
-pub returns-in-Integrate : goal.returns-in-Integrate
-returns-in-Integrate g c = rw c.in-Integrate.is c.integrate_files.ensures
+pub returns-in-Integrate-clause-answers : goal.returns-in-Integrate-clause-answers
+returns-in-Integrate-clause-answers g c = rw c.in-Integrate.is c.integrate_files.ensures.answers
 
-pub returns-in-IntegrateMany : goal.returns-in-IntegrateMany
-returns-in-IntegrateMany g c = rw c.in-IntegrateMany.is (rw c.as_slice.ensures.value at c.integrate_many_files.ensures)
+pub returns-in-IntegrateMany-clause-answers : goal.returns-in-IntegrateMany-clause-answers
+returns-in-IntegrateMany-clause-answers g c = rw c.in-IntegrateMany.is (rw c.as_slice.ensures.value at c.integrate_many_files.ensures.answers)
 
-pub returns-in-Run : goal.returns-in-Run
-returns-in-Run g c = rw c.in-Run.is (rw c.as_slice-in-Run.ensures.value at c.run_file.ensures)
+pub returns-in-Run-clause-answers : goal.returns-in-Run-clause-answers
+returns-in-Run-clause-answers g c = rw c.in-Run.is (rw c.as_slice-in-Run.ensures.value at c.run_file.ensures.answers)
 
-pub returns-in-Graph : goal.returns-in-Graph
-returns-in-Graph g c = rw c.in-Graph.is c.graph_file.ensures
+pub returns-in-Graph-clause-answers : goal.returns-in-Graph-clause-answers
+returns-in-Graph-clause-answers g c = rw c.in-Graph.is c.graph_file.ensures.answers
 
-pub returns-in-Slice : goal.returns-in-Slice
-returns-in-Slice g c = rw c.in-Slice.is (rw c.as_slice-in-Slice.ensures.value at c.slice_file.ensures)
+pub returns-in-Slice-clause-answers : goal.returns-in-Slice-clause-answers
+returns-in-Slice-clause-answers g c = rw c.in-Slice.is (rw c.as_slice-in-Slice.ensures.value at c.slice_file.ensures.answers)
 
-pub returns-in-Affected : goal.returns-in-Affected
-returns-in-Affected g c = rw c.in-Affected.is c.affected_files.ensures
+pub returns-in-Affected-clause-answers : goal.returns-in-Affected-clause-answers
+returns-in-Affected-clause-answers g c = rw c.in-Affected.is c.affected_files.ensures.answers
 
-pub returns-in-Trial : goal.returns-in-Trial
-returns-in-Trial g c = rw c.in-Trial.is (rw c.as_slice-in-Trial.ensures.value at c.trial_files.ensures)
+pub returns-in-Trial-clause-answers : goal.returns-in-Trial-clause-answers
+returns-in-Trial-clause-answers g c = rw c.in-Trial.is (rw c.as_slice-in-Trial.ensures.value at c.trial_files.ensures.answers)
 
-pub returns-in-Edit : goal.returns-in-Edit
-returns-in-Edit g c = rw c.in-Edit.is c.edit_file.ensures
+pub returns-in-Edit-clause-answers : goal.returns-in-Edit-clause-answers
+returns-in-Edit-clause-answers g c = rw c.in-Edit.is c.edit_file.ensures.answers
 
-pub returns-in-Tag : goal.returns-in-Tag
-returns-in-Tag g c = rw c.in-Tag.is c.tag_file.ensures
+pub returns-in-Tag-clause-answers : goal.returns-in-Tag-clause-answers
+returns-in-Tag-clause-answers g c = rw c.in-Tag.is c.tag_file.ensures.answers
 
-pub returns-in-Sample : goal.returns-in-Sample
-returns-in-Sample g c =
+pub returns-in-Sample-clause-answers : goal.returns-in-Sample-clause-answers
+returns-in-Sample-clause-answers g c =
     rw c.in-Sample.is
     (unread (g.S.Shelf.files c.args.shelf.now) (SampleOutcome c.in-Sample.seed c.in-Sample.parts) (λ file. ⊥) (g.S.Shelf.faults c.args.shelf.now)
     c.sample_seed.result c.sample_seed.ensures)
 
-pub returns-in-Verify : goal.returns-in-Verify
-returns-in-Verify g c = rw c.in-Verify.is c.verify_files.ensures
+pub returns-in-Verify-clause-answers : goal.returns-in-Verify-clause-answers
+returns-in-Verify-clause-answers g c = rw c.in-Verify.is c.verify_files.ensures.answers
 
 -- what a shelf serves of all files that are asked for, it serves of each; and what is asked is in range
 

@@ -9,21 +9,21 @@ use Rattle.hpr_app.proofs.EditLemmas.{decided, program_fails, script_fails}
 use Rattle.hpr_inputs.proofs.ReadLemmas.{read_fails_behind, told_same}
 use Rattle.hpr_app.proofs.edit.edit_file.Goals as goal
 
-pub returns-in_err-program : goal.returns-in_err-program
-returns-in_err-program g c =
+pub returns-in_err-program-clause-answers : goal.returns-in_err-program-clause-answers
+returns-in_err-program-clause-answers g c =
     let p = err_from_is_err_and c.from_residual.result c.from_residual.ensures.1 in
     rw (p.1, p.2) (program_fails (g.S.Shelf.files c.args.shelf.now) c.args.file.now c.args.script.now c.args.author _ _ _ c.in_err-program.ensures.reads)
 
-pub returns-in_err-commands : goal.returns-in_err-commands
-returns-in_err-commands g c =
+pub returns-in_err-commands-clause-answers : goal.returns-in_err-commands-clause-answers
+returns-in_err-commands-clause-answers g c =
     let p = err_from_is_err_and c.from_residual-in_err-commands.result c.from_residual-in_err-commands.ensures.1 in
     let program = c.in_ok-program.ensures in
     let told = g.S.Shelf.files c.args.shelf.now in
     rw (p.1, p.2) (script_fails told c.args.file.now c.args.script.now c.args.author _ _ c.in_ok-program.program _ program.reads.0
     (read_fails_behind (IsRefusedScript c.args.script.now) told _ c.args.script.now _ _ _ _ program.same_files program.reads.1 c.in_err-commands.ensures.reads))
 
-pub returns : goal.returns
-returns g c =
+pub returns-clause-answers : goal.returns-clause-answers
+returns-clause-answers g c =
     let program = c.in_ok-program.ensures in
     let commands = c.in_ok-commands.commands.items in
     let told = g.S.Shelf.files c.args.shelf.now in

@@ -6,16 +6,16 @@ use Rattle.hpr_decisions.specs.IntegrateMany.{IntegratedMany}
 use Rattle.hpr_app.proofs.ManyFiles.{base_fails, variants_fail, variants_read}
 use Rattle.hpr_app.proofs.integrate_many.integrate_many_files.Goals as goal
 
-pub returns-in_err-base_program : goal.returns-in_err-base_program
-returns-in_err-base_program g c =
+pub returns-in_err-base_program-clause-answers : goal.returns-in_err-base_program-clause-answers
+returns-in_err-base_program-clause-answers g c =
     let p = err_from_is_err_and c.from_residual.result c.from_residual.ensures.1 in
     let base = c.args.base.now in
     let names = map (λ s. s.now) c.args.variants.now in
     rw (p.1, p.2) (base_fails (g.S.Shelf.files c.args.shelf.now) base names (λ (q : Tree) (qs : List Tree) (d : Decision). IntegratedMany base q names qs c.args.tries d)
     (g.S.Shelf.faults c.args.shelf.now) (g.S.Shelf.faults c.read_program.new.shelf) _ c.in_err-base_program.ensures.reads)
 
-pub returns-in_err-programs : goal.returns-in_err-programs
-returns-in_err-programs g c =
+pub returns-in_err-programs-clause-answers : goal.returns-in_err-programs-clause-answers
+returns-in_err-programs-clause-answers g c =
     let p = err_from_is_err_and c.from_residual-in_err-programs.result c.from_residual-in_err-programs.ensures.1 in
     let base = c.args.base.now in
     let names = map (λ s. s.now) c.args.variants.now in
@@ -24,8 +24,8 @@ returns-in_err-programs g c =
     (g.S.Shelf.faults c.args.shelf.now) c.in_ok-base_program.base_program read.reads.0 (g.S.Shelf.faults c.read_programs.new.shelf)
     (g.S.Shelf.files c.read_program.new.shelf) (g.S.Shelf.faults c.read_program.new.shelf) read.same_files read.reads.1 _ c.in_err-programs.ensures.reads)
 
-pub returns : goal.returns
-returns g c =
+pub returns-clause-answers : goal.returns-clause-answers
+returns-clause-answers g c =
     let base = c.args.base.now in
     let names = map (λ s. s.now) c.args.variants.now in
     let read = c.in_ok-base_program.ensures in

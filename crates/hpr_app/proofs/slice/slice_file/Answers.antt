@@ -3,8 +3,8 @@ use Rattle.hpr_decisions.specs.SliceFile.{Sliced}
 use Rattle.hpr_inputs.proofs.ReadLemmas.{past_last_file}
 use Rattle.hpr_app.proofs.slice.slice_file.Goals as goal
 
-pub returns : goal.returns
-returns g c =
+pub returns-clause-answers : goal.returns-clause-answers
+returns-clause-answers g c =
     let name = c.args.file.now in
     let points = map (λ w. w.now) c.args.points.now in
     past_last_file (g.S.Shelf.files c.args.shelf.now) _ _ _ name (λ p r. Sliced name p points c.args.as_program r) c.in_ok-program.program c.show_slice.result

@@ -4,8 +4,8 @@ use Rattle.hpr_app.proofs.TrialLemmas.{Next, trial_decides}
 use Rattle.hpr_inputs.proofs.VersionLemmas.{files_fail, past_files}
 use Rattle.hpr_app.proofs.trial.trial_files.Goals as goal
 
-pub returns-in_err-versions : goal.returns-in_err-versions
-returns-in_err-versions g c =
+pub returns-in_err-versions-clause-answers : goal.returns-in_err-versions-clause-answers
+returns-in_err-versions-clause-answers g c =
     let p = err_from_is_err_and c.from_residual-in_err-versions.result c.from_residual-in_err-versions.ensures.1 in
     let told = g.S.Shelf.files c.args.shelf.now in
     let base = c.args.base.now in
@@ -15,10 +15,10 @@ returns-in_err-versions g c =
     let state = c.in_ok-state.state in
     let is = c.in_ok-state.ensures in
     rw (p.1, p.2) (trial_decides told base a b words c.args.steps state is (g.S.Shelf.faults c.args.shelf.now) (g.S.Shelf.faults c.read_versions.new.shelf) (Err c.in_err-versions.field-0.0)
-    (files_fail told base a b (Next told base a b words c.args.steps state is) (g.S.Shelf.faults c.args.shelf.now) (g.S.Shelf.faults c.read_versions.new.shelf) _ c.in_err-versions.ensures))
+    (files_fail told base a b (Next told base a b words c.args.steps state is) (g.S.Shelf.faults c.args.shelf.now) (g.S.Shelf.faults c.read_versions.new.shelf) _ c.in_err-versions.ensures.reads))
 
-pub returns : goal.returns
-returns g c =
+pub returns-clause-answers : goal.returns-clause-answers
+returns-clause-answers g c =
     let told = g.S.Shelf.files c.args.shelf.now in
     let base = c.args.base.now in
     let a = c.args.a.now in
@@ -28,4 +28,4 @@ returns g c =
     let is = c.in_ok-state.ensures in
     trial_decides told base a b words c.args.steps state is (g.S.Shelf.faults c.args.shelf.now) (g.S.Shelf.faults c.read_versions.new.shelf) c.try_versions.result
     (past_files told base a b (Next told base a b words c.args.steps state is) (g.S.Shelf.faults c.args.shelf.now) (g.S.Shelf.faults c.read_versions.new.shelf) c.in_ok-versions.versions c.try_versions.result
-    c.in_ok-versions.ensures.0 c.in_ok-versions.ensures.1 c.try_versions.ensures)
+    c.in_ok-versions.ensures.reads.0 c.in_ok-versions.ensures.reads.1 c.try_versions.ensures)
