@@ -1,5 +1,6 @@
 //! One call, and what it comes to.
-use crate::case::{Case, Plan, Steady};
+use crate::case::{Case, Over, Plan};
+use crate::noting::NotingShelf;
 use crate::text::{put, words};
 use hpr_app::{Status, hpr};
 use hpr_io::{MemoryShelf, MemorySink, SteadyShelf, SteadySink};
@@ -40,6 +41,21 @@ fn over_memory(
     let mut out = sink(alloc, &case.out)?;
     let mut err = sink(alloc, &case.err)?;
     let status = hpr(alloc, words, shelf, &mut out, &mut err);
+    put_told(told, &status, out.bytes(), err.bytes())
+}
+
+// Makes the call over a shelf that may fail and notes each fetch, which are told first, and the sinks of the case.
+fn over_noting_shelf(
+    alloc: Global,
+    case: &Case,
+    shelf: &mut NotingShelf,
+    words: &[String],
+    told: &mut String,
+) -> Option<()> {
+    let mut out = sink(alloc, &case.out)?;
+    let mut err = sink(alloc, &case.err)?;
+    let status = hpr(alloc, words, shelf, &mut out, &mut err);
+    put(told, &[shelf.notes.as_str()])?;
     put_told(told, &status, out.bytes(), err.bytes())
 }
 
@@ -99,13 +115,17 @@ fn memory_shelf(alloc: Global, case: &Case) -> Option<MemoryShelf> {
 
 // Makes the call over the files of the case.
 fn call(alloc: Global, case: &Case, words: &[String], told: &mut String) -> Option<()> {
-    match case.steady {
-        Steady::None => over_memory(alloc, case, &mut memory_shelf(alloc, case)?, words, told),
-        Steady::Shelf => {
+    match case.over {
+        Over::Memory => over_memory(alloc, case, &mut memory_shelf(alloc, case)?, words, told),
+        Over::NotingShelf => {
+            let mut shelf = NotingShelf::new(alloc, memory_shelf(alloc, case)?);
+            over_noting_shelf(alloc, case, &mut shelf, words, told)
+        }
+        Over::SteadyShelf => {
             let mut shelf = SteadyShelf::new(files_of(alloc, case)?);
             over_steady_shelf(alloc, case, &mut shelf, words, told)
         }
-        Steady::Sinks => {
+        Over::SteadySinks => {
             let mut shelf = SteadyShelf::new(files_of(alloc, case)?);
             over_steady_sinks(alloc, &mut shelf, words, told)
         }

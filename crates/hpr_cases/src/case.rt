@@ -10,12 +10,14 @@ pub struct Plan {
     pub failing: Vec<u64>,
 }
 
-/// Whether shelf and sinks may fail.
+/// What a call is made over: a shelf and sinks that may fail, such a shelf that notes each fetch, a shelf that never
+/// fails, or such sinks too.
 #[derive(Clone, Copy)]
-pub enum Steady {
-    None,
-    Shelf,
-    Sinks,
+pub enum Over {
+    Memory,
+    NotingShelf,
+    SteadyShelf,
+    SteadySinks,
 }
 
 #[derive(Drop)]
@@ -24,7 +26,7 @@ pub struct Case {
     pub failing: Vec<u64>,
     pub out: Plan,
     pub err: Plan,
-    pub steady: Steady,
+    pub over: Over,
     has_line: bool,
 }
 
@@ -36,7 +38,7 @@ impl Case {
             failing: Vec::new(alloc),
             out: plan_of(4096, 65536, Vec::new(alloc)),
             err: plan_of(64, 4096, Vec::new(alloc)),
-            steady: Steady::None,
+            over: Over::Memory,
             has_line: false,
         }
     }
@@ -88,10 +90,12 @@ impl Case {
     }
 
     fn set(&mut self, alloc: Global, line: &str) -> Option<()> {
-        if line == "steady shelf" {
-            self.steady = Steady::Shelf;
+        if line == "noting shelf" {
+            self.over = Over::NotingShelf;
+        } else if line == "steady shelf" {
+            self.over = Over::SteadyShelf;
         } else if line == "steady sinks" {
-            self.steady = Steady::Sinks;
+            self.over = Over::SteadySinks;
         } else if let Some(calls) = line.strip_prefix("shelf ") {
             self.failing = numbers(alloc, calls)?;
         } else if let Some(sink) = line.strip_prefix("out ") {

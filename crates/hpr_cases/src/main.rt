@@ -8,6 +8,7 @@
 //! - `* FIRST LAST TEXT` goes on with the text for each number from FIRST to LAST, which stands in the place of `$`;
 //! - `! shelf CALLS`, `! out STEP ROOM CALLS` and `! err STEP ROOM CALLS` name the calls that fail, from 0 on, and the
 //!   most bytes that a sink takes in a call and in all;
+//! - `! noting shelf` takes a shelf that notes what it is asked for: a line `fetch NAME MOST` for each fetch;
 //! - `! steady shelf` and `! steady sinks` take a shelf and sinks that never fail, of which the sinks keep nothing;
 //! - `$ WORDS` makes the call; a case may make several, over the same files.
 //!
@@ -16,6 +17,7 @@
 
 mod call;
 mod case;
+mod noting;
 mod text;
 
 use crate::call::tell;
