@@ -1,10 +1,12 @@
 //! Programs read, merged, printed and run by these crates, as docs/calling.md tells.
 #![tactic(auto)]
 
+mod calling;
 mod merging;
 mod running;
 mod statements;
 
+use crate::calling::merged_both_ways;
 use crate::merging::merge_texts;
 use crate::running::final_values;
 use crate::statements::merge_statements;
@@ -28,7 +30,8 @@ const SUMMED: &[u8] =
 const LAST: &[u8] =
     b"program issued 1:1, 3:1 1.1: count := 10 % items; 3.1: last := 30 % items % count; end(count, last)";
 
-// Prints the merged program and its final values, and then a merged program of another language.
+// Prints the merged program and its final values, then a merged program of another language, and then what two calls of the
+// whole program print.
 fn main(rt: HostRuntime) -> io::Result<()> {
     let alloc = rt.alloc();
     let Ok(merged) = merge_texts(alloc, BASE, A, B) else {
@@ -48,6 +51,14 @@ fn main(rt: HostRuntime) -> io::Result<()> {
     };
     if let Ok(text) = std::str::from_utf8(statements.as_slice()) {
         print!(rt; "{text}")?;
+    }
+    let Some((first, second)) = merged_both_ways(alloc, BASE, A, B) else {
+        return println!(rt; "not called");
+    };
+    for printed in [&first, &second] {
+        if let Ok(text) = std::str::from_utf8(printed.bytes()) {
+            print!(rt; "{text}")?;
+        }
     }
     Ok(())
 }
