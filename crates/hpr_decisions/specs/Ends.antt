@@ -5,12 +5,13 @@
 -- status_of r          == the status of a decision
 -- text_of r            == its text for `out`
 -- message_of r         == its message for `err`, if it has one
--- Says message err     == `err` took all of the message where no put failed, and else a prefix of it, not all of it
+-- Says message err     == `err` took all of the message where no put failed, and else a prefix of it, not all of it; `either` says so also where the count
+--                         stands at its last value, where none can rise
 -- Decided s P .. err   == some decision r of P has the status s; no read and no write failed; `out` took the text of r, and `err` the message
 -- CutShort P .. err    == a write failed: `out` took a prefix of the text of some decision of P, and not all of it
 -- ReadFailed reads ..  == a read failed: `out` took nothing, and the message names a file that the call reads
 -- Ends s P reads ..    == the call ends with the status s in the one case that s stands for
-use Rattle.std.specs.Prelude.{◌≡◌, ◌<◌, ℕ, List, [], Option, Some, None, codes}
+use Rattle.std.specs.Prelude.{◌≡◌, ◌<◌, ◌⊎◌, ℕ, List, [], Option, Some, None, codes}
 use Rattle.hpr_io.specs.Counts.{Rose}
 use Rattle.hpr_io.specs.Taken.{taken_then, TookStrictPrefix}
 use Rattle.hpr_inputs.specs.declared.answer.Kind.{Kind}
@@ -67,6 +68,7 @@ message_of usage = Some usage_text
 pub record Says (message : List ℕ) (err : Change) : Type 0 where
   pub whole : (Rose err.before err.now → ⊥) → err.new ≡ taken_then err.old message
   pub cut : err.before < err.now → TookStrictPrefix err.old err.new message
+  pub either : ((err.now ≡ err.before) × (err.new ≡ taken_then err.old message)) ⊎ (Rose err.before err.now × TookStrictPrefix err.old err.new message)
 
 abbrev pub SaysIfAny : Option (List ℕ) → Change → Type 0
 SaysIfAny None err = IsUntouched err
