@@ -4,8 +4,8 @@ use Rattle.hpr_io.specs.Taken.{taken_then}
 use Rattle.hpr_io.specs.Files.{Files}
 use Rattle.hpr_words.specs.Request.{Request}
 use Rattle.hpr_decisions.specs.Asked.{Took}
-use Rattle.hpr_decisions.specs.Outcome.{RequestOutcome, OutcomeIfTold}
-use Rattle.hpr_decisions.specs.Reads.{MayReadIfTaken}
+use Rattle.hpr_decisions.specs.Outcome.{RequestOutcome, Outcome, OutcomeIfTold}
+use Rattle.hpr_decisions.specs.Reads.{MayReadIfTaken, ReadsNothing}
 use Rattle.hpr_inputs.specs.Decision.{Decision, prints}
 use Rattle.hpr_decisions.specs.Ends.{Change, Ends, Decided, status_of, text_of}
 use Rattle.hpr_inputs.specs.declared.answer.Kind.TheVariants as kind
@@ -15,6 +15,13 @@ use Rattle.hpr_decisions.specs.declared.status.Status.TheVariants as status
 pub Ends-for : (s : Status) (p q : Option Request) (files : Option Files) (before now : ℕ) (out err : Change)
     → p ≡ q → Ends s (OutcomeIfTold p files) (MayReadIfTaken p files) before now out err → Ends s (OutcomeIfTold q files) (MayReadIfTaken q files) before now out err
 Ends-for s p q files before now out err e h = subst (λ r. Ends s (OutcomeIfTold r files) (MayReadIfTaken r files) before now out err) e h
+
+-- the same of a call that reads nothing
+pub Unread-for : (s : Status) (p q : Option Request) (told : Option Files) (before now : ℕ) (out err : Change) → p ≡ q
+    → (ReadsNothing p → (fs : Files) → Ends s (Outcome p fs) (MayReadIfTaken p told) before now out err)
+    → ReadsNothing q → (fs : Files) → Ends s (Outcome q fs) (MayReadIfTaken q told) before now out err
+Unread-for s p q told before now out err e h =
+    subst (λ r. ReadsNothing r → (fs : Files) → Ends s (Outcome r fs) (MayReadIfTaken r told) before now out err) e h
 
 -- what is so of each text of the status Done is so of what the output took
 module _ (P : Request → Files → List ℕ → Type 0)

@@ -24,3 +24,4 @@ pub mod LeftText
 pub mod SliceTheorem
 pub mod TrialKeeps
 pub mod VerifyKeeps
+pub mod Statuses

@@ -4,6 +4,7 @@
 -- files_of_taken request   == the same; none where the words are no call
 -- MayRead request told file == the request comes to read this file: it names it, each file that it names before spells a program, and none of its state
 --                             words is refused
+-- ReadsNothing request     == whatever files the shelf tells, the request comes to read none of them: `sample`, a refused state word, or words that are no call
 use Rattle.std.specs.Prelude.{◌≡◌, List, [], ◌∷◌, Option, Some, None, IsOk}
 use Rattle.hpr_io.specs.Files.{Files}
 use Rattle.hpr_words.specs.Request.{Request, Text, integrate, integrate_many, run, graph, slice, affected, trial, edit, tag, sample, verify}
@@ -43,3 +44,6 @@ MayRead (verify base a b offered) told file = IsReached told (base ∷ a ∷ b �
 abbrev pub MayReadIfTaken : Option Request → Option Files → Text → Type 0
 MayReadIfTaken None told file = ⊥
 MayReadIfTaken (Some request) told file = MayRead request told file
+
+abbrev pub ReadsNothing : Option Request → Type 0
+ReadsNothing request = (told : Option Files) (file : Text) → MayReadIfTaken request told file → ⊥
