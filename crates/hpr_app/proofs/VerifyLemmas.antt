@@ -7,7 +7,7 @@ use Rattle.hpr_verify.specs.declared.error.VerifyError.TheVariants.{TooManyEdges
 use Rattle.hpr_verify.specs.declared.verdict.Verdict.{Verdict}
 use Rattle.hpr_verify.specs.Refusals.{IfTooManyEdges}
 use Rattle.hpr_verify.specs.Verdict.{IsVerdict}
-use Rattle.hpr_words.specs.Request.{Text}
+use Rattle.hpr_words.specs.Request.{Text, verify}
 use Rattle.hpr_inputs.specs.Answer.{Merges}
 use Rattle.hpr_inputs.specs.Decision.{Decision, refuses}
 use Rattle.hpr_inputs.specs.declared.answer.Report.{Report}
@@ -17,6 +17,7 @@ use Rattle.hpr_inputs.proofs.ReadLemmas.{merges_map}
 use Rattle.hpr_decisions.specs.Graphs.{too_many_edges}
 use Rattle.hpr_decisions.specs.IntegrateMany.{OnAllGraphs}
 use Rattle.hpr_decisions.specs.VerifyFiles.{IsVerified, report_verdict}
+use Rattle.hpr_decisions.proofs.Kinds.{Suits, on_all_graphs, verify_suits}
 use Rattle.hpr_decisions.proofs.Unrefused.{within_all}
 use Rattle.hpr_app.specs.Private.MakesGraph.{RefusesGraph}
 use Rattle.hpr_app.specs.Private.VerifiedOf.{IsVerifiedOf}
@@ -59,3 +60,13 @@ module _ (names : List Text) (ps : List Tree) (p q s o : Tree) (are : ps ≡ p �
       (subst (λ (f : Text). refuses (string_bytes message) ≡ refuses (too_many_edges f)) named (λ k. refuses (is k))))
   large_merges count n file (stop.ReadFault message) many named is = absurd is
   large_merges count n file stop.Memory many named is = tt
+
+-- a verdict is of a kind of `verify`
+pub verified_suits : (base a b offered : Text) (names : List Text) (ps : List Tree) (d : Decision) → IsVerifiedOf names ps d → Suits (verify base a b offered) d
+verified_suits base a b offered names [] d h = absurd h
+verified_suits base a b offered names (p ∷ []) d h = absurd h
+verified_suits base a b offered names (p ∷ q ∷ []) d h = absurd h
+verified_suits base a b offered names (p ∷ q ∷ s ∷ []) d h = absurd h
+verified_suits base a b offered names (p ∷ q ∷ s ∷ o ∷ []) d h =
+    on_all_graphs (verify base a b offered) d names (p ∷ q ∷ s ∷ o ∷ []) (IsVerified p q s o d) (verify_suits base a b offered p q s o d) h
+verified_suits base a b offered names (p ∷ q ∷ s ∷ o ∷ x ∷ rest) d h = absurd h

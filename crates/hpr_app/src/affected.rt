@@ -5,7 +5,7 @@ ghost use Rattle.hpr_graph.specs.Points.{IsAffected};
 ghost use Rattle.hpr_graph.specs.Whole.{IsWhole};
 ghost use Rattle.hpr_report.specs.AffectedText.{IsAffectedText};
 ghost use Rattle.hpr_words.specs.Request.{affected};
-ghost use Rattle.hpr_decisions.specs.Answered.{Answers};
+ghost use Rattle.hpr_decisions.specs.Answered.{Answers, AnswersInKind};
 ghost use Rattle.hpr_decisions.specs.AffectedFiles.{AffectedPoints};
 ghost use Rattle.hpr_inputs.specs.Answer.{Merges};
 
@@ -29,6 +29,7 @@ pub fn affected_files<S: Shelf>(
     requires a { IsTrue (S.serves shelf.old a.now) }
     ensures answers { Answers (affected base.now a.now)
         (S.files shelf.old) (S.faults shelf.old) (S.faults shelf.new) result }
+    ensures kind { AnswersInKind (affected base.now a.now) result }
     ensures same_files { S.files shelf.new ≡ S.files shelf.old }
     ensures same_names { (n : List ℕ) → S.serves shelf.new n ≡ S.serves shelf.old n }
 {

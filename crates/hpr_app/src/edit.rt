@@ -2,7 +2,7 @@
 ghost use Rattle.std.specs.Prelude.{◌≡◌, ◌≤◌, ℕ, List, IsTrue};
 ghost use Rattle.hpr_words.specs.Request.{edit};
 ghost use Rattle.hpr_edit.specs.Applied.{applied};
-ghost use Rattle.hpr_decisions.specs.Answered.{Answers};
+ghost use Rattle.hpr_decisions.specs.Answered.{Answers, AnswersInKind};
 ghost use Rattle.hpr_decisions.specs.EditFiles.{edit_decision};
 ghost use Rattle.hpr_inputs.specs.Answer.{Merges};
 
@@ -29,6 +29,7 @@ pub fn edit_file<S: Shelf>(
     requires author { 1 ≤ author }
     ensures answers { Answers (edit file.now script.now author)
         (S.files shelf.old) (S.faults shelf.old) (S.faults shelf.new) result }
+    ensures kind { AnswersInKind (edit file.now script.now author) result }
     ensures same_files { S.files shelf.new ≡ S.files shelf.old }
     ensures same_names { (n : List ℕ) → S.serves shelf.new n ≡ S.serves shelf.old n }
 {

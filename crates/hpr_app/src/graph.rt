@@ -2,7 +2,7 @@
 ghost use Rattle.std.specs.Prelude.{◌≡◌, ℕ, List, IsTrue, IfOk};
 ghost use Rattle.hpr_graph.specs.Numbered.{graph_in};
 ghost use Rattle.hpr_words.specs.Request.{graph};
-ghost use Rattle.hpr_decisions.specs.Answered.{Answers};
+ghost use Rattle.hpr_decisions.specs.Answered.{Answers, AnswersInKind};
 ghost use Rattle.hpr_decisions.specs.GraphFile.{Graphed, IsShown};
 ghost use Rattle.hpr_inputs.specs.Answer.{Merges};
 
@@ -24,6 +24,7 @@ pub fn graph_file<S: Shelf>(
     requires { IsTrue (S.serves shelf.old file.now) }
     ensures answers { Answers (graph file.now json)
         (S.files shelf.old) (S.faults shelf.old) (S.faults shelf.new) result }
+    ensures kind { AnswersInKind (graph file.now json) result }
     ensures same_files { S.files shelf.new ≡ S.files shelf.old }
     ensures same_names { (n : List ℕ) → S.serves shelf.new n ≡ S.serves shelf.old n }
 {

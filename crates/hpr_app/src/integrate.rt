@@ -4,6 +4,8 @@ ghost use Rattle.std.specs.Fmt.{decimal};
 ghost use Rattle.hpr_report.specs.ConflictsText.{conflicts_text};
 ghost use Rattle.hpr_inputs.specs.Reads.{IfTold, IsReached};
 ghost use Rattle.hpr_inputs.specs.Decision.{prints};
+ghost use Rattle.hpr_words.specs.Request.{integrate};
+ghost use Rattle.hpr_decisions.specs.Answered.{AnswersInKind};
 ghost use Rattle.hpr_decisions.specs.Integrate.{no_program_text, spent_text, Integrated, IntegrateOutcome};
 ghost use Rattle.hpr_app.specs.Private.Stopped.{file_of, IsStopped};
 ghost use Rattle.hpr_inputs.specs.Answer.{Decides, Merges};
@@ -36,6 +38,7 @@ pub fn integrate_files<S: Shelf>(
     ensures answers { Decides (λ r. IfTold (S.files shelf.old) (λ fs. IntegrateOutcome fs base.now a.now b.now tries r))
         (IsReached (S.files shelf.old) (base.now ∷ a.now ∷ b.now ∷ [])) (S.faults shelf.old)
         (S.faults shelf.new) result }
+    ensures kind { AnswersInKind (integrate base.now a.now b.now tries) result }
     ensures same_files { S.files shelf.new ≡ S.files shelf.old }
     ensures same_names { (n : List ℕ) → S.serves shelf.new n ≡ S.serves shelf.old n }
 {

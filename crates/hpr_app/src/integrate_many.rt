@@ -5,6 +5,8 @@ ghost use Rattle.hpr_report.specs.ConflictsText.{many_conflicts_text};
 ghost use Rattle.hpr_inputs.specs.Answer.{Decides, Merges};
 ghost use Rattle.hpr_inputs.specs.Decision.{prints};
 ghost use Rattle.hpr_inputs.specs.Reads.{IfTold, IsReached};
+ghost use Rattle.hpr_words.specs.Request.{integrate_many};
+ghost use Rattle.hpr_decisions.specs.Answered.{AnswersInKind};
 ghost use Rattle.hpr_decisions.specs.IntegrateMany.{IntegrateManyOutcome, IntegratedMany};
 ghost use Rattle.hpr_app.specs.Private.ManyStopped.{IsManyStopped};
 
@@ -38,6 +40,7 @@ pub fn integrate_many_files<S: Shelf>(
         (λ fs. IntegrateManyOutcome fs base.now (map (λ s. s.now) variants.now) tries r))
         (IsReached (S.files shelf.old) (base.now ∷ map (λ s. s.now) variants.now)) (S.faults shelf.old)
         (S.faults shelf.new) result }
+    ensures kind { AnswersInKind (integrate_many base.now (map (λ s. s.now) variants.now) tries) result }
     ensures same_files { S.files shelf.new ≡ S.files shelf.old }
     ensures same_names { (n : List ℕ) → S.serves shelf.new n ≡ S.serves shelf.old n }
 {

@@ -20,16 +20,18 @@ mod trace_text;
 mod trial;
 mod verify;
 
-ghost use Rattle.std.specs.Prelude.{◌≡◌, ◌≢◌, ℕ, List, ◌<◌, ◌⊎◌, ◌↔◌, All, None, IsTrue, map, string_bytes};
+ghost use Rattle.std.specs.Prelude.{◌≡◌, ◌≢◌, ℕ, List, ◌<◌, ◌⊎◌, ◌↔◌, All, None, IfSome, IsTrue, map, string_bytes};
 ghost use Rattle.hpr_io.specs.Counts.{Rose};
+ghost use Rattle.hpr_io.specs.Files.{Files};
 ghost use Rattle.hpr_io.specs.Taken.{taken_then};
 ghost use Rattle.hpr_graph.specs.Answer.{interference, no_program, spent};
 ghost use Rattle.hpr_words.specs.Asked.{request};
 ghost use Rattle.hpr_words.specs.Plain.{plain};
 ghost use Rattle.hpr_words.specs.Request.{Request, IsInRange};
 ghost use Rattle.hpr_decisions.specs.Asked.{Took, WhereAsked, asked_by};
-ghost use Rattle.hpr_decisions.specs.Reads.{MayRead, MayReadIfTaken, files_of, files_of_taken};
-ghost use Rattle.hpr_decisions.specs.Outcome.{RequestOutcome, OutcomeIfTold};
+ghost use Rattle.hpr_decisions.specs.Reads.{MayRead, MayReadIfTaken, ReadsNothing, files_of, files_of_taken};
+ghost use Rattle.hpr_decisions.specs.Outcome.{RequestOutcome, Outcome, OutcomeIfTold};
+ghost use Rattle.hpr_decisions.specs.Statuses.{IsStatusOf};
 ghost use Rattle.hpr_inputs.specs.Decision.{refuses};
 ghost use Rattle.hpr_decisions.specs.Integrate.{no_program_text, spent_text};
 ghost use Rattle.hpr_decisions.specs.Complete.{RequestCompletes, PrintsOther, UnlessFailed, IsRefusedCall};
@@ -91,6 +93,18 @@ pub fn hpr<S: Shelf, O: Sink, E: Sink>(
     ensures read_grew { S.faults shelf.old < S.faults shelf.new → (result ≡ Status.ReadFault)
         ⊎ (result ≡ Status.Memory) }
     ensures write_grew { O.faults out.old < O.faults out.new → result ≡ Status.WriteFault }
+
+    // Whatever the shelf tells, the status is one of the command's.
+    ensures status { IfSome (asked_by words.now) (λ asked. IsStatusOf asked result) }
+
+    // A call that comes to read no file, as `sample` or one with a word of a state that is refused, ends as over any
+    // files, and no read fails in it.
+    ensures unread { ReadsNothing (asked_by words.now) → (files : Files) → Ends result
+        (Outcome (asked_by words.now) files) (MayReadIfTaken (asked_by words.now) (S.files shelf.old))
+        (S.faults shelf.old) (S.faults shelf.new)
+        (record { before = O.faults out.old; now = O.faults out.new; old = O.taken out.old; new = O.taken out.new })
+        (record { before = E.faults err.old; now = E.faults err.new; old = E.taken err.old; new = E.taken err.new }) }
+    ensures unread_count { ReadsNothing (asked_by words.now) → S.faults shelf.new ≡ S.faults shelf.old }
 
     // Where no read and no write failed and nothing is refused, the command does what it is for, if memory was found.
     ensures complete { WhereAsked words.now (S.files shelf.old) (λ asked files.
@@ -189,6 +203,13 @@ fn run_words<S: Shelf, O: Sink, E: Sink>(
         (record { before = O.faults out.old; now = O.faults out.new; old = O.taken out.old; new = O.taken out.new })
         (record { before = E.faults err.old; now = E.faults err.new; old = E.taken err.old; new = E.taken err.new }) }
     ensures words { result ≢ Status.Memory → ((result ≡ Status.Words) ↔ (asked_by words.now ≡ None)) }
+    ensures status { IfSome (asked_by words.now) (λ asked. IsStatusOf asked result) }
+    ensures unread { ReadsNothing (asked_by words.now) → (files : Files) → Ends result
+        (Outcome (asked_by words.now) files) (MayReadIfTaken (asked_by words.now) (S.files shelf.old))
+        (S.faults shelf.old) (S.faults shelf.new)
+        (record { before = O.faults out.old; now = O.faults out.new; old = O.taken out.old; new = O.taken out.new })
+        (record { before = E.faults err.old; now = E.faults err.new; old = E.taken err.old; new = E.taken err.new }) }
+    ensures unread_count { ReadsNothing (asked_by words.now) → S.faults shelf.new ≡ S.faults shelf.old }
     ensures same_files { S.files shelf.new ≡ S.files shelf.old }
     ensures same_names { (n : List ℕ) → S.serves shelf.new n ≡ S.serves shelf.old n }
 {
@@ -217,6 +238,13 @@ fn run_asked<S: Shelf, O: Sink, E: Sink>(
         (record { before = O.faults out.old; now = O.faults out.new; old = O.taken out.old; new = O.taken out.new })
         (record { before = E.faults err.old; now = E.faults err.new; old = E.taken err.old; new = E.taken err.new }) }
     ensures taken { result ≢ Status.Words }
+    ensures status { IsStatusOf (request asked.entry) result }
+    ensures unread { ReadsNothing (Some (request asked.entry)) → (files : Files) → Ends result
+        (RequestOutcome (request asked.entry) files) (MayRead (request asked.entry) (S.files shelf.old))
+        (S.faults shelf.old) (S.faults shelf.new)
+        (record { before = O.faults out.old; now = O.faults out.new; old = O.taken out.old; new = O.taken out.new })
+        (record { before = E.faults err.old; now = E.faults err.new; old = E.taken err.old; new = E.taken err.new }) }
+    ensures unread_count { ReadsNothing (Some (request asked.entry)) → S.faults shelf.new ≡ S.faults shelf.old }
     ensures same_files { S.files shelf.new ≡ S.files shelf.old }
     ensures same_names { (n : List ℕ) → S.serves shelf.new n ≡ S.serves shelf.old n }
 {

@@ -3,7 +3,7 @@ ghost use Rattle.std.specs.Prelude.{◌≡◌, ℕ, List, true, IsTrue, map};
 ghost use Rattle.hpr_words.specs.Request.{run};
 ghost use Rattle.hpr_report.specs.Texts.{outcome_text};
 ghost use Rattle.hpr_run.specs.Outcomes.{outcome_of};
-ghost use Rattle.hpr_decisions.specs.Answered.{Answers};
+ghost use Rattle.hpr_decisions.specs.Answered.{Answers, AnswersInKind, AnswersUnread};
 ghost use Rattle.hpr_decisions.specs.RunFile.{Ran, kind_of};
 ghost use Rattle.hpr_inputs.specs.Answer.{Merges};
 
@@ -29,6 +29,9 @@ pub fn run_file<S: Shelf>(
     requires { IsTrue (S.serves shelf.old file.now) }
     ensures answers { Answers (run file.now (map (λ w. w.now) words.now) steps trace)
         (S.files shelf.old) (S.faults shelf.old) (S.faults shelf.new) result }
+    ensures kind { AnswersInKind (run file.now (map (λ w. w.now) words.now) steps trace) result }
+    ensures unread { AnswersUnread (run file.now (map (λ w. w.now) words.now) steps trace)
+        (S.faults shelf.old) (S.faults shelf.new) result }
     ensures same_files { S.files shelf.new ≡ S.files shelf.old }
     ensures same_names { (n : List ℕ) → S.serves shelf.new n ≡ S.serves shelf.old n }
 {

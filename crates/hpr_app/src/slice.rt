@@ -4,7 +4,7 @@ ghost use Rattle.hpr_graph.specs.Numbered.{graph_in};
 ghost use Rattle.hpr_graph.specs.Slices.{slice_of};
 ghost use Rattle.hpr_slice.specs.Vertices.{IsOneOf};
 ghost use Rattle.hpr_words.specs.Request.{slice};
-ghost use Rattle.hpr_decisions.specs.Answered.{Answers};
+ghost use Rattle.hpr_decisions.specs.Answered.{Answers, AnswersInKind};
 ghost use Rattle.hpr_decisions.specs.SliceFile.{IsLeftText, IsSliceShown, Sliced};
 ghost use Rattle.hpr_inputs.specs.Answer.{Merges};
 ghost use Rattle.hpr_app.specs.Private.SlicedIn.{SlicedIn};
@@ -32,6 +32,7 @@ pub fn slice_file<S: Shelf>(
     requires { IsTrue (S.serves shelf.old file.now) }
     ensures answers { Answers (slice file.now (map (λ w. w.now) points.now) as_program)
         (S.files shelf.old) (S.faults shelf.old) (S.faults shelf.new) result }
+    ensures kind { AnswersInKind (slice file.now (map (λ w. w.now) points.now) as_program) result }
     ensures same_files { S.files shelf.new ≡ S.files shelf.old }
     ensures same_names { (n : List ℕ) → S.serves shelf.new n ≡ S.serves shelf.old n }
 {

@@ -1,7 +1,7 @@
 //! The command `tag`.
 ghost use Rattle.std.specs.Prelude.{◌≡◌, ◌≤◌, ℕ, List, IsTrue};
 ghost use Rattle.hpr_words.specs.Request.{tag};
-ghost use Rattle.hpr_decisions.specs.Answered.{Answers};
+ghost use Rattle.hpr_decisions.specs.Answered.{Answers, AnswersInKind};
 
 use crate::programs::print_program;
 use hpr_inputs::{Report, Stop, read_text};
@@ -20,6 +20,7 @@ pub fn tag_file<S: Shelf>(
     requires author { 1 ≤ author }
     ensures answers { Answers (tag file.now author)
         (S.files shelf.old) (S.faults shelf.old) (S.faults shelf.new) result }
+    ensures kind { AnswersInKind (tag file.now author) result }
     ensures same_files { S.files shelf.new ≡ S.files shelf.old }
     ensures same_names { (n : List ℕ) → S.serves shelf.new n ≡ S.serves shelf.old n }
 {

@@ -7,6 +7,8 @@ ghost use Rattle.hpr_report.specs.TableText.{IsSingleValued};
 ghost use Rattle.hpr_inputs.specs.Answer.{Decides, Merges};
 ghost use Rattle.hpr_inputs.specs.Reads.{IfTold, IsReached};
 ghost use Rattle.hpr_inputs.specs.States.{states_of};
+ghost use Rattle.hpr_words.specs.Request.{trial};
+ghost use Rattle.hpr_decisions.specs.Answered.{AnswersInKind, AnswersUnread};
 ghost use Rattle.hpr_decisions.specs.TrialFiles.{has_ended, finals_of, steps_of, trial_line, three_lines, IsTrialText, IsTrialOf, ShowsTrial, Tried, TrialOutcome, steps_together};
 
 use crate::integrate::stopped;
@@ -40,6 +42,9 @@ pub fn trial_files<S: Shelf>(
         TrialOutcome fs base.now a.now b.now (map (λ w. w.now) words.now) steps r)) (λ file.
         IsReached (S.files shelf.old) (base.now ∷ a.now ∷ b.now ∷ []) file
         × IsOk (states_of (map (λ w. w.now) words.now))) (S.faults shelf.old) (S.faults shelf.new) result }
+    ensures kind { AnswersInKind (trial base.now a.now b.now (map (λ w. w.now) words.now) steps) result }
+    ensures unread { AnswersUnread (trial base.now a.now b.now (map (λ w. w.now) words.now) steps)
+        (S.faults shelf.old) (S.faults shelf.new) result }
     ensures same_files { S.files shelf.new ≡ S.files shelf.old }
     ensures same_names { (n : List ℕ) → S.serves shelf.new n ≡ S.serves shelf.old n }
 {

@@ -2,6 +2,8 @@
 ghost use Rattle.std.specs.Prelude.{◌≡◌, ◌<◌, [], ◌∷◌, ℕ, List, IsTrue, get_or, length, map};
 ghost use Rattle.hpr_inputs.specs.Answer.{Decides, Merges};
 ghost use Rattle.hpr_inputs.specs.Reads.{IfTold, IsReached};
+ghost use Rattle.hpr_words.specs.Request.{verify};
+ghost use Rattle.hpr_decisions.specs.Answered.{AnswersInKind};
 ghost use Rattle.hpr_decisions.specs.VerifyFiles.{VerifyOutcome, report_verdict};
 ghost use Rattle.hpr_app.specs.Private.VerifiedOf.{IsVerifiedOf};
 
@@ -30,6 +32,7 @@ pub fn verify_files<S: Shelf>(
     ensures answers { Decides (λ r. IfTold (S.files shelf.old) (λ fs. VerifyOutcome fs base.now a.now b.now offered.now r))
         (IsReached (S.files shelf.old) (base.now ∷ a.now ∷ b.now ∷ offered.now ∷ [])) (S.faults shelf.old)
         (S.faults shelf.new) result }
+    ensures kind { AnswersInKind (verify base.now a.now b.now offered.now) result }
     ensures same_files { S.files shelf.new ≡ S.files shelf.old }
     ensures same_names { (n : List ℕ) → S.serves shelf.new n ≡ S.serves shelf.old n }
 {

@@ -37,6 +37,9 @@ returns g c = record {
   write = λ failed. write_rose _ _ _ _ _ _ _ failed c.run_words.ensures.ends;
   read_grew = λ low. read_grew _ _ _ _ _ _ _ c.run_words.ensures.ends low;
   write_grew = λ low. write_grew _ _ _ _ _ _ _ c.run_words.ensures.ends low;
+  status = c.run_words.ensures.status;
+  unread = c.run_words.ensures.unread;
+  unread_count = c.run_words.ensures.unread_count;
   complete = λ asked fs is told read written. completes asked fs _ _ _ _ _ read written _
       (ends_asked _ asked (g.S.Shelf.files c.args.shelf.now) fs _ _ _ _ _ _ is told c.run_words.ensures.ends);
   one_side = λ asked fs is told read written. prints_other asked fs _ _ _ _ _ read written (taken_in_range (map string_bytes c.args.words.now) asked is) _

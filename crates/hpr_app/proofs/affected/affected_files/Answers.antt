@@ -4,6 +4,9 @@ use Rattle.hpr_io.specs.Files.{bytes_of}
 use Rattle.hpr_refusals.specs.Refusals.{IsFileOf}
 use Rattle.hpr_app.proofs.AffectedLemmas.{base_fails, a_fails, decided}
 use Rattle.hpr_inputs.proofs.ReadLemmas.{told_same, fails_same}
+use Rattle.hpr_decisions.proofs.Kinds.{in_kind, affected_suits}
+use Rattle.hpr_words.specs.Request.{affected}
+use Rattle.hpr_decisions.specs.AffectedFiles.{AffectedPoints}
 use Rattle.hpr_app.proofs.affected.affected_files.Goals as goal
 
 pub returns-in_err-base_program-clause-answers : goal.returns-in_err-base_program-clause-answers
@@ -33,3 +36,11 @@ returns-clause-answers g c =
     (told_same told (g.S.Shelf.files c.read_program.new.shelf) (λ fs. IsFileOf (bytes_of fs c.args.a.now) c.in_ok-a_program.a_program) base.same_files a.reads.0)
     (a.reads.1 ∙ base.reads.1)
     c.show_affected.ensures
+
+pub returns-clause-kind : goal.returns-clause-kind
+returns-clause-kind g c =
+    let base = c.args.base.now in
+    let a = c.args.a.now in
+    let p = c.in_ok-base_program.base_program in
+    let q = c.in_ok-a_program.a_program in
+    in_kind (affected base a) (AffectedPoints base p a q) (affected_suits base p a q) c.show_affected.result c.show_affected.ensures

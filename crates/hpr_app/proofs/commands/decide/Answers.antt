@@ -1,7 +1,9 @@
-use Rattle.std.proofs.Common.{IsTrue, refl}
+use Rattle.std.proofs.Common.{IsTrue, refl, None, inl}
 use Rattle.hpr_decisions.specs.Sampled.{SampleOutcome}
 use Rattle.hpr_app.proofs.SampleLemmas.{unread}
 use Rattle.hpr_app.proofs.ServedLemmas.{least_of, most_of, ranged, served_at, served_behind, served_first}
+use Rattle.hpr_words.specs.Request.{sample}
+use Rattle.hpr_decisions.proofs.Kinds.{in_kind, sample_suits}
 use Rattle.hpr_app.proofs.commands.decide.Goals as goal
 
 pub returns-in-Integrate-clause-answers : goal.returns-in-Integrate-clause-answers
@@ -39,6 +41,79 @@ returns-in-Sample-clause-answers g c =
 
 pub returns-in-Verify-clause-answers : goal.returns-in-Verify-clause-answers
 returns-in-Verify-clause-answers g c = rw c.in-Verify.is c.verify_files.ensures.answers
+
+-- each answer is of a kind of the request
+
+pub returns-in-Integrate-clause-kind : goal.returns-in-Integrate-clause-kind
+returns-in-Integrate-clause-kind g c = rw c.in-Integrate.is c.integrate_files.ensures.kind
+
+pub returns-in-IntegrateMany-clause-kind : goal.returns-in-IntegrateMany-clause-kind
+returns-in-IntegrateMany-clause-kind g c = rw c.in-IntegrateMany.is (rw c.as_slice.ensures.value at c.integrate_many_files.ensures.kind)
+
+pub returns-in-Run-clause-kind : goal.returns-in-Run-clause-kind
+returns-in-Run-clause-kind g c = rw c.in-Run.is (rw c.as_slice-in-Run.ensures.value at c.run_file.ensures.kind)
+
+pub returns-in-Graph-clause-kind : goal.returns-in-Graph-clause-kind
+returns-in-Graph-clause-kind g c = rw c.in-Graph.is c.graph_file.ensures.kind
+
+pub returns-in-Slice-clause-kind : goal.returns-in-Slice-clause-kind
+returns-in-Slice-clause-kind g c = rw c.in-Slice.is (rw c.as_slice-in-Slice.ensures.value at c.slice_file.ensures.kind)
+
+pub returns-in-Affected-clause-kind : goal.returns-in-Affected-clause-kind
+returns-in-Affected-clause-kind g c = rw c.in-Affected.is c.affected_files.ensures.kind
+
+pub returns-in-Trial-clause-kind : goal.returns-in-Trial-clause-kind
+returns-in-Trial-clause-kind g c = rw c.in-Trial.is (rw c.as_slice-in-Trial.ensures.value at c.trial_files.ensures.kind)
+
+pub returns-in-Edit-clause-kind : goal.returns-in-Edit-clause-kind
+returns-in-Edit-clause-kind g c = rw c.in-Edit.is c.edit_file.ensures.kind
+
+pub returns-in-Tag-clause-kind : goal.returns-in-Tag-clause-kind
+returns-in-Tag-clause-kind g c = rw c.in-Tag.is c.tag_file.ensures.kind
+
+pub returns-in-Verify-clause-kind : goal.returns-in-Verify-clause-kind
+returns-in-Verify-clause-kind g c = rw c.in-Verify.is c.verify_files.ensures.kind
+
+pub returns-in-Sample-clause-kind : goal.returns-in-Sample-clause-kind
+returns-in-Sample-clause-kind g c =
+    let seed = c.in-Sample.seed in
+    let parts = c.in-Sample.parts in
+    rw c.in-Sample.is (in_kind (sample seed parts) (SampleOutcome seed parts) (sample_suits seed parts) c.sample_seed.result c.sample_seed.ensures)
+
+-- a request that reads nothing is answered over whatever files; the first file of each other one is read
+
+pub returns-in-Integrate-clause-unread : goal.returns-in-Integrate-clause-unread
+returns-in-Integrate-clause-unread g c = rw c.in-Integrate.is (λ none. absurd (none None c.in-Integrate.base.now (inl refl)))
+
+pub returns-in-IntegrateMany-clause-unread : goal.returns-in-IntegrateMany-clause-unread
+returns-in-IntegrateMany-clause-unread g c = rw c.in-IntegrateMany.is (λ none. absurd (none None c.in-IntegrateMany.base.now (inl refl)))
+
+pub returns-in-Run-clause-unread : goal.returns-in-Run-clause-unread
+returns-in-Run-clause-unread g c = rw c.in-Run.is (rw c.as_slice-in-Run.ensures.value at c.run_file.ensures.unread)
+
+pub returns-in-Graph-clause-unread : goal.returns-in-Graph-clause-unread
+returns-in-Graph-clause-unread g c = rw c.in-Graph.is (λ none. absurd (none None c.in-Graph.file.now refl))
+
+pub returns-in-Slice-clause-unread : goal.returns-in-Slice-clause-unread
+returns-in-Slice-clause-unread g c = rw c.in-Slice.is (λ none. absurd (none None c.in-Slice.file.now refl))
+
+pub returns-in-Affected-clause-unread : goal.returns-in-Affected-clause-unread
+returns-in-Affected-clause-unread g c = rw c.in-Affected.is (λ none. absurd (none None c.in-Affected.base.now (inl refl)))
+
+pub returns-in-Trial-clause-unread : goal.returns-in-Trial-clause-unread
+returns-in-Trial-clause-unread g c = rw c.in-Trial.is (rw c.as_slice-in-Trial.ensures.value at c.trial_files.ensures.unread)
+
+pub returns-in-Edit-clause-unread : goal.returns-in-Edit-clause-unread
+returns-in-Edit-clause-unread g c = rw c.in-Edit.is (λ none. absurd (none None c.in-Edit.file.now (inl refl)))
+
+pub returns-in-Tag-clause-unread : goal.returns-in-Tag-clause-unread
+returns-in-Tag-clause-unread g c = rw c.in-Tag.is (λ none. absurd (none None c.in-Tag.file.now refl))
+
+pub returns-in-Verify-clause-unread : goal.returns-in-Verify-clause-unread
+returns-in-Verify-clause-unread g c = rw c.in-Verify.is (λ none. absurd (none None c.in-Verify.base.now (inl refl)))
+
+pub returns-in-Sample-clause-unread : goal.returns-in-Sample-clause-unread
+returns-in-Sample-clause-unread g c = rw c.in-Sample.is (λ none. (refl, λ files. c.sample_seed.ensures))
 
 -- what a shelf serves of all files that are asked for, it serves of each; and what is asked is in range
 

@@ -7,6 +7,8 @@ use Rattle.hpr_inputs.specs.Answer.{Merges}
 use Rattle.hpr_decisions.specs.EditFiles.{edit_decision}
 use Rattle.hpr_app.proofs.EditLemmas.{decided, program_fails, script_fails}
 use Rattle.hpr_inputs.proofs.ReadLemmas.{read_fails_behind, told_same}
+use Rattle.hpr_decisions.proofs.Kinds.{in_kind, edit_suits}
+use Rattle.hpr_words.specs.Request.{edit}
 use Rattle.hpr_app.proofs.edit.edit_file.Goals as goal
 
 pub returns-in_err-program-clause-answers : goal.returns-in_err-program-clause-answers
@@ -32,3 +34,10 @@ returns-clause-answers g c =
     (told_same told (g.S.Shelf.files c.read_program.new.shelf) (λ fs. IsScriptOf (bytes_of fs script) commands) program.same_files c.in_ok-commands.ensures.reads.0)
     (c.in_ok-commands.ensures.reads.1 ∙ program.reads.1)
     (subst (λ cs. Merges (λ r. r ≡ edit_decision script (applied c.in_ok-program.program cs c.args.author)) c.show_edited.result) c.deref.ensures.value c.show_edited.ensures)
+
+pub returns-clause-kind : goal.returns-clause-kind
+returns-clause-kind g c =
+    let file = c.args.file.now in
+    let script = c.args.script.now in
+    let made = applied c.in_ok-program.program c.deref.result.now c.args.author in
+    in_kind (edit file script c.args.author) (λ r. r ≡ edit_decision script made) (edit_suits file script c.args.author made) c.show_edited.result c.show_edited.ensures
