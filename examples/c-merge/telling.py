@@ -1,0 +1,79 @@
+"""What is said of verdicts: sentences, with the lines of the sources that they are of."""
+import json
+import re
+
+from parts import Spelling, all_parts, ask, begin_of
+
+# of one function so many conflicts are told
+MOST = 4
+
+
+class Places:
+    """Where the points of hpr's graphs stand in the sources."""
+
+    def __init__(self, names, versions, tables, spelling):
+        self.found, self.roots = {}, {}
+        for name, version, tags in zip(names, versions, tables):
+            for part in all_parts(version.parts):
+                self.found.setdefault(f"{tags[part]} {spelling.content(part)}", (name, version, part))
+        for variable, number in spelling.names.items():
+            self.roots[f"v{number}"] = said_of(variable)
+
+    def of(self, point):
+        """A point as a person knows it: the version, the line and its text."""
+        if point.startswith(("final ", "init ")):
+            kind, name = point.split()
+            return self.roots[name] + (" at the end" if kind == "final" else " at first")
+        if point not in self.found:
+            return point
+        name, version, part = self.found[point]
+        at = begin_of(part.node)
+        text = version.unit.text
+        return f"{name} {text.count(chr(10), 0, at) + 1} `{' '.join(text[at:].split(chr(10), 1)[0].split())}`"
+
+
+def said_of(variable):
+    kind, *more = variable
+    if kind == "own":
+        return {"returns": "the result", "output": "what is written"}.get(more[0], "an exit")
+    if kind == "memory":
+        return "what pointers reach"
+    return ".".join([more[0], *(it.name for it in more[2:])])
+
+
+def conflicts(text, places):
+    """A sentence for each edge that hpr lists, once."""
+    found = {}
+    for side, point, kind, name, source, target in re.findall(r"^(A|B) \[(.+?)\]: (\w+)(?: (?:true|false))?(?: (v\d+))? ?\[(.+?)\] -> \[(.+?)\]", text, re.M):
+        by = f", by {places.roots[name]}" if name in places.roots else ""
+        sentence = f"{places.of(point)} would also depend on {places.of(source)} -> {places.of(target)}{by}"
+        found.setdefault((side, kind, source, target), sentence)
+    return list(found.values())
+
+
+def why_not(verdict, versions, tags_of):
+    """Sentences why hpr doesn't verify a merged function."""
+    tables = tags_of(*versions)
+    spelling = Spelling(versions)
+    texts = {letter: spelling.program(version, tags) for letter, version, tags in zip("OABM", versions, tables)}
+    places = Places(("base", "ours", "theirs", "merge"), versions, tables, spelling)
+    status, said = ask(["integrate", *"OAB"], {letter: texts[letter] for letter in "OAB"})
+    if status == 1:
+        return shortened(["the two changes interfere", *conflicts(said, places)])
+    told = json.loads(verdict.details)
+    where = told.get("vertex") or " -> ".join(map(places.of, re.findall(r"\[(.+?)\]", told.get("edge", ""))))
+    holder = {"merged": "the lines lack", "offered": "the lines have, and neither change asks for,"}[told["holder"]]
+    return [f"{holder} {places.of(where)}"]
+
+
+def shortened(sentences):
+    left = len(sentences) - 1 - MOST
+    return sentences[: MOST + 1] + ([f"and {left} more"] if left > 0 else [])
+
+
+def sentences(verdict, versions, tags_of):
+    """What is said of a function: nothing where it is kept."""
+    if verdict.outcome == "kept":
+        return []
+    said = [verdict.why] if verdict.why else why_not(verdict, versions, tags_of)
+    return [f"{verdict.name}: {verdict.outcome}: {said[0]}", *("  " + it for it in said[1:])]
