@@ -1,4 +1,6 @@
 /* Controllers and filters. */
+int printf(const char *, ...);
+
 struct pid {
     double p, i, d;
     double sum;

@@ -1,4 +1,5 @@
 /* Points and polygons. */
+int printf(const char *, ...);
 double sqrt(double);
 
 typedef struct {

@@ -1,4 +1,6 @@
 /* Sorting of a fixed array, and what is found on the way. */
+int printf(const char *, ...);
+
 long swaps;
 int middle_value;
 

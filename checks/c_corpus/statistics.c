@@ -1,4 +1,5 @@
 /* Statistics of some numbers. */
+int printf(const char *, ...);
 double fabs(double);
 double sqrt(double);
 

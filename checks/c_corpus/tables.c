@@ -1,4 +1,6 @@
 /* Tables, and what is looked up in them. */
+int printf(const char *, ...);
+
 static const int days[12] = {31, 28, 31, 30, 31, 30, 31, 31, 30, 31, 30, 31};
 static const double factors[4] = {1.0, 1.5, 2.25, 4.0};
 

@@ -629,16 +629,16 @@ class Function:
         return self.node["type"]["qualType"], tuple((it.get("name"), it["type"].get("desugaredQualType") or it["type"]["qualType"]) for it in parameters)
 
     def content(self):
-        """All that gives the function its meaning; of a refused one all of clang's tree but where its nodes are."""
+        """All that gives the function its meaning; of a refused one all of clang's tree but where its nodes are, and its text."""
         if self.read().refused:
-            return "tree", json.dumps(bare(self.node), sort_keys=True)
+            return "tree", json.dumps(bare(self.node), sort_keys=True), self.unit.text[self.begin : self.end].split()
         return "parts", self.signature(), tuple(it.whole() for it in self.parts)
 
     def content_if_pure(self):
         """A number of the content of a function that gives a value and does nothing else."""
         parts = list(all_parts(self.read().parts))
         if self.refused or any(it.outside() or it.target == own_cell("output") for it in parts):
-            raise Refused(f"call of {self.name}")
+            raise Refused(f"call of {self.name}: {self.refused or 'it does more than give a value'}")
         return hashlib.sha256(repr(self.content()).encode()).hexdigest()
 
 

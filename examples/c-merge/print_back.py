@@ -84,8 +84,8 @@ class Source:
     def trail(self, node):
         """A comment behind a statement, on its last line."""
         end = begin_of(node) + len(self.statement(node))
-        rest = self.text[end:].split("\n", 1)[0].strip()
-        return rest if comments(rest) == [rest] else ""
+        rest = self.text[end:].split("\n", 1)[0].rstrip()
+        return rest if comments(rest) == [rest.strip()] else ""
 
 
 def blocks_of(node):
@@ -245,7 +245,7 @@ class Printer:
         lines = indented(source.statement(part.node), source.indentation(begin_of(part.node)), self.space(depth))
         trail = source.trail(part.node)
         if trail:
-            lines[-1] += "  " + trail
+            lines[-1] += trail
         return self.lead(node, depth) + lines
 
     def declaration(self, node, following, depth):
