@@ -174,15 +174,19 @@ def name_result(draw, body, side):
     return body.put(begin, body.end_of(node), f"{kind} {side}_result = {value}\n    return {side}_result;")
 
 
-EDITS = [change_constant, change_operator, change_expression, delete, insert_statement, guard, leave, move, comment, restyle, add_result, show, name_result]
+# how often each is drawn
+EDITS = {
+    change_constant: 3, change_operator: 2, change_expression: 2, delete: 1, insert_statement: 2, guard: 1, leave: 1, move: 2, comment: 4,
+    restyle: 3, add_result: 6, show: 3, name_result: 2,
+}
 
 
 def changed(draw, unit_of, text, name, side):
     """A variant of the text in which the function has one to three drawn changes, and what they are. `unit_of` reads a text."""
     done = []
-    for _ in range(draw.choice([1, 1, 2, 3])):
+    for _ in range(draw.choice([1, 1, 1, 2])):
         for _ in range(8):
-            edit = draw.choice(EDITS)
+            (edit,) = draw.choices([*EDITS], [*EDITS.values()])
             try:
                 new = edit(draw, Body(unit_of(text).functions[name]), side)
                 function = unit_of(new).read().functions[name]

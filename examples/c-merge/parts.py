@@ -845,7 +845,7 @@ def ask(words, texts):
             ran = subprocess.run([program, *words], cwd=folder, capture_output=True, text=True, check=False, env={**os.environ, "HPR_BUILD": "never"})
         except OSError as why:
             raise Failed(f"hpr can't be run: {why.strerror}") from None
-    if ran.returncode not in (0, 1, 2, 3, 4, 10) or ran.returncode in (0, 10) and not ran.stdout:
+    if ran.returncode not in (0, 1, 2, 3, 4, 9, 10) or ran.returncode != 4 and not ran.stdout:
         raise Failed("hpr isn't built" if ran.returncode == 70 else f"hpr can't be run: status {ran.returncode}")
     return ran.returncode, ran.stdout or ran.stderr
 

@@ -81,6 +81,13 @@ class Source:
         lines = [line.strip() for line in found.group().split("\n")[:-1]]
         return lines if any(lines) else lines[-1:]
 
+    def tail(self, node, number):
+        """The lines of comments at the end of a block of a statement."""
+        blocks = blocks_of(node) if node["kind"] in COMPOUND else []
+        if len(blocks) <= number or blocks[number]["kind"] != "CompoundStmt":
+            return []
+        return [it for it in self.lead(end_of(blocks[number]) - 1) if it]
+
     def trail(self, node):
         """A comment behind a statement, on its last line."""
         end = begin_of(node) + len(self.statement(node))
@@ -256,25 +263,22 @@ class Printer:
             return self.simple(node, depth, following[: len(wanted)])
         return self.lead(node, depth) + [self.space(depth) + " ".join(source.declarator(part)) + ";"]
 
+    def of_versions(self, node, found_in):
+        """What versions have beside a part, by three ways: the part with its tag, whatever it says there."""
+        parts = {name: self.by_tag[name].get(node.tag) for name in VERSIONS}
+        found = {name: found_in(self.sources[name], part) for name, part in parts.items() if part is not None and part.node["kind"] != "FunctionDecl"}
+        if len(found) == 3:
+            return three_ways(*(found[name] for name in VERSIONS))
+        return found.get("ours") or found.get("theirs") or found.get("base", [])
+
     def lead(self, node, depth):
-        """The comments above a statement, of both versions that changed them."""
-        found = {}
-        for name in VERSIONS:
-            part = self.by_tag[name].get(node.tag)
-            if part is not None and part.node["kind"] != "FunctionDecl":
-                found[name] = self.sources[name].lead(begin_of(part.node))
-        lines = found.get("ours") or found.get("theirs") or found.get("base", []) if len(found) < 3 else three_ways(*(found[it] for it in VERSIONS))
+        """The comments above a statement."""
+        lines = self.of_versions(node, lambda source, part: source.lead(begin_of(part.node)))
         return [self.space(depth) + it if it else "" for it in lines]
 
     def tail(self, node, number, depth):
         """The comments at the end of a block."""
-        found = {}
-        for name, part in node.found.items():
-            blocks = blocks_of(part.node)
-            if len(blocks) > number and blocks[number]["kind"] == "CompoundStmt":
-                found[name] = [it for it in self.sources[name].lead(end_of(blocks[number]) - 1) if it]
-        lines = three_ways(*(found.get(it, []) for it in VERSIONS)) if "base" in found else next(iter(found.values()), [])
-        return [self.space(depth) + it for it in lines]
+        return [self.space(depth) + it for it in self.of_versions(node, lambda source, part: source.tail(part.node, number))]
 
     # ---- statements with blocks
 

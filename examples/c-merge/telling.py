@@ -15,21 +15,27 @@ class Places:
         self.found, self.roots = {}, {}
         for name, version, tags in zip(names, versions, tables):
             for part in all_parts(version.parts):
-                self.found.setdefault(f"{tags[part]} {spelling.content(part)}", (name, version, part))
+                self.found.setdefault(f"{tags[part]} {spelling.content(part)}", {})[name] = line_of(version, part)
         for variable, number in spelling.names.items():
             self.roots[f"v{number}"] = said_of(variable)
 
-    def of(self, point):
-        """A point as a person knows it: the version, the line and its text."""
+    def of(self, point, *names):
+        """A point as a person knows it: the version, by preference one of these, its line and the text of it."""
         if point.startswith(("final ", "init ")):
             kind, name = point.split()
             return self.roots[name] + (" at the end" if kind == "final" else " at first")
-        if point not in self.found:
+        found = self.found.get(point)
+        if found is None:
             return point
-        name, version, part = self.found[point]
-        at = begin_of(part.node)
-        text = version.unit.text
-        return f"{name} {text.count(chr(10), 0, at) + 1} `{' '.join(text[at:].split(chr(10), 1)[0].split())}`"
+        name = next((it for it in names if it in found), next(iter(found)))
+        return f"{name} {found[name]}"
+
+
+def line_of(function, part):
+    """The number of a part's line, and its text."""
+    text, at = function.unit.text, begin_of(part.node)
+    number = text.count("\n", 0, at)
+    return f"{number + 1} `{' '.join(text.splitlines()[number].split())}`"
 
 
 def said_of(variable):
@@ -46,7 +52,8 @@ def conflicts(text, places):
     found = {}
     for side, point, kind, name, source, target in re.findall(r"^(A|B) \[(.+?)\]: (\w+)(?: (?:true|false))?(?: (v\d+))? ?\[(.+?)\] -> \[(.+?)\]", text, re.M):
         by = f", by {places.roots[name]}" if name in places.roots else ""
-        sentence = f"{places.of(point)} would also depend on {places.of(source)} -> {places.of(target)}{by}"
+        own, other = ("ours", "theirs") if side == "A" else ("theirs", "ours")
+        sentence = f"{places.of(point, own)} would also depend on {places.of(source, other)} -> {places.of(target, other)}{by}"
         found.setdefault((side, kind, source, target), sentence)
     return list(found.values())
 
@@ -61,9 +68,9 @@ def why_not(verdict, versions, tags_of):
     if status == 1:
         return shortened(["the two changes interfere", *conflicts(said, places)])
     told = json.loads(verdict.details)
-    where = told.get("vertex") or " -> ".join(map(places.of, re.findall(r"\[(.+?)\]", told.get("edge", ""))))
-    holder = {"merged": "the lines lack", "offered": "the lines have, and neither change asks for,"}[told["holder"]]
-    return [f"{holder} {places.of(where)}"]
+    points = [told["vertex"]] if "vertex" in told else re.findall(r"\[(.+?)\]", told["edge"])
+    where = " -> ".join(places.of(it, "merge", "ours", "theirs") for it in points)
+    return [f"the merge {'lacks' if told['holder'] == 'merged' else 'has, and no version asks for it,'} {where}"]
 
 
 def shortened(sentences):
