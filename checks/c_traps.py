@@ -132,6 +132,69 @@ int f(struct s *p, int n)
     return t + p[n].y;
 }
 """, [("p->x = n", "p->x = n + 1")], [("t = t * 2", "t = t * p[n - n].x")]),
+    ("a member by an arrow and by an index of a restricted pointer", "not kept", """
+struct s { int x; int y; };
+int f(struct s *restrict p, int n)
+{
+    int t = 1;
+    p->x = n;
+    t = t + n;
+    t = t * 2;
+    return t + p[n].y;
+}
+""", [("p->x = n", "p->x = n + 1")], [("t = t * 2", "t = t * p[n - n].x")]),
+    ("two names of one variable", "access to h", """
+long g;
+extern long h __attribute__((alias("g")));
+long f(long n)
+{
+    long t = 1;
+    g = n;
+    t = t + n;
+    t = t + 1;
+    return t + h;
+}
+""", [("g = n", "g = n + 1")], [("t = t + 1", "t = t + 2 * h")]),
+    ("a pointer to arrays whose size is a value", "type int", """
+int f(int n, int m[][n])
+{
+    int t = 1;
+    m[1][0] = n;
+    t = t + n;
+    n = n + 1;
+    return t + m[0][0];
+}
+""", [("m[1][0] = n", "m[1][0] = n + 1")], [("n = n + 1", "n = n + 2")]),
+    ("a size in the parameters that changes one", "parameters", """
+int f(int n, int m[n++])
+{
+    int t = 1;
+    m[1] = n;
+    t = t + n;
+    n = n + 1;
+    return t + m[0];
+}
+""", [("m[1] = n", "m[1] = n + 1")], [("n = n + 1", "n = n + 2")]),
+    ("a variable in a register by its name", "variable of type", """
+int f(int n)
+{
+    register int t asm("eax");
+    t = n;
+    n = t + n;
+    n = n + 1;
+    return t + n;
+}
+""", [("t = n", "t = n + 1")], [("n = n + 1", "n = n + 2")]),
+    ("a constant of floating point in its last digit", "not kept", """
+double g;
+double f(double n)
+{
+    double t = n * 1.0;
+    double u = n;
+    g = u;
+    return t;
+}
+""", [("1.0", "1.0000000000000002")], [("u = n", "u = n * 1.0"), ("return t", "return t + u")]),
     ("two members of one structure", "kept", """
 struct acc { long sum; int n; };
 void f(struct acc *p, int v)
@@ -280,7 +343,8 @@ int f(int a, int b, int c)
     t = a;
     return s;
 }
-""", [("int a, int b, int c", "int b, int a, int c"), ("int t = 0", "int t = 2")], [("int a, int b, int c", "int a, int c, int b"), ("a + b", "a - b")]),
+""", [("int a, int b, int c", "int b, int a, int c"), ("int t = 0", "int t = 2")],
+     [("int a, int b, int c", "int a, int c, int b"), ("a + b", "a - b")]),
     ("the result gets another type", "not kept", """
 long f(int n)
 {
@@ -395,6 +459,19 @@ int f(int n)
     return a;
 }
 """, [("a = 7", "a = 8")], [("g = b", "g = b + 1")]),
+    ("a line of the preprocessor behind a comment", "preprocessor", """
+long g;
+int f(int n)
+{
+    int a = n; /* "#" */
+    int b = 2;
+/* only */ #ifdef DEEP
+    a = 7;
+/* if deep */ #endif
+    g = b;
+    return a;
+}
+""", [("a = 7", "a = 8")], [("g = b", "g = b + 1")]),
     ("a static variable", "declaration of s", """
 int f(int n)
 {
@@ -405,7 +482,7 @@ int f(int n)
     return s + t;
 }
 """, [("s = s + 1", "s = s + 2")], [("t = t + 2", "t = t + 3")]),
-    ("a variable array", "variable of type", """
+    ("a variable array", "type int[n]", """
 int f(int n)
 {
     int a[n];
@@ -579,7 +656,8 @@ int f(int n)
     g = b;
     return a;
 }
-""", [("int b = 2;", "int b = 2;\n    if (b > n)\n        b = n;"), ("return a", "return a + 1")], [("int b = 2;", "int b = 2;\n    if (b > n)\n        b = n;"), ("int f", "/* both */\nint f")]),
+""", [("int b = 2;", "int b = 2;\n    if (b > n)\n        b = n;"), ("return a", "return a + 1")],
+     [("int b = 2;", "int b = 2;\n    if (b > n)\n        b = n;"), ("int f", "/* both */\nint f")]),
     ("lines that conflict, and changes that don't", "kept", """
 long sum_seen, top_seen;
 void f(const int *a, int n)
@@ -590,7 +668,8 @@ void f(const int *a, int n)
         s += a[i];
     sum_seen = s;
 }
-""", [("long s = 0;", "long s = 0;\n    int top = 0; // the greatest"), ("i++)\n        s += a[i];", "i++) {\n        s += a[i];\n        if (a[i] > top)\n            top = a[i];\n    }"), ("sum_seen = s", "top_seen = top;\n    sum_seen = s")],
+""", [("long s = 0;", "long s = 0;\n    int top = 0; // the greatest"), ("sum_seen = s", "top_seen = top;\n    sum_seen = s"),
+      ("i++)\n        s += a[i];", "i++) {\n        s += a[i];\n        if (a[i] > top)\n            top = a[i];\n    }")],
      [("i++)\n        s += a[i];", "i++) {\n        s += a[i]; // all of them\n    }"), ("long s = 0;", "long s = 0; /* none yet */")]),
     ("an old and a new content of one statement", "not kept", """
 int g, h;

@@ -147,10 +147,13 @@ def all_parts(block):
 
 
 def type_of(node, key="type"):
-    """The type of an expression or a declaration, without `const` and `restrict`, which say who may store and not what a value is (6.7.3)."""
+    """The type of an expression or a declaration, without `const` and `restrict`, which say who may store and not what a value is (6.7.3).
+
+    A volatile or atomic object may change by itself (6.7.3 paragraph 7, 6.2.6.1 paragraph 9), and the size of an array may be a value (6.7.6.2).
+    """
     told = node.get(key, {})
     name = told.get("desugaredQualType") or told.get("qualType", "")
-    if re.search(r"\bvolatile\b|\b_Atomic\b|__|\bunion\b", told.get("qualType", "") + " " + name):
+    if re.search(r"\bvolatile\b|\b_Atomic\b|__|\bunion\b|\[(?!\d*\])", told.get("qualType", "") + " " + name):
         raise Refused(f"type {name}")
     return " ".join(re.sub(r"\b(const|restrict)\b", "", name).split())
 
@@ -320,9 +323,9 @@ class Reader:
         """The variable at the root of a path: a parameter's pointer never moves, since an assignment is of numbers alone."""
         name, root_type = declared["name"], type_of(declared)
         qualified = declared["type"]["qualType"]
-        if declared["kind"] not in ("VarDecl", "ParmVarDecl"):
-            raise Refused(f"access to {name}")
         is_local = declared["id"] not in self.unit.variables
+        if declared["kind"] not in ("VarDecl", "ParmVarDecl") or not is_local and name in self.unit.attributed:
+            raise Refused(f"access to {name}")
         if "*" in root_type:
             if declared["kind"] != "ParmVarDecl" or not path or root_type.count("*") > 1:
                 raise Refused(f"pointer {name}")
@@ -450,9 +453,9 @@ class Reader:
         kind = type_of(node)
         if node["kind"] != "VarDecl" or node.get("storageClass", "auto") not in ("auto", "register") or "tls" in node:
             raise Refused(f"declaration of {node.get('name', node['kind'])}")
-        if "*" in kind or "(" in kind or re.search(r"\[(?!\d+\])", kind) or len(below(node)) > 1:
+        if "*" in kind or "(" in kind or len(below(node)) != ("init" in node):
             raise Refused(f"variable of type {kind}")
-        value = self.value(below(node)[0]) if "init" in node and below(node) else Apply("indeterminate", kind, ())
+        value = self.value(below(node)[0]) if "init" in node else Apply("indeterminate", kind, ())
         self.declare(node)
         part = Part("set", Cell("local", node["name"], kind, (), kind), value, statement, "declaration")
         part.detail = node
@@ -593,6 +596,10 @@ def without_unread_flags(block):
 # ---- functions and files
 
 
+# strings, characters and comments, and the signs that are looked for outside of them
+SIGN = re.compile(r"\"(?:\\.|[^\"\\])*\"|'(?:\\.|[^'\\])*'|/\*.*?\*/|//(?:\\\n|[^\n])*|%:|\?\?=|\+\+|--|[#{=]", re.S)
+
+
 class Function:
     """A function of a file: its parts, or why it is refused."""
 
@@ -613,12 +620,15 @@ class Function:
         return self
 
     def check(self):
-        """6.10: clang sees one of the texts that lines of the preprocessor choose from. What an attribute says, no rule knows."""
-        text = self.unit.text[self.begin : self.end]
+        """6.10: clang sees one of the texts that lines of the preprocessor choose from. What an attribute says, no rule knows, nor what
+        is evaluated in a parameter's type (6.9.1 paragraph 10)."""
         if any("expansionLoc" in it for it in places_of(self.node)):
             raise Refused("a macro makes it")
-        if re.search(r"^[ \t]*(#|%:|\?\?=)", text, re.M) or "_Pragma" in self.unit.text:
+        tokens = SIGN.findall(self.unit.text[self.begin : self.end])
+        if {"#", "%:", "??="} & set(tokens) or "_Pragma" in self.unit.text:
             raise Refused("lines of the preprocessor in it")
+        if {"++", "--", "="} & set(tokens[: tokens.index("{")] if "{" in tokens else tokens):
+            raise Refused("what is evaluated in its parameters")
         others = {it["kind"] for it in below(self.node)} - {"ParmVarDecl", "CompoundStmt", "FullComment"}
         if others or self.node.get("variadic"):
             raise Refused(f"{min(others, default='a list of arguments')} of the function")
@@ -657,7 +667,8 @@ class Unit:
 
     def __init__(self, text, options=()):
         self.text = text
-        self.functions, self.enumerators, self.variables, self.initials, self.members = {}, {}, set(), {}, {}
+        self.functions, self.enumerators, self.initials, self.members = {}, {}, {}, {}
+        self.variables, self.attributed = set(), set()
         for node in clang_tree(text, options)["inner"]:
             self.note(node)
 
@@ -669,6 +680,7 @@ class Unit:
                 self.note_enumerators(node)
             case "VarDecl":
                 self.variables.add(node["id"])
+                self.attributed |= {node["name"]} if any(it["kind"].endswith("Attr") for it in below(node)) else set()
                 if "init" in node:
                     self.initials[node["name"]] = below(node)[0]
             case "FunctionDecl" if any(it["kind"] == "CompoundStmt" for it in below(node)):
@@ -749,10 +761,11 @@ def sharing(functions):
     classes, indexed = set(), set()
     for function in functions:
         parts = list(all_parts(function.parts))
-        reached = [cell for part in parts for cell in part.outside() if is_shareable(cell)]
+        outside = [cell for part in parts for cell in part.outside()]
+        reached = [cell for cell in outside if is_shareable(cell)]
         stored = {type_class(part.target.type) for part in parts if part.target and is_shareable(part.target)}
         classes |= shared_classes(reached, stored)
-        indexed |= {(cell.where, cell.root) for cell in reached if cell.path and isinstance(cell.path[0], Element) and cell.path[0] != ARROW}
+        indexed |= {(cell.where, cell.root) for cell in outside if cell.path and isinstance(cell.path[0], Element) and cell.path[0] != ARROW}
     return Sharing(frozenset(classes), frozenset(indexed))
 
 

@@ -1,0 +1,16 @@
+long tax_paid, days_paid;
+
+/* What a week of work is worth, in cents. */
+long wage(long hours, long rate)
+{
+    long gross = hours * rate;
+    long left = hours - 3; // three hours are no day
+
+    days_paid = 0;
+    while (left > 0) {
+        left -= 8;
+        days_paid++;
+    }
+    tax_paid = gross / 5;
+    return gross - tax_paid;
+}
