@@ -57,7 +57,7 @@ def merge_texts(texts, settings):
     try:
         units = [Unit(it, settings.options).read() for it in texts]
         return checked_lines(units, lines, settings) if is_clean else merge_functions(units, lines, settings)
-    except (Refused, Failed) as why:
+    except (Refused, Failed, RecursionError) as why:
         return Merged(lines, not is_clean, [f"unchecked: {why}"])
 
 

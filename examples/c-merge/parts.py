@@ -912,7 +912,7 @@ def judged_by_hpr(name, versions, tags_of):
     spelling = Spelling(versions)
     texts = {letter: spelling.program(it, tags) for letter, it, tags in zip("OABM", versions, tags_of(*versions))}
     status, said = ask(["verify", *"OABM"], texts)
-    if status == 0:
+    if (status, said) == (0, "verified\n"):
         return Verdict(name, "kept", "verified")
     if status == 4:
         return Verdict(name, "unchecked", f"hpr takes no such program: {said.strip()}")

@@ -314,7 +314,9 @@ class Printer:
         opener = source.opener(blocks[number]) if len(blocks) > number else " {"
         inner = self.block(node.blocks[number], depth + 1) + self.tail(node, number, depth + 1)
         shown = [it for it in beside(node.blocks[number]) if it.part().role not in ("flag", "guard", "again", "step")]
-        if not opener and len(shown) == 1 and shown[0].part().kind == "set" and not any(map(comments, inner)):
+        # without braces an `else` behind another conditional would be of that
+        is_single = len(shown) == 1 and (shown[0].part().kind == "set" or node.part().kind == "while")
+        if not opener and is_single and not any(map(comments, inner)):
             lines += [it for it in inner if it]
             return False
         opener = opener or " {"

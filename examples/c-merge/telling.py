@@ -30,6 +30,10 @@ class Places:
         name = next((it for it in names if it in found), next(iter(found)))
         return f"{name} {found[name]}"
 
+    def lacks(self, name, point):
+        """Whether a point is a part that this version hasn't."""
+        return name not in self.found.get(point, {name: ""})
+
 
 def line_of(function, part):
     """The number of a part's line, and its text."""
@@ -48,14 +52,19 @@ def said_of(variable):
 
 
 def conflicts(text, places):
-    """A sentence for each edge that hpr lists, once."""
-    found = {}
-    for side, point, kind, name, source, target in re.findall(r"^(A|B) \[(.+?)\]: (\w+)(?: (?:true|false))?(?: (v\d+))? ?\[(.+?)\] -> \[(.+?)\]", text, re.M):
-        by = f", by {places.roots[name]}" if name in places.roots else ""
+    """Sentences of the conflicts that hpr lists: on which parts of the other version a changed point would depend, each once; and behind these
+    the edges between parts that both versions have."""
+    parts, edges = {}, {}
+    for side, point, name, source, target in re.findall(r"^(A|B) \[(.+?)\]: \w+(?: (?:true|false))?(?: (v\d+))? ?\[(.+?)\] -> \[(.+?)\]", text, re.M):
         own, other = ("ours", "theirs") if side == "A" else ("theirs", "ours")
-        sentence = f"{places.of(point, own)} would also depend on {places.of(source, other)} -> {places.of(target, other)}{by}"
-        found.setdefault((side, kind, source, target), sentence)
-    return list(found.values())
+        head = f"{places.of(point, own)} would also depend on"
+        foreign = next((it for it in (source, target) if places.lacks(own, it)), None)
+        if foreign:
+            parts.setdefault((side, foreign), f"{head} {places.of(foreign, other)}")
+        else:
+            by = f", by {places.roots[name]}" if name in places.roots else ""
+            edges.setdefault((side, source, target), f"{head} {places.of(source, other)} -> {places.of(target, other)}{by}")
+    return [*parts.values(), *edges.values()]
 
 
 def why_not(verdict, versions, tags_of):
