@@ -1,7 +1,7 @@
 """Made changes of functions of C, for checks/c_merges: each is drawn, and puts a text in place of some bytes of the file."""
 import re
 
-from parts import Refused, begin_of, below, end_of, is_arithmetic, type_of
+from parts import Refused, begin_of, below, body_of, end_of, is_arithmetic, type_of
 
 OTHERS = {"+": ["-"], "-": ["+"], "*": ["+"], "/": ["*"], "%": ["+"], "<": ["<="], "<=": ["<"], ">": [">="], ">=": [">"], "==": ["!=", "<="], "!=": [">"]}
 SIMPLE = ("BinaryOperator", "CompoundAssignOperator", "UnaryOperator", "CallExpr")
@@ -16,7 +16,7 @@ class Body:
 
     def __init__(self, function):
         self.function, self.text = function, function.unit.text
-        self.top = next(it for it in below(function.node) if it["kind"] == "CompoundStmt")
+        self.top = body_of(function.node)
         self.nodes = list(nodes_of(self.top))
         self.statements = [(it, inner) for it in self.nodes if it["kind"] == "CompoundStmt" for inner in below(it) if is_simple(inner)]
 

@@ -185,6 +185,11 @@ def below(node):
     return [it for it in node.get("inner", []) if it]
 
 
+def body_of(function):
+    """The block of a function, where it has one."""
+    return next((it for it in below(function) if it["kind"] == "CompoundStmt"), None)
+
+
 # ---- expressions and objects
 
 
@@ -348,8 +353,7 @@ class Reader:
         for it in below(self.node):
             if it["kind"] == "ParmVarDecl" and "name" in it:
                 self.declare(it)
-        body = [it for it in below(self.node) if it["kind"] == "CompoundStmt"]
-        return without_unread_flags([reset("returned", self.node), *self.block(body, 0, {"return"})])
+        return without_unread_flags([reset("returned", self.node), *self.block([body_of(self.node)], 0, {"return"})])
 
     def block(self, statements, depth, last):
         """6.8.2: statements in their order. What follows one that may leave stands under its flags.
@@ -622,7 +626,7 @@ class Function:
     def check(self):
         """6.10: clang sees one of the texts that lines of the preprocessor choose from. What an attribute says, no rule knows, nor what
         is evaluated in a parameter's type (6.9.1 paragraph 10)."""
-        if any("expansionLoc" in it for it in places_of(self.node)):
+        if any("expansionLoc" in it for it in body_of(self.node)["range"].values()):
             raise Refused("a macro makes it")
         tokens = SIGN.findall(self.unit.text[self.begin : self.end])
         if {"#", "%:", "??="} & set(tokens) or "_Pragma" in self.unit.text:
@@ -683,8 +687,8 @@ class Unit:
                 self.attributed |= {node["name"]} if any(it["kind"].endswith("Attr") for it in below(node)) else set()
                 if "init" in node:
                     self.initials[node["name"]] = below(node)[0]
-            case "FunctionDecl" if any(it["kind"] == "CompoundStmt" for it in below(node)):
-                if not any("includedFrom" in it for it in places_of(node)):
+            case "FunctionDecl" if body_of(node):
+                if is_of_file(node):
                     self.functions[node["name"]] = Function(self, node)
 
     def note_members(self, record):
@@ -714,8 +718,10 @@ class Unit:
         return self
 
 
-def places_of(node):
-    return node["loc"], node["range"]["begin"], node["range"]["end"]
+def is_of_file(node):
+    """Whether a function stands in the file itself, and not in a header."""
+    places = [it.get("expansionLoc", it) for it in (node["loc"], node["range"]["begin"], node["range"]["end"])]
+    return all("offset" in it and "includedFrom" not in it for it in places)
 
 
 def clang_tree(text, options):

@@ -5,7 +5,7 @@ is such a mistake: then nothing is printed.
 """
 import re
 
-from parts import Refused, all_parts, begin_of, below, end_of, offset
+from parts import Refused, all_parts, begin_of, below, body_of, end_of, offset
 
 COMPOUND = ("IfStmt", "WhileStmt", "ForStmt", "DoStmt")
 TOKEN = re.compile(r"//(?:\\\n|[^\n])*|/\*.*?\*/|\"(?:\\.|[^\"\\])*\"|'(?:\\.|[^'\\])*'|\w+|\S", re.S)
@@ -394,8 +394,7 @@ class Printer:
         heads, whole = [], []
         for name in VERSIONS:
             source = self.sources[name]
-            body = next(it for it in below(source.function.node) if it["kind"] == "CompoundStmt")
-            heads.append([source.text[source.function.begin : begin_of(body) + 1]])
+            heads.append([source.text[source.function.begin : begin_of(body_of(source.function.node)) + 1]])
             whole.append(source.text[source.function.begin : source.function.end])
         head = three_ways(*heads)
         if len(head) > 1:
