@@ -24,7 +24,7 @@ ARITHMETIC = CHARACTERS | {
     "_Bool", "short", "unsigned short", "int", "unsigned int", "long", "unsigned long", "long long", "unsigned long long",
     "float", "double", "long double",
 }
-# 7.12, 7.22.6.1 and 7.4: each gives a value of its arguments alone. Their names are reserved, so none is a program's own (7.1.3).
+# 7.12, 7.22.6.1: each gives a value of its arguments alone. Their names are reserved, so none is a program's own (7.1.3).
 # What they do to errno and to the flags of floating point counts as no result.
 PURE = set("abs labs llabs fabs sqrt cbrt floor ceil trunc round fmod pow exp log log10 sin cos tan asin acos atan atan2 fmin fmax".split())
 WRITERS = {"printf", "puts", "putchar"}

@@ -4,6 +4,7 @@ What is printed here is judged by `parts` like any other file, so a mistake cost
 is such a mistake: then nothing is printed.
 """
 import re
+import textwrap
 
 from parts import Refused, all_parts, begin_of, below, body_of, end_of, offset
 
@@ -18,7 +19,7 @@ def comments(text):
 
 def lost_comments(base, ours, theirs, merged):
     """The comments of ours and theirs that the merge lacks though neither version took them out of the base."""
-    of_base, of_ours, of_theirs, kept = (set(comments(it)) for it in (base, ours, theirs, merged))
+    of_base, of_ours, of_theirs, kept = ({" ".join(one.split()) for one in comments(it)} for it in (base, ours, theirs, merged))
     return [it for it in (of_ours | of_theirs) - kept if it not in of_base or it in of_ours & of_theirs]
 
 
@@ -78,7 +79,7 @@ class Source:
             return []
         above = self.text[self.function.begin : begin]
         found = re.search(r"(?:^[ \t]*(?://[^\n]*|/\*(?:(?!\*/).)*\*/[ \t]*)?\n)*\Z", above, re.M | re.S)
-        lines = [line.strip() for line in found.group().split("\n")[:-1]]
+        lines = [line.rstrip() for line in textwrap.dedent(found.group()).split("\n")[:-1]]
         return lines if any(lines) else lines[-1:]
 
     def tail(self, node, number):
@@ -167,7 +168,7 @@ class Printer:
         self.by_tag = {name: {tags[it]: it for it in all_parts(version.parts)} for name, version, tags in zip(VERSIONS, versions, tables)}
         for node in all_nodes(self.tree):
             self.find(node, spelling)
-        self.done, self.declared = set(), set()
+        self.done = set()
 
     def find(self, node, spelling):
         """Finds the part in the versions. A part that is there as it was and as it is now has two tags, of which none has one."""
@@ -403,7 +404,7 @@ class Printer:
         text = "\n".join([head[0], *(lines[1:] if lines and not lines[0] else lines), "}"])
         lost = lost_comments(*whole, text)
         if lost:
-            raise Refused(f"a comment would be lost: {' '.join(lost[0].split())}")
+            raise Refused(f"a comment would be lost: {min(lost)}")
         return text
 
     def last_comments(self):
