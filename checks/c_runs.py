@@ -13,9 +13,11 @@ from parts import all_parts, below
 
 GCC = ["gcc", "-std=gnu17", "-O0", "-w", "-fsanitize=undefined,float-cast-overflow", "-fsanitize-undefined-trap-on-error", "-ftrivial-auto-var-init=pattern"]
 MACROS = ["-Dprintf=note_printf", "-Dputs=note_puts", "-Dputchar=note_putchar"]
-ROOM = 96
-START = 32
-SECONDS = 60
+# elements behind each pointer, and to which of them it points
+ROOM, START = 96, 32
+# microseconds of a processor for a run; the merge has as much as its three versions together, and more
+LIMIT = 60_000
+SECONDS = 120
 
 BEFORE = """
 #include <stdarg.h>
@@ -134,7 +136,7 @@ def fill_and_tell(things, may_be_equal):
     return declared, fill, words, numbers, tell
 
 
-def program(text, things, runs, may_be_equal):
+def program(text, things, runs, may_be_equal, limit):
     """A program of the text that makes so many runs, and prints of each that ends what it began with and what it leaves."""
     declared, fill, words, numbers, tell = fill_and_tell(things, may_be_equal)
     missing = [f"{kind} {root};" for root, kind in things.files.items() if not re.search(rf"\b{root}\b", text)]
@@ -142,18 +144,18 @@ def program(text, things, runs, may_be_equal):
     result = [] if things.kind == "void" else ["TELL(result);", 'note_printf(" result\\n");']
     return "\n".join([
         BEFORE, "#line 1", text, *missing, AFTER, "int main(void)", "{", *declared, f"for (int run = 0; run < {runs}; run++) {{",
-        "state = run * 7919ul + 17;", "if (fork() == 0) {", "long timer[4] = {0, 0, 0, 60000};", "setitimer(1, timer, 0);", *fill,
+        "state = run * 7919ul + 17;", "if (fork() == 0) {", f"long timer[4] = {{0, 0, 0, {limit}}};", "setitimer(1, timer, 0);", *fill,
         *([] if may_be_equal else [*numbers, *tell, 'note_printf(" begun\\n");']),
         f"{things.kind} result = {call};" if result else f"{call};", 'note_printf(" written\\n");', *result, *tell,
         'noted[noted_to] = 0; dprintf(1, "== %d\\n%s", run, noted); _exit(0); }', "int status; waitpid(-1, &status, 0);", "}", "return 0; }",
     ])
 
 
-def outcomes(folder, name, text, things, runs, may_be_equal=True):
+def outcomes(folder, name, text, things, runs, may_be_equal=True, limit=LIMIT):
     """Of each run that ended normally, by its number, the values that it left by their names; or those before and behind it, where
     no pointers are equal."""
     source, binary = pathlib.Path(folder) / f"{name}.c", pathlib.Path(folder) / name
-    source.write_text(program(text, things, runs, may_be_equal), encoding="latin-1")
+    source.write_text(program(text, things, runs, may_be_equal, limit), encoding="latin-1")
     subprocess.run([*GCC, *MACROS, "-o", binary, source, "-lm"], stderr=subprocess.PIPE, text=True, check=True)
     ran = subprocess.run([binary], capture_output=True, text=True, errors="replace", timeout=SECONDS, check=False)
     blocks = dict(block.split("\n", 1) for block in ran.stdout.split("== ")[1:])
