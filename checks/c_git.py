@@ -24,7 +24,8 @@ void tell(const int *a, int n)
     printf("mean %ld\\n", sum / n);
 }
 """
-ODD = [("    long sum = 0;\n", "    long sum = 0;\n    long odd = 0;\n"), ("i++)\n        sum += a[i];", "i++) {\n        sum += a[i];\n        odd += a[i] % 2 != 0;\n    }"),
+ODD = [("    long sum = 0;\n", "    long sum = 0;\n    long odd = 0;\n"),
+       ("i++)\n        sum += a[i];", "i++) {\n        sum += a[i];\n        odd += a[i] % 2 != 0;\n    }"),
        ("sum / n);\n", "sum / n);\n    printf(\"odd %ld\\n\", odd);\n")]
 MOST = [("    long sum = 0;\n", "    long sum = 0;\n    int most = 0; // of those seen\n"),
         ("i++)\n        sum += a[i];", "i++) {\n        sum += a[i];\n        if (a[i] > most)\n            most = a[i];\n    }"),
@@ -208,7 +209,8 @@ def two_functions(it):
 
 
 def refused(it):
-    it.branches(LINES.replace("long f", "long *p;\nlong f").replace("return", "p = &g;\n    return"), [("long a = n", "long a = n + 1")], [("return a + b", "return a - b")])
+    base = LINES.replace("long f", "long *p;\nlong f").replace("return", "p = &g;\n    return")
+    it.branches(base, [("long a = n", "long a = n + 1")], [("return a + b", "return a - b")])
     it.merge()
     it.says("f.c: f: unchecked: ")
     it.is_merged("n + 1", "a - b")
@@ -330,7 +332,7 @@ def strange_name_and_bytes(it):
 def rebased(it):
     it.branches(BASE, ODD, MOST)
     it.git("rebase", "-q", "theirs")
-    it.is_merged(BOTH.replace("    long odd = 0;\n    int most = 0; // of those seen\n", "    int most = 0; // of those seen\n    long odd = 0;\n").split("    for")[0])
+    it.is_merged("    long sum = 0;\n    int most = 0; // of those seen\n    long odd = 0;\n", "    most_seen = most;\n    printf")
 
 
 def no_base(it):
@@ -353,8 +355,9 @@ def reviewed(it):
     texts |= {"M": replaced(texts["A"], [("a * 3", "a * 4"), ("return a + b", "return a - b")]), "W": "long f(", "S": LINES.replace("return a + b", "return a")}
     for name, text in texts.items():
         (it.folder / name).write_text(text)
-    for words, wanted, said in (("O A O A", 0, "kept 1, unverified 0"), ("O A B A", 1, "f: unverified: "), ("O A A M", 1, "it isn't what ours has"),
-                                ("O A B W", 0, "unchecked: clang"), ("O A B", 2, "usage: "), ("O A B nowhere", 2, "nowhere"), ("--commits nowhere", 2, "nowhere")):
+    rows = [("O A O A", 0, "kept 1, unverified 0"), ("O A B A", 1, "f: unverified: "), ("O A A M", 1, "it isn't what ours has")]
+    rows += [("O A B W", 0, "unchecked: clang"), ("O A B", 2, "usage: "), ("O A B nowhere", 2, "nowhere"), ("--commits nowhere", 2, "nowhere")]
+    for words, wanted, said in rows:
         ran = subprocess.run([TOOL / "review", *words.split()], cwd=it.folder, env=it.environment, capture_output=True, text=True, check=False)
         expect(ran.returncode == wanted and said in ran.stdout + ran.stderr, f"review {words}: status {ran.returncode}: {ran.stdout}{ran.stderr}")
 
