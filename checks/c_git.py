@@ -322,6 +322,16 @@ def wrong_words(it):
     expect(it.status not in (0, 1) and it.file() == it.before and not it.git("status", "--porcelain"), f"status {it.status}: {it.said}")
 
 
+def no_room(it):
+    """No file can be written: git stops, and nothing is changed."""
+    it.git("config", "merge.c.driver", f"ulimit -f 0; '{TOOL}/merge' %O %A %B %L %P")
+    it.branches(BASE, ODD, MOST)
+    it.merge()
+    said = it.said
+    expect(it.status not in (0, 1) and it.file() == it.before and not it.git("status", "--porcelain"), f"status {it.status}: {said}")
+    expect("merge: " in said, said)
+
+
 def strange_name_and_bytes(it):
     it.name = "d e/-$(x) '&.c"
     it.branches(LINES.replace("long f", "/* caf\xe9 */\r\nlong f"), [("long b = 2", "long b = 2 /* \xe9 */")], [("a * 3", "a * 4")])
@@ -381,7 +391,7 @@ def reviewed_headers(it):
 CASES = [
     written, verified, unverified, unverified_strict, marked, outside_functions, two_functions, refused, refused_and_in_conflict, no_compile, no_header,
     header_by_option, header_beside_it, no_clang, no_clang_and_in_conflict, no_hpr, not_built, other_program, killed, interrupted, wrong_words,
-    strange_name_and_bytes, rebased, no_base, reviewed, reviewed_headers,
+    no_room, strange_name_and_bytes, rebased, no_base, reviewed, reviewed_headers,
 ]
 
 
