@@ -303,10 +303,9 @@ class Printer:
     def chained(self, node, blocks, depth):
         """The lines of an `else if`, where the author has one and the second block is still one conditional."""
         other = [it for it in node.blocks[1] if it.part().role != "flag"]
-        if len(other) == 1 and other[0].part().kind == "if" and other[0].part().role == "statement" and blocks[1:] and blocks[1]["kind"] == "IfStmt":
-            lines = self.conditional(other[0], depth)
-            return lines if lines[0].lstrip().startswith("if") else None
-        return None
+        is_one = len(other) == 1 and (other[0].part().kind, other[0].part().role) == ("if", "statement")
+        is_chain = is_one and blocks[1:] and blocks[1]["kind"] == "IfStmt" and not self.lead(other[0], depth)
+        return self.conditional(other[0], depth) if is_chain else None
 
     def wrapped(self, node, number, lines, depth):
         """Puts a block behind a head, with braces where the author had some or the block needs them; whether it has some."""
