@@ -17,7 +17,7 @@ use Rattle.hpr_inputs.proofs.ReadLemmas.{merges_map}
 use Rattle.hpr_decisions.specs.Graphs.{too_many_edges}
 use Rattle.hpr_decisions.specs.IntegrateMany.{OnAllGraphs}
 use Rattle.hpr_decisions.specs.VerifyFiles.{IsVerified, report_verdict}
-use Rattle.hpr_decisions.proofs.Kinds.{Suits, on_all_graphs, verify_suits}
+use Rattle.hpr_decisions.proofs.KindLemmas.{Suits, on_all_graphs, verify_suits}
 use Rattle.hpr_decisions.proofs.Unrefused.{within_all}
 use Rattle.hpr_app.specs.Private.MakesGraph.{RefusesGraph}
 use Rattle.hpr_app.specs.Private.VerifiedOf.{IsVerifiedOf}

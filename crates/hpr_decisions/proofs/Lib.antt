@@ -13,4 +13,4 @@ mod TotalFiles
 mod TotalGraphs
 mod TotalTables
 pub mod Total
-pub mod Kinds
+pub mod KindLemmas

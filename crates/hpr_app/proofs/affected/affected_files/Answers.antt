@@ -4,7 +4,7 @@ use Rattle.hpr_io.specs.Files.{bytes_of}
 use Rattle.hpr_refusals.specs.Refusals.{IsFileOf}
 use Rattle.hpr_app.proofs.AffectedLemmas.{base_fails, a_fails, decided}
 use Rattle.hpr_inputs.proofs.ReadLemmas.{told_same, fails_same}
-use Rattle.hpr_decisions.proofs.Kinds.{in_kind, affected_suits}
+use Rattle.hpr_decisions.proofs.KindLemmas.{in_kind, affected_suits}
 use Rattle.hpr_words.specs.Request.{affected}
 use Rattle.hpr_decisions.specs.AffectedFiles.{AffectedPoints}
 use Rattle.hpr_app.proofs.affected.affected_files.Goals as goal

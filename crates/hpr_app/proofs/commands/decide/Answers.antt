@@ -3,7 +3,7 @@ use Rattle.hpr_decisions.specs.Sampled.{SampleOutcome}
 use Rattle.hpr_app.proofs.SampleLemmas.{unread}
 use Rattle.hpr_app.proofs.ServedLemmas.{least_of, most_of, ranged, served_at, served_behind, served_first}
 use Rattle.hpr_words.specs.Request.{sample}
-use Rattle.hpr_decisions.proofs.Kinds.{in_kind, sample_suits}
+use Rattle.hpr_decisions.proofs.KindLemmas.{in_kind, sample_suits}
 use Rattle.hpr_app.proofs.commands.decide.Goals as goal
 
 pub returns-in-Integrate-clause-answers : goal.returns-in-Integrate-clause-answers

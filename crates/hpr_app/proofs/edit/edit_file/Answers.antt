@@ -7,7 +7,7 @@ use Rattle.hpr_inputs.specs.Answer.{Merges}
 use Rattle.hpr_decisions.specs.EditFiles.{edit_decision}
 use Rattle.hpr_app.proofs.EditLemmas.{decided, program_fails, script_fails}
 use Rattle.hpr_inputs.proofs.ReadLemmas.{read_fails_behind, told_same}
-use Rattle.hpr_decisions.proofs.Kinds.{in_kind, edit_suits}
+use Rattle.hpr_decisions.proofs.KindLemmas.{in_kind, edit_suits}
 use Rattle.hpr_words.specs.Request.{edit}
 use Rattle.hpr_app.proofs.edit.edit_file.Goals as goal
 

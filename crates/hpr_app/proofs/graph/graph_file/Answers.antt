@@ -1,6 +1,6 @@
 use Rattle.hpr_decisions.specs.GraphFile.{Graphed}
 use Rattle.hpr_inputs.proofs.ReadLemmas.{past_last_file}
-use Rattle.hpr_decisions.proofs.Kinds.{in_kind, graph_suits}
+use Rattle.hpr_decisions.proofs.KindLemmas.{in_kind, graph_suits}
 use Rattle.hpr_words.specs.Request.{graph}
 use Rattle.hpr_app.proofs.graph.graph_file.Goals as goal
 

@@ -3,7 +3,7 @@ use Rattle.hpr_syntax.specs.Tree.{Tree}
 use Rattle.hpr_inputs.specs.Decision.{Decision}
 use Rattle.hpr_decisions.specs.Integrate.{Integrated}
 use Rattle.hpr_inputs.proofs.VersionLemmas.{files_fail, past_files}
-use Rattle.hpr_decisions.proofs.Kinds.{in_kind, integrate_suits}
+use Rattle.hpr_decisions.proofs.KindLemmas.{in_kind, integrate_suits}
 use Rattle.hpr_words.specs.Request.{integrate}
 use Rattle.hpr_app.proofs.integrate.integrate_files.Goals as goal
 

@@ -4,7 +4,7 @@ use Rattle.hpr_syntax.specs.Tree.{Tree}
 use Rattle.hpr_inputs.specs.Decision.{Decision}
 use Rattle.hpr_decisions.specs.IntegrateMany.{IntegratedMany}
 use Rattle.hpr_app.proofs.ManyFiles.{base_fails, variants_fail, variants_read}
-use Rattle.hpr_decisions.proofs.Kinds.{in_kind, integrate_many_suits}
+use Rattle.hpr_decisions.proofs.KindLemmas.{in_kind, integrate_many_suits}
 use Rattle.hpr_words.specs.Request.{integrate_many}
 use Rattle.hpr_app.proofs.integrate_many.integrate_many_files.Goals as goal
 

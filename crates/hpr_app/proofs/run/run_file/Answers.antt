@@ -1,7 +1,7 @@
 use Rattle.std.proofs.Common.{Bor, List, ℕ, map, None, refl, ap, is_ok}
 use Rattle.std.proofs.lemmas.Result.{err_from_is_err_and}
 use Rattle.hpr_app.proofs.RunLemmas.{run_fails, run_shown}
-use Rattle.hpr_decisions.proofs.Kinds.{in_kind, run_suits}
+use Rattle.hpr_decisions.proofs.KindLemmas.{in_kind, run_suits}
 use Rattle.hpr_words.specs.Request.{run}
 use Rattle.hpr_decisions.specs.RunFile.{Ran}
 use Rattle.hpr_app.proofs.run.run_file.Goals as goal

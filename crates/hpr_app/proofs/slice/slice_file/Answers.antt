@@ -1,7 +1,7 @@
 use Rattle.std.proofs.Common.{map}
 use Rattle.hpr_decisions.specs.SliceFile.{Sliced}
 use Rattle.hpr_inputs.proofs.ReadLemmas.{past_last_file}
-use Rattle.hpr_decisions.proofs.Kinds.{in_kind, slice_suits}
+use Rattle.hpr_decisions.proofs.KindLemmas.{in_kind, slice_suits}
 use Rattle.hpr_words.specs.Request.{slice}
 use Rattle.hpr_app.proofs.slice.slice_file.Goals as goal
 

@@ -5,7 +5,7 @@ use Rattle.hpr_refusals.specs.Refusals.{IsFileIn, IsRefusedIn}
 use Rattle.hpr_inputs.specs.Decision.{prints}
 use Rattle.hpr_inputs.specs.declared.answer.Kind.TheVariants.{Done}
 use Rattle.hpr_inputs.proofs.ReadLemmas.{past_last_read}
-use Rattle.hpr_decisions.proofs.Kinds.{in_kind, print_suits}
+use Rattle.hpr_decisions.proofs.KindLemmas.{in_kind, print_suits}
 use Rattle.hpr_words.specs.Request.{tag}
 use Rattle.hpr_app.proofs.tag.tag_file.Goals as goal
 

@@ -2,7 +2,7 @@ use Rattle.std.proofs.Common.{Bor, List, ℕ, map, Err, None, refl, inl, ap, is_
 use Rattle.std.proofs.lemmas.Result.{err_from_is_err_and}
 use Rattle.hpr_app.proofs.TrialLemmas.{Next, trial_decides}
 use Rattle.hpr_inputs.proofs.VersionLemmas.{files_fail, past_files}
-use Rattle.hpr_decisions.proofs.Kinds.{in_kind, trial_suits}
+use Rattle.hpr_decisions.proofs.KindLemmas.{in_kind, trial_suits}
 use Rattle.hpr_words.specs.Request.{trial}
 use Rattle.hpr_decisions.specs.TrialFiles.{Tried}
 use Rattle.hpr_app.proofs.trial.trial_files.Goals as goal

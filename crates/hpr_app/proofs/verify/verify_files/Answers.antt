@@ -2,7 +2,7 @@ use Rattle.std.proofs.Common.{[], ◌∷◌}
 use Rattle.std.proofs.lemmas.Result.{err_from_is_err_and}
 use Rattle.hpr_app.specs.Private.VerifiedOf.{IsVerifiedOf}
 use Rattle.hpr_inputs.proofs.AllFiles.{all_fail, past_all}
-use Rattle.hpr_decisions.proofs.Kinds.{in_kind}
+use Rattle.hpr_decisions.proofs.KindLemmas.{in_kind}
 use Rattle.hpr_words.specs.Request.{verify}
 use Rattle.hpr_app.proofs.VerifyLemmas.{verified_suits}
 use Rattle.hpr_app.proofs.verify.verify_files.Goals as goal
