@@ -64,7 +64,7 @@ use std::alloc::Global;
 /// where a program would be printed. A script is read after the program that it edits; its first
 /// command that is refused is named with its number, and nothing is printed then. A sample is made of a
 /// seed, and no file is read for it. An offered program is verified, or rejected with what shows it. All
-/// text of `out` is made before its first byte is put. Faults of `err` change no status.
+/// text of `out` is made before its first byte is put. No status is for a failed write to `err`.
 pub fn hpr<S: Shelf, O: Sink, E: Sink>(
     alloc: Global,
     words: &[String],
@@ -139,8 +139,8 @@ pub fn hpr<S: Shelf, O: Sink, E: Sink>(
         → HasAnswer asked files spent × (O.taken out.new ≡ taken_then (O.taken out.old)
         (spent_text (tries_of asked)))) }
 
-    // So it is of their leaves too: a front of a preorder that some part can't follow is one leaf, however many
-    // arrangements begin with it.
+    // So it is of their leaves too: arrangements that begin alike, up to a part which rules the graph out, are one
+    // leaf, however many they are.
     ensures leaves { WhereAsked words.now (S.files shelf.old) (λ asked files. result ≡ Status.Spent
         → HasSpentLeaves asked files) }
 
