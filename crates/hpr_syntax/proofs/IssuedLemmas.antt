@@ -47,7 +47,7 @@ stands_more : (a : ℕ) (p : ℕ × ℕ) (ps : Issued) (i : ℕ) → Stands a ps
 stands_more a p ps i h = rw add-one (omega (arith, h.0), h.1)
 
 -- what stands at an author's place
-issued_low : (low a : ℕ) (rows : Issued) → AscendsFrom low rows → a < low → issued_to a rows ≡ 0
+pub issued_low : (low a : ℕ) (rows : Issued) → AscendsFrom low rows → a < low → issued_to a rows ≡ 0
 issued_low low a [] h lt = refl
 issued_low low a (p ∷ ps) h lt = rw (ne_eqb p.0 a (λ e. omega (arith, h.0, lt, e))) (issued_low (p.0 + 1) a ps h.2 (omega (arith, h.0)))
 

@@ -25,3 +25,4 @@ pub mod ShownParts
 pub mod PrintedParts
 pub mod TextSpells
 pub mod Raises
+pub mod RaisedInAnyOrder

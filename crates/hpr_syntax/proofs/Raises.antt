@@ -29,7 +29,7 @@ use Rattle.hpr_syntax.proofs.NoRefusal.{no_refusal, shaped}
 -- ---- issued numbers
 
 -- each number is at least 1
-abbrev HasNumbers : Issued → Type 0
+abbrev pub HasNumbers : Issued → Type 0
 HasNumbers ps = AllByRecursion (λ p. 1 ≤ p.1) ps
 
 has_numbers : (low : ℕ) (ps : Issued) → AscendsFrom low ps → HasNumbers ps
@@ -37,7 +37,7 @@ has_numbers low [] h = tt
 has_numbers low (p ∷ ps) h = (h.1, has_numbers (p.0 + 1) ps h.2)
 
 -- raises keep the order
-raises_keep : (ps rows : Issued) → HasNumbers ps → IsIssued rows → IsIssued (raised_by ps rows)
+pub raises_keep : (ps rows : Issued) → HasNumbers ps → IsIssued rows → IsIssued (raised_by ps rows)
 raises_keep [] rows n h = h
 raises_keep (p ∷ ps) rows n h = raises_keep ps (raised p.0 p.1 rows) n.1 (raised_keeps p.0 p.1 rows n.0 h)
 
@@ -73,7 +73,7 @@ raised_more_if false x a n rows e h =
 raised_more : (x a n : ℕ) (rows : Issued) → IsIssued rows → issued_to x rows ≤ issued_to x (raised a n rows)
 raised_more x a n rows h = raised_more_if (eqb x a) x a n rows refl h
 
-raises_more : (x : ℕ) (ps rows : Issued) → HasNumbers ps → IsIssued rows → issued_to x rows ≤ issued_to x (raised_by ps rows)
+pub raises_more : (x : ℕ) (ps rows : Issued) → HasNumbers ps → IsIssued rows → issued_to x rows ≤ issued_to x (raised_by ps rows)
 raises_more x [] rows n h = omega arith
 raises_more x (p ∷ ps) rows n h =
     let one : issued_to x rows ≤ issued_to x (raised p.0 p.1 rows) = raised_more x p.0 p.1 rows h in

@@ -83,6 +83,62 @@ impl Issued {
     }
 }
 
+/// Issued numbers that are still raised, as by a reader that comes to one after the other.
+///
+/// A contract sees the pairs that the raises so far come to, as those of [`Issued`].
+#[derive(Drop)]
+pub struct IssuedDraft {
+    raises: Vec<(u32, u32)>,
+}
+
+impl Model for IssuedDraft {
+    ghost use Rattle.std.specs.Prelude.{List, ℕ, [], All, ◌≤◌};
+    ghost use Rattle.hpr_syntax.specs.Issued.{raised_by};
+
+    ghost Value = { List (ℕ × ℕ) };
+
+    ghost view = { λ d. raised_by d.raises.items [] };
+
+    ghost invariant = { λ d. All (λ p. 1 ≤ p.1) d.raises.items };
+}
+
+impl IssuedDraft {
+    /// No author has a number.
+    pub fn new(alloc: Global) -> IssuedDraft
+        ensures { result ≡ [] }
+    {
+        IssuedDraft {
+            raises: Vec::new(alloc),
+        }
+    }
+
+    /// Makes the author's number the greater of its own and this one. It takes constant time, in whatever
+    /// order authors come.
+    #[tactic(auto, using(crate::proofs::RaisedInAnyOrder::raised_last))]
+    pub fn raise(&mut self, author: u32, serial: u32) -> Result<(), NoMemory>
+        requires { 1 ≤ serial }
+        ensures ok { OnOk result (self.new ≡ raised author serial self.old) }
+        ensures err { OnErr result (self.new ≡ self.old) }
+    {
+        self.raises.push((author, serial))?;
+        Ok(())
+    }
+
+    /// The numbers. They are sorted once.
+    #[tactic(auto, using(crate::proofs::RaisedInAnyOrder::raised_in_any_order))]
+    pub fn finish(self) -> Result<Issued, NoMemory>
+        ensures { IfOk result (λ i. i ≡ self) }
+    {
+        let IssuedDraft { mut raises } = self;
+        raises.sort()?;
+        let mut issued = Issued::new(*raises.allocator());
+        for (author, serial) in &raises {
+            issued.raise(*author, *serial)?;
+        }
+        Ok(issued)
+    }
+}
+
 /// The place of the first row whose author isn't below this one.
 #[tactic(auto, using(crate::proofs::IssuedLemmas::place_end, crate::proofs::IssuedLemmas::place_above, crate::proofs::IssuedLemmas::place_within))]
 fn place(rows: &[(u32, u32)], author: u32) -> usize

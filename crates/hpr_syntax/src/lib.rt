@@ -13,7 +13,7 @@ mod value;
 
 pub use hpr_arrays::Cells;
 pub use hpr_terms::{Binary, Expr, Literal, Name, NameError, NoMemory, Operand, Tag, Unary};
-pub use issued::Issued;
+pub use issued::{Issued, IssuedDraft};
 pub use program::Program;
 pub use rows::{Content, Row, Structure, content_of, has_content, same_content, structure_of};
 pub use shape::{ShapeError, has_wrong_name, is_large, is_large_content};

@@ -12,7 +12,7 @@ ghost use Rattle.hpr_text.specs.Private.InPlace.{InPlace};
 use crate::blocks::{Around, Begun, Blocks};
 use crate::form::Mode;
 use hpr_scan::Fault;
-use hpr_syntax::{Block, Issued, Program, ShapeError, Stmt};
+use hpr_syntax::{Block, IssuedDraft, Program, ShapeError, Stmt};
 use hpr_terms::limits::{MAX_LEVELS, MAX_PARTS};
 use hpr_terms::{Expr, Name, NoMemory, Tag};
 use std::alloc::Global;
@@ -66,7 +66,7 @@ pub struct Found {
     /// Whether there is a header.
     pub has_header: bool,
     /// The numbers of the header's pairs, or of the tags where there is no header.
-    pub issued: Issued,
+    pub issued: IssuedDraft,
     /// The blocks that have begun.
     pub blocks: Blocks,
     /// The parts of the innermost one, or at the top.
@@ -111,7 +111,7 @@ impl Found {
             mode,
             count: 0,
             has_header: false,
-            issued: Issued::new(alloc),
+            issued: IssuedDraft::new(alloc),
             blocks: Blocks::new(alloc),
             parts: Block::new(Vec::new(alloc)),
             names: Names::new(alloc),
@@ -335,6 +335,6 @@ impl Found {
             parts,
             names,
         } = self;
-        Program::new(alloc, issued, parts, names.into_vec())
+        Program::new(alloc, issued.finish()?, parts, names.into_vec())
     }
 }

@@ -8,8 +8,6 @@ use Rattle.std.proofs.Common.{◌≡◌, ℕ, List, [], refl}
 use Rattle.std.specs.Coded.{Coded, coded_list, coded_ℕ}
 use Rattle.hpr_terms.specs.declared.tag.Tag.{Tag}
 use Rattle.hpr_terms.specs.declared.expr.Expr.{Expr}
-use Rattle.hpr_terms.specs.TermOrder.{term_code}
-use Rattle.hpr_terms.specs.TermOf.{term_of}
 use Rattle.hpr_terms.specs.Private.TermCode.{cut, apart, name_inj}
 pub use Rattle.hpr_terms.specs.Private.ExprCode.{expr_inj}
 use Rattle.hpr_syntax.specs.Action.{assigns, writes, stores}
