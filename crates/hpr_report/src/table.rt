@@ -1,15 +1,16 @@
 //! The table of final values.
-ghost use Rattle.std.specs.Prelude.{◌≡◌, ◌++◌, ◌↔◌, ℕ, ℤ, List, Contains, IfOk, OnOk, codes, string_bytes};
+ghost use Rattle.std.specs.Prelude.{◌≡◌, ◌++◌, ◌↔◌, ◌<◌, ℕ, List, Some, Contains, IfOk, IfNone, IfSome, OnOk, codes, length, map, set, string_bytes};
+ghost use Rattle.std.specs.Cmp.Lexicographic.{slice_cmp};
+ghost use Rattle.std.specs.List.Sorted.{IsStrictlySortedBy};
 ghost use Rattle.std.specs.Option.{option_copied};
-ghost use Rattle.hpr_graph.specs.Order.{name_cmp};
-ghost use Rattle.hpr_graph.specs.InOrder.{Ascends};
-ghost use Rattle.hpr_report.specs.TableText.{names_in, IsSingleValued, IsValueIn, IsRow, Row, cell_text, table_line, IsTableText};
+ghost use Rattle.std.specs.Ordering.{nat_cmp};
+ghost use Rattle.hpr_report.specs.TableText.{names_in, IsSingleValued, IsColumn, cell_text, table_line, IsTableText};
 
 use crate::graphs::put_line;
 use crate::values::put_value_text;
 use hpr_run::Value;
 use hpr_syntax::{Name, NoMemory};
-use hpr_terms::names::in_order;
+use hpr_terms::names::{in_order, place_of};
 use std::alloc::{AllocError, Global};
 
 /// The table of the final values of a base, its variants A and B, and the merged program: a line
@@ -31,9 +32,13 @@ pub fn table_text(
     ensures { IfOk result (λ text. IsTableText base.now a.now b.now merged.now text.items) }
 {
     let names = names_in_order(alloc, base, a, b, merged)?;
+    let base = column(alloc, &names, base)?;
+    let a = column(alloc, &names, a)?;
+    let b = column(alloc, &names, b)?;
+    let merged = column(alloc, &names, merged)?;
     let mut out = Vec::new(alloc);
-    for name in &names {
-        let line = table_line(alloc, name, base, a, b, merged)?;
+    for (at, name) in names.iter().enumerate() {
+        let line = table_line(alloc, name, base[at], a[at], b[at], merged[at])?;
         put_line(&mut out, line.as_str())?;
     }
     Ok(out)
@@ -50,7 +55,7 @@ fn names_in_order(
     ensures names { IfOk result (λ names. (x : List ℕ)
         → Contains names.items x ↔ Contains (names_in base.now ++ names_in a.now ++ names_in b.now
         ++ names_in merged.now) x) }
-    ensures ascending { IfOk result (λ names. Ascends name_cmp names.items) }
+    ensures ascending { IfOk result (λ names. IsStrictlySortedBy (slice_cmp nat_cmp) names.items) }
 {
     let mut names = Vec::new(alloc);
     push_all(alloc, &mut names, base, a, b, merged)?;
@@ -89,30 +94,57 @@ fn push_names(
     Ok(())
 }
 
-/// The line of a name.
+/// The value of each name in a list, or none where the list lacks the name. The names ascend. Each name of the list is
+/// sought among them once.
+fn column<'a>(
+    alloc: Global,
+    names: &[Name],
+    values: &'a [(Name, Value)],
+) -> Result<Vec<Option<&'a Value>>, NoMemory>
+    requires names { IsStrictlySortedBy (slice_cmp nat_cmp) names.now }
+    requires values { IsSingleValued values.now }
+    ensures { IfOk result (λ cells. IsColumn names.now values.now (map option_copied cells.items)) }
+{
+    let mut cells = Vec::new(alloc);
+    cells.resize(names.len(), None)?;
+    for (name, value) in values {
+        let place = place_of(names, name);
+        fill(&mut cells, place, value);
+    }
+    Ok(cells)
+}
+
+/// Puts the value into the cell at this place, if there is a place.
+fn fill<'a>(cells: &mut Vec<Option<&'a Value>>, place: Option<usize>, value: &'a Value)
+    requires { IfSome place (λ at. at < length cells.old.items) }
+    ensures filled { IfSome place (λ at. map option_copied cells.new.items
+        ≡ set (map option_copied cells.old.items) at (Some value.now)) }
+    ensures none { IfNone place (map option_copied cells.new.items ≡ map option_copied cells.old.items) }
+{
+    if let Some(at) = place {
+        cells[at] = Some(value);
+    }
+}
+
+/// The line of a name with these cells.
 fn table_line(
     alloc: Global,
     name: &Name,
-    base: &[(Name, Value)],
-    a: &[(Name, Value)],
-    b: &[(Name, Value)],
-    merged: &[(Name, Value)],
+    base: Option<&Value>,
+    a: Option<&Value>,
+    b: Option<&Value>,
+    merged: Option<&Value>,
 ) -> Result<String, NoMemory>
-    requires base { IsSingleValued base.now }
-    requires a { IsSingleValued a.now }
-    requires b { IsSingleValued b.now }
-    requires merged { IsSingleValued merged.now }
-    ensures { IfOk result (λ text. (row : Row) × (row.name ≡ name.now) × IsRow base.now a.now b.now merged.now row
-        × (string_bytes text ≡ table_line row)) }
+    ensures { IfOk result (λ text. string_bytes text ≡ table_line (record {
+      name = name.now;
+      base = option_copied base.entry;
+      a = option_copied a.entry;
+      b = option_copied b.entry;
+      merged = option_copied merged.entry;
+    })) }
 {
     let mut line = name.to_string(alloc)?;
-    put_cells(
-        &mut line,
-        value_in(base, name),
-        value_in(a, name),
-        value_in(b, name),
-        value_in(merged, name),
-    )?;
+    put_cells(&mut line, base, a, b, merged)?;
     Ok(line)
 }
 
@@ -132,19 +164,6 @@ fn put_cells(
     put_cell(line, " ", a)?;
     put_cell(line, " ", b)?;
     put_cell(line, " ", merged)
-}
-
-/// The value of a name in a list, if the list has the name.
-fn value_in<'a>(values: &'a [(Name, Value)], name: &Name) -> Option<&'a Value>
-    requires { IsSingleValued values.now }
-    ensures { IsValueIn values.now name.now (option_copied result) }
-{
-    for (other, value) in values {
-        if other.is_same(name) {
-            return Some(value);
-        }
-    }
-    None
 }
 
 /// Puts a cell behind a text.
