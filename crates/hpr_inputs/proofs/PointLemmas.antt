@@ -1,8 +1,12 @@
 -- Words, and the texts of the vertices that they name.
-use Rattle.std.proofs.Common.{◌≡◌, ℕ, zero, suc, ◌+◌, ◌<◌, ◌≤◌, ◌⊎◌, ◌↔◌, inl, inr, Bool, true, false, IsTrue, List, [], ◌∷◌, length, take, get_or, map, All, Contains, Some, slice_get, arith, refl, sym, ap, subst, ◌∙◌, below_more}
-use Rattle.std.proofs.lemmas.List.{length-map, get_or-map, take_all}
-use Rattle.std.proofs.lemmas.List.Elements.{All-more, All-weaker, Contains-get_or}
-use Rattle.std.proofs.lemmas.Option.{slice_get-get_or, slice_get_within}
+use Rattle.std.proofs.Common.{◌≡◌, ℕ, zero, suc, ◌+◌, ◌<◌, ◌≤◌, ◌⊎◌, ◌↔◌, inl, inr, Bool, true, false, cond, IsTrue, String, string_bytes, List, [], ◌∷◌, ◌++◌, length, take, get_or, map, All, Contains, Some, slice_get, arith, refl, sym, ap, subst, ◌∙◌, below_more}
+use Rattle.std.specs.BTreeSet.{BTreeSet}
+use Rattle.std.specs.Cmp.Lexicographic.{slice_cmp, texts_ties}
+use Rattle.std.specs.Global.{Global}
+use Rattle.std.specs.Ordering.{is_eq, nat_cmp}
+use Rattle.std.proofs.lemmas.List.{length-map, get_or-map, map-append, take_all, take_more}
+use Rattle.std.proofs.lemmas.List.Elements.{All-more, All-weaker, Contains-get_or, Contains-append_left, Contains-push, Contains-push_cases}
+use Rattle.std.proofs.lemmas.Option.{slice_get-get_or, get_or_from_slice_get, slice_get_within}
 use Rattle.std.proofs.lemmas.Slice.Eq.{bytes_eq-Decides}
 use Rattle.std.specs.Str.{bytes_eq}
 use Rattle.hpr_terms.proofs.Facts.{get_in_map, in_map, map_in}
@@ -10,7 +14,7 @@ use Rattle.hpr_graph.specs.Graphs.{Graph, Same}
 use Rattle.hpr_graph.specs.Numbered.{Numbered, graph_in}
 use Rattle.hpr_words.specs.Request.{Text}
 use Rattle.hpr_inputs.specs.Points.{IsFirstStranger, IsNamed, point_text, OnPoints}
-use Rattle.hpr_inputs.specs.ReadsPoints.{AreNumbersFor, AreNumbersIn, RefusesPoint, TakesText}
+use Rattle.hpr_inputs.specs.ReadsPoints.{AddsText, AreNumbersFor, AreNumbersIn, has, HasTexts, RefusesPoint}
 use Rattle.hpr_inputs.specs.declared.answer.Stop.{Stop}
 use Rattle.hpr_inputs.specs.declared.answer.Stop.TheVariants as stop
 use Rattle.hpr_inputs.specs.Decision.{Decision}
@@ -22,12 +26,33 @@ some_same x y e = cc
 pub fails : (b : Bool) (P : Type 0) → (IsTrue b ↔ P) → b ≡ false → ¬ P
 fails b P tells e h = let no : false ≡ true = sym e ∙ tells.1 h in absurd cc
 
--- what a comparison tells
-pub alike : (b : Bool) (x y : Text) → b ≡ bytes_eq x y → b ≡ true → x ≡ y
-alike b x y is e = (bytes_eq-Decides x y).0 (sym is ∙ e)
+-- a set with one text more
+adds_if : (b : Bool) (x y : Text) (now had : Bool) → bytes_eq x y ≡ b → now ≡ cond b true had → IsTrue now ↔ (IsTrue had ⊎ (y ≡ x))
+adds_if true x y now had e is = (λ t. inr (sym ((bytes_eq-Decides x y).0 e)), λ h. is)
+adds_if false x y now had e is = (
+  λ t. inl (sym is ∙ t),
+  λ h. elim h [ inl t ↦ is ∙ t | inr same ↦ (let yes : bytes_eq x y ≡ true = (bytes_eq-Decides x y).1 (sym same) in absurd cc) ],
+)
 
-pub unlike : (b : Bool) (x y : Text) → b ≡ bytes_eq x y → b ≡ false → ¬ (x ≡ y)
-unlike b x y is e same = let no : false ≡ true = sym e ∙ is ∙ (bytes_eq-Decides x y).1 same in absurd cc
+pub adds_text : (x y : Text) (now had : Bool) → now ≡ cond (is_eq (slice_cmp nat_cmp x y)) true had → IsTrue now ↔ (IsTrue had ⊎ (y ≡ x))
+adds_text x y now had is = adds_if (bytes_eq x y) x y now had refl (is ∙ ap (λ b. cond b true had) (sym (texts_ties x y)))
+
+pub texts_more : {X : Type 0} (f : X → Text) (xs : List X) (old new : BTreeSet (String Global)) (i : ℕ) (x : X) → i < length xs → x ≡ get_or xs i x
+    → HasTexts old (map f (take i xs)) → AddsText old new (f x) → HasTexts new (map f (take (i + 1) xs))
+texts_more f xs old new i x low is before adds s =
+    let ys = map f (take i xs) in
+    let next : map f (take (i + 1) xs) ≡ ys ++ f x ∷ [] =
+    ap (map f) (take_more xs i x low ∙ ap (λ y. take i xs ++ y ∷ []) (sym is)) ∙ map-append f (take i xs) (x ∷ []) in
+    subst (λ ts. has new s ↔ Contains ts (string_bytes s)) (sym next) (
+      λ h. elim ((adds s).0 h) [ inl had ↦ Contains-append_left ys (f x ∷ []) (string_bytes s) ((before s).0 had) | inr same ↦ subst (Contains (ys ++ f x ∷ [])) (sym same) (Contains-push ys (f x)) ],
+      λ h. (adds s).1 (elim (Contains-push_cases ys (f x) (string_bytes s) h) [ inl earlier ↦ inl ((before s).1 earlier) | inr same ↦ inr (sym same) ]),
+    )
+
+pub texts_more_at : {X : Type 0} (f : X → Text) (xs : List X) (old new : BTreeSet (String Global)) (i : ℕ) (d : X) → i < length xs
+    → HasTexts old (map f (take i xs)) → AddsText old new (f (get_or xs i d)) → HasTexts new (map f (take (i + 1) xs))
+texts_more_at f xs old new i d low before adds =
+    let x = get_or xs i d in
+    texts_more f xs old new i x low (sym (get_or_from_slice_get xs i x x (slice_get-get_or xs i d low))) before adds
 
 -- the first word of which P doesn't hold, behind those of which it holds
 first_stranger : (P : Text → Type 0) (words : List Text) (i : ℕ) (word : Text) → i < length words → word ≡ get_or words i word → All P (take i words) → ¬ P word
@@ -71,50 +96,35 @@ module _ {X : Type 0} (f : X → Text) (xs : List X) where
   pub text_at : (i : ℕ) (x : X) (text : Text) → i < length xs → x ≡ get_or xs i x → text ≡ f x → slice_get (map f xs) i ≡ Some text
   text_at i x text low is e = slice_get-get_or (map f xs) i text (within i low) ∙ ap (λ t. Some t) (get_or-map f xs i x text low ∙ ap f (sym is) ∙ sym e)
 
-  -- one of the texts is found, or none is
-  module _ (text : Text) (i : ℕ) where
-    pub found : (d : X) → i < length xs → f (get_or xs i d) ≡ text → IsTrue true ↔ Contains (map f xs) text
-    found d low is = (λ t. subst (Contains (map f xs)) is (i, within i low, get_or-map f xs i d (f (get_or xs i d)) low), λ h. refl)
-
-    none : length xs ≤ i → Judged (λ t. ¬ (t ≡ text)) i → ¬ Contains (map f xs) text
-    none past before (k, low, is) = judged_all (λ t. ¬ (t ≡ text)) i past before k text low is
-
-    pub not_found : length xs ≤ i → Judged (λ t. ¬ (t ≡ text)) i → IsTrue false ↔ Contains (map f xs) text
-    not_found past before = (λ t. absurd cc, λ h. absurd (none past before h))
-
 -- the places of the first texts that are among the words
 pub record AreNumbersTo (texts words : List Text) (numbers : List ℕ) (i : ℕ) : Type 0 where
   pub below : (n : ℕ) → Contains numbers n → n < i
   pub exact : (at : ℕ) → at < i → (text : Text) → slice_get texts at ≡ Some text → Contains numbers at ↔ Contains words text
 
 module _ (texts words : List Text) where
-  module _ (old new : List ℕ) (i : ℕ) (text : Text) (at_i : slice_get texts i ≡ Some text) (before : AreNumbersTo texts words old i)
-      (takes : TakesText words text i old new) where
-    below_next : (n : ℕ) → Contains old n ⊎ ((n ≡ i) × Contains words text) → n < i + 1
-    below_next n (inl h) = let low : n < i = before.below n h in omega (arith, low)
-    below_next n (inr (e, _)) = omega (arith, e)
+  -- the next text is among the words, and its place is pushed
+  module _ (old : List ℕ) (i : ℕ) (text : Text) (at_i : slice_get texts i ≡ Some text) (before : AreNumbersTo texts words old i) where
+    same_text : (t : Text) → slice_get texts i ≡ Some t → text ≡ t
+    same_text t is = some_same text t (sym at_i ∙ is)
 
-    old_from : (at : ℕ) → at < i → Contains old at ⊎ ((at ≡ i) × Contains words text) → Contains old at
-    old_from at low (inl h) = h
-    old_from at low (inr (e, _)) = absurd (omega (arith, low, e))
+    pub named_next : Contains words text → AreNumbersTo texts words (old ++ i ∷ []) (i + 1)
+    named_next named = record {
+      below = λ n h. elim (Contains-push_cases old i n h) [ inl earlier ↦ (let low : n < i = before.below n earlier in omega (arith, low)) | inr e ↦ omega (arith, e) ];
+      exact = below_more _ _
+          (λ at low t is. (
+            λ h. elim (Contains-push_cases old i at h) [ inl earlier ↦ (before.exact at low t is).0 earlier | inr e ↦ absurd (omega (arith, low, e)) ],
+            λ h. Contains-append_left old (i ∷ []) at ((before.exact at low t is).1 h),
+          ))
+          (λ t is. (λ h. subst (Contains words) (same_text t is) named, λ h. Contains-push old i));
+    }
 
-    named_from : Contains old i ⊎ ((i ≡ i) × Contains words text) → Contains words text
-    named_from (inl h) = let low : i < i = before.below i h in absurd (omega (arith, low))
-    named_from (inr (_, h)) = h
-
-    exact_before : (at : ℕ) → at < i → (t : Text) → slice_get texts at ≡ Some t → Contains new at ↔ Contains words t
-    exact_before at low t is =
-        (λ h. (before.exact at low t is).0 (old_from at low ((takes at).0 h)), λ h. (takes at).1 (inl ((before.exact at low t is).1 h)))
-
-    exact_here : (t : Text) → slice_get texts i ≡ Some t → Contains new i ↔ Contains words t
-    exact_here t is =
-        let same : text ≡ t = some_same text t (sym at_i ∙ is) in
-        (λ h. subst (Contains words) same (named_from ((takes i).0 h)), λ h. (takes i).1 (inr (refl, subst (Contains words) (sym same) h)))
-
-    pub one_more_text : AreNumbersTo texts words new (i + 1)
-    one_more_text = record {
-      below = λ n h. below_next n ((takes n).0 h);
-      exact = below_more _ _ exact_before exact_here;
+    pub unnamed_next : ¬ Contains words text → AreNumbersTo texts words old (i + 1)
+    unnamed_next unnamed = record {
+      below = λ n h. (let low : n < i = before.below n h in omega (arith, low));
+      exact = below_more _ _ before.exact (λ t is. (
+        λ h. (let low : i < i = before.below i h in absurd (omega (arith, low))),
+        λ h. absurd (unnamed (subst (Contains words) (sym (same_text t is)) h)),
+      ));
     }
 
   pub all_numbers : (numbers : List ℕ) (i : ℕ) → i ≡ length texts → AreNumbersTo texts words numbers i → AreNumbersIn texts words numbers

@@ -1,13 +1,15 @@
 //! The vertices that words name.
-ghost use Rattle.std.specs.Prelude.{◌≡◌, ◌↔◌, map, Contains, IfOk, OnOk, IsTrue, string_bytes};
+ghost use Rattle.std.specs.Prelude.{◌≡◌, ◌↔◌, List, map, Contains, IfOk, IsTrue, OnOk, string_bytes};
+ghost use Rattle.hpr_words.specs.Request.{Text};
 ghost use Rattle.hpr_inputs.specs.Points.{point_text};
-ghost use Rattle.hpr_inputs.specs.ReadsPoints.{AreNumbersIn, JudgesPoints, ReadsPoints, TakesText};
+ghost use Rattle.hpr_inputs.specs.ReadsPoints.{AddsText, AreNumbersIn, HasTexts, JudgesPoints, ReadsPoints};
 
 use crate::answer::Stop;
 use hpr_graph::{Graph, Vertex};
 use hpr_refusals::about;
 use hpr_syntax::NoMemory;
 use std::alloc::{AllocError, Global};
+use std::collections::BTreeSet;
 
 /// The numbers of the vertices of a graph that the words name: `entry`, `init:x` and `final:x`, where an array has
 /// its `[]` as at `end`, and a part by its tag. The first word that names none, from the left, is what the message
@@ -15,20 +17,8 @@ use std::alloc::{AllocError, Global};
 pub fn read_points(alloc: Global, graph: &Graph, words: &[&str]) -> Result<Vec<usize>, Stop>
     ensures { ReadsPoints graph.now (map (λ w. w.now) words.now) result }
 {
-    let texts = point_texts(alloc, graph.vertices())?;
-    refuse_strangers(alloc, &texts, words)?;
-    Ok(numbers_among(alloc, &texts, words)?)
-}
-
-/// The words for these vertices.
-fn point_texts(alloc: Global, vertices: &[Vertex]) -> Result<Vec<String>, AllocError>
-    ensures { IfOk result (λ texts. map string_bytes texts.items ≡ map point_text vertices.now) }
-{
-    let mut texts = Vec::new(alloc);
-    for vertex in vertices {
-        texts.push(point_text(alloc, vertex)?)?;
-    }
-    Ok(texts)
+    refuse_strangers(alloc, graph.vertices(), words)?;
+    Ok(numbers_among(alloc, graph.vertices(), words)?)
 }
 
 /// The word for a vertex.
@@ -43,12 +33,51 @@ fn point_text(alloc: Global, vertex: &Vertex) -> Result<String, AllocError>
     }
 }
 
-/// Refuses the first word that is none of the texts.
-fn refuse_strangers(alloc: Global, texts: &[String], words: &[&str]) -> Result<(), Stop>
-    ensures { JudgesPoints (Contains (map string_bytes texts.now)) (map (λ w. w.now) words.now) result }
+/// One more text in the set.
+fn insert(set: &mut BTreeSet<String>, text: String) -> Result<(), NoMemory>
+    ensures { OnOk result (AddsText set.old set.new (string_bytes text)) }
 {
+    set.insert(text)?;
+    Ok(())
+}
+
+/// The words for these vertices.
+fn point_set(alloc: Global, vertices: &[Vertex]) -> Result<BTreeSet<String>, NoMemory>
+    ensures { IfOk result (λ set. HasTexts set (map point_text vertices.now)) }
+{
+    let mut set = BTreeSet::new(alloc);
+    for vertex in vertices {
+        insert(&mut set, point_text(alloc, vertex)?)?;
+    }
+    Ok(set)
+}
+
+/// A set of these words.
+fn word_set(alloc: Global, words: &[&str]) -> Result<BTreeSet<String>, NoMemory>
+    ensures { IfOk result (λ set. HasTexts set (map (λ w. w.now) words.now)) }
+{
+    let mut set = BTreeSet::new(alloc);
     for word in words {
-        if !is_text(texts, word) {
+        insert(&mut set, String::from_str(alloc, word)?)?;
+    }
+    Ok(set)
+}
+
+/// Whether the text is in the set.
+fn has(set: &BTreeSet<String>, text: &String) -> bool
+    ensures { (texts : List Text) → HasTexts set.now texts → IsTrue result ↔ Contains texts (string_bytes text.now) }
+{
+    set.contains(text)
+}
+
+/// Refuses the first word that is none of those for the vertices.
+fn refuse_strangers(alloc: Global, vertices: &[Vertex], words: &[&str]) -> Result<(), Stop>
+    ensures { JudgesPoints (Contains (map point_text vertices.now)) (map (λ w. w.now) words.now) result }
+{
+    let points = point_set(alloc, vertices)?;
+    for word in words {
+        let text = String::from_str(alloc, word)?;
+        if !has(&points, &text) {
             let message = about(alloc, word, "no such point")?;
             return Err(Stop::Refused(message));
         }
@@ -56,53 +85,18 @@ fn refuse_strangers(alloc: Global, texts: &[String], words: &[&str]) -> Result<(
     Ok(())
 }
 
-/// Whether the word is one of the texts.
-fn is_text(texts: &[String], word: &str) -> bool
-    ensures { IsTrue result ↔ Contains (map string_bytes texts.now) word.now }
-{
-    for text in texts {
-        if text.as_str() == word {
-            return true;
-        }
-    }
-    false
-}
-
-/// The places of the texts that are among the words.
-fn numbers_among(alloc: Global, texts: &[String], words: &[&str]) -> Result<Vec<usize>, NoMemory>
-    ensures { IfOk result (λ numbers. AreNumbersIn (map string_bytes texts.now)
+/// The numbers of the vertices for which one of the words is.
+fn numbers_among(alloc: Global, vertices: &[Vertex], words: &[&str]) -> Result<Vec<usize>, NoMemory>
+    ensures { IfOk result (λ numbers. AreNumbersIn (map point_text vertices.now)
         (map (λ w. w.now) words.now) numbers.items) }
 {
+    let named = word_set(alloc, words)?;
     let mut numbers = Vec::new(alloc);
-    for (at, text) in texts.iter().enumerate() {
-        take_text(words, text.as_str(), at, &mut numbers)?;
-    }
-    Ok(numbers)
-}
-
-/// Puts the place of a text behind the numbers where it is among the words.
-fn take_text(
-    words: &[&str],
-    text: &str,
-    at: usize,
-    numbers: &mut Vec<usize>,
-) -> Result<(), NoMemory>
-    ensures { OnOk result (TakesText (map (λ w. w.now) words.now) text.now at numbers.old.items numbers.new.items) }
-{
-    if is_word(words, text) {
-        numbers.push(at)?;
-    }
-    Ok(())
-}
-
-/// Whether the text is one of the words.
-fn is_word(words: &[&str], text: &str) -> bool
-    ensures { IsTrue result ↔ Contains (map (λ w. w.now) words.now) text.now }
-{
-    for word in words {
-        if *word == text {
-            return true;
+    for (at, vertex) in vertices.iter().enumerate() {
+        let text = point_text(alloc, vertex)?;
+        if has(&named, &text) {
+            numbers.push(at)?;
         }
     }
-    false
+    Ok(numbers)
 }
