@@ -1,5 +1,6 @@
 //! One call, and what it comes to.
 use crate::case::{Case, Over, Plan};
+use crate::last_count::{LastCountSink, call_at_last_count};
 use crate::noting::NotingShelf;
 use crate::text::{put, words};
 use hpr_app::{Status, hpr};
@@ -56,6 +57,20 @@ fn over_noting_shelf(
     let mut err = sink(alloc, &case.err)?;
     let status = hpr(alloc, words, shelf, &mut out, &mut err);
     put(told, &[shelf.notes.as_str()])?;
+    put_told(told, &status, out.bytes(), err.bytes())
+}
+
+// Makes the call over a shelf that may fail, and the sinks of the case, of which `err` can't count one failure more.
+fn over_last_count(
+    alloc: Global,
+    case: &Case,
+    shelf: &mut MemoryShelf,
+    words: &[String],
+    told: &mut String,
+) -> Option<()> {
+    let mut out = sink(alloc, &case.out)?;
+    let mut err = LastCountSink::new(sink(alloc, &case.err)?);
+    let status = call_at_last_count(alloc, words, shelf, &mut out, &mut err);
     put_told(told, &status, out.bytes(), err.bytes())
 }
 
@@ -120,6 +135,9 @@ fn call(alloc: Global, case: &Case, words: &[String], told: &mut String) -> Opti
         Over::NotingShelf => {
             let mut shelf = NotingShelf::new(alloc, memory_shelf(alloc, case)?);
             over_noting_shelf(alloc, case, &mut shelf, words, told)
+        }
+        Over::LastCount => {
+            over_last_count(alloc, case, &mut memory_shelf(alloc, case)?, words, told)
         }
         Over::SteadyShelf => {
             let mut shelf = SteadyShelf::new(files_of(alloc, case)?);

@@ -10,12 +10,13 @@ pub struct Plan {
     pub failing: Vec<u64>,
 }
 
-/// What a call is made over: a shelf and sinks that may fail, such a shelf that notes each fetch, a shelf that never
-/// fails, or such sinks too.
+/// What a call is made over: a shelf and sinks that may fail, such a shelf that notes each fetch, such an `err` whose
+/// count of failures stands at its last value, a shelf that never fails, or such sinks too.
 #[derive(Clone, Copy)]
 pub enum Over {
     Memory,
     NotingShelf,
+    LastCount,
     SteadyShelf,
     SteadySinks,
 }
@@ -92,6 +93,8 @@ impl Case {
     fn set(&mut self, alloc: Global, line: &str) -> Option<()> {
         if line == "noting shelf" {
             self.over = Over::NotingShelf;
+        } else if line == "last count" {
+            self.over = Over::LastCount;
         } else if line == "steady shelf" {
             self.over = Over::SteadyShelf;
         } else if line == "steady sinks" {

@@ -9,6 +9,7 @@
 //! - `! shelf CALLS`, `! out STEP ROOM CALLS` and `! err STEP ROOM CALLS` name the calls that fail, from 0 on, and the
 //!   most bytes that a sink takes in a call and in all;
 //! - `! noting shelf` takes a shelf that notes what it is asked for: a line `fetch NAME MOST` for each fetch;
+//! - `! last count` takes an `err` whose count of failures stands at the last value of a u64;
 //! - `! steady shelf` and `! steady sinks` take a shelf and sinks that never fail, of which the sinks keep nothing;
 //! - `$ WORDS` makes the call; a case may make several, over the same files.
 //!
@@ -17,6 +18,7 @@
 
 mod call;
 mod case;
+mod last_count;
 mod noting;
 mod text;
 
