@@ -35,7 +35,7 @@ abbrev pub steps_in : List Finished → ℕ
 steps_in [] = 0
 steps_in (r ∷ rs) = r.steps + steps_in rs
 
--- A final value that base lacks or has with another number is changed.
+-- A final value that base lacks, or has with another value, is changed.
 abbrev pub HasChanged : FinalValues → FinalValues → Finished → Type 0
 HasChanged f0 f r = (x : List ℕ) (v : Value) → Contains r.finals (x, v) → ¬ Contains f0 (x, v) → Contains f (x, v)
 

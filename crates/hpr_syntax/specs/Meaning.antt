@@ -14,7 +14,7 @@ use Rattle.hpr_syntax.specs.Run.{FinalValues, ends, run}
 abbrev pub Ends : Tree → Values → ℕ → FinalValues → Type 0
 Ends p s n f = (steps : ℕ) × (run p s n ≡ ends f steps)
 
--- A final value that base lacks or has with another number is changed.
+-- A final value that base lacks, or has with another value, is changed.
 pub record IsKept (f0 f1 f2 f : FinalValues) : Type 0 where
   pub changed_by_a : (x : List ℕ) (v : Value) → Contains f1 (x, v) → ¬ Contains f0 (x, v) → Contains f (x, v)
   pub changed_by_b : (x : List ℕ) (v : Value) → Contains f2 (x, v) → ¬ Contains f0 (x, v) → Contains f (x, v)
