@@ -28,3 +28,4 @@ pub mod BridgeLeft
 pub mod ReachingRows
 mod Sources
 mod InitialNames
+mod FinalNumbers

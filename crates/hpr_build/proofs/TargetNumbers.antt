@@ -1,9 +1,7 @@
 -- The numbers of the vertices that use a name.
-use Rattle.std.proofs.Common.{◌≡◌, ℕ, ◌+◌, ◌<◌, ◌≤◌, List, Some, All, Contains, length, get_or, slice_get, inl, inr, sym, ap, ◌∙◌, subst, arith}
-use Rattle.std.proofs.lemmas.Bool.{cases_lt, cases_eq}
-use Rattle.std.proofs.lemmas.Option.{slice_get_within, slice_get-get_or, same_Some}
+use Rattle.std.proofs.Common.{◌≡◌, ℕ, ◌<◌, ◌≤◌, List, Some, All, Contains, length, inl, inr, sym, ap, ◌∙◌, subst, arith}
+use Rattle.std.proofs.lemmas.Bool.{cases_lt}
 use Rattle.std.proofs.lemmas.List.Elements.{All-weaker, All-contains_itself}
-use Rattle.hpr_syntax.specs.Shape.{IsProgram}
 use Rattle.std.proofs.lemmas.Bool.Decides.{nat_tests}
 use Rattle.hpr_terms.proofs.Facts.{contains_at, place_of}
 use Rattle.hpr_syntax.specs.Tree.{Tree}
@@ -16,7 +14,6 @@ use Rattle.hpr_build.specs.declared.tables.Variable.{Variable}
 use Rattle.hpr_build.specs.Links.{exit_of, IsTargetAt}
 use Rattle.hpr_build.specs.NewLinks.{target_of}
 use Rattle.hpr_build.specs.Stages.{IsVariable}
-use Rattle.hpr_build.proofs.BridgeVertices.{finals_once}
 
 pub target_low : (end at u : ℕ) → u < end → target_of end at u ≡ u
 target_low end at u l = grind (arith, nat_tests)
@@ -56,23 +53,3 @@ pub users_within : (t : Tree) (v : Variable) → IsVariable t v → (s : List Sp
 users_within t v var s whole =
     let size : length s ≡ length (spots t) = ap (λ (xs : List Spot). length xs) whole in
     All-weaker (Contains v.users.now) (λ u. u < length s) (λ u h. omega (arith, uses_within (spots t) u v.name.now ((var.users u).0 h), size)) v.users.now (All-contains_itself v.users.now)
-
--- the number of a name of `end`
-pub final_found : (t : Tree) → IsProgram t → (xs : List (List ℕ)) → xs ≡ t.finals → (at : ℕ) (one x : List ℕ) → at < length xs → one ≡ get_or xs at one → one ≡ x → (k : ℕ) → slice_get t.finals k ≡ Some x → k ≡ at
-final_found t prog xs is at one x l read same k get =
-    let here : slice_get xs at ≡ Some x = slice_get-get_or xs at one l ∙ ap (λ (y : List ℕ). Some y) (sym read ∙ same) in
-    finals_once t prog k at x get (ap (λ (ys : List (List ℕ)). slice_get ys at) (sym is) ∙ here)
-
-pub final_more : (t : Tree) (xs : List (List ℕ)) → xs ≡ t.finals → (at : ℕ) (one x : List ℕ) → at < length xs → one ≡ get_or xs at one → ¬ (one ≡ x) → ((k : ℕ) → k < at → ¬ (slice_get t.finals k ≡ Some x)) → (k : ℕ) → k < at + 1 → ¬ (slice_get t.finals k ≡ Some x)
-final_more t xs is at one x l read other before k low get = elim (cases_eq k at) [
-  | inl e ↦ (let here : slice_get xs at ≡ Some one = slice_get-get_or xs at one l ∙ ap (λ (y : List ℕ). Some y) (sym read) in
-      let there : slice_get xs at ≡ Some x = ap (λ (ys : List (List ℕ)). slice_get ys at) is ∙ ap (slice_get t.finals) (sym e) ∙ get in
-      let both : Some one ≡ Some x = sym here ∙ there in
-      other (same_Some one x both))
-  | inr ne ↦ before k (omega (arith, low, ne)) get
-]
-
-pub final_past : (t : Tree) (xs : List (List ℕ)) → xs ≡ t.finals → (n : ℕ) (x : List ℕ) → length xs ≤ n → ((k : ℕ) → k < n → ¬ (slice_get t.finals k ≡ Some x)) → (k : ℕ) → ¬ (slice_get t.finals k ≡ Some x)
-final_past t xs is n x end before k get =
-    let size : length xs ≡ length t.finals = ap (λ (ys : List (List ℕ)). length ys) is in
-    before k (omega (arith, slice_get_within t.finals k x get, size, end)) get

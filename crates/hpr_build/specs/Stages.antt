@@ -18,7 +18,7 @@ use Rattle.hpr_build.specs.declared.tables.Tables.{Tables}
 use Rattle.hpr_build.specs.declared.tables.Variable.{Variable}
 use Rattle.hpr_graph.specs.Graphs.{IsOnce}
 use Rattle.hpr_build.specs.Places.{places}
-use Rattle.hpr_build.specs.Variables.{AreUsers, AreDefinitions}
+use Rattle.hpr_build.specs.Variables.{AreUsers, AreDefinitions, AreFinalNumbers}
 use Rattle.hpr_build.specs.Links.{vertices_of, exit_of, IsLinkOf}
 
 pub record AreTables (t : Tables) : Type 0 where
@@ -35,6 +35,8 @@ pub record AreTables (t : Tables) : Type 0 where
   pub definitions : AreDefinitions (spots t.program.now) t.variables.names.items t.variables.definitions.items
   pub user_rows : vec_len t.variables.users ≡ vec_len t.variables.names
   pub users : AreUsers (spots t.program.now) t.variables.names.items t.variables.users.items
+  pub final_rows : vec_len t.final_numbers ≡ vec_len t.variables.names
+  pub finals : AreFinalNumbers (exit_of t.program.now) t.program.now.finals t.variables.names.items t.final_numbers.items
 
 pub record IsVariable (tree : Tree) (v : Variable) : Type 0 where
   pub definitions_once : IsOnce v.definitions.now

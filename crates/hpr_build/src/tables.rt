@@ -1,10 +1,14 @@
 //! The tables of a program that its graph is made from.
-ghost use Rattle.std.specs.Prelude.{◌≡◌, ◌↔◌, ◌+◌, ◌<◌, ◌≤◌, [], ◌∷◌, ◌++◌, ℕ, List, Some, IfOk, OnOk, Contains, length, map, vec_len};
+ghost use Rattle.std.specs.Prelude.{◌≡◌, ◌↔◌, ◌+◌, ◌<◌, ◌≤◌, ◌^◌, [], ◌∷◌, ◌++◌, ℕ, List, Some, IfOk, OnOk, Contains, length, map, replicate, vec_len, slice_index_or};
 ghost use Rattle.std.specs.List.{slice_get};
+ghost use Rattle.std.specs.List.Sorted.{IsStrictlySortedBy};
+ghost use Rattle.std.specs.Cmp.Lexicographic.{slice_cmp};
+ghost use Rattle.std.specs.Ordering.{nat_cmp};
+ghost use Rattle.hpr_graph.specs.Graphs.{IsOnce};
 ghost use Rattle.hpr_graph.specs.declared.vertex.Vertex.TheVariants.{Entry, Init, Final};
 ghost use Rattle.hpr_build.specs.Links.{part_vertex, name_vertex, vertices_of, exit_of};
 ghost use Rattle.hpr_build.specs.Stages.{AreTables, IsVariable};
-ghost use Rattle.hpr_build.specs.Variables.{points_at};
+ghost use Rattle.hpr_build.specs.Variables.{points_at, AreFinalNumbers};
 
 use crate::initial::live_names;
 use crate::places::{Place, places};
@@ -12,11 +16,13 @@ use crate::variables::{Variables, variables_of};
 use hpr_graph::Vertex;
 use hpr_paths::{Name, NoMemory, Succ, successors};
 use hpr_syntax::Program;
+use hpr_terms::names::place_of;
 use std::alloc::Global;
 
 /// What is known of a program: its points, its parts, the names that it takes from before it, the
 /// names that it uses, how many vertices its graph has, and the number of Exit's point, which is that
-/// of the vertex of the first name of `end`; and how many edges its graph may have.
+/// of the vertex of the first name of `end`; for each used name the number of its vertex of `end`; and how
+/// many edges its graph may have.
 pub(crate) struct Tables<'a> {
     pub(crate) program: &'a Program,
     pub(crate) succ: Succ,
@@ -25,6 +31,7 @@ pub(crate) struct Tables<'a> {
     pub(crate) variables: Variables,
     pub(crate) vertex_count: usize,
     pub(crate) exit: usize,
+    pub(crate) final_numbers: Vec<usize>,
     pub(crate) most: usize,
 }
 
@@ -39,6 +46,7 @@ impl Drop for Tables<'_> {
             variables: _,
             vertex_count: _,
             exit: _,
+            final_numbers: _,
             most: _,
         } = self;
     }
@@ -97,6 +105,50 @@ fn push_vertices(
     push_names(alloc, inits, false, into)
 }
 
+/// The number, so many times.
+fn repeated(alloc: Global, number: usize, count: usize) -> Result<Vec<usize>, NoMemory>
+    ensures { IfOk result (λ numbers. numbers.items ≡ replicate count number) }
+{
+    Ok(vec![in alloc; number; count]?)
+}
+
+/// Puts the number at the place of the name, if it has one.
+fn put_number(names: &[Name], name: &Name, number: usize, numbers: &mut Vec<usize>)
+    requires names { IsStrictlySortedBy (slice_cmp nat_cmp) names.now }
+    requires len { vec_len numbers.old ≡ length names.now }
+    ensures len { vec_len numbers.new ≡ vec_len numbers.old }
+    ensures here { (i : ℕ) → slice_get names.now i ≡ Some name.now → slice_index_or numbers.new.items i 0 ≡ number }
+    ensures others { (i : ℕ) → ¬ (slice_get names.now i ≡ Some name.now)
+        → slice_index_or numbers.new.items i 0 ≡ slice_index_or numbers.old.items i 0 }
+{
+    if let Some(at) = place_of(names, name) {
+        numbers[at] = number;
+    }
+}
+
+/// For each of these names, which are in order, the number of its vertex of `end`, or Exit's own number where it
+/// has none.
+///
+/// Looks up each name of `end` once.
+fn final_numbers(
+    alloc: Global,
+    exit: usize,
+    finals: &[Name],
+    names: &[Name],
+) -> Result<Vec<usize>, NoMemory>
+    requires names { IsStrictlySortedBy (slice_cmp nat_cmp) names.now }
+    requires finals { IsOnce finals.now }
+    requires room { exit + length finals.now < 2 ^ 64 }
+    ensures len { IfOk result (λ numbers. vec_len numbers ≡ length names.now) }
+    ensures exact { IfOk result (λ numbers. AreFinalNumbers exit finals.now names.now numbers.items) }
+{
+    let mut numbers = repeated(alloc, exit, names.len())?;
+    for (at, name) in finals.iter().enumerate() {
+        put_number(names, name, exit + at, &mut numbers);
+    }
+    Ok(numbers)
+}
+
 /// The tables of the program, whose graph may have `most` edges. The vertices of the graph go into the
 /// empty list.
 pub(crate) fn tables_of<'a>(
@@ -116,14 +168,18 @@ pub(crate) fn tables_of<'a>(
     let variables = variables_of(alloc, &succ)?;
     let inits = live_names(alloc, &succ, &variables)?;
     push_vertices(alloc, &places, program.finals(), &inits, vertices)?;
+    let vertex_count = vertices.len();
+    let exit = program.part_count() + 1;
+    let final_numbers = final_numbers(alloc, exit, program.finals(), &variables.names)?;
     Ok(Tables {
         program,
         succ,
         places,
         inits,
         variables,
-        vertex_count: vertices.len(),
-        exit: program.part_count() + 1,
+        vertex_count,
+        exit,
+        final_numbers,
         most,
     })
 }
@@ -136,22 +192,6 @@ pub(crate) struct Variable<'a> {
     pub(crate) definitions: &'a [usize],
     pub(crate) users: &'a [usize],
     pub(crate) final_number: usize,
-}
-
-/// The number of the name's vertex of `end`, or Exit's own number where there is none.
-fn final_number(tables: &Tables, name: &Name) -> usize
-    requires { AreTables tables.now }
-    ensures low { exit_of tables.now.program.now ≤ result }
-    ensures exact { (k : ℕ) → slice_get tables.now.program.now.finals k ≡ Some name.now
-        → result ≡ exit_of tables.now.program.now + k }
-{
-    let _count = tables.vertex_count;
-    for (at, one) in tables.program.finals().iter().enumerate() {
-        if one.is_same(name) {
-            return tables.exit + at;
-        }
-    }
-    tables.exit
 }
 
 /// The points in the row.
@@ -169,11 +209,10 @@ pub(crate) fn variable_at<'a>(tables: &'a Tables, at: usize) -> Variable<'a>
     ensures name { slice_get tables.now.variables.names.items at ≡ Some result.name.now }
     ensures variable { IsVariable tables.now.program.now result }
 {
-    let name = &tables.variables.names[at];
     Variable {
-        name,
+        name: &tables.variables.names[at],
         definitions: row_at(&tables.variables.definitions, at),
         users: row_at(&tables.variables.users, at),
-        final_number: final_number(tables, name),
+        final_number: tables.final_numbers[at],
     }
 }

@@ -1,11 +1,14 @@
-use Rattle.std.proofs.Common.{◌≡◌, length, ◌↔◌, ◌+◌, ◌∙◌, ℕ, List, Contains, sym, ap, subst}
+use Rattle.std.proofs.Common.{◌≡◌, length, ◌↔◌, ◌+◌, ◌∙◌, ℕ, List, Contains, sym, ap, subst, arith}
 use Rattle.hpr_paths.specs.Spots.{Spot, UsesAt}
 use Rattle.hpr_reach.specs.Live.{IsLive}
 use Rattle.hpr_reach.proofs.ByTags.{live_tags}
 use Rattle.hpr_build.specs.Variables.{AreUsers, AreDefinitions}
 use Rattle.hpr_graph.specs.declared.vertex.Vertex.{Vertex}
 use Rattle.hpr_build.specs.Links.{vertices_of}
+use Rattle.hpr_graph.specs.Graphs.{IsOnce}
+use Rattle.hpr_build.proofs.BridgeVertices.{finals_once}
 use Rattle.hpr_build.proofs.ControlFamily.{put_vertices}
+use Rattle.hpr_build.proofs.FinalNumbers.{same_final_numbers}
 use Rattle.hpr_build.proofs.tables.tables_of.Goals as goal
 
 pub returns-clause-tables : goal.returns-clause-tables
@@ -27,17 +30,22 @@ returns-clause-tables c =
             let live : IsLive c.in_ok-succ.succ x = subst (λ (s : List Spot). IsLive s x) (sym succ) ((live_tags t c.finals.ensures.program x).1 h) in
             (c.in_ok-inits.ensures.exact x).1 ((c.in_ok-variables.ensures.names x).1 (live.0, live.3), live)),
       );
-      exit = ap (λ (n : ℕ). n + 1) c.part_count.ensures.count;
-      count = c.len.ensures ∙ c.push_vertices.new.into.ok.0 ∙ ap (λ (vs : List Vertex). length vs) made;
+      exit = ap (λ (n : ℕ). n + 1) c.part_count-exit.ensures.count;
+      count = c.len-vertex_count.ensures ∙ c.push_vertices.new.into.ok.0 ∙ ap (λ (vs : List Vertex). length vs) made;
       names_ascending = c.in_ok-variables.ensures.ascending;
       names = λ x. subst (λ (s : List Spot). Contains names x ↔ ((p : ℕ) × UsesAt s p x)) succ (c.in_ok-variables.ensures.names x);
       definition_rows = c.in_ok-variables.ensures.definition_rows;
       definitions = subst (λ (s : List Spot). AreDefinitions s names c.in_ok-variables.variables.definitions.items) succ c.in_ok-variables.ensures.definitions;
       user_rows = c.in_ok-variables.ensures.user_rows;
       users = subst (λ (s : List Spot). AreUsers s names c.in_ok-variables.variables.users.items) succ c.in_ok-variables.ensures.users;
+      final_rows = omega (arith, c.in_ok-final_numbers.ensures.len, c.deref-3.ensures.len);
+      finals = same_final_numbers _ _ c.finals-2.result.now c.args.program.now.finals c.deref-3.result.now names c.in_ok-final_numbers.final_numbers.items (ap (λ (n : ℕ). n + 1) c.part_count-exit.ensures.count) c.finals-2.ensures.finals c.deref-3.ensures.value c.in_ok-final_numbers.ensures.exact;
     }
 
 pub returns-clause-vertices : goal.returns-clause-vertices
 returns-clause-vertices c =
     put_vertices c.args.program.now c.in_ok-inits.inits.items c.deref-2.result.now c.finals.result.now c.deref.result.now c.args.vertices.now.items c.push_vertices.new.into.items
     c.in_ok-push_vertices.ensures c.requires (c.deref.ensures.value ∙ c.in_ok-places.ensures) c.finals.ensures.finals c.deref-2.ensures.value
+
+pub final_numbers-requires-clause-finals : goal.final_numbers-requires-clause-finals
+final_numbers-requires-clause-finals c = subst (λ (xs : List (List ℕ)). IsOnce xs) (sym c.finals-2.ensures.finals) (finals_once c.args.program.now c.finals-2.ensures.program)
