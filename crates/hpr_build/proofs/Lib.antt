@@ -29,3 +29,4 @@ pub mod ReachingRows
 mod Sources
 mod InitialNames
 mod FinalNumbers
+mod FreeFlows

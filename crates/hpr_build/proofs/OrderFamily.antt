@@ -22,6 +22,7 @@ use Rattle.hpr_build.proofs.BridgeNumbers.{defined_within, target_once}
 use Rattle.hpr_build.proofs.Families.{SomeOf}
 use Rattle.hpr_build.proofs.LinkTurns.{into}
 use Rattle.hpr_build.proofs.Once.{once_map}
+use Rattle.hpr_build.proofs.Pairs.{no_pair}
 use Rattle.hpr_build.proofs.PlaceIn.{count_places}
 use Rattle.hpr_build.proofs.TargetNumbers.{target_uses, number_of_target, target_of_number}
 
@@ -88,6 +89,12 @@ module _ (t : Tree) (v : Variable) (var : IsVariable t v) where
       let left : o.left ≡ p.left = ap (λ (n : NewLink). n.link.from) e in
       let right : o.right ≡ p.right = ap (λ (n : NewLink). n.to) e in
       λ i. record { left = left i; right = right i })
+
+  -- between fewer than two definitions there is no order
+  pub no_orders : length v.definitions.now < 2 → (to : ℕ) (l : Link) → ¬ OrdersOf t v.name.now to l
+  no_orders few to l (u, (w, kind, target, left, right, before, one, two)) =
+      let same : l.from ≡ to = no_pair v.definitions.now l.from to few ((var.definitions l.from).1 left) ((var.definitions to).1 right) in
+      omega (arith, same, before.0)
 
   pub some_use : (to : ℕ) (l : Link) → SomeOf v.users.now (λ u. OrdersAt t v.name.now u to l) → OrdersOf t v.name.now to l
   some_use to l (u, has, h) = (u, h)

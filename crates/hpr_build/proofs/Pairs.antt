@@ -1,5 +1,6 @@
 -- Pairs of definitions, one more at a time.
-use Rattle.std.proofs.Common.{◌≡◌, ℕ, ◌+◌, ◌<◌, Bool, List, length, get_or, take, Contains, IsTrue, ◌⊎◌, ◌↔◌, inl, inr, sym, ap, subst}
+use Rattle.std.proofs.Common.{◌≡◌, ℕ, ◌+◌, ◌<◌, Bool, List, length, get_or, take, Contains, IsTrue, ◌⊎◌, ◌↔◌, inl, inr, sym, ap, ◌∙◌, subst, arith}
+use Rattle.std.proofs.lemmas.List.{get_or_default}
 use Rattle.hpr_terms.proofs.Facts.{taken_item}
 use Rattle.hpr_build.specs.declared.orders.Ordered.{Ordered}
 
@@ -41,3 +42,9 @@ order_more R definitions k left pairs pairs' l is before new o =
         | inr e ↦ (new o).1 (inr (sym e, d, subst (λ (n : ℕ). R n o.right) (sym e) r))
       ]),
     )
+
+-- a list of fewer than two things has no two
+pub no_pair : {X : Type 0} (xs : List X) (x y : X) → length xs < 2 → Contains xs x → Contains xs y → x ≡ y
+no_pair {X} xs x y few (i, li, ei) (j, lj, ej) =
+    let same : i ≡ j = omega (arith, few, li, lj) in
+    sym ei ∙ get_or_default xs i x y li ∙ ap (λ (k : ℕ). get_or xs k y) same ∙ ej

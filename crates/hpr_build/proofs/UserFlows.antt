@@ -177,6 +177,14 @@ module _ (spots : List Spot) (x : List ℕ) (d : ℕ) (top : nest_at spots d ≡
   plain_flow : (u : ℕ) → Reaches spots x [] d u → IsFlowAt spots x d u Independent
   plain_flow u (steps, path, avoids) = (steps, path, λ w here there. absurd (no_loop w here))
 
+  -- the flow edges to the users that a row of what is reached marks
+  pub flows_of_row : (row : List Bool) (users : List ℕ) → CutsTo spots x d 0 row → (f : Flow)
+      → ((f.kind ≡ Independent) × Contains users f.to × IsMarked row f.to) ↔ (Contains users f.to × IsFlowAt spots x d f.to f.kind)
+  flows_of_row row users cuts f = (
+    (λ (kind, u, m). (u, subst (λ (k : FlowKind). IsFlowAt spots x d f.to k) (sym kind) (plain_flow f.to ((cuts f.to).0 m)))),
+    (λ (u, at). (plain_kind f.to f.kind at, u, (cuts f.to).1 (reached_of_flow spots x d f.to f.kind at))),
+  )
+
   pub plain_exact : (row users : List Bool) (reached : List ℕ) → CutsTo spots x d 0 row → ((p : ℕ) → Contains reached p ↔ (IsMarked row p × IsMarked users p))
       → (f : Flow) → Contains (map plain reached) f ↔ (IsMarked users f.to × IsFlowAt spots x d f.to f.kind)
   plain_exact row users reached cuts both f = (

@@ -3,7 +3,7 @@
 -- AreTables t          == the tables are those of the program
 -- IsVariable tree v    == the points are those that define the name and that use it, and the number of its use at Exit is that of its vertex
 -- IsBegun tree inits most g == the graph has the vertices of the program, some of its links, and not more links than this
-use Rattle.std.specs.Prelude.{◌≡◌, ◌+◌, ◌≤◌, ◌↔◌, ℕ, Some, List, Contains, length, vec_len, slice_get}
+use Rattle.std.specs.Prelude.{◌≡◌, ◌+◌, ◌≤◌, ◌↔◌, ℕ, Some, List, Contains, IfSome, length, vec_len, slice_get}
 use Rattle.std.specs.List.Sorted.{IsStrictlySortedBy}
 use Rattle.std.specs.Cmp.Lexicographic.{slice_cmp}
 use Rattle.std.specs.Ordering.{nat_cmp}
@@ -18,7 +18,7 @@ use Rattle.hpr_build.specs.declared.tables.Tables.{Tables}
 use Rattle.hpr_build.specs.declared.tables.Variable.{Variable}
 use Rattle.hpr_graph.specs.Graphs.{IsOnce}
 use Rattle.hpr_build.specs.Places.{places}
-use Rattle.hpr_build.specs.Variables.{AreUsers, AreDefinitions, AreFinalNumbers}
+use Rattle.hpr_build.specs.Variables.{AreUsers, AreDefinitions, AreFinalNumbers, IsFreeRow}
 use Rattle.hpr_build.specs.Links.{vertices_of, exit_of, IsLinkOf}
 
 pub record AreTables (t : Tables) : Type 0 where
@@ -37,6 +37,7 @@ pub record AreTables (t : Tables) : Type 0 where
   pub users : AreUsers (spots t.program.now) t.variables.names.items t.variables.users.items
   pub final_rows : vec_len t.final_numbers ≡ vec_len t.variables.names
   pub finals : AreFinalNumbers (exit_of t.program.now) t.program.now.finals t.variables.names.items t.final_numbers.items
+  pub free : IfSome t.free (IsFreeRow (spots t.program.now))
 
 pub record IsVariable (tree : Tree) (v : Variable) : Type 0 where
   pub definitions_once : IsOnce v.definitions.now

@@ -1,6 +1,7 @@
 //! The flow edges of a graph.
-ghost use Rattle.std.specs.Prelude.{◌≡◌, ◌↔◌, ◌⊎◌, ℕ, Contains, IfOk, OnOk, IsErrOf, map};
+ghost use Rattle.std.specs.Prelude.{◌≡◌, ◌↔◌, ◌⊎◌, ℕ, [], Contains, IfOk, OnOk, IfSome, IfNone, IsErrOf, map};
 ghost use Rattle.hpr_search.specs.Marks.{IsMarked};
+ghost use Rattle.hpr_paths.specs.Successors.{spots};
 ghost use Rattle.hpr_graph.specs.declared.link.Link.{Link};
 ghost use Rattle.hpr_graph.specs.Numbered.{HasLink};
 ghost use Rattle.hpr_build.specs.declared.flow_links.Source.{Source};
@@ -9,13 +10,15 @@ ghost use Rattle.hpr_build.specs.Links.{IsFlowLink, IsSourceAt, HasMoreLinks};
 ghost use Rattle.hpr_build.specs.NewLinks.{link_kind, target_of, flow_link, IsInitialAt, FlowsFrom, FlowsOf};
 ghost use Rattle.hpr_graph.specs.Graphs.{IsOnce};
 ghost use Rattle.hpr_build.specs.Stages.{AreTables, IsVariable, IsBegun};
+ghost use Rattle.hpr_build.specs.Variables.{IsFreeRow};
 
 use crate::error::BuildError;
-use crate::flows::{Flow, FlowKind, flows_from, marked};
+use crate::flows::{Flow, FlowKind, enter_flows, flows_from, marked};
 use crate::pushes::{NewLink, push_links};
 use crate::tables::{Tables, Variable, variable_at};
 use hpr_graph::{Draft, Link, LinkKind};
-use hpr_paths::NoMemory;
+use hpr_paths::{Name, NoMemory};
+use hpr_reach::BitRow;
 use hpr_terms::names::place_of;
 use std::alloc::Global;
 
@@ -41,6 +44,18 @@ fn part_sources(alloc: Global, definitions: &[usize]) -> Result<Vec<Source>, NoM
     Ok(sources)
 }
 
+/// The number of the vertex of the initial definition of the name, if the program takes it from before.
+fn initial_number(tables: &Tables, name: &Name) -> Option<usize>
+    requires { AreTables tables.now }
+    ensures some { IfSome result (λ v. IsInitialAt tables.now.program.now tables.now.inits.items name.now 0 v) }
+    ensures none { IfNone result (¬ Contains tables.now.inits.items name.now) }
+{
+    match place_of(&tables.inits, name) {
+        Some(place) => Some(tables.vertex_count - tables.inits.len() + place),
+        None => None,
+    }
+}
+
 /// Puts the initial definition of the name behind the others, if the program takes it from before.
 fn push_initial(
     tables: &Tables,
@@ -54,12 +69,9 @@ fn push_initial(
     ensures once { OnOk result (IsOnce into.old.items → ((s : Source) → Contains into.old.items s → ¬ (s.point ≡ 0))
         → IsOnce into.new.items) }
 {
-    match place_of(&tables.inits, variable.name) {
-        Some(place) => {
-            into.push(Source {
-                number: tables.vertex_count - tables.inits.len() + place,
-                point: 0,
-            })?;
+    match initial_number(tables, variable.name) {
+        Some(number) => {
+            into.push(Source { number, point: 0 })?;
             Ok(())
         }
         None => Ok(()),
@@ -171,8 +183,61 @@ fn push_flows_from(
     push_links(tables, &links, graph)
 }
 
-/// Puts the flow edges for one name into the graph.
-fn push_flows_of(
+/// The flow edges for a name that no part defines as links, where the row marks what it reaches, and the number is
+/// that of its initial definition.
+fn free_links(
+    alloc: Global,
+    tables: &Tables,
+    variable: &Variable,
+    row: &BitRow,
+    number: usize,
+) -> Result<Vec<NewLink>, NoMemory>
+    requires tables { AreTables tables.now }
+    requires variable { IsVariable tables.now.program.now variable.now }
+    requires none { variable.now.definitions.now ≡ [] }
+    requires row { IsFreeRow (spots tables.now.program.now) row.now }
+    requires number { IsInitialAt tables.now.program.now tables.now.inits.items variable.now.name.now 0 number }
+    ensures exact { IfOk result (λ links. (n : NewLink) → Contains links.items n
+        ↔ FlowsOf tables.now.program.now tables.now.inits.items variable.now.name.now n.to n.link) }
+    ensures once { IfOk result (λ links. IsOnce links.items) }
+{
+    let flows = enter_flows(alloc, row, variable.users)?;
+    flow_links(alloc, tables.exit, variable.final_number, number, &flows)
+}
+
+/// Puts the flow edges for a name that no part defines into the graph, where the row marks what it reaches. Looks at
+/// its users alone.
+fn push_free_flows(
+    alloc: Global,
+    tables: &Tables,
+    variable: &Variable,
+    row: &BitRow,
+    graph: &mut Draft,
+) -> Result<(), BuildError>
+    requires tables { AreTables tables.now }
+    requires variable { IsVariable tables.now.program.now variable.now }
+    requires none { variable.now.definitions.now ≡ [] }
+    requires row { IsFreeRow (spots tables.now.program.now) row.now }
+    requires begun { IsBegun tables.now.program.now tables.now.inits.items tables.now.most graph.old }
+    requires fresh { (to : ℕ) (l : Link) → HasLink graph.old to l
+        → ¬ FlowsOf tables.now.program.now tables.now.inits.items variable.now.name.now to l }
+    ensures begun { OnOk result (IsBegun tables.now.program.now tables.now.inits.items tables.now.most graph.new) }
+    ensures added { OnOk result ((to : ℕ) (l : Link) → HasLink graph.new to l
+        ↔ (HasLink graph.old to l ⊎ FlowsOf tables.now.program.now tables.now.inits.items variable.now.name.now to l)) }
+    ensures too_many { IsErrOf result BuildError.TooManyEdges
+        → HasMoreLinks tables.now.program.now tables.now.inits.items tables.now.most }
+{
+    match initial_number(tables, variable.name) {
+        Some(number) => {
+            let links = free_links(alloc, tables, variable, row, number)?;
+            push_links(tables, &links, graph)
+        }
+        None => Ok(()),
+    }
+}
+
+/// Puts the flow edges for a name from each of its sources into the graph.
+fn push_flows_of_sources(
     alloc: Global,
     tables: &Tables,
     variable: &Variable,
@@ -195,6 +260,33 @@ fn push_flows_of(
         push_flows_from(alloc, tables, variable, &users, *source, graph)?;
     }
     Ok(())
+}
+
+/// Puts the flow edges for one name into the graph. A name that no part defines takes no search of its own, where
+/// there is a row for all of them.
+fn push_flows_of(
+    alloc: Global,
+    tables: &Tables,
+    variable: &Variable,
+    graph: &mut Draft,
+) -> Result<(), BuildError>
+    requires tables { AreTables tables.now }
+    requires variable { IsVariable tables.now.program.now variable.now }
+    requires begun { IsBegun tables.now.program.now tables.now.inits.items tables.now.most graph.old }
+    requires fresh { (to : ℕ) (l : Link) → HasLink graph.old to l
+        → ¬ FlowsOf tables.now.program.now tables.now.inits.items variable.now.name.now to l }
+    ensures begun { OnOk result (IsBegun tables.now.program.now tables.now.inits.items tables.now.most graph.new) }
+    ensures added { OnOk result ((to : ℕ) (l : Link) → HasLink graph.new to l
+        ↔ (HasLink graph.old to l ⊎ FlowsOf tables.now.program.now tables.now.inits.items variable.now.name.now to l)) }
+    ensures too_many { IsErrOf result BuildError.TooManyEdges
+        → HasMoreLinks tables.now.program.now tables.now.inits.items tables.now.most }
+{
+    if variable.definitions.is_empty() {
+        if let Some(row) = &tables.free {
+            return push_free_flows(alloc, tables, variable, row, graph);
+        }
+    }
+    push_flows_of_sources(alloc, tables, variable, graph)
 }
 
 /// Puts the flow edges into the graph.

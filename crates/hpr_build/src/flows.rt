@@ -344,6 +344,27 @@ fn plain_flows(alloc: Global, reached: &[usize]) -> Result<Vec<Flow>, NoMemory>
     Ok(flows)
 }
 
+/// The flow edges from Enter to those of the users that the row marks: none is carried, since no loop encloses Enter.
+pub(crate) fn enter_flows(
+    alloc: Global,
+    row: &BitRow,
+    users: &[usize],
+) -> Result<Vec<Flow>, NoMemory>
+    ensures once { IfOk result (λ flows. IsOnce users.now → IsOnce flows.items) }
+    ensures exact { IfOk result (λ flows. (f : Flow) → Contains flows.items f
+        ↔ ((f.kind ≡ FlowKind.Independent) × Contains users.now f.to × IsMarked row.now f.to)) }
+{
+    let mut flows = Vec::new(alloc);
+    for user in users {
+        let flow = Flow {
+            to: *user,
+            kind: FlowKind::Independent,
+        };
+        push_if(row.has(*user), flow, &mut flows)?;
+    }
+    Ok(flows)
+}
+
 /// The flow edges for the name from the point to those of the marked points that it flows to, as if it
 /// defined the name (Horwitz, Prins and Reps 1989).
 ///

@@ -29,7 +29,11 @@ fn is_any_marked(row: &BitRow, points: &[usize]) -> bool
 
 /// What a used name that no point defines reaches from Enter, the same for each; none where there is no such
 /// name.
-fn free_row(alloc: Global, succ: &Succ, variables: &Variables) -> Result<Option<BitRow>, NoMemory>
+pub(crate) fn free_row(
+    alloc: Global,
+    succ: &Succ,
+    variables: &Variables,
+) -> Result<Option<BitRow>, NoMemory>
     requires entered { 0 < length succ.now }
     requires rows { vec_len variables.now.definitions ≡ vec_len variables.now.names }
     requires definitions { AreDefinitions succ.now variables.now.names.items variables.now.definitions.items }
@@ -117,23 +121,25 @@ fn push_live(
 /// The used names that are live at Enter, ascending: those that the program uses with the value from before it
 /// (the initial definitions of Horwitz, Prins and Reps 1989).
 ///
-/// Takes one search for all names that no part defines, and one for each that some part defines.
+/// Takes one search for each name that some part defines, and none for the others, where there is a row for all of
+/// them.
 pub(crate) fn live_names(
     alloc: Global,
     succ: &Succ,
     variables: &Variables,
+    free: &Option<BitRow>,
 ) -> Result<Vec<Name>, NoMemory>
     requires entered { 0 < length succ.now }
     requires definition_rows { vec_len variables.now.definitions ≡ vec_len variables.now.names }
     requires definitions { AreDefinitions succ.now variables.now.names.items variables.now.definitions.items }
     requires user_rows { vec_len variables.now.users ≡ vec_len variables.now.names }
     requires users { AreUsers succ.now variables.now.names.items variables.now.users.items }
+    requires free { IfSome free.now (IsFreeRow succ.now) }
     ensures ascending { IfOk result (λ v. IsStrictlySortedBy (slice_cmp nat_cmp) v.items) }
     ensures exact { IfOk result (λ v. (x : List ℕ) → Contains v.items x
         ↔ (Contains variables.now.names.items x × IsLive succ.now x)) }
 {
-    let free = free_row(alloc, succ, variables)?;
     let mut live = Vec::new(alloc);
-    push_live(alloc, succ, variables, &free, &mut live)?;
+    push_live(alloc, succ, variables, free, &mut live)?;
     in_order(live)
 }

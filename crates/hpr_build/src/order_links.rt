@@ -91,7 +91,7 @@ fn push_orders_at(
     push_links(tables, &links, graph)
 }
 
-/// Puts the order edges for the uses of one name into the graph.
+/// Puts the order edges for the uses of one name into the graph: none, where it has fewer than two definitions.
 fn push_orders_of(
     alloc: Global,
     tables: &Tables,
@@ -110,6 +110,9 @@ fn push_orders_of(
     ensures too_many { IsErrOf result BuildError.TooManyEdges
         → HasMoreLinks tables.now.program.now tables.now.inits.items tables.now.most }
 {
+    if variable.definitions.len() < 2 {
+        return Ok(());
+    }
     let rows = reaching_rows(alloc, tables, variable, graph)?;
     for (at, user) in variable.users.iter().enumerate() {
         push_orders_at(alloc, tables, variable, row_at(&rows, at), *user, graph)?;

@@ -10,19 +10,20 @@ ghost use Rattle.hpr_build.specs.Links.{part_vertex, name_vertex, vertices_of, e
 ghost use Rattle.hpr_build.specs.Stages.{AreTables, IsVariable};
 ghost use Rattle.hpr_build.specs.Variables.{points_at, AreFinalNumbers};
 
-use crate::initial::live_names;
+use crate::initial::{free_row, live_names};
 use crate::places::{Place, places};
 use crate::variables::{Variables, variables_of};
 use hpr_graph::Vertex;
 use hpr_paths::{Name, NoMemory, Succ, successors};
+use hpr_reach::BitRow;
 use hpr_syntax::Program;
 use hpr_terms::names::place_of;
 use std::alloc::Global;
 
 /// What is known of a program: its points, its parts, the names that it takes from before it, the
 /// names that it uses, how many vertices its graph has, and the number of Exit's point, which is that
-/// of the vertex of the first name of `end`; for each used name the number of its vertex of `end`; and how
-/// many edges its graph may have.
+/// of the vertex of the first name of `end`; for each used name the number of its vertex of `end`; what each
+/// name that no part defines reaches, if there is one; and how many edges its graph may have.
 pub(crate) struct Tables<'a> {
     pub(crate) program: &'a Program,
     pub(crate) succ: Succ,
@@ -32,6 +33,7 @@ pub(crate) struct Tables<'a> {
     pub(crate) vertex_count: usize,
     pub(crate) exit: usize,
     pub(crate) final_numbers: Vec<usize>,
+    pub(crate) free: Option<BitRow>,
     pub(crate) most: usize,
 }
 
@@ -47,6 +49,7 @@ impl Drop for Tables<'_> {
             vertex_count: _,
             exit: _,
             final_numbers: _,
+            free: _,
             most: _,
         } = self;
     }
@@ -166,7 +169,8 @@ pub(crate) fn tables_of<'a>(
     let succ = successors(alloc, program)?;
     let places = places(alloc, program)?;
     let variables = variables_of(alloc, &succ)?;
-    let inits = live_names(alloc, &succ, &variables)?;
+    let free = free_row(alloc, &succ, &variables)?;
+    let inits = live_names(alloc, &succ, &variables, &free)?;
     push_vertices(alloc, &places, program.finals(), &inits, vertices)?;
     let vertex_count = vertices.len();
     let exit = program.part_count() + 1;
@@ -180,6 +184,7 @@ pub(crate) fn tables_of<'a>(
         vertex_count,
         exit,
         final_numbers,
+        free,
         most,
     })
 }

@@ -1,4 +1,4 @@
-use Rattle.std.proofs.Common.{◌≡◌, ℕ, Some, slice_get, get_or, sym, arith}
+use Rattle.std.proofs.Common.{◌≡◌, ℕ, Some, slice_get, get_or, inl, inr, sym, arith}
 use Rattle.std.proofs.lemmas.List.{get_or_default}
 use Rattle.std.proofs.lemmas.Option.{slice_get-get_or}
 use Rattle.hpr_build.proofs.ReachingRows.{row_reaching}
@@ -6,7 +6,7 @@ use Rattle.hpr_paths.specs.Successors.{spots}
 use Rattle.hpr_graph.specs.Numbered.{HasLink}
 use Rattle.hpr_build.specs.NewLinks.{OrdersAt, OrdersOf}
 use Rattle.hpr_build.proofs.Families.{SomeOf, begun_family, turn_family, fresh_family, whole_family, other_family}
-use Rattle.hpr_build.proofs.OrderFamily.{one_use, some_use, use_of_some}
+use Rattle.hpr_build.proofs.OrderFamily.{one_use, some_use, use_of_some, no_orders}
 use Rattle.hpr_build.proofs.order_links.push_orders_of.Goals as goal
 
 pub push_orders_at-requires-clause-user : goal.push_orders_at-requires-clause-user
@@ -79,3 +79,9 @@ loop-at-init c = record {
   begun = c.requires.begun;
   added = λ to l. begun_family (λ (u : ℕ). OrdersAt c.args.tables.now.program.now c.args.variable.now.name.now u to l) (HasLink c.args.graph.now to l);
 }
+
+pub returns-then-variable-lt2-clause-added : goal.returns-then-variable-lt2-clause-added
+returns-then-variable-lt2-clause-added c = λ to l. (
+  (λ h. inl h),
+  (λ h. elim h [ inl was ↦ was | inr o ↦ absurd (no_orders c.args.tables.now.program.now c.args.variable.now c.requires.variable c.if-variable-lt2.true to l o) ]),
+)

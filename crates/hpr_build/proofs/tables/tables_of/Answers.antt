@@ -1,8 +1,8 @@
-use Rattle.std.proofs.Common.{◌≡◌, length, ◌↔◌, ◌+◌, ◌∙◌, ℕ, List, Contains, sym, ap, subst, arith}
+use Rattle.std.proofs.Common.{◌≡◌, length, ◌↔◌, ◌+◌, ◌∙◌, ℕ, List, Contains, IfSome, sym, ap, subst, arith}
 use Rattle.hpr_paths.specs.Spots.{Spot, UsesAt}
 use Rattle.hpr_reach.specs.Live.{IsLive}
 use Rattle.hpr_reach.proofs.ByTags.{live_tags}
-use Rattle.hpr_build.specs.Variables.{AreUsers, AreDefinitions}
+use Rattle.hpr_build.specs.Variables.{AreUsers, AreDefinitions, IsFreeRow}
 use Rattle.hpr_graph.specs.declared.vertex.Vertex.{Vertex}
 use Rattle.hpr_build.specs.Links.{vertices_of}
 use Rattle.hpr_graph.specs.Graphs.{IsOnce}
@@ -40,6 +40,7 @@ returns-clause-tables c =
       users = subst (λ (s : List Spot). AreUsers s names c.in_ok-variables.variables.users.items) succ c.in_ok-variables.ensures.users;
       final_rows = omega (arith, c.in_ok-final_numbers.ensures.len, c.deref-3.ensures.len);
       finals = same_final_numbers _ _ c.finals-2.result.now c.args.program.now.finals c.deref-3.result.now names c.in_ok-final_numbers.final_numbers.items (ap (λ (n : ℕ). n + 1) c.part_count-exit.ensures.count) c.finals-2.ensures.finals c.deref-3.ensures.value c.in_ok-final_numbers.ensures.exact;
+      free = subst (λ (s : List Spot). IfSome c.in_ok-free.free (IsFreeRow s)) succ c.in_ok-free.ensures;
     }
 
 pub returns-clause-vertices : goal.returns-clause-vertices

@@ -4,7 +4,7 @@ use Rattle.hpr_graph.specs.Numbered.{HasLink}
 use Rattle.hpr_build.specs.NewLinks.{FlowsFrom}
 use Rattle.hpr_build.specs.Stages.{IsBegun}
 use Rattle.hpr_build.proofs.Families.{SomeOf}
-use Rattle.hpr_build.proofs.flow_links.push_flows_of.Given as goal
+use Rattle.hpr_build.proofs.flow_links.push_flows_of_sources.Given as goal
 
 abbrev pub invariant-loop-source : goal.invariant-loop-source
 invariant-loop-source l = record {
