@@ -30,3 +30,4 @@ mod Sources
 mod InitialNames
 mod FinalNumbers
 mod FreeFlows
+mod Rising

@@ -1,18 +1,18 @@
 -- The rows of the definitions that reach each use.
 use Rattle.std.proofs.Common.{◌≡◌, ℕ, zero, suc, ◌+◌, ◌<◌, Some, List, [], ◌∷◌, ◌++◌, Vec, Global, length, take, get_or, Contains, slice_get, ◌↔◌, inl, inr, refl, sym, ap, ◌∙◌, subst, arith}
+use Rattle.std.specs.List.Sorted.{IsStrictlyIncreasing}
 use Rattle.std.proofs.lemmas.List.{take_more, length-take-le}
 use Rattle.std.proofs.lemmas.Option.{slice_get_within}
 use Rattle.hpr_terms.proofs.Facts.{at_push, at_end}
 use Rattle.hpr_paths.specs.Spots.{Spot}
 use Rattle.hpr_reach.specs.Reaches.{Reaches}
-use Rattle.hpr_graph.specs.Graphs.{IsOnce}
 use Rattle.hpr_build.specs.Reaching.{AreReaching}
 use Rattle.hpr_build.specs.Variables.{points_of, points_at}
 
 module _ (spots : List Spot) (x : List ℕ) (definitions users : List ℕ) where
   -- the row of one use
   abbrev pub IsReaching : ℕ → List ℕ → Type 0
-  IsReaching u row = IsOnce row × ((p : ℕ) → Contains row p ↔ (Contains definitions p × Reaches spots x [] p u))
+  IsReaching u row = IsStrictlyIncreasing row × ((p : ℕ) → Contains row p ↔ (Contains definitions p × Reaches spots x [] p u))
 
   -- one use more
   pub one_use_more : (i u : ℕ) (rows rows' : List (Vec ℕ Global)) (row : Vec ℕ Global) → i < length users → u ≡ get_or users i u → length rows ≡ i → rows' ≡ rows ++ row ∷ []
@@ -39,6 +39,6 @@ module _ (spots : List Spot) (x : List ℕ) (definitions users : List ℕ) where
 
 -- the row of a use as the code reads it
 pub row_reaching : (spots : List Spot) (x : List ℕ) (definitions users : List ℕ) (rows read : List (Vec ℕ Global)) (k u : ℕ) (row : List ℕ) → AreReaching spots x definitions users rows → read ≡ rows → slice_get users k ≡ Some u → row ≡ points_at read k
-    → IsOnce row × ((p : ℕ) → Contains row p ↔ (Contains definitions p × Reaches spots x [] p u))
+    → IsStrictlyIncreasing row × ((p : ℕ) → Contains row p ↔ (Contains definitions p × Reaches spots x [] p u))
 row_reaching spots x definitions users rows read k u row are same at is =
-    subst (λ (ps : List ℕ). IsOnce ps × ((p : ℕ) → Contains ps p ↔ (Contains definitions p × Reaches spots x [] p u))) (sym (is ∙ ap (λ (rs : List (Vec ℕ Global)). points_at rs k) same)) (are k u at)
+    subst (λ (ps : List ℕ). IsStrictlyIncreasing ps × ((p : ℕ) → Contains ps p ↔ (Contains definitions p × Reaches spots x [] p u))) (sym (is ∙ ap (λ (rs : List (Vec ℕ Global)). points_at rs k) same)) (are k u at)

@@ -1,49 +1,36 @@
--- The sources of the flow edges into a use, each once, and that they are the definitions that reach it.
---
--- IsTaken definers links sources == of the marked definitions those from which one of the links is a flow edge are the sources
-use Rattle.std.proofs.Common.{◌≡◌, ℕ, ◌+◌, ◌<◌, Bool, List, [], ◌∷◌, ◌++◌, Some, length, take, get_or, Contains, ◌⊎◌, ◌↔◌, inl, inr, sym, ap, ◌∙◌, subst, arith}
-use Rattle.std.proofs.lemmas.Bool.{cases_eq}
+-- The sources of the flow edges into a use, and that they are the definitions that reach it.
+use Rattle.std.proofs.Common.{◌≡◌, ℕ, ◌+◌, ◌<◌, Bool, List, [], Some, length, take, get_or, Contains, IsTrue, ◌⊎◌, ◌↔◌, inl, inr, sym, ap, ◌∙◌, subst, arith}
 use Rattle.std.proofs.lemmas.Option.{slice_get_within}
-use Rattle.std.proofs.lemmas.List.{get_or_default}
 use Rattle.hpr_terms.proofs.Facts.{taken_item, in_none}
 use Rattle.hpr_syntax.specs.Tree.{Tree}
 use Rattle.hpr_search.specs.Marks.{IsMarked}
 use Rattle.hpr_paths.specs.Spots.{UsesAt, defined_at}
 use Rattle.hpr_paths.specs.Successors.{spots}
 use Rattle.hpr_reach.specs.Reaches.{Reaches}
-use Rattle.hpr_reach.proofs.Grown.{pushed}
 use Rattle.hpr_graph.specs.declared.link.LinkKind.{LinkKind}
 use Rattle.hpr_graph.specs.declared.link.Link.{Link}
-use Rattle.hpr_graph.specs.Graphs.{IsOnce}
 use Rattle.hpr_graph.specs.Numbered.{Numbered, HasLink}
-use Rattle.hpr_graph.proofs.Lists.{once_none, once_push}
 use Rattle.hpr_build.specs.declared.flows.FlowKind.{FlowKind}
 use Rattle.hpr_build.specs.declared.flows.FlowKind.TheVariants as flow
 use Rattle.hpr_build.specs.declared.tables.Variable.{Variable}
 use Rattle.hpr_build.specs.Flows.{IsFlowAt}
 use Rattle.hpr_build.specs.Links.{vertices_of, exit_of, IsTargetAt, IsControlLink, IsFlowLink}
 use Rattle.hpr_build.specs.NewLinks.{link_kind, target_of, OrdersOf}
-use Rattle.hpr_build.specs.Reaching.{IsFlowKind, HasFlowFrom, HasFlows, IsLeft, Takes}
+use Rattle.hpr_build.specs.Reaching.{IsFlowKind, HasFlowFrom, HasFlows}
 use Rattle.hpr_build.specs.Stages.{IsVariable}
-use Rattle.hpr_build.proofs.BridgeFlow.{some_kind, in_or_not}
+use Rattle.hpr_build.proofs.BridgeFlow.{some_kind}
 use Rattle.hpr_build.proofs.BridgeNumbers.{source_once, target_once}
 use Rattle.hpr_build.proofs.ControlFamily.{control_kind, count_vertices}
 use Rattle.hpr_build.proofs.FlowFamily.{flow_of_kind, kind_of_flow}
 use Rattle.hpr_build.proofs.Families.{SomeOf}
 use Rattle.hpr_build.proofs.TargetNumbers.{target_of_number}
 
-pub record IsTaken (definers : List Bool) (links : List Link) (sources : List ℕ) : Type 0 where
-  pub taken : (p : ℕ) → Contains sources p ↔ (IsMarked definers p × HasFlowFrom links p)
-  pub once : IsOnce sources
-
-pub taken_none : (definers : List Bool) (sources : List ℕ) → sources ≡ [] → IsTaken definers [] sources
-taken_none definers sources none = record {
-  taken = λ p. (
-    (λ h. absurd (in_none p (subst (λ (xs : List ℕ). Contains xs p) none h))),
-    (λ (h, (l, has, is, from)). absurd (in_none l has)),
-  );
-  once = subst (λ (xs : List ℕ). IsOnce xs) (sym none) once_none;
-}
+-- no definition is the source of one of no links
+pub from_none : (definers : List Bool) (sources : List ℕ) → sources ≡ [] → (p : ℕ) → Contains sources p ↔ (IsMarked definers p × HasFlowFrom [] p)
+from_none definers sources none p = (
+  (λ h. absurd (in_none p (subst (λ (xs : List ℕ). Contains xs p) none h))),
+  (λ (h, (l, has, is, from)). absurd (in_none l has)),
+)
 
 module _ (definers : List Bool) (links : List Link) (i : ℕ) (l : Link) (here : i < length links) (is : l ≡ get_or links i l) where
   -- a flow edge among one link more
@@ -59,58 +46,19 @@ module _ (definers : List Bool) (links : List Link) (i : ℕ) (l : Link) (here :
     ]),
   )
 
-  module _ (sources sources' : List ℕ) (before : IsTaken definers (take i links) sources) where
-    abbrev q : ℕ
-    q = l.from
-
-    module _ (left : IsLeft definers sources l) (more : sources' ≡ sources ++ q ∷ []) where
-      in_more : (p : ℕ) → Contains sources' p ↔ (Contains sources p ⊎ (q ≡ p))
-      in_more p = subst (λ (xs : List ℕ). Contains xs p ↔ (Contains sources p ⊎ (q ≡ p))) (sym more) (pushed sources q p)
-
-      took : IsTaken definers (take (i + 1) links) sources'
-      took = record {
-        taken = λ p. (
-          (λ h. elim ((in_more p).0 h) [
-            | inl was ↦ (let (m, f) = (before.taken p).0 was in (m, (flow_more p).1 (inl f)))
-            | inr e ↦ (subst (λ (n : ℕ). IsMarked definers n) e left.1, (flow_more p).1 (inr (left.0, e)))
-          ]),
-          (λ (m, f). elim ((flow_more p).0 f) [
-            | inl was ↦ (in_more p).1 (inl ((before.taken p).1 (m, was)))
-            | inr (k, e) ↦ (in_more p).1 (inr e)
-          ]),
-        );
-        once = subst (λ (xs : List ℕ). IsOnce xs) (sym more) (once_push sources q before.once left.2);
-      }
-
-    module _ (not : ¬ IsLeft definers sources l) (old : sources' ≡ sources) where
-      -- a marked source of a flow edge is taken already
-      there : (p : ℕ) → IsMarked definers p → IsFlowKind l.kind → q ≡ p → Contains sources p
-      there p m kind e = elim (in_or_not cases_eq sources p) [
-        | inl has ↦ has
-        | inr out ↦ absurd (not (kind, subst (λ (n : ℕ). IsMarked definers n) (sym e) m, subst (λ (n : ℕ). ¬ Contains sources n) (sym e) out))
-      ]
-
-      passed : IsTaken definers (take (i + 1) links) sources
-      passed = record {
-        taken = λ p. (
-          (λ h. (let (m, f) = (before.taken p).0 h in (m, (flow_more p).1 (inl f)))),
-          (λ (m, f). elim ((flow_more p).0 f) [ inl was ↦ (before.taken p).1 (m, was) | inr (kind, e) ↦ there p m kind e ]),
-        );
-        once = before.once;
-      }
-
-      kept : IsTaken definers (take (i + 1) links) sources'
-      kept = subst (λ (xs : List ℕ). IsTaken definers (take (i + 1) links) xs) (sym old) passed
-
-    pub taken_more : Takes definers sources l sources' → IsTaken definers (take (i + 1) links) sources'
-    taken_more (inl (left, more)) = took left more
-    taken_more (inr (not, old)) = kept not old
-
-pub taken_at : (definers : List Bool) (links : List Link) (i : ℕ) (d : Link) (sources sources' : List ℕ) → i < length links
-    → IsTaken definers (take i links) sources → Takes definers sources (get_or links i d) sources' → IsTaken definers (take (i + 1) links) sources'
-taken_at definers links i d sources sources' here before takes =
-    let l : Link = get_or links i d in
-    taken_more definers links i l here (get_or_default links i d l here) sources sources' before takes
+  -- the sources among one link more
+  pub from_more : (sources sources' : List ℕ) (test : Bool) → IsTrue test ↔ (IsFlowKind l.kind × IsMarked definers l.from) → ((p : ℕ) → Contains sources p ↔ (IsMarked definers p × HasFlowFrom (take i links) p))
+      → ((p : ℕ) → Contains sources' p ↔ (Contains sources p ⊎ (IsTrue test × (l.from ≡ p)))) → (p : ℕ) → Contains sources' p ↔ (IsMarked definers p × HasFlowFrom (take (i + 1) links) p)
+  from_more sources sources' test tests before new p = (
+    (λ h. elim ((new p).0 h) [
+      | inl was ↦ (let (m, f) = (before p).0 was in (m, (flow_more p).1 (inl f)))
+      | inr (t, e) ↦ (let (kind, m) = tests.0 t in (subst (λ (n : ℕ). IsMarked definers n) e m, (flow_more p).1 (inr (kind, e))))
+    ]),
+    (λ (m, f). elim ((flow_more p).0 f) [
+      | inl was ↦ (new p).1 (inl ((before p).1 (m, was)))
+      | inr (kind, e) ↦ (new p).1 (inr (tests.1 (kind, subst (λ (n : ℕ). IsMarked definers n) (sym e) m), e))
+    ]),
+  )
 
 kind_flows : (k : FlowKind) → IsFlowKind (link_kind k)
 kind_flows flow.Independent = tt

@@ -1,5 +1,6 @@
-//! An item put at the end of a list where a test holds.
-ghost use Rattle.std.specs.Prelude.{◌≡◌, ◌↔◌, ◌⊎◌, Contains, OnOk, IsTrue};
+//! An item put at the end of a list where a test holds, and numbers in order.
+ghost use Rattle.std.specs.Prelude.{◌≡◌, ◌↔◌, ◌⊎◌, ℕ, Contains, OnOk, IsTrue};
+ghost use Rattle.std.specs.List.Sorted.{IsStrictlyIncreasing};
 ghost use Rattle.hpr_graph.specs.Graphs.{IsOnce};
 
 use hpr_terms::NoMemory;
@@ -14,4 +15,15 @@ pub(crate) fn push_if<T: Drop>(test: bool, item: T, into: &mut Vec<T>) -> Result
         into.push(item)?;
     }
     Ok(())
+}
+
+/// The numbers in ascending order, each once.
+pub(crate) fn ascending(numbers: Vec<usize>) -> Vec<usize>
+    ensures ascending { IsStrictlyIncreasing result.items }
+    ensures same { (n : ℕ) → Contains result.items n ↔ Contains numbers.items n }
+{
+    let mut numbers = numbers;
+    numbers.sort_unstable();
+    numbers.dedup();
+    numbers
 }

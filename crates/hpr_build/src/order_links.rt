@@ -1,5 +1,6 @@
 //! The order edges of a graph.
 ghost use Rattle.std.specs.Prelude.{◌≡◌, ◌↔◌, ◌⊎◌, ℕ, [], Contains, IfOk, OnOk, IsErrOf, length, map, vec_len};
+ghost use Rattle.std.specs.List.Sorted.{IsStrictlyIncreasing};
 ghost use Rattle.hpr_paths.specs.Spots.{UsesAt};
 ghost use Rattle.hpr_paths.specs.Successors.{spots};
 ghost use Rattle.hpr_reach.specs.Reaches.{Reaches};
@@ -49,7 +50,7 @@ fn links_at(
 ) -> Result<Vec<NewLink>, NoMemory>
     requires tables { AreTables tables.now }
     requires variable { IsVariable tables.now.program.now variable.now }
-    requires once { IsOnce reaching.now }
+    requires ascending { IsStrictlyIncreasing reaching.now }
     requires reaching { (p : ℕ) → Contains reaching.now p ↔ (Contains variable.now.definitions.now p
         × Reaches (spots tables.now.program.now) variable.now.name.now [] p user) }
     requires user { UsesAt (spots tables.now.program.now) user variable.now.name.now }
@@ -74,7 +75,7 @@ fn push_orders_at(
 ) -> Result<(), BuildError>
     requires tables { AreTables tables.now }
     requires variable { IsVariable tables.now.program.now variable.now }
-    requires once { IsOnce reaching.now }
+    requires ascending { IsStrictlyIncreasing reaching.now }
     requires reaching { (p : ℕ) → Contains reaching.now p ↔ (Contains variable.now.definitions.now p
         × Reaches (spots tables.now.program.now) variable.now.name.now [] p user) }
     requires user { UsesAt (spots tables.now.program.now) user variable.now.name.now }

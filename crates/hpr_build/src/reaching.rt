@@ -1,16 +1,17 @@
 //! For each use of a name the definitions that reach it.
-ghost use Rattle.std.specs.Prelude.{◌≡◌, ◌↔◌, ℕ, [], Contains, IfOk, IsTrue, OnOk, length, vec_len};
+ghost use Rattle.std.specs.Prelude.{◌≡◌, ◌↔◌, ℕ, [], Contains, IfOk, IsTrue, length, vec_len};
+ghost use Rattle.std.specs.List.Sorted.{IsStrictlyIncreasing};
 ghost use Rattle.hpr_search.specs.Marks.{IsMarked};
 ghost use Rattle.hpr_paths.specs.Spots.{UsesAt};
 ghost use Rattle.hpr_paths.specs.Successors.{spots};
 ghost use Rattle.hpr_reach.specs.Reaches.{Reaches};
-ghost use Rattle.hpr_graph.specs.Graphs.{IsOnce};
 ghost use Rattle.hpr_build.specs.Links.{vertices_of};
-ghost use Rattle.hpr_build.specs.Reaching.{AreReaching, HasFlowFrom, HasFlows, IsFlowKind, IsLeft, Takes};
+ghost use Rattle.hpr_build.specs.Reaching.{AreReaching, HasFlowFrom, HasFlows, IsFlowKind};
 ghost use Rattle.hpr_build.specs.Stages.{AreTables, IsVariable};
 
 use crate::flow_links::target_of;
 use crate::flows::marked;
+use crate::lists::{ascending, push_if};
 use crate::tables::{Tables, Variable};
 use hpr_graph::{Draft, Link, LinkKind};
 use hpr_paths::NoMemory;
@@ -32,35 +33,24 @@ fn is_flow(kind: LinkKind) -> bool
     }
 }
 
-/// Whether the link is a flow edge from one of the marked definitions, which isn't among the sources.
-fn is_left(definers: &[bool], sources: &[usize], link: Link) -> bool
-    ensures { IsTrue result ↔ IsLeft definers.now sources.now link }
+/// Whether the link is a flow edge from one of the marked definitions.
+fn is_from(definers: &[bool], link: Link) -> bool
+    ensures { IsTrue result ↔ (IsFlowKind link.kind × IsMarked definers.now link.from) }
 {
-    is_flow(link.kind) && is_marked(definers, link.from) && !sources.contains(&link.from)
+    is_flow(link.kind) && is_marked(definers, link.from)
 }
 
-/// Puts the source of the link behind the others, if it is a flow edge from one of the marked definitions
-/// that isn't among them.
-fn take_source(definers: &[bool], link: Link, sources: &mut Vec<usize>) -> Result<(), NoMemory>
-    ensures { OnOk result (Takes definers.now sources.old.items link sources.new.items) }
-{
-    if is_left(definers, sources, link) {
-        sources.push(link.from)?;
-    }
-    Ok(())
-}
-
-/// Those of the marked definitions from which one of the links is a flow edge, each once.
+/// Those of the marked definitions from which one of the links is a flow edge, ascending.
 fn sources_among(alloc: Global, definers: &[bool], links: &[Link]) -> Result<Vec<usize>, NoMemory>
-    ensures once { IfOk result (λ sources. IsOnce sources.items) }
+    ensures ascending { IfOk result (λ sources. IsStrictlyIncreasing sources.items) }
     ensures exact { IfOk result (λ sources. (p : ℕ) → Contains sources.items p
         ↔ (IsMarked definers.now p × HasFlowFrom links.now p)) }
 {
     let mut sources = Vec::with_capacity(alloc, FEW_SOURCES)?;
     for link in links {
-        take_source(definers, *link, &mut sources)?;
+        push_if(is_from(definers, *link), link.from, &mut sources)?;
     }
-    Ok(sources)
+    Ok(ascending(sources))
 }
 
 /// The definitions of the name, which are marked, that reach one use of it: by the flow edges in the graph.
@@ -78,7 +68,7 @@ fn row_for(
     requires user { UsesAt (spots tables.now.program.now) user variable.now.name.now }
     requires vertices { graph.now.vertices ≡ vertices_of tables.now.program.now tables.now.inits.items }
     requires flows { HasFlows tables.now.program.now tables.now.inits.items graph.now }
-    ensures once { IfOk result (λ row. IsOnce row.items) }
+    ensures ascending { IfOk result (λ row. IsStrictlyIncreasing row.items) }
     ensures exact { IfOk result (λ row. (p : ℕ) → Contains row.items p ↔ (Contains variable.now.definitions.now p
         × Reaches (spots tables.now.program.now) variable.now.name.now [] p user)) }
 {

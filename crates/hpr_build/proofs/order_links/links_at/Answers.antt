@@ -6,8 +6,8 @@ use Rattle.hpr_graph.specs.Graphs.{IsOnce}
 use Rattle.hpr_build.proofs.OrderFamily.{parts_within, orders_of_links, links_of_orders, order_links_once, made_orders}
 use Rattle.hpr_build.proofs.order_links.links_at.Goals as goal
 
-pub order_of-requires : goal.order_of-requires
-order_of-requires c =
+pub order_of-requires-clause-parts : goal.order_of-requires-clause-parts
+order_of-requires-clause-parts c =
     parts_within c.args.tables.now.program.now c.args.variable.now c.requires.variable c.deref.result.now (c.deref.ensures.value ∙ c.requires.tables.parts) c.args.reaching.now
     (λ p h. ((c.requires.reaching p).0 h).0)
 
@@ -31,4 +31,4 @@ returns-clause-once c =
     let number = c.target_of-number.result in
     let pairs = c.in_ok-pairs.pairs.items in
     let made : c.in_ok-links.links.items ≡ map (order_link number) pairs = made_orders number pairs c.deref-2.result.now c.in_ok-links.links.items c.in_ok-links.ensures c.deref-2.ensures.value in
-    subst (λ (ns : List NewLink). IsOnce ns) (sym made) (order_links_once c.args.tables.now.program.now c.args.variable.now c.requires.variable number pairs (c.in_ok-pairs.ensures.once c.requires.once))
+    subst (λ (ns : List NewLink). IsOnce ns) (sym made) (order_links_once c.args.tables.now.program.now c.args.variable.now c.requires.variable number pairs c.in_ok-pairs.ensures.once)

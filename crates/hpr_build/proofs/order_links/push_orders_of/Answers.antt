@@ -20,8 +20,8 @@ push_orders_at-requires-clause-user c =
 pub row_at-requires : goal.row_at-requires
 row_at-requires c = omega (arith, c.loop-at-test.true, c.deref.ensures.len, c.in_ok-rows.ensures.len)
 
-pub push_orders_at-requires-clause-once : goal.push_orders_at-requires-clause-once
-push_orders_at-requires-clause-once c =
+pub push_orders_at-requires-clause-ascending : goal.push_orders_at-requires-clause-ascending
+push_orders_at-requires-clause-ascending c =
     let t = c.args.tables.now.program.now in
     let v = c.args.variable.now in
     let xs = v.users.now in

@@ -4,8 +4,8 @@ use Rattle.hpr_graph.specs.Graphs.{IsOnce}
 use Rattle.hpr_build.specs.Orders.{IsBefore}
 use Rattle.hpr_build.proofs.orders.order_of.Given as goal
 
-abbrev pub invariant-loop-left : goal.invariant-loop-left
-invariant-loop-left l = record {
-  exact : (o : Ordered) → Contains l.pairs.items o ↔ (Contains (take l.left-index l.definitions) o.left × Contains l.definitions o.right × IsBefore l.places o.left o.right);
-  once : IsOnce l.definitions → IsOnce l.pairs.items;
+abbrev pub invariant-loop-at : goal.invariant-loop-at
+invariant-loop-at l = record {
+  exact : (o : Ordered) → Contains l.pairs.items o ↔ (Contains (take l.at l.definitions) o.left × Contains l.definitions o.right × IsBefore l.places o.left o.right);
+  once : IsOnce l.pairs.items;
 }

@@ -3,8 +3,8 @@ use Rattle.std.proofs.lemmas.List.{take_all, get_or_default}
 use Rattle.hpr_terms.proofs.Facts.{taken_item}
 use Rattle.hpr_build.specs.declared.places.Span.{Span}
 use Rattle.hpr_build.specs.Places.{IsAmong}
-use Rattle.hpr_build.proofs.orders.is_among.Goals.{else-span-point-via-then-span-point+else-point-span, else-span-point-via-else-span-point}
-use Rattle.hpr_build.proofs.orders.is_among.Goals as goal
+use Rattle.hpr_build.proofs.orders.end_around.Goals.{else-span-point-via-then-span-point+else-point-span, else-span-point-via-else-span-point}
+use Rattle.hpr_build.proofs.orders.end_around.Goals as goal
 
 not_here : (spans : List Span) (i q : ℕ) (s : Span) → i < length spans → s ≡ get_or spans i s → ¬ IsAmong (take i spans) q → (s.from ≤ q → q < s.to → ⊥) → ¬ IsAmong (take (i + 1) spans) q
 not_here spans i q s l is before here (r, there, low, high) =
@@ -13,9 +13,9 @@ not_here spans i q s l is before here (r, there, low, high) =
       | inr e ↦ here (subst (λ (t : Span). t.from ≤ q) (sym e) low) (subst (λ (t : Span). q < t.to) (sym e) high)
     ]
 
-pub returns-then-point-span : goal.returns-then-point-span
-returns-then-point-span c =
-    (λ t. (_, (c.loop-span.span-index, c.loop-span-test.true, get_or_default c.args.spans.now c.loop-span.span-index _ _ c.loop-span-test.true), c.if-span-point.true, c.if-point-span.true), λ h. refl)
+pub returns-then-point-span-clause-some : goal.returns-then-point-span-clause-some
+returns-then-point-span-clause-some c =
+    (_, (c.loop-span.span-index, c.loop-span-test.true, get_or_default c.args.spans.now c.loop-span.span-index _ _ c.loop-span-test.true), c.if-span-point.true, c.if-point-span.true, refl)
 
 pub loop-span-preserved : goal.loop-span-preserved
 loop-span-preserved c =
@@ -27,6 +27,5 @@ loop-span-preserved c =
       | else-span-point-via-else-span-point w ↦ omega (arith, low, w.if-span-point.false)
     ])
 
-pub returns : goal.returns
-returns c =
-    (λ t. absurd cc, λ among. absurd (c.loop-span.invariant (subst (λ (xs : List Span). IsAmong xs c.args.point) (sym (take_all c.loop-span.span-index c.args.spans.now c.loop-span-test.false)) among)))
+pub returns-clause-none : goal.returns-clause-none
+returns-clause-none c = λ among. c.loop-span.invariant (subst (λ (xs : List Span). IsAmong xs c.args.point) (sym (take_all c.loop-span.span-index c.args.spans.now c.loop-span-test.false)) among)
