@@ -1,8 +1,8 @@
 -- Rows of points, one for each name.
-use Rattle.std.proofs.Common.{◌≡◌, ℕ, zero, suc, ◌+◌, ◌<◌, ◌≤◌, Some, List, [], ◌∷◌, ◌++◌, Vec, Global, length, take, get_or, Contains, slice_get, ◌⊎◌, ◌↔◌, inl, inr, refl, sym, ap, ◌∙◌, subst, arith}
+use Rattle.std.proofs.Common.{◌≡◌, ℕ, zero, suc, ◌<◌, ◌≤◌, Some, List, [], ◌∷◌, ◌++◌, Vec, Global, Contains, slice_get, ◌⊎◌, ◌↔◌, inl, inr, refl, sym, ap, ◌∙◌, subst, arith}
 use Rattle.std.proofs.lemmas.Bool.{cases_eq}
 use Rattle.std.proofs.lemmas.Option.{same_Some}
-use Rattle.hpr_terms.proofs.Facts.{taken_item, in_none, contains_at}
+use Rattle.hpr_terms.proofs.Facts.{in_none, contains_at}
 use Rattle.hpr_reach.proofs.Grown.{pushed}
 use Rattle.hpr_graph.specs.Graphs.{IsOnce}
 use Rattle.hpr_build.specs.Variables.{points_at}
@@ -40,30 +40,6 @@ module _ {X : Type 0} (names : List X) (once : IsOnce names) (name : X) (point a
 pub unpushed_rows : {X : Type 0} (names : List X) (name : X) (point : ℕ) (rows : List (Vec ℕ Global)) → ¬ Contains names name → (i : ℕ) (x : X) → slice_get names i ≡ Some x
     → (p : ℕ) → Contains (points_at rows i) p ↔ (Contains (points_at rows i) p ⊎ ((name ≡ x) × (point ≡ p)))
 unpushed_rows {X} names name point rows none i x get p = ((λ h. inl h), (λ h. elim h [ inl was ↦ was | inr k ↦ absurd (none (subst (Contains names) (sym k.0) (contains_at names i x get))) ]))
-
--- the rows after one more of the names that are used
-pub turn_used : {X : Type 0} (used : List X) (k : ℕ) (name x : X) (A A' O E : Type 0) → k < length used → name ≡ get_or used k name → A' ↔ (A ⊎ ((name ≡ x) × E)) → A ↔ (O ⊎ (Contains (take k used) x × E)) → A' ↔ (O ⊎ (Contains (take (k + 1) used) x × E))
-turn_used {X} used k name x A A' O E l is new old =
-    let more = taken_item used k name x l is in (
-      (λ h. elim (new.0 h) [
-        | inl a ↦ (elim (old.0 a) [ inl o ↦ inl o | inr t ↦ inr (more.1 (inl t.0), t.1) ])
-        | inr t ↦ inr (more.1 (inr t.0), t.1)
-      ]),
-      (λ h. elim h [
-        | inl o ↦ new.1 (inl (old.1 (inl o)))
-        | inr t ↦ (elim (more.0 t.0) [ inl was ↦ new.1 (inl (old.1 (inr (was, t.1)))) | inr e ↦ new.1 (inr (e, t.1)) ])
-      ]),
-    )
-
--- the points so far that have P, and one more
-pub turn_point : (P : ℕ → Type 0) (n p : ℕ) (A A' : Type 0) → A' ↔ (A ⊎ (P n × (n ≡ p))) → A ↔ ((p < n) × P p) → A' ↔ ((p < n + 1) × P p)
-turn_point P n p A A' new old = (
-  (λ h. elim (new.0 h) [
-    | inl a ↦ (let k = old.0 a in (omega (arith, k.0), k.1))
-    | inr k ↦ (omega (arith, k.1), subst P k.1 k.0)
-  ]),
-  (λ (l, h). elim (cases_eq p n) [ inl e ↦ new.1 (inr (subst P e h, sym e)) | inr ne ↦ new.1 (inl (old.1 (omega (arith, l), h))) ]),
-)
 
 pub no_points : (P : ℕ → Type 0) (ps : List ℕ) (p : ℕ) → ps ≡ [] → Contains ps p ↔ ((p < 0) × P p)
 no_points P ps p none = (

@@ -15,18 +15,6 @@ use hpr_reach::{BitRow, reach};
 use hpr_terms::names::in_order;
 use std::alloc::Global;
 
-/// Whether one of the points is marked.
-fn is_any_marked(row: &BitRow, points: &[usize]) -> bool
-    ensures { IsTrue result ↔ ((u : ℕ) × Contains points.now u × IsMarked row.now u) }
-{
-    for point in points {
-        if row.has(*point) {
-            return true;
-        }
-    }
-    false
-}
-
 /// What a used name that no point defines reaches from Enter, the same for each; none where there is no such
 /// name.
 pub(crate) fn free_row(
@@ -54,7 +42,7 @@ fn is_live_by(alloc: Global, succ: &Succ, name: &Name, users: &[usize]) -> Resul
     ensures { IfOk result (λ live. IsTrue live ↔ IsLive succ.now name.now) }
 {
     let row = reach(alloc, succ, 0, name, 0)?;
-    Ok(is_any_marked(&row, users))
+    Ok(row.has_any(users))
 }
 
 /// Whether the name, which has these points that define it and that use it, is live at Enter. A name that no
@@ -75,7 +63,7 @@ fn is_live(
 {
     if definitions.is_empty() {
         if let Some(row) = free {
-            return Ok(is_any_marked(row, users));
+            return Ok(row.has_any(users));
         }
     }
     is_live_by(alloc, succ, name, users)

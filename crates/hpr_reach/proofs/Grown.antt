@@ -74,3 +74,27 @@ module _ (new old : Type 0) (M U D : Type 0) where
 
 pub unmarked_turn : (old M U D : Type 0) → ¬ M → old ↔ (old ⊎ (M × U × D))
 unmarked_turn old M U D free = ((λ h. inl h), (λ h. elim h [ inl o ↦ o | inr k ↦ absurd (free k.0) ]))
+
+-- the rows after one more of the names that are used
+pub turn_used : {X : Type 0} (used : List X) (k : ℕ) (name x : X) (A A' O E : Type 0) → k < length used → name ≡ get_or used k name → A' ↔ (A ⊎ ((name ≡ x) × E)) → A ↔ (O ⊎ (Contains (take k used) x × E)) → A' ↔ (O ⊎ (Contains (take (k + 1) used) x × E))
+turn_used {X} used k name x A A' O E l is new old =
+    let more = taken_item used k name x l is in (
+      (λ h. elim (new.0 h) [
+        | inl a ↦ (elim (old.0 a) [ inl o ↦ inl o | inr t ↦ inr (more.1 (inl t.0), t.1) ])
+        | inr t ↦ inr (more.1 (inr t.0), t.1)
+      ]),
+      (λ h. elim h [
+        | inl o ↦ new.1 (inl (old.1 (inl o)))
+        | inr t ↦ (elim (more.0 t.0) [ inl was ↦ new.1 (inl (old.1 (inr (was, t.1)))) | inr e ↦ new.1 (inr (e, t.1)) ])
+      ]),
+    )
+
+-- the points so far that have P, and one more
+pub turn_point : (P : ℕ → Type 0) (n p : ℕ) (A A' : Type 0) → A' ↔ (A ⊎ (P n × (n ≡ p))) → A ↔ ((p < n) × P p) → A' ↔ ((p < n + 1) × P p)
+turn_point P n p A A' new old = (
+  (λ h. elim (new.0 h) [
+    | inl a ↦ (let k = old.0 a in (omega (arith, k.0), k.1))
+    | inr k ↦ (omega (arith, k.1), subst P k.1 k.0)
+  ]),
+  (λ (l, h). elim (cases_eq p n) [ inl e ↦ new.1 (inr (subst P e h, sym e)) | inr ne ↦ new.1 (inl (old.1 (omega (arith, l), h))) ]),
+)

@@ -7,3 +7,4 @@ pub mod Flows
 pub mod Chains
 pub mod Marked
 pub mod ByTags
+mod Users

@@ -39,6 +39,18 @@ impl BitRow {
         is_marked(&self.found.marks, point)
     }
 
+    /// Whether one of the points is marked.
+    pub fn has_any(&self, points: &[usize]) -> bool
+        ensures { IsTrue result ↔ ((p : ℕ) × Contains points.now p × IsMarked self.now p) }
+    {
+        for point in points {
+            if self.has(*point) {
+                return true;
+            }
+        }
+        false
+    }
+
     /// The marked points, each once.
     pub fn points(&self) -> &[usize]
         ensures marked { (p : ℕ) → Contains result.now p ↔ IsMarked self.now p }

@@ -1,7 +1,8 @@
 use Rattle.std.proofs.Common.{◌≡◌, ℕ, Some, List, arith}
 use Rattle.hpr_paths.specs.Spots.{defined_at}
 use Rattle.hpr_reach.proofs.Lives.{defined_within}
-use Rattle.hpr_build.proofs.NameRows.{turn_point, no_points, once_none, whole_rows}
+use Rattle.hpr_reach.proofs.Grown.{turn_point}
+use Rattle.hpr_build.proofs.NameRows.{no_points, once_none, whole_rows}
 use Rattle.hpr_build.proofs.variables.definitions_of.Goals as goal
 
 pub loop-point-init : goal.loop-point-init

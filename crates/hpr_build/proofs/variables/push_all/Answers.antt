@@ -3,7 +3,7 @@ use Rattle.std.proofs.lemmas.List.{take_all}
 use Rattle.hpr_graph.proofs.Lists.{not_before}
 use Rattle.hpr_build.specs.Variables.{points_at}
 use Rattle.hpr_graph.proofs.NamesOnce.{names_once}
-use Rattle.hpr_build.proofs.NameRows.{turn_used}
+use Rattle.hpr_reach.proofs.Grown.{turn_used}
 use Rattle.hpr_build.proofs.variables.push_all.Goals as goal
 
 pub loop-name-preserved : goal.loop-name-preserved

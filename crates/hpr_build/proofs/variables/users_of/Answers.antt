@@ -1,7 +1,8 @@
 use Rattle.std.proofs.Common.{ℕ, List, arith}
 use Rattle.hpr_paths.specs.Spots.{UsesAt}
 use Rattle.hpr_reach.proofs.Lives.{uses_within}
-use Rattle.hpr_build.proofs.NameRows.{turn_point, no_points, once_none, whole_rows}
+use Rattle.hpr_reach.proofs.Grown.{turn_point}
+use Rattle.hpr_build.proofs.NameRows.{no_points, once_none, whole_rows}
 use Rattle.hpr_build.proofs.variables.users_of.Goals as goal
 
 pub loop-point-init : goal.loop-point-init

@@ -1,7 +1,7 @@
 use Rattle.std.proofs.Common.{◌≡◌, ℕ, get_or, sym, ◌∙◌, subst, arith, below_more}
 use Rattle.std.proofs.lemmas.List.{get_or_default}
 use Rattle.hpr_search.specs.Marks.{IsMarked}
-use Rattle.hpr_build.proofs.initial.is_any_marked.Goals as goal
+use Rattle.hpr_reach.proofs.bits.BitRow.has_any.Goals as goal
 
 pub returns-then-has : goal.returns-then-has
 returns-then-has c = (
@@ -21,5 +21,5 @@ returns c = (
   (λ (u, at, m).
       let ps = c.args.points.now in
       let is : u ≡ get_or ps at.0 0 = sym at.2 ∙ get_or_default ps at.0 u 0 at.1 in
-      absurd (c.loop-point.invariant at.0 (omega (arith, at.1, c.loop-point-test.false)) (subst (λ (p : ℕ). IsMarked c.args.row.now p) is m))),
+      absurd (c.loop-point.invariant at.0 (omega (arith, at.1, c.loop-point-test.false)) (subst (λ (p : ℕ). IsMarked c.args.self.now p) is m))),
 )

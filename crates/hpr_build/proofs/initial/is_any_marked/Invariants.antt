@@ -1,6 +1,0 @@
-use Rattle.std.proofs.Common.{ℕ, ◌<◌, get_or}
-use Rattle.hpr_search.specs.Marks.{IsMarked}
-use Rattle.hpr_build.proofs.initial.is_any_marked.Given as goal
-
-abbrev pub invariant-loop-point : goal.invariant-loop-point
-invariant-loop-point l = (k : ℕ) → k < l.point-index → IsMarked l.row (get_or l.points k 0) → ⊥
