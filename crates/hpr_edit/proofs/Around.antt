@@ -1,5 +1,5 @@
 -- What stands around a place in a body.
-use Rattle.std.proofs.Common.{◌≡◌, ℕ, ◌+◌, ◌≤◌, Bool, true, false, Option, Some, None, ◌⊎◌, refl, ap, sym, ◌∙◌, arith, cond, inl, inr, subst}
+use Rattle.std.proofs.Common.{◌≡◌, ℕ, ◌+◌, ◌-◌, ◌≤◌, Bool, true, false, Option, Some, None, ◌⊎◌, refl, ap, sym, ◌∙◌, arith, cond, inl, inr, subst}
 use Rattle.hpr_terms.specs.declared.tag.Tag.{Tag}
 use Rattle.hpr_syntax.specs.declared.tree.Stmt.{Stmt}
 use Rattle.hpr_syntax.specs.declared.tree.Stmt.TheVariants.{If, While}
@@ -14,6 +14,7 @@ use Rattle.hpr_edit.specs.declared.command.Place.{Place}
 use Rattle.hpr_edit.specs.Places.{place_from}
 use Rattle.hpr_edit.specs.InPlace.{one_if, times}
 use Rattle.hpr_edit.specs.Changes.{at_part}
+use Rattle.hpr_edit.specs.Tested.{left_at}
 
 pub data Around : Type 0 where
   here : Around
@@ -28,6 +29,14 @@ plug (past s c) x = before s (plug c x)
 plug (first t e c b rest) x = branch t e (plug c x) b rest
 plug (second t e a c rest) x = branch t e a (plug c x) rest
 plug (inside t e c rest) x = loop t e (plug c x) rest
+
+-- how many parts stand around
+abbrev pub levels : Around → ℕ
+levels here = 0
+levels (past s c) = levels c
+levels (first t e c b rest) = levels c + 1
+levels (second t e a c rest) = levels c + 1
+levels (inside t e c rest) = levels c + 1
 
 -- one context in another
 abbrev pub into : Around → Around → Around
@@ -178,6 +187,56 @@ place_plug t p i (second u e a c rest) s x h is =
     rw (no_one (same_tag u t) (omega (arith, h)), absent_place t (Some (u, true)) 0 a (omega (arith, h)), place_plug t (Some (u, false)) 0 c s x (omega (arith, h)) is) refl
 place_plug t p i (inside u e c rest) s x h is =
     rw (no_one (same_tag u t) (omega (arith, h)), place_plug t (Some (u, true)) 0 c s x (omega (arith, h)) is) refl
+
+-- how many levels are left where it stands
+absent_left : (t : Tag) (n : ℕ) (b : Body) → times t b ≡ 0 → left_at t n b ≡ None
+absent_left t n done h = refl
+absent_left t n (action u d rest) h = rw (no_one (same_tag u t) (omega (arith, h))) (absent_left t n rest (omega (arith, h)))
+absent_left t n (branch u e a b rest) h =
+    let i : left_at t (n - 1) a ≡ None = absent_left t (n - 1) a (omega (arith, h)) in
+    let j : left_at t (n - 1) b ≡ None = absent_left t (n - 1) b (omega (arith, h)) in
+    let k : left_at t n rest ≡ None = absent_left t n rest (omega (arith, h)) in
+    rw (no_one (same_tag u t) (omega (arith, h)), i, j, k) refl
+absent_left t n (loop u e b rest) h =
+    let j : left_at t (n - 1) b ≡ None = absent_left t (n - 1) b (omega (arith, h)) in
+    let k : left_at t n rest ≡ None = absent_left t n rest (omega (arith, h)) in
+    rw (no_one (same_tag u t) (omega (arith, h)), j, k) refl
+
+left_before : (t : Tag) (n : ℕ) (s : Stmt) (x : Body) → times t (before s done) ≡ 0 → left_at t n (before s x) ≡ left_at t n x
+left_before t n (If u e a b) y h =
+    let i : left_at t (n - 1) a ≡ None = absent_left t (n - 1) a (omega (arith, h)) in
+    let j : left_at t (n - 1) b ≡ None = absent_left t (n - 1) b (omega (arith, h)) in
+    rw (no_one (same_tag u t) (omega (arith, h)), i, j) refl
+left_before t n (While u e b) y h =
+    let j : left_at t (n - 1) b ≡ None = absent_left t (n - 1) b (omega (arith, h)) in
+    rw (no_one (same_tag u t) (omega (arith, h)), j) refl
+left_before t n s y h = rw (no_one (same_tag (tag_of s) t) (omega (arith, h))) refl
+
+left_head : (t : Tag) (n : ℕ) (s : Stmt) (x : Body) → same_tag (tag_of s) t ≡ true → left_at t n (before s x) ≡ Some n
+left_head t n (If u e a b) y h = rw h refl
+left_head t n s y h = rw h refl
+
+deeper : (n k : ℕ) → n - 1 - k ≡ n - (k + 1)
+deeper n k = omega arith
+
+pub left_plug : (t : Tag) (n : ℕ) (c : Around) (s : Stmt) (x : Body) → times t (plug c done) ≡ 0 → same_tag (tag_of s) t ≡ true → left_at t n (plug c (before s x)) ≡ Some (n - levels c)
+left_plug t n here s x h is = let e : n ≡ n - 0 = omega arith in left_head t n s x is ∙ ap Some e
+left_plug t n (past r c) s x h is =
+    left_before t n r (plug c (before s x)) (omega (arith, h, times_before t r (plug c done))) ∙ left_plug t n c s x (omega (arith, h, times_before t r (plug c done))) is
+left_plug t n (first u e c b rest) s x h is =
+    rw (no_one (same_tag u t) (omega (arith, h)), left_plug t (n - 1) c s x (omega (arith, h)) is) (ap Some (deeper n (levels c)))
+left_plug t n (second u e a c rest) s x h is =
+    rw (no_one (same_tag u t) (omega (arith, h)), absent_left t (n - 1) a (omega (arith, h)), left_plug t (n - 1) c s x (omega (arith, h)) is)
+    (ap Some (deeper n (levels c)))
+left_plug t n (inside u e c rest) s x h is =
+    rw (no_one (same_tag u t) (omega (arith, h)), left_plug t (n - 1) c s x (omega (arith, h)) is) (ap Some (deeper n (levels c)))
+
+pub levels_into : (c d : Around) → levels (into c d) ≡ levels c + levels d
+levels_into here d = omega arith
+levels_into (past s c) d = levels_into c d
+levels_into (first t e c b rest) d = omega (arith, levels_into c d)
+levels_into (second t e a c rest) d = omega (arith, levels_into c d)
+levels_into (inside t e c rest) d = omega (arith, levels_into c d)
 
 -- a found part has something around it
 pub record FoundIn (t : Tag) (body : Body) (s : Stmt) : Type 0 where

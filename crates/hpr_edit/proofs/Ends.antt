@@ -1,11 +1,12 @@
 -- How the commands end: with the program that is settled, or with its refusal.
-use Rattle.std.proofs.Common.{◌≡◌, ◌≢◌, ℕ, ◌≤◌, Bool, true, false, cond, if◌then◌else◌, Option, Some, None, Result, Err, refl, ap, sym, subst, arith}
+use Rattle.std.proofs.Common.{◌≡◌, ◌≢◌, ℕ, ◌≤◌, Bool, true, false, cond, if◌then◌else◌, Option, Some, None, Result, refl, arith}
 use Rattle.std.proofs.lemmas.Option.{same_Some}
 use Rattle.hpr_terms.specs.declared.tag.Tag.{Tag}
 use Rattle.hpr_syntax.specs.declared.tree.Stmt.{Stmt}
 use Rattle.hpr_syntax.specs.Body.{Body, done, action, branch, loop}
 use Rattle.hpr_syntax.specs.Parts.{same_tag}
 use Rattle.hpr_syntax.specs.Tree.{Tree}
+use Rattle.hpr_syntax.specs.declared.shape.ShapeError.{ShapeError}
 use Rattle.hpr_syntax.specs.Shape.{IsProgram, shape}
 use Rattle.hpr_edit.specs.declared.command.Place.{Place}
 use Rattle.hpr_edit.specs.declared.command.Inverse.{Inverse}
@@ -13,7 +14,7 @@ use Rattle.hpr_edit.specs.declared.command.EditError.{EditError}
 use Rattle.hpr_edit.specs.declared.command.EditError.TheVariants.{NoTag, IntoItself, NoPlace, KindDiffers, SerialsSpent, Shape, Memory}
 use Rattle.hpr_edit.specs.Changes.{at_part, gone}
 use Rattle.hpr_edit.specs.Edited.{Edited, becomes, refused, refuse, found, settled}
-use Rattle.hpr_edit.specs.InPlace.{times, Settles, Answers}
+use Rattle.hpr_edit.specs.InPlace.{times, Refused, Makes, Allows}
 use Rattle.hpr_edit.proofs.Tags.{once}
 
 -- a tag stands no more often where a part was taken out
@@ -37,38 +38,35 @@ pub once_taken : (p : Tree) → IsProgram p → (t u : Tag) → times u (at_part
 once_taken p is t u = once_gone p.body (once p is) t u
 
 -- a test
-pub passed : (why : EditError) (b : Bool) (next : Edited) (r : Result (Tree × Inverse) EditError) → b ≡ false → Answers next r → Answers (refuse why b next) r
-passed why b next r e h = rw e h
+pub passed : (why : EditError) (b : Bool) (next : Edited) (t : Tree) (r : Result Inverse EditError) → b ≡ false → Makes next t r → Makes (refuse why b next) t r
+passed why b next t r e h = rw e h
+
+pub allowed : (why : EditError) (b : Bool) (next : Edited) (t : Tag → Tree) (i : Tag → Inverse) (r : Result Tag EditError) → b ≡ false → Allows next t i r → Allows (refuse why b next) t i r
+allowed why b next t i r e h = rw e h
 
 -- the tag of a new part
 pub spare : (b : Bool) (new next : Tag) → Some new ≡ (if b then None else Some next) → (b ≡ false) × (new ≡ next)
 spare true new next h = absurd cc
 spare false new next h = (refl, same_Some new next h)
 
+pub spent : (b : Bool) (next : Tag) → (if b then None else Some next) ≡ None → b ≡ true
+spent true next h = refl
+spent false next h = absurd cc
+
 -- where the part was found
-pub passed_found : (t : Tag) (o : Option Stmt) (p : Option Place) (next : Stmt → Place → Edited) (s : Stmt) (place : Place) (r : Result (Tree × Inverse) EditError)
-    → o ≡ Some s → p ≡ Some place → Answers (next s place) r → Answers (found t o p next) r
-passed_found t o p next s place r e f h = rw (e, f) h
+pub passed_found : (t : Tag) (o : Option Stmt) (p : Option Place) (next : Stmt → Place → Edited) (s : Stmt) (place : Place) (e : Edited)
+    → o ≡ Some s → p ≡ Some place → next s place ≡ e → found t o p next ≡ e
+passed_found t o p next s place e f g h = rw (f, g) h
 
 -- the last test
-pub ended : (t u : Tree) (i j : Inverse) (after : Result Tree EditError) (r : Result (Tree × Inverse) EditError)
-    → ((x : Tree) → Settles x after → Answers (settled x i) r) → t ≡ u → i ≡ j → Settles t after → Answers (settled u j) r
-ended t u i j after r h e f s = subst (λ y. Answers (settled u y) r) f (h u (subst (λ y. Settles y after) e s))
+pub settled_fits : (t : Tree) (i : Inverse) → shape t ≡ None → settled t i ≡ becomes t i
+settled_fits t i h = rw h refl
 
-pub settled_ok : (t q : Tree) (inverse : Inverse) → (q ≡ t) × IsProgram t → settled t inverse ≡ becomes q inverse
-settled_ok t q inverse h = let s : shape t ≡ None = h.1.shape in rw s (ap (λ y. becomes y inverse) (sym h.0))
-
-pub settled_err : (t : Tree) (inverse : Inverse) (e : EditError) → Settles t (Err e) → Answers (settled t inverse) (Err e)
-settled_err t inverse Memory h = tt
-settled_err t inverse (Shape why) h = rw h refl
-settled_err t inverse (NoTag x) h = absurd h
-settled_err t inverse (IntoItself x) h = absurd h
-settled_err t inverse NoPlace h = absurd h
-settled_err t inverse (KindDiffers x) h = absurd h
-settled_err t inverse SerialsSpent h = absurd h
+pub settled_why : (t : Tree) (i : Inverse) (why : ShapeError) → shape t ≡ Some why → settled t i ≡ refused (Shape why)
+settled_why t i why h = rw h refl
 
 -- a refusal that isn't for want of memory
-pub refused_by : (edited : Edited) (why : EditError) → Answers edited (Err why) → why ≢ Memory → edited ≡ refused why
+pub refused_by : (edited : Edited) (why : EditError) → Refused edited why → why ≢ Memory → edited ≡ refused why
 refused_by edited Memory h other = absurd (other refl)
 refused_by edited (Shape why) h other = h
 refused_by edited (NoTag t) h other = h

@@ -39,7 +39,7 @@ same_after author p q c e n = record {
   serials = λ ts k s. subst (λ us. Serials author (issued_to author p.issued) us) (sym (n ts)) (subst (λ l. Serials author (issued_to author l) ts) e s);
 }
 
-rises_if : (b : Bool) (a author : ℕ) (l : Issued) → eqb a author ≡ b → IsIssued l → issued_to a l ≤ issued_to a (raised author (issued_to author l + 1) l)
+pub rises_if : (b : Bool) (a author : ℕ) (l : Issued) → eqb a author ≡ b → IsIssued l → issued_to a l ≤ issued_to a (raised author (issued_to author l + 1) l)
 rises_if true a author l e k =
     let is : a ≡ author = eqb-true a author e in
     subst (λ x. issued_to x l ≤ issued_to x (raised author (issued_to author l + 1) l)) (sym is) (omega (arith, raised_greater author (issued_to author l + 1) l k))

@@ -8,4 +8,8 @@ pub mod Fresh
 pub mod Outside
 pub mod Back
 pub mod Ends
+pub mod Tested
+pub mod Shaped
+pub mod Proper
+pub mod Carried
 pub mod Scripts

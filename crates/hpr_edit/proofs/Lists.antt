@@ -1,10 +1,9 @@
 -- Blocks as lists of parts, and what the code does to the lists.
-use Rattle.std.proofs.Common.{◌≡◌, ℕ, zero, suc, ◌+◌, ◌≤◌, ◌<◌, Bool, true, false, List, [], ◌∷◌, ◌++◌, take, drop, length, get_or, refl, ap, sym, ◌∙◌, arith, set, Option, Some, None, is_some, Bor, leb, min, ◌⊎◌, inl, inr}
+use Rattle.std.proofs.Common.{◌≡◌, ℕ, zero, suc, ◌+◌, ◌≤◌, ◌<◌, Bool, true, false, List, [], ◌∷◌, ◌++◌, take, drop, length, get_or, drop-cons, refl, ap, sym, ◌∙◌, arith, set, Option, Some, None, is_some, Bor, leb, min, ◌⊎◌, inl, inr}
 use Rattle.std.specs.Option.{option_copied}
 use Rattle.std.specs.List.{insert, remove}
 use Rattle.std.proofs.lemmas.Bool.{leb-true, leb-false}
 use Rattle.std.proofs.lemmas.List.{length-take-le, append_assoc, set-get_or}
-use Rattle.std.proofs.Math.Seq.{take-append_seam, drop-append_seam}
 use Rattle.std.proofs.lemmas.List.Edits.{length-remove}
 use Rattle.hpr_terms.specs.declared.tag.Tag.{Tag}
 use Rattle.hpr_terms.specs.declared.expr.Expr.{Expr}
@@ -16,7 +15,7 @@ use Rattle.hpr_syntax.specs.BodyOf.{before, body_of}
 use Rattle.hpr_syntax.specs.Parts.{same_tag, tag_of}
 use Rattle.hpr_edit.specs.Places.{width, joined}
 use Rattle.hpr_syntax.specs.Rows.{made}
-use Rattle.hpr_edit.specs.Changes.{at_part, from, saying, firsts, later, unwrapped, rewrapped}
+use Rattle.hpr_edit.specs.Changes.{at_part, from, first_block, second_block, saying, firsts, later, unwrapped, rewrapped}
 use Rattle.hpr_edit.specs.InPlace.{times, one_if, on_first, in_part, with_content}
 use Rattle.hpr_edit.proofs.Around.{absent, times_before, at_before, at_head}
 use Rattle.hpr_edit.proofs.Placed.{from_before}
@@ -117,30 +116,31 @@ set_at_place f n xs y d h e =
 pub said_with : (c : Content) (s : Stmt) (r : Body) → before (with_content c s) r ≡ saying c s r
 said_with c s r = refl
 
-pub unwrapped_rest : (s : Stmt) (rest : Body) → unwrapped s rest ≡ joined (unwrapped s done) rest
-unwrapped_rest (If t e a b) rest = ap (joined a) (ap (λ y. joined y rest) (sym (joined_done b))) ∙ sym (joined_twice a (joined b done) rest)
-unwrapped_rest (While t e b) rest = sym (joined_twice b done rest)
-unwrapped_rest s rest = refl
+-- the first part behind a cut
+pub first_behind : (n : ℕ) (xs : List Stmt) (d : Stmt) → n < length xs → d ≡ get_or (drop n xs) 0 d → d ≡ get_or xs n d
+first_behind n xs d h v = v ∙ ap (λ l. get_or l 0 d) (drop-cons xs n d h)
 
-take_seam : (p q : List Stmt) (n : ℕ) → length p ≡ n → take n (p ++ q) ≡ p
-take_seam p q n h = ap (λ k. take k (p ++ q)) (sym h) ∙ take-append_seam p q
-
-drop_seam : (p q : List Stmt) (n : ℕ) → length p ≡ n → drop n (p ++ q) ≡ q
-drop_seam p q n h = ap (λ k. drop k (p ++ q)) (sym h) ∙ drop-append_seam p q
+-- how many parts a list has that is a block
+pub length_of : (fs : List Stmt) (b : Body) → body_of fs ≡ b → length fs ≡ width b
+length_of fs b e = sym (width_body fs) ∙ ap width e
 
 -- what stands in a part put in its place
-pub poured_at : (n : ℕ) (xs ys : List Stmt) (d : Stmt) → n < length xs → body_of ys ≡ joined (body_of (take n (remove xs n))) (unwrapped (get_or xs n d) done)
-    → body_of (ys ++ drop n (remove xs n)) ≡ from n (on_first unwrapped) (body_of xs)
-poured_at n xs ys d h e =
-    let len : length (take n xs) ≡ n = length-take-le n xs (omega (arith, h)) in
-    body_of_append ys (drop n (remove xs n))
-    ∙ sym (joined_onto ys (body_of (drop n (remove xs n))))
-    ∙ ap (λ b. joined b (body_of (drop n (remove xs n)))) e
-    ∙ ap (λ p. joined (joined (body_of p) (unwrapped (get_or xs n d) done)) (body_of (drop n (remove xs n)))) (take_seam (take n xs) (drop (suc n) xs) n len)
-    ∙ ap (λ p. joined (joined (body_of (take n xs)) (unwrapped (get_or xs n d) done)) (body_of p)) (drop_seam (take n xs) (drop (suc n) xs) n len)
-    ∙ joined_twice (body_of (take n xs)) (unwrapped (get_or xs n d) done) (body_of (drop (suc n) xs))
-    ∙ ap (joined (body_of (take n xs))) (sym (unwrapped_rest (get_or xs n d) (body_of (drop (suc n) xs))))
-    ∙ joined_onto (take n xs) _
+pub spliced : (n : ℕ) (xs fs ss rs : List Stmt) (d : Stmt) → n < length xs → d ≡ get_or (drop n xs) 0 d → rs ≡ remove (drop n xs) 0 → body_of fs ≡ first_block d → body_of ss ≡ second_block d
+    → body_of (((take n xs ++ fs) ++ ss) ++ rs) ≡ from n (on_first unwrapped) (body_of xs)
+spliced n xs fs ss rs d h v r f s =
+    let cut : drop n xs ≡ get_or xs n d ∷ drop (suc n) xs = drop-cons xs n d h in
+    let is : d ≡ get_or xs n d = first_behind n xs d h v in
+    let left : rs ≡ drop (suc n) xs = r ∙ ap (λ l. remove l 0) cut in
+    joined_append ((take n xs ++ fs) ++ ss) rs
+    ∙ ap (λ b. joined b (body_of rs)) (joined_append (take n xs ++ fs) ss)
+    ∙ joined_twice (body_of (take n xs ++ fs)) (body_of ss) (body_of rs)
+    ∙ ap (λ b. joined b (joined (body_of ss) (body_of rs))) (joined_append (take n xs) fs)
+    ∙ joined_twice (body_of (take n xs)) (body_of fs) (joined (body_of ss) (body_of rs))
+    ∙ joined_onto (take n xs) (joined (body_of fs) (joined (body_of ss) (body_of rs)))
+    ∙ ap (λ b. onto (take n xs) (joined b (joined (body_of ss) (body_of rs)))) f
+    ∙ ap (λ b. onto (take n xs) (joined (first_block d) (joined b (body_of rs)))) s
+    ∙ ap (λ l. onto (take n xs) (unwrapped d (body_of l))) left
+    ∙ ap (λ x. onto (take n xs) (unwrapped x (body_of (drop (suc n) xs)))) is
     ∙ sym (from_at unwrapped n xs d h)
 
 -- the first parts of a block, and those behind them

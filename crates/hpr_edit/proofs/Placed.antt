@@ -1,6 +1,7 @@
 -- A change at a place changes what stands there alone.
-use Rattle.std.proofs.Common.{◌≡◌, ℕ, zero, suc, ◌+◌, ◌≤◌, Bool, true, false, Option, Some, None, ◌⊎◌, refl, ap, sym, ◌∙◌, arith, inl, inr, subst, nat_le}
+use Rattle.std.proofs.Common.{◌≡◌, ℕ, zero, suc, ◌+◌, ◌-◌, ◌≤◌, Bool, true, false, Option, Some, None, ◌⊎◌, refl, ap, sym, ◌∙◌, arith, inl, inr, subst, nat_le}
 use Rattle.std.proofs.lemmas.Bool.{leb-true}
+use Rattle.hpr_terms.specs.declared.limits.TheConstants.{MAX_LEVELS}
 use Rattle.hpr_terms.specs.declared.tag.Tag.{Tag}
 use Rattle.hpr_syntax.specs.declared.tree.Stmt.{Stmt}
 use Rattle.hpr_syntax.specs.declared.tree.Stmt.TheVariants.{If, While}
@@ -14,7 +15,8 @@ use Rattle.hpr_edit.specs.declared.command.Place.{Place}
 use Rattle.hpr_edit.specs.Places.{width, block_in, block_in_found, block_at, is_within, is_place}
 use Rattle.hpr_edit.specs.InPlace.{times}
 use Rattle.hpr_edit.specs.Changes.{at_part, from, with_block, at_place}
-use Rattle.hpr_edit.proofs.Around.{Around, here, past, first, second, inside, plug, into, plug_into, place_in, no_one, absent, times_before, times_plug, at_before, at_plug, times_head, FoundIn, found_in}
+use Rattle.hpr_edit.specs.Tested.{left_at, below, room_at}
+use Rattle.hpr_edit.proofs.Around.{Around, here, past, first, second, inside, plug, into, plug_into, levels, levels_into, left_plug, place_in, no_one, absent, times_before, times_plug, at_before, at_plug, times_head, FoundIn, found_in}
 
 -- what a place's change does to a part that has its block
 abbrev pub entering : Bool → ℕ → (Body → Body) → Stmt → Body → Body
@@ -142,12 +144,14 @@ pub record PlacedIn (place : Place) (body : Body) : Type 0 where
   pub rest : Body
   pub is : body ≡ plug around rest
   pub change : (g : Body → Body) → at_place place g body ≡ plug around (g rest)
+  pub room : room_at place.parent body ≡ MAX_LEVELS - levels around
 
 record FlatIn (n : ℕ) (body : Body) : Type 0 where
   around : Around
   rest : Body
   is : body ≡ plug around rest
   change : (g : Body → Body) → from n g body ≡ plug around (g rest)
+  flat : levels around ≡ 0
 
 flat_more : (n : ℕ) (s : Stmt) (rest : Body) → FlatIn n rest → FlatIn (suc n) (before s rest)
 flat_more n s rest f = record {
@@ -155,10 +159,11 @@ flat_more n s rest f = record {
   rest = f.rest;
   is = ap (before s) f.is;
   change = λ g. from_before n g s rest ∙ ap (before s) (f.change g);
+  flat = f.flat;
 }
 
 flat_in : (n : ℕ) (body : Body) → n ≤ width body → FlatIn n body
-flat_in zero body h = record { around = here; rest = body; is = refl; change = λ g. refl }
+flat_in zero body h = record { around = here; rest = body; is = refl; change = λ g. refl; flat = refl }
 flat_in (suc n) done h = absurd (omega (arith, h))
 flat_in (suc n) (action t d rest) h = subst (FlatIn (suc n)) (before_stmt t d rest) (flat_more n (stmt_by t d) rest (flat_in n rest (omega (arith, h))))
 flat_in (suc n) (branch t e a b rest) h = flat_more n (If t e a b) rest (flat_in n rest (omega (arith, h)))
@@ -171,12 +176,16 @@ record BlockIn (w : Bool) (s : Stmt) (rest : Body) : Type 0 where
   some : block_in w s ≡ Some block
   is : before s rest ≡ plug around block
   change : (f : Body → Body) → before (with_block w f s) rest ≡ plug around (f block)
+  one : levels around ≡ 1
 
 block_of : (w : Bool) (s : Stmt) (rest : Body) (n : ℕ) → is_within n (block_in w s) ≡ true → BlockIn w s rest
-block_of true (If t e a b) rest n h = record { around = first t e here b rest; block = a; some = refl; is = refl; change = λ f. refl }
-block_of false (If t e a b) rest n h = record { around = second t e a here rest; block = b; some = refl; is = refl; change = λ f. refl }
-block_of true (While t e b) rest n h = record { around = inside t e here rest; block = b; some = refl; is = refl; change = λ f. refl }
+block_of true (If t e a b) rest n h = record { around = first t e here b rest; block = a; some = refl; is = refl; change = λ f. refl; one = omega arith }
+block_of false (If t e a b) rest n h = record { around = second t e a here rest; block = b; some = refl; is = refl; change = λ f. refl; one = omega arith }
+block_of true (While t e b) rest n h = record { around = inside t e here rest; block = b; some = refl; is = refl; change = λ f. refl; one = omega arith }
 block_of w s rest n h = absurd cc
+
+one_less : (n k m : ℕ) → m ≡ k + 1 → n - k - 1 ≡ n - m
+one_less n k m h = omega (arith, h)
 
 deep_in : (t : Tag) (w : Bool) (n : ℕ) (body : Body) (s : Stmt) → times t body ≤ 1 → find_stmt t body ≡ Some s → is_within n (block_in w s) ≡ true → PlacedIn (record { parent = Some (t, w); at = n }) body
 deep_in t w n body s le fs h =
@@ -194,6 +203,10 @@ deep_in t w n body s le fs h =
           ∙ at_plug t (entering w n g) f.around s f.rest z f.tag
           ∙ ap (plug f.around) (b.change (from n g) ∙ ap (plug b.around) (l.change g) ∙ sym (plug_into b.around l.around (g l.rest)))
           ∙ sym (plug_into f.around (into b.around l.around) (g l.rest));
+      room =
+          ap (λ x. below (left_at t MAX_LEVELS x)) f.is
+          ∙ ap below (left_plug t MAX_LEVELS f.around s f.rest z f.tag)
+          ∙ one_less MAX_LEVELS (levels f.around) _ (omega (arith, levels_into f.around (into b.around l.around), levels_into b.around l.around, b.one, l.flat));
     }
 
 found_block : (t : Tag) (w : Bool) (n : ℕ) (body : Body) (o : Option Stmt) → find_stmt t body ≡ o → ((u : Tag) → times u body ≤ 1) → is_within n (block_in_found w o) ≡ true → PlacedIn (record { parent = Some (t, w); at = n }) body
@@ -203,7 +216,7 @@ found_block t w n body (Some s) e le h = deep_in t w n body s (le t) e h
 placed_at : (p : Parent) (n : ℕ) (body : Body) → ((u : Tag) → times u body ≤ 1) → is_within n (block_at p body) ≡ true → PlacedIn (record { parent = p; at = n }) body
 placed_at None n body le h =
     let l : FlatIn n body = flat_in n body (leb-true _ _ h) in
-    record { around = l.around; rest = l.rest; is = l.is; change = l.change }
+    record { around = l.around; rest = l.rest; is = l.is; change = l.change; room = let e : MAX_LEVELS ≡ MAX_LEVELS - levels l.around = omega (arith, l.flat) in e }
 placed_at (Some p) n body le h = found_block p.0 p.1 n body (find_stmt p.0 body) refl le h
 
 pub placed_in : (place : Place) (body : Body) → ((u : Tag) → times u body ≤ 1) → is_place place body ≡ true → PlacedIn place body

@@ -1,5 +1,5 @@
 -- In a program a tag stands at most once, and only where it was issued.
-use Rattle.std.proofs.Common.{◌≡◌, ℕ, ◌+◌, ◌≤◌, ◌<◌, ◌==◌, Bool, true, false, ◌||◌, ◌⊎◌, inl, inr, Option, Some, None, List, [], ◌∷◌, refl, sym, arith, cond, subst, nat_lt}
+use Rattle.std.proofs.Common.{◌≡◌, ℕ, ◌+◌, ◌≤◌, ◌<◌, ◌==◌, Bool, true, false, ◌||◌, ◌⊎◌, inl, inr, Option, Some, None, List, [], ◌∷◌, refl, sym, ap, arith, cond, subst, nat_lt}
 use Rattle.std.specs.List.{list_any}
 use Rattle.std.proofs.lemmas.Bool.{ltb-false, eqb-false}
 use Rattle.hpr_terms.specs.declared.tag.Tag.{Tag}
@@ -8,7 +8,7 @@ use Rattle.hpr_syntax.specs.Body.{Body, done, action, branch, loop}
 use Rattle.hpr_syntax.specs.Parts.{same_tag, tags_of}
 use Rattle.hpr_syntax.specs.Issued.{Issued, issued_to}
 use Rattle.hpr_syntax.specs.Tree.{Tree}
-use Rattle.hpr_syntax.specs.Shape.{IsProgram, first_repeated, is_unissued, first_unissued}
+use Rattle.hpr_syntax.specs.Shape.{IsProgram, first_repeated, first_repeated_tag, is_unissued, first_unissued}
 use Rattle.hpr_syntax.proofs.NoRefusal.{no_refusal}
 use Rattle.hpr_syntax.proofs.TagLemmas.{same_tag_itself, same_tag_is}
 use Rattle.hpr_edit.specs.InPlace.{one_if, times}
@@ -49,6 +49,27 @@ once_each t seen (u ∷ us) h =
 
 pub once : (p : Tree) → IsProgram p → (t : Tag) → times t p.body ≤ 1
 once p is t = omega (arith, counted t p.body [], (once_each t [] (tags_of p.body []) (no_refusal p is.shape).tags).1)
+
+-- and where each tag stands at most once, none is repeated
+none_before : (b : Bool) (u : Tag) (seen : List Tag) (n : ℕ) → list_any (same_tag u) seen ≡ b → (b ≡ true → one_if (same_tag u u) + n ≡ 0) → b ≡ false
+none_before true u seen n e h = absurd (let z : one_if (same_tag u u) + n ≡ 0 = h refl in omega (arith, z, ap one_if (same_tag_itself u)))
+none_before false u seen n e h = refl
+
+none_again : (b : Bool) (t u : Tag) (seen : List Tag) (n : ℕ) → same_tag t u ≡ b → one_if (same_tag u t) + n ≤ 1 → (list_any (same_tag t) seen ≡ true → one_if (same_tag u t) + n ≡ 0)
+    → (b || list_any (same_tag t) seen) ≡ true → n ≡ 0
+none_again true t u seen n e le h k =
+    let is : same_tag u t ≡ true = subst (λ x. same_tag x t ≡ true) (same_tag_is t u e) (same_tag_itself t) in
+    omega (arith, le, ap one_if is)
+none_again false t u seen n e le h k = omega (arith, h k)
+
+unrepeated : (seen ts : List Tag) → ((t : Tag) → count t ts ≤ 1) → ((t : Tag) → list_any (same_tag t) seen ≡ true → count t ts ≡ 0) → first_repeated same_tag seen ts ≡ None
+unrepeated seen [] le h = refl
+unrepeated seen (u ∷ us) le h =
+    rw (none_before (list_any (same_tag u) seen) u seen (count u us) refl (h u))
+    (unrepeated (u ∷ seen) us (λ t. omega (arith, le t)) (λ t k. none_again (same_tag t u) t u seen (count t us) refl (le t) (h t) k))
+
+pub none_repeated : (b : Body) → ((t : Tag) → times t b ≤ 1) → first_repeated_tag b ≡ None
+none_repeated b le = unrepeated [] (tags_of b []) (λ t. omega (arith, counted t b [], le t)) (λ t h. absurd cc)
 
 -- a tag that is listed was issued
 listed : (b : Bool) (u t : Tag) (n : ℕ) → b ≡ same_tag u t → 1 ≤ one_if b + n → (u ≡ t) ⊎ (1 ≤ n)

@@ -49,7 +49,7 @@ found_is t (Some s) (Some p) next q i h = record { part = s; place = p; part_is 
 same_end : (p t q : Tree) (inv i : Inverse) → t ≡ q → inv ≡ i → Restores p inv t → Restores p i q
 same_end p t q inv i e f r = subst (λ y. Restores p i y) e (subst (λ y. Restores p y t) f r)
 
-unless_is : (o : Option ShapeError) (next : Edited) (q : Tree) (i : Inverse) → unless o next ≡ becomes q i → (o ≡ None) × (next ≡ becomes q i)
+pub unless_is : (o : Option ShapeError) (next : Edited) (q : Tree) (i : Inverse) → unless o next ≡ becomes q i → (o ≡ None) × (next ≡ becomes q i)
 unless_is None next q i h = (refl, h)
 unless_is (Some e) next q i h = absurd cc
 

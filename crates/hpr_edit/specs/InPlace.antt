@@ -6,11 +6,19 @@
 -- on_first f block       == `f part rest` stands in place of a block's first part and of the rest
 -- in_part t f part       == the part with the change f made at the part with this tag in it
 -- with_content c part    == the part, saying this
+-- puts_whole what        == where memory runs out, the block in which this is put stays as it was
+-- is_whole change        == the same of a change
+-- tree_of i body names   == the tree of these three
 -- Settles tree result    == the result is this tree where it is a program, and else its refusal; memory aside
 -- Located t body found   == what is found is the part with this tag and its place; nothing, where no part has the tag
--- Answers edited result  == the result is the program and the inverse, or the refusal; memory aside
-use Rattle.std.specs.Prelude.{◌≡◌, ℕ, ◌+◌, Bool, true, false, Option, Some, None, Result}
+-- Refused edited why     == why the command is refused; memory aside
+-- Makes edited tree r    == the command makes this tree, and the result is its inverse; or it is refused
+-- Allows edited tree inverse r == the result is the tag of a new part, with which the command makes this tree and has this inverse; or it is refused
+-- Moves edited tree inverse r == the result is the body and the place with which it makes this tree and has this inverse; or it is refused
+-- IsProperCommand c      == the names in a command are variables, and its numbers in range
+use Rattle.std.specs.Prelude.{◌≡◌, ℕ, ◌+◌, Bool, true, false, Option, Some, None, Result, List, All}
 use Rattle.std.proofs.Common.{Ok, Err, Bor}
+use Rattle.hpr_terms.specs.Names.{IsVariable}
 use Rattle.hpr_terms.specs.declared.tag.Tag.{Tag}
 use Rattle.hpr_syntax.specs.declared.tree.Stmt.{Stmt}
 use Rattle.hpr_syntax.specs.declared.tree.Stmt.TheVariants.{If, While}
@@ -18,14 +26,18 @@ use Rattle.hpr_syntax.specs.declared.rows.Content.{Content}
 use Rattle.hpr_syntax.specs.Body.{Body, done, action, branch, loop}
 use Rattle.hpr_syntax.specs.BodyOf.{before}
 use Rattle.hpr_syntax.specs.Parts.{tag_of, same_tag, find_stmt}
+use Rattle.hpr_syntax.specs.Proper.{IsProperContent}
 use Rattle.hpr_syntax.specs.Tree.{Tree}
 use Rattle.hpr_syntax.specs.Shape.{IsProgram, shape}
 use Rattle.hpr_edit.specs.declared.change.Change.{Change}
 use Rattle.hpr_edit.specs.declared.change.Change.TheVariants.{Take, Say, Wrap, Unwrap}
 use Rattle.hpr_edit.specs.declared.change.Change.TheVariants as change
 use Rattle.hpr_edit.specs.declared.change.Put.{Put}
-use Rattle.hpr_edit.specs.declared.change.Put.TheVariants.{Part, Round}
+use Rattle.hpr_edit.specs.declared.change.Put.TheVariants.{Part, New, Round}
 use Rattle.hpr_edit.specs.declared.command.Place.{Place}
+use Rattle.hpr_edit.specs.declared.command.Command.{Command}
+use Rattle.hpr_edit.specs.declared.command.Command.TheVariants.{Insert, Finals}
+use Rattle.hpr_edit.specs.declared.command.Command.TheVariants as command
 use Rattle.hpr_edit.specs.declared.command.Inverse.{Inverse}
 use Rattle.hpr_edit.specs.declared.command.EditError.{EditError}
 use Rattle.hpr_edit.specs.declared.command.EditError.TheVariants.{NoTag, Shape, Memory}
@@ -46,6 +58,7 @@ times t (loop u e b rest) = one_if (same_tag u t) + times t b + times t rest
 
 abbrev pub put_by : Put → Body → Body
 put_by (Part x) rest = before x.now rest
+put_by (New t c) rest = before (made t c.now done done) rest
 put_by (Round t c k m) rest = rewrapped t c.now k m rest
 
 abbrev pub done_by : Change → Stmt → Body → Body
@@ -69,16 +82,45 @@ in_part t f part = part
 abbrev pub with_content : Content → Stmt → Stmt
 with_content c part = made (tag_of part) c (first_block part) (second_block part)
 
+abbrev pub puts_whole : Put → Bool
+puts_whole (Round t c k m) = false
+puts_whole _ = true
+
+abbrev pub is_whole : Change → Bool
+is_whole (change.Put w n x) = puts_whole x
+is_whole _ = true
+
+abbrev pub tree_of : List (ℕ × ℕ) → Body → List (List ℕ) → Tree
+tree_of issued body finals = record { issued = issued; body = body; finals = finals }
+
 abbrev pub Settles : Tree → Result Tree EditError → Type 0
 Settles tree (Ok p) = (p ≡ tree) × IsProgram tree
 Settles tree (Err Memory) = Unit {0}
 Settles tree (Err (Shape why)) = shape tree ≡ Some why
 Settles tree (Err why) = ⊥
 
-abbrev pub Answers : Edited → Result (Tree × Inverse) EditError → Type 0
-Answers edited (Ok r) = edited ≡ becomes r.0 r.1
-Answers edited (Err Memory) = Unit {0}
-Answers edited (Err why) = edited ≡ refused why
+abbrev pub Refused : Edited → EditError → Type 0
+Refused edited Memory = Unit {0}
+Refused edited why = edited ≡ refused why
+
+abbrev pub Makes : Edited → Tree → Result Inverse EditError → Type 0
+Makes edited tree (Ok inverse) = edited ≡ becomes tree inverse
+Makes edited tree (Err why) = Refused edited why
+
+abbrev pub Allows : Edited → (Tag → Tree) → (Tag → Inverse) → Result Tag EditError → Type 0
+Allows edited tree inverse (Ok tag) = edited ≡ becomes (tree tag) (inverse tag)
+Allows edited tree inverse (Err why) = Refused edited why
+
+abbrev pub Moves : Edited → (Body → Tree) → (Place → Inverse) → Result (Body × Place) EditError → Type 0
+Moves edited tree inverse (Ok moved) = edited ≡ becomes (tree moved.0) (inverse moved.1)
+Moves edited tree inverse (Err why) = Refused edited why
+
+abbrev pub IsProperCommand : Command → Type 0
+IsProperCommand (Insert place c) = IsProperContent c
+IsProperCommand (command.Set t c) = IsProperContent c
+IsProperCommand (command.Wrap t c) = IsProperContent c
+IsProperCommand (Finals names) = All IsVariable names
+IsProperCommand _ = Unit {0}
 
 abbrev pub Located : Tag → Body → Option (Bor Stmt × Place) → Type 0
 Located t body (Some found) = (find_stmt t body ≡ Some found.0.now) × (place_of t body ≡ Some found.1)

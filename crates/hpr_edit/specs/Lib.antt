@@ -7,3 +7,4 @@ pub mod Reverted
 pub mod Rows
 pub mod Steps
 pub mod InPlace
+pub mod Tested

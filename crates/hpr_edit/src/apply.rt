@@ -1,182 +1,329 @@
-//! Commands, each carried out on a copy of the program that is edited.
-ghost use Rattle.std.specs.Prelude.{◌≡◌, ℕ, ◌≤◌, IfSome, IfOk, OnOk};
-ghost use Rattle.hpr_syntax.specs.Body.{done};
+//! Commands, each carried out in place, where none of its tests refuses it.
+//!
+//! What is edited is a program. So of the tests of a program only those are made that the command can make it fail, and each of them
+//! on what the command changes. They come before the change; and want of memory leaves everything as it was.
+ghost use Rattle.std.specs.Prelude.{◌≡◌, ℕ, ◌≤◌, ◌+◌, List, IfSome, IfOk, OnErr};
+ghost use Rattle.hpr_terms.specs.declared.limits.TheConstants.{MAX_PARTS};
+ghost use Rattle.hpr_terms.specs.declared.tag.Tag.{Tag};
+ghost use Rattle.hpr_syntax.specs.Body.{Body, done, part_count};
 ghost use Rattle.hpr_syntax.specs.BodyOf.{before};
-ghost use Rattle.hpr_syntax.specs.Issued.{raised};
+ghost use Rattle.hpr_syntax.specs.Issued.{Issued, raised};
 ghost use Rattle.hpr_syntax.specs.Rows.{content_of, made};
 ghost use Rattle.hpr_syntax.specs.Shape.{IsProgram};
-ghost use Rattle.hpr_syntax.specs.Tree.{Tree};
 ghost use Rattle.hpr_edit.specs.declared.command.Command.TheVariants.{Insert, Delete, Move, Set, Wrap, Unwrap, Finals};
-ghost use Rattle.hpr_edit.specs.declared.command.Inverse.TheVariants.{Rewrap};
+ghost use Rattle.hpr_edit.specs.declared.command.Inverse.TheVariants.{Remove, Lift, Rewrap, MoveBack};
 ghost use Rattle.hpr_edit.specs.Places.{width};
-ghost use Rattle.hpr_edit.specs.Changes.{at_part, at_place, first_block, second_block};
-ghost use Rattle.hpr_edit.specs.Edited.{edited, settled, new_tag, is_action, same_kind};
-ghost use Rattle.hpr_edit.specs.InPlace.{done_by, times, Located, Settles, Answers};
+ghost use Rattle.hpr_edit.specs.Changes.{at_part, at_place, first_block, second_block, gone, saying, wrapped, unwrapped};
+ghost use Rattle.hpr_edit.specs.Edited.{edited, new_tag, is_action, same_kind};
+ghost use Rattle.hpr_edit.specs.InPlace.{times, tree_of, Located, Settles, Makes, Allows, Moves, IsProperCommand};
+ghost use Rattle.hpr_edit.specs.Tested.{names_alone};
 
 use crate::change::{Change, Put, change_body, put_at_place};
 use crate::command::{Command, EditError, FinalNames, Inverse, Place};
 use crate::places::{is_place, place_of, stands_in, width};
+use crate::refusal::{
+    deep_refusal, first_deep, new_refusal, none_left, room_at, room_in, said_refusal,
+};
+use hpr_syntax::proper::{read_content, read_names};
 use hpr_syntax::{
     Block, Content, Issued, NoMemory, Program, ShapeError, Stmt, content_of, structure_of,
 };
 use hpr_terms::limits::MAX_TAG_NUMBER;
 use hpr_terms::{Name, Tag, copy_names};
 use std::alloc::Global;
+use std::mem;
 
-/// What a command makes of a program, with its inverse. A new part has this tag; there is none where the
-/// author's serials are spent.
+/// What a command makes of a program, with its inverse; or the program as it was, and why the command is refused. New
+/// parts are this author's.
 pub(crate) fn edited(
     alloc: Global,
-    program: &Program,
+    program: Program,
     command: &Command,
-    new: Option<Tag>,
-) -> Result<(Program, Inverse), EditError>
-    requires { IfSome new (λ tag. 1 ≤ tag.serial) }
-    ensures { (author : ℕ) → new ≡ new_tag author program.now.issued
-        → Answers (edited program.now command.now author) result }
+    author: u32,
+) -> (Program, Result<Inverse, EditError>)
+    ensures made { Makes (edited program command.now author) result.0 result.1 }
+    ensures unchanged { OnErr result.1 (result.0 ≡ program) }
+    ensures program { IsProgram program }
+{
+    let (mut issued, mut body, mut finals) = program.into_parts();
+    let made = carry_out(alloc, &mut issued, &mut body, &mut finals, command, author);
+    read_command(command);
+    (Program::from_parts(issued, body, finals), made)
+}
+
+/// Reads a command.
+fn read_command(command: &Command)
+    ensures { IsProperCommand command.now }
 {
     match command {
-        Command::Insert(place, content) => insert(alloc, program, *place, content, new),
-        Command::Delete(tag) => delete(alloc, program, *tag),
-        Command::Move(tag, place) => relocate(alloc, program, *tag, *place),
-        Command::Set(tag, content) => set(alloc, program, *tag, content),
-        Command::Wrap(tag, content) => wrap(alloc, program, *tag, content, new),
-        Command::Unwrap(tag) => unwrap(alloc, program, *tag),
-        Command::Finals(names) => name_finals(alloc, program, names),
+        Command::Insert(_, content) => read_content(content),
+        Command::Delete(_) => {}
+        Command::Move(_, _) => {}
+        Command::Set(_, content) => read_content(content),
+        Command::Wrap(_, content) => read_content(content),
+        Command::Unwrap(_) => {}
+        Command::Finals(names) => read_names(names.names()),
+    }
+}
+
+/// Carries out a command on a program's issued numbers, its body and its names of `end`.
+fn carry_out(
+    alloc: Global,
+    issued: &mut Issued,
+    body: &mut Block,
+    finals: &mut Vec<Name>,
+    command: &Command,
+    author: u32,
+) -> Result<Inverse, EditError>
+    requires { IsProgram (tree_of issued.old body.old finals.old.items) }
+    ensures made { Makes (edited (tree_of issued.old body.old finals.old.items) command.now author)
+        (tree_of issued.new body.new finals.new.items) result }
+    ensures issued { OnErr result (issued.new ≡ issued.old) }
+    ensures body { OnErr result (body.new ≡ body.old) }
+    ensures finals { OnErr result (finals.new.items ≡ finals.old.items) }
+{
+    match command {
+        Command::Insert(place, content) => insert(alloc, issued, body, *place, content, author),
+        Command::Delete(tag) => delete(alloc, body, *tag),
+        Command::Move(tag, place) => relocate(alloc, body, *tag, *place),
+        Command::Set(tag, content) => set(alloc, body, *tag, content),
+        Command::Wrap(tag, content) => wrap(alloc, issued, body, *tag, content, author),
+        Command::Unwrap(tag) => unwrap(alloc, body, *tag),
+        Command::Finals(names) => name_finals(alloc, finals, names),
     }
 }
 
 /// Inserts a new part.
 fn insert(
     alloc: Global,
-    program: &Program,
+    issued: &mut Issued,
+    body: &mut Block,
     place: Place,
     content: &Content,
-    new: Option<Tag>,
-) -> Result<(Program, Inverse), EditError>
-    requires { IfSome new (λ tag. 1 ≤ tag.serial) }
-    ensures { (author : ℕ) → new ≡ new_tag author program.now.issued
-        → Answers (edited program.now (Insert place content.now) author) result }
+    author: u32,
+) -> Result<Inverse, EditError>
+    requires once { (t : Tag) → times t body.old ≤ 1 }
+    requires few { part_count body.old ≤ MAX_PARTS }
+    ensures made { (finals : List (List ℕ)) → IsProgram (tree_of issued.old body.old finals)
+        → Makes (edited (tree_of issued.old body.old finals) (Insert place content.now) author)
+        (tree_of issued.new body.new finals) result }
+    ensures issued { OnErr result (issued.new ≡ issued.old) }
+    ensures body { OnErr result (body.new ≡ body.old) }
 {
-    if !is_place(program.body(), place) {
-        return Err(EditError::NoPlace);
-    }
-    let Some(tag) = new else {
-        return Err(EditError::SerialsSpent);
-    };
-    let body = with_part(alloc, program, place, tag, content)?;
-    answer(settle_new(alloc, program, body, tag), Inverse::Remove(tag))
+    let tag = tag_to_insert(issued, body, place, content, author)?;
+    let numbers = issued_with(alloc, issued, tag)?;
+    put_at_place(alloc, body, place, Put::New(tag, content))?;
+    *issued = numbers;
+    Ok(Inverse::Remove(tag))
 }
 
-/// A copy of the body in which a new part with no parts in it stands at a place.
-#[tactic(auto, using(crate::proofs::Tags::once))]
-fn with_part(
-    alloc: Global,
-    program: &Program,
+/// The tag of the author's new part with this content at this place, if it may stand there.
+fn tag_to_insert(
+    issued: &Issued,
+    body: &Block,
     place: Place,
-    tag: Tag,
     content: &Content,
-) -> Result<Block, NoMemory>
-    ensures { IfOk result (λ body. body ≡ at_place place (before (made tag content.now done done)) program.now.body) }
+    author: u32,
+) -> Result<Tag, EditError>
+    requires few { part_count body.now ≤ MAX_PARTS }
+    ensures allowed { (finals : List (List ℕ)) → IsProgram (tree_of issued.now body.now finals)
+        → Allows (edited (tree_of issued.now body.now finals) (Insert place content.now) author)
+        (λ t. tree_of (raised t.author t.serial issued.now)
+        (at_place place (before (made t content.now done done)) body.now) finals) Remove result }
+    ensures serial { IfOk result (λ t. 1 ≤ t.serial) }
 {
-    let mut body = program.body().copy(alloc)?;
-    put_at_place(alloc, &mut body, place, Put::Round(tag, content, 0, 0))?;
-    Ok(body)
+    if !is_place(body, place) {
+        return Err(EditError::NoPlace);
+    }
+    let Some(tag) = next_tag(issued, author) else {
+        return Err(EditError::SerialsSpent);
+    };
+    let deep = none_left(room_at(body, place.parent), tag);
+    match new_refusal(deep, tag, content, body.part_count() + 1) {
+        Some(why) => Err(EditError::Shape(why)),
+        None => Ok(tag),
+    }
 }
 
 /// Deletes a part and all that stands in it.
-fn delete(alloc: Global, program: &Program, tag: Tag) -> Result<(Program, Inverse), EditError>
-    ensures { (author : ℕ) → Answers (edited program.now (Delete tag) author) result }
+fn delete(alloc: Global, body: &mut Block, tag: Tag) -> Result<Inverse, EditError>
+    requires once { (t : Tag) → times t body.old ≤ 1 }
+    ensures made { (issued : Issued) (finals : List (List ℕ)) (author : ℕ) → IsProgram (tree_of issued body.old finals)
+        → Makes (edited (tree_of issued body.old finals) (Delete tag) author) (tree_of issued body.new finals) result }
+    ensures body { OnErr result (body.new ≡ body.old) }
 {
-    let Some((part, old)) = located(program, tag) else {
+    let inverse = inverse_of_delete(alloc, body, tag)?;
+    change_body(alloc, body, tag, Change::Take)?;
+    Ok(inverse)
+}
+
+/// What takes back that a part is deleted, if it may be.
+fn inverse_of_delete(alloc: Global, body: &Block, tag: Tag) -> Result<Inverse, EditError>
+    ensures { (issued : Issued) (finals : List (List ℕ)) (author : ℕ) → IsProgram (tree_of issued body.now finals)
+        → Makes (edited (tree_of issued body.now finals) (Delete tag) author)
+        (tree_of issued (at_part tag gone body.now) finals) result }
+{
+    let Some((part, old)) = located(body, tag) else {
         return Err(EditError::NoTag(tag));
     };
-    let part = part.copy(alloc)?;
-    let body = changed(alloc, program, tag, Change::Take)?;
-    answer(settle(alloc, program, body), Inverse::PutBack(old, part))
+    Ok(Inverse::PutBack(old, part.copy(alloc)?))
 }
 
 /// Moves a part with all that stands in it.
-fn relocate(
-    alloc: Global,
-    program: &Program,
-    tag: Tag,
-    place: Place,
-) -> Result<(Program, Inverse), EditError>
-    ensures { (author : ℕ) → Answers (edited program.now (Move tag place) author) result }
+fn relocate(alloc: Global, body: &mut Block, tag: Tag, place: Place) -> Result<Inverse, EditError>
+    requires once { (t : Tag) → times t body.old ≤ 1 }
+    ensures made { (issued : Issued) (finals : List (List ℕ)) (author : ℕ) → IsProgram (tree_of issued body.old finals)
+        → Makes (edited (tree_of issued body.old finals) (Move tag place) author)
+        (tree_of issued body.new finals) result }
+    ensures body { OnErr result (body.new ≡ body.old) }
 {
-    let Some((part, old)) = located(program, tag) else {
+    let (moved, old) = moved(alloc, body, tag, place)?;
+    *body = moved;
+    Ok(Inverse::MoveBack(tag, old))
+}
+
+/// A copy of the body in which a part stands elsewhere, with its old place, if it may stand there.
+fn moved(alloc: Global, body: &Block, tag: Tag, place: Place) -> Result<(Block, Place), EditError>
+    requires once { (t : Tag) → times t body.now ≤ 1 }
+    ensures { (issued : Issued) (finals : List (List ℕ)) (author : ℕ) → IsProgram (tree_of issued body.now finals)
+        → Moves (edited (tree_of issued body.now finals) (Move tag place) author)
+        (λ b. tree_of issued b finals) (MoveBack tag) result }
+{
+    let Some((part, old)) = located(body, tag) else {
         return Err(EditError::NoTag(tag));
     };
     if stands_in(place.parent, part) {
         return Err(EditError::IntoItself(tag));
     }
-    let mut body = changed(alloc, program, tag, Change::Take)?;
-    if !is_place(&body, place) {
+    let mut moved = body.copy(alloc)?;
+    change_body(alloc, &mut moved, tag, Change::Take)?;
+    if !is_place(&moved, place) {
         return Err(EditError::NoPlace);
     }
-    put_at_place(alloc, &mut body, place, Put::Part(part))?;
-    answer(settle(alloc, program, body), Inverse::MoveBack(tag, old))
+    let deep = first_deep(part, room_at(&moved, place.parent));
+    if let Some(why) = deep_refusal(deep) {
+        return Err(EditError::Shape(why));
+    }
+    put_at_place(alloc, &mut moved, place, Put::Part(part))?;
+    Ok((moved, old))
 }
 
 /// Lets a part say something else.
-fn set(
+fn set(alloc: Global, body: &mut Block, tag: Tag, content: &Content) -> Result<Inverse, EditError>
+    requires once { (t : Tag) → times t body.old ≤ 1 }
+    ensures made { (issued : Issued) (finals : List (List ℕ)) (author : ℕ) → IsProgram (tree_of issued body.old finals)
+        → Makes (edited (tree_of issued body.old finals) (Set tag content.now) author)
+        (tree_of issued body.new finals) result }
+    ensures body { OnErr result (body.new ≡ body.old) }
+{
+    let inverse = inverse_of_set(alloc, body, tag, content)?;
+    change_body(alloc, body, tag, Change::Say(content))?;
+    Ok(inverse)
+}
+
+/// What takes back that a part says this, if it may say it.
+fn inverse_of_set(
     alloc: Global,
-    program: &Program,
+    body: &Block,
     tag: Tag,
     content: &Content,
-) -> Result<(Program, Inverse), EditError>
-    ensures { (author : ℕ) → Answers (edited program.now (Set tag content.now) author) result }
+) -> Result<Inverse, EditError>
+    ensures { (issued : Issued) (finals : List (List ℕ)) (author : ℕ) → IsProgram (tree_of issued body.now finals)
+        → Makes (edited (tree_of issued body.now finals) (Set tag content.now) author)
+        (tree_of issued (at_part tag (saying content.now) body.now) finals) result }
 {
-    let Some((part, _)) = located(program, tag) else {
+    let Some(part) = body.find(tag) else {
         return Err(EditError::NoTag(tag));
     };
     if !same_kind(content, part) {
         return Err(EditError::KindDiffers(tag));
     }
-    let old = content_of(alloc, part)?;
-    let body = changed(alloc, program, tag, Change::Say(content))?;
-    answer(settle(alloc, program, body), Inverse::SetBack(tag, old))
+    if let Some(why) = said_refusal(tag, content) {
+        return Err(EditError::Shape(why));
+    }
+    Ok(Inverse::SetBack(tag, content_of(alloc, part)?))
 }
 
 /// Puts a new part round a part.
 fn wrap(
     alloc: Global,
-    program: &Program,
+    issued: &mut Issued,
+    body: &mut Block,
     tag: Tag,
     content: &Content,
-    new: Option<Tag>,
-) -> Result<(Program, Inverse), EditError>
-    requires { IfSome new (λ tag. 1 ≤ tag.serial) }
-    ensures { (author : ℕ) → new ≡ new_tag author program.now.issued
-        → Answers (edited program.now (Wrap tag content.now) author) result }
+    author: u32,
+) -> Result<Inverse, EditError>
+    requires once { (t : Tag) → times t body.old ≤ 1 }
+    requires few { part_count body.old ≤ MAX_PARTS }
+    ensures made { (finals : List (List ℕ)) → IsProgram (tree_of issued.old body.old finals)
+        → Makes (edited (tree_of issued.old body.old finals) (Wrap tag content.now) author)
+        (tree_of issued.new body.new finals) result }
+    ensures issued { OnErr result (issued.new ≡ issued.old) }
+    ensures body { OnErr result (body.new ≡ body.old) }
 {
-    let Some((_, _)) = located(program, tag) else {
+    let new = tag_to_wrap(issued, body, tag, content, author)?;
+    let numbers = issued_with(alloc, issued, new)?;
+    change_body(alloc, body, tag, Change::Wrap(new, content))?;
+    *issued = numbers;
+    Ok(Inverse::Lift(new))
+}
+
+/// The tag of the author's new part with this content round a part, if it may stand there.
+fn tag_to_wrap(
+    issued: &Issued,
+    body: &Block,
+    tag: Tag,
+    content: &Content,
+    author: u32,
+) -> Result<Tag, EditError>
+    requires few { part_count body.now ≤ MAX_PARTS }
+    ensures allowed { (finals : List (List ℕ)) → IsProgram (tree_of issued.now body.now finals)
+        → Allows (edited (tree_of issued.now body.now finals) (Wrap tag content.now) author)
+        (λ t. tree_of (raised t.author t.serial issued.now)
+        (at_part tag (wrapped t content.now) body.now) finals) Lift result }
+    ensures serial { IfOk result (λ t. 1 ≤ t.serial) }
+{
+    let Some(part) = body.find(tag) else {
         return Err(EditError::NoTag(tag));
     };
     if is_action(content) {
         return Err(EditError::KindDiffers(tag));
     }
-    let Some(new) = new else {
+    let Some(new) = next_tag(issued, author) else {
         return Err(EditError::SerialsSpent);
     };
-    let body = changed(alloc, program, tag, Change::Wrap(new, content))?;
-    answer(settle_new(alloc, program, body, new), Inverse::Lift(new))
+    let deep = first_deep(part, room_in(body, tag));
+    match new_refusal(deep, new, content, body.part_count() + 1) {
+        Some(why) => Err(EditError::Shape(why)),
+        None => Ok(new),
+    }
 }
 
 /// Puts what stands in a part in its place.
-fn unwrap(alloc: Global, program: &Program, tag: Tag) -> Result<(Program, Inverse), EditError>
-    ensures { (author : ℕ) → Answers (edited program.now (Unwrap tag) author) result }
+fn unwrap(alloc: Global, body: &mut Block, tag: Tag) -> Result<Inverse, EditError>
+    requires once { (t : Tag) → times t body.old ≤ 1 }
+    ensures made { (issued : Issued) (finals : List (List ℕ)) (author : ℕ) → IsProgram (tree_of issued body.old finals)
+        → Makes (edited (tree_of issued body.old finals) (Unwrap tag) author) (tree_of issued body.new finals) result }
+    ensures body { OnErr result (body.new ≡ body.old) }
 {
-    let Some((part, place)) = located(program, tag) else {
+    let inverse = inverse_of_unwrap(alloc, body, tag)?;
+    change_body(alloc, body, tag, Change::Unwrap)?;
+    Ok(inverse)
+}
+
+/// What takes back that what stands in a part takes its place, if it may.
+fn inverse_of_unwrap(alloc: Global, body: &Block, tag: Tag) -> Result<Inverse, EditError>
+    ensures { (issued : Issued) (finals : List (List ℕ)) (author : ℕ) → IsProgram (tree_of issued body.now finals)
+        → Makes (edited (tree_of issued body.now finals) (Unwrap tag) author)
+        (tree_of issued (at_part tag unwrapped body.now) finals) result }
+{
+    let Some((part, place)) = located(body, tag) else {
         return Err(EditError::NoTag(tag));
     };
     if says_action(part) {
         return Err(EditError::KindDiffers(tag));
     }
-    let old = rewrapping(alloc, part, tag, place)?;
-    let body = changed(alloc, program, tag, Change::Unwrap)?;
-    answer(settle(alloc, program, body), old)
+    Ok(rewrapping(alloc, part, tag, place)?)
 }
 
 /// What puts a part with this tag, which says what this one says, round what stands in this one.
@@ -192,62 +339,47 @@ fn rewrapping(alloc: Global, part: &Stmt, tag: Tag, place: Place) -> Result<Inve
 /// Lets `end` name these.
 fn name_finals(
     alloc: Global,
-    program: &Program,
+    finals: &mut Vec<Name>,
     names: &FinalNames,
-) -> Result<(Program, Inverse), EditError>
-    ensures { (author : ℕ) → Answers (edited program.now (Finals names.now) author) result }
+) -> Result<Inverse, EditError>
+    ensures made { (issued : Issued) (body : Body) (author : ℕ) → IsProgram (tree_of issued body finals.old.items)
+        → Makes (edited (tree_of issued body finals.old.items) (Finals names.now) author)
+        (tree_of issued body finals.new.items) result }
+    ensures finals { OnErr result (finals.new.items ≡ finals.old.items) }
 {
-    let old = copy_names(alloc, program.finals())?;
-    answer(
-        settle_finals(alloc, program, names.names()),
-        Inverse::FinalsBack(FinalNames::new(old)),
-    )
+    let copy = copy_names(alloc, names.names())?;
+    let (_, _, new) = alone(alloc, copy)?.into_parts();
+    let old = mem::replace(finals, new);
+    Ok(Inverse::FinalsBack(FinalNames::new(old)))
 }
 
-/// The program that a command made, with the inverse of the command, or the refusal.
-fn answer(
-    after: Result<Program, EditError>,
-    inverse: Inverse,
-) -> Result<(Program, Inverse), EditError>
-    ensures { (t : Tree) → Settles t after → Answers (settled t inverse) result }
+/// The program of no parts with these names of `end`, if no name is repeated.
+fn alone(alloc: Global, names: Vec<Name>) -> Result<Program, EditError>
+    ensures { Settles (names_alone names.items) result }
 {
-    match after {
-        Ok(program) => Ok((program, inverse)),
-        Err(why) => {
-            drop(inverse);
-            Err(why)
-        }
+    match Program::new(
+        alloc,
+        Issued::new(alloc),
+        Block::new(Vec::new(alloc)),
+        names,
+    ) {
+        Ok(program) => Ok(program),
+        Err(ShapeError::Memory) => Err(EditError::Memory),
+        Err(why) => Err(EditError::Shape(why)),
     }
 }
 
-/// A copy of the body in which the part with this tag is changed.
-#[tactic(auto, using(crate::proofs::Tags::once))]
-fn changed(
-    alloc: Global,
-    program: &Program,
-    tag: Tag,
-    change: Change<'_>,
-) -> Result<Block, NoMemory>
-    ensures { IfOk result (λ body. body ≡ at_part tag (done_by change.entry) program.now.body) }
-{
-    let mut body = program.body().copy(alloc)?;
-    change_body(alloc, &mut body, tag, change)?;
-    Ok(body)
-}
-
 /// The part with this tag, and where it stands.
-fn located(program: &Program, tag: Tag) -> Option<(&Stmt, Place)>
-    ensures found { Located tag program.now.body result }
-    ensures program { IsProgram program.now }
+fn located(body: &Block, tag: Tag) -> Option<(&Stmt, Place)>
+    ensures { Located tag body.now result }
 {
-    let body = program.body();
     let part = body.find(tag)?;
     let place = place_of(body, tag)?;
     Some((part, place))
 }
 
 /// The tag of the author's next part, or none where its serials are spent.
-pub(crate) fn next_tag(issued: &Issued, author: u32) -> Option<Tag>
+fn next_tag(issued: &Issued, author: u32) -> Option<Tag>
     ensures tag { result ≡ new_tag author issued.now }
     ensures serial { IfSome result (λ tag. 1 ≤ tag.serial) }
 {
@@ -301,69 +433,12 @@ fn widths(part: &Stmt) -> (usize, usize)
     }
 }
 
-/// The program with another body.
-fn settle(alloc: Global, program: &Program, body: Block) -> Result<Program, EditError>
-    ensures { Settles (record program.now { body = body }) result }
-{
-    let issued = program.issued().copy(alloc)?;
-    settle_issued(alloc, program, issued, body)
-}
-
-/// The program with other issued numbers and another body.
-fn settle_issued(
-    alloc: Global,
-    program: &Program,
-    issued: Issued,
-    body: Block,
-) -> Result<Program, EditError>
-    ensures { Settles (record { issued = issued; body = body; finals = program.now.finals }) result }
-{
-    let finals = copy_names(alloc, program.finals())?;
-    settled(alloc, issued, body, finals)
-}
-
-/// The program with other names of `end`.
-fn settle_finals(alloc: Global, program: &Program, names: &[Name]) -> Result<Program, EditError>
-    ensures { Settles (record program.now { finals = names.now }) result }
-{
-    let issued = program.issued().copy(alloc)?;
-    let finals = copy_names(alloc, names)?;
-    let body = program.body().copy(alloc)?;
-    settled(alloc, issued, body, finals)
-}
-
-/// The program with another body, in which there is a new part with this tag.
-fn settle_new(alloc: Global, program: &Program, body: Block, new: Tag) -> Result<Program, EditError>
+/// The issued numbers of a program and of this tag.
+fn issued_with(alloc: Global, issued: &Issued, new: Tag) -> Result<Issued, NoMemory>
     requires { 1 ≤ new.serial }
-    ensures { Settles
-        (record { issued = raised new.author new.serial program.now.issued; body = body; finals = program.now.finals }) result }
+    ensures { IfOk result (λ i. i ≡ raised new.author new.serial issued.now) }
 {
-    let issued = issued_with(alloc, program, new)?;
-    settle_issued(alloc, program, issued, body)
-}
-
-/// The issued numbers of the program and of this tag.
-fn issued_with(alloc: Global, program: &Program, new: Tag) -> Result<Issued, NoMemory>
-    requires { 1 ≤ new.serial }
-    ensures { IfOk result (λ i. i ≡ raised new.author new.serial program.now.issued) }
-{
-    let mut issued = program.issued().copy(alloc)?;
-    issued.raise(new.author, new.serial)?;
-    Ok(issued)
-}
-
-/// The program of these three, if it is one.
-fn settled(
-    alloc: Global,
-    issued: Issued,
-    body: Block,
-    finals: Vec<Name>,
-) -> Result<Program, EditError>
-    ensures { Settles (record { issued = issued; body = body; finals = finals.items }) result }
-{
-    match Program::new(alloc, issued, body, finals) {
-        Ok(program) => Ok(program),
-        Err(ShapeError::Memory) => Err(EditError::Memory),
-        Err(why) => Err(EditError::Shape(why)),
-    }
+    let mut numbers = issued.copy(alloc)?;
+    numbers.raise(new.author, new.serial)?;
+    Ok(numbers)
 }

@@ -3,14 +3,14 @@
 //! One walk goes down to the part with a tag, along a path of references, and does there what is
 //! asked. It looks at each part of the block at most once. It ends on blocks of any depth, but the
 //! stack that it takes is outside what is proved.
-ghost use Rattle.std.specs.Prelude.{◌≡◌, ◌<◌, ◌≤◌, ◌+◌, vec_len, IfOk, OnOk};
+ghost use Rattle.std.specs.Prelude.{◌≡◌, ◌<◌, ◌≤◌, ◌+◌, true, vec_len, IfOk, OnOk, OnErr};
 ghost use Rattle.hpr_syntax.specs.Body.{done};
 ghost use Rattle.hpr_syntax.specs.BodyOf.{before, body_of};
 ghost use Rattle.hpr_syntax.specs.Parts.{tag_of, same_tag};
-ghost use Rattle.hpr_edit.specs.Places.{joined};
 ghost use Rattle.hpr_syntax.specs.Rows.{made};
 ghost use Rattle.hpr_edit.specs.Changes.{at_part, at_place, from, with_block, first_block, second_block, gone, saying, wrapped, unwrapped, firsts, later, rewrapped};
-ghost use Rattle.hpr_edit.specs.InPlace.{times, one_if, put_by, done_by, on_first, in_part, with_content};
+ghost use Rattle.hpr_edit.specs.InPlace.{times, one_if, put_by, done_by, on_first, in_part, with_content, puts_whole, is_whole};
+ghost use Rattle.hpr_edit.specs.Places.{width};
 
 use crate::command::Place;
 use hpr_syntax::{Block, Content, NoMemory, Stmt};
@@ -23,6 +23,8 @@ use std::mem;
 pub(crate) enum Put<'a> {
     /// A copy of this part.
     Part(&'a Stmt),
+    /// A part with this tag and content, and with no parts in it.
+    New(Tag, &'a Content),
     /// A part with this tag and content. So many parts from the place on go into its first block, and
     /// so many of those behind them into its second.
     Round(Tag, &'a Content, usize, usize),
@@ -55,6 +57,7 @@ fn change_part(
     requires once { times tag block.old ≤ 1 }
     ensures changed { OnOk result (block.new ≡ at_part tag (done_by change.entry) block.old) }
     ensures found { IfOk result (λ found. one_if found ≡ times tag block.old) }
+    ensures unchanged { is_whole change.entry ≡ true → OnErr result (block.new ≡ block.old) }
 {
     for at in 0..block.stmts.len() {
         if block.stmts[at].tag() == tag {
@@ -76,7 +79,8 @@ pub(crate) fn change_body(
     change: Change<'_>,
 ) -> Result<(), NoMemory>
     requires once { times tag body.old ≤ 1 }
-    ensures { OnOk result (body.new ≡ at_part tag (done_by change.entry) body.old) }
+    ensures changed { OnOk result (body.new ≡ at_part tag (done_by change.entry) body.old) }
+    ensures unchanged { is_whole change.entry ≡ true → OnErr result (body.new ≡ body.old) }
 {
     change_part(alloc, body, tag, change)?;
     Ok(())
@@ -94,6 +98,7 @@ fn change_within(
     ensures changed { OnOk result (stmt.new ≡ in_part tag (done_by change.entry) stmt.old) }
     ensures found { IfOk result (λ found. one_if (same_tag (tag_of stmt.old) tag) + one_if found
         ≡ times tag (before stmt.old done)) }
+    ensures unchanged { is_whole change.entry ≡ true → OnErr result (stmt.new ≡ stmt.old) }
 {
     match stmt {
         Stmt::If(_, _, yes, no) => {
@@ -110,8 +115,9 @@ fn change_within(
 /// Does it to the part at this place.
 fn act(alloc: Global, stmts: &mut Vec<Stmt>, at: usize, change: Change<'_>) -> Result<(), NoMemory>
     requires { at < vec_len stmts.old }
-    ensures { OnOk result (body_of stmts.new.items ≡ from at (on_first (done_by change.entry))
+    ensures changed { OnOk result (body_of stmts.new.items ≡ from at (on_first (done_by change.entry))
         (body_of stmts.old.items)) }
+    ensures unchanged { is_whole change.entry ≡ true → OnErr result (stmts.new.items ≡ stmts.old.items) }
 {
     match change {
         Change::Take => {
@@ -141,8 +147,9 @@ fn say_at(
     content: &Content,
 ) -> Result<(), NoMemory>
     requires { at < vec_len stmts.old }
-    ensures { OnOk result (body_of stmts.new.items ≡ from at (on_first (saying content.now))
+    ensures changed { OnOk result (body_of stmts.new.items ≡ from at (on_first (saying content.now))
         (body_of stmts.old.items)) }
+    ensures unchanged { OnErr result (stmts.new.items ≡ stmts.old.items) }
 {
     say(alloc, &mut stmts[at], content)
 }
@@ -156,35 +163,42 @@ fn wrap_at(
     content: &Content,
 ) -> Result<(), NoMemory>
     requires { at < vec_len stmts.old }
-    ensures { OnOk result (body_of stmts.new.items ≡ from at (on_first (wrapped tag content.now))
+    ensures changed { OnOk result (body_of stmts.new.items ≡ from at (on_first (wrapped tag content.now))
         (body_of stmts.old.items)) }
+    ensures unchanged { OnErr result (stmts.new.items ≡ stmts.old.items) }
 {
-    let content = content.copy(alloc)?;
-    let part = stmts.remove(at);
-    let whole = wrap(alloc, tag, content, part)?;
-    stmts.insert(at, whole)?;
-    Ok(())
+    wrap(alloc, &mut stmts[at], tag, content)
 }
 
 /// Puts what stands in the part at this place there.
 fn unwrap_at(alloc: Global, stmts: &mut Vec<Stmt>, at: usize) -> Result<(), NoMemory>
     requires { at < vec_len stmts.old }
-    ensures { OnOk result (body_of stmts.new.items ≡ from at (on_first unwrapped) (body_of stmts.old.items)) }
+    ensures changed { OnOk result (body_of stmts.new.items ≡ from at (on_first unwrapped) (body_of stmts.old.items)) }
+    ensures unchanged { OnErr result (stmts.new.items ≡ stmts.old.items) }
 {
-    let mut part = stmts.remove(at);
+    stmts.reserve(count_in(&stmts[at]))?;
     let mut rest = stmts.split_off(at)?;
-    pour(alloc, stmts, &mut part)?;
+    let mut part = rest.remove(0);
+    let (first, second) = take_blocks(alloc, &mut part);
+    let mut first = first.into_stmts();
+    let mut second = second.into_stmts();
+    // No more memory is asked for from here on.
+    stmts.append(&mut first)?;
+    stmts.append(&mut second)?;
     stmts.append(&mut rest)?;
     Ok(())
 }
 
-/// Puts what stands in a part behind these parts.
-fn pour(alloc: Global, stmts: &mut Vec<Stmt>, part: &mut Stmt) -> Result<(), NoMemory>
-    ensures { OnOk result (body_of stmts.new.items ≡ joined (body_of stmts.old.items) (unwrapped part.old done)) }
+/// How many parts the blocks of a part have, without those that stand in them.
+#[tactic(auto, using(crate::proofs::Lists::width_body))]
+fn count_in(part: &Stmt) -> usize
+    ensures { result ≡ width (first_block part.now) + width (second_block part.now) }
 {
-    let (first, second) = take_blocks(alloc, part);
-    pour_block(stmts, first)?;
-    pour_block(stmts, second)
+    match part {
+        Stmt::If(_, _, yes, no) => yes.stmts.len() + no.stmts.len(),
+        Stmt::While(_, _, body) => body.stmts.len(),
+        _ => 0,
+    }
 }
 
 /// Takes the blocks of a part, as far as it has blocks.
@@ -213,15 +227,6 @@ fn empty(alloc: Global) -> Block
     Block::new(Vec::new(alloc))
 }
 
-/// Puts the parts of a block behind these.
-fn pour_block(stmts: &mut Vec<Stmt>, block: Block) -> Result<(), NoMemory>
-    ensures { OnOk result (body_of stmts.new.items ≡ joined (body_of stmts.old.items) block) }
-{
-    let mut parts = block.into_stmts();
-    stmts.append(&mut parts)?;
-    Ok(())
-}
-
 /// Puts something into a block of the part at this place.
 fn put_at(
     alloc: Global,
@@ -232,9 +237,10 @@ fn put_at(
     what: Put<'_>,
 ) -> Result<(), NoMemory>
     requires { at < vec_len stmts.old }
-    ensures { OnOk result (body_of stmts.new.items ≡ from at
+    ensures changed { OnOk result (body_of stmts.new.items ≡ from at
         (on_first (λ part rest. before (with_block branch (from place (put_by what.entry)) part) rest))
         (body_of stmts.old.items)) }
+    ensures unchanged { puts_whole what.entry ≡ true → OnErr result (stmts.new.items ≡ stmts.old.items) }
 {
     put_in(alloc, &mut stmts[at], branch, place, what)
 }
@@ -247,7 +253,8 @@ fn put_in(
     place: usize,
     what: Put<'_>,
 ) -> Result<(), NoMemory>
-    ensures { OnOk result (stmt.new ≡ with_block branch (from place (put_by what.entry)) stmt.old) }
+    ensures changed { OnOk result (stmt.new ≡ with_block branch (from place (put_by what.entry)) stmt.old) }
+    ensures unchanged { puts_whole what.entry ≡ true → OnErr result (stmt.new ≡ stmt.old) }
 {
     match stmt {
         Stmt::If(_, _, yes, no) => {
@@ -270,10 +277,12 @@ fn put_in(
 
 /// Puts something into a block, if there is such a place.
 fn put_into(alloc: Global, block: &mut Block, place: usize, what: Put<'_>) -> Result<(), NoMemory>
-    ensures { OnOk result (block.new ≡ from place (put_by what.entry) block.old) }
+    ensures changed { OnOk result (block.new ≡ from place (put_by what.entry) block.old) }
+    ensures unchanged { puts_whole what.entry ≡ true → OnErr result (block.new ≡ block.old) }
 {
     match what {
         Put::Part(part) => put_part(alloc, block, place, part),
+        Put::New(tag, content) => put_new(alloc, block, place, tag, content),
         Put::Round(tag, content, first, second) => enclose(
             alloc, block, place, tag, content, first, second,
         ),
@@ -283,10 +292,32 @@ fn put_into(alloc: Global, block: &mut Block, place: usize, what: Put<'_>) -> Re
 /// Puts a copy of a part into a block, if there is such a place.
 #[tactic(auto, using(crate::proofs::Lists::inserted, crate::proofs::Lists::from_past))]
 fn put_part(alloc: Global, block: &mut Block, place: usize, part: &Stmt) -> Result<(), NoMemory>
-    ensures { OnOk result (block.new ≡ from place (before part.now) block.old) }
+    ensures changed { OnOk result (block.new ≡ from place (before part.now) block.old) }
+    ensures unchanged { OnErr result (block.new ≡ block.old) }
 {
     if place <= block.stmts.len() {
         block.stmts.insert(place, part.copy(alloc)?)?;
+    }
+    Ok(())
+}
+
+/// Puts a new part with no parts in it into a block, if there is such a place.
+#[tactic(auto, using(crate::proofs::Lists::inserted, crate::proofs::Lists::from_past))]
+fn put_new(
+    alloc: Global,
+    block: &mut Block,
+    place: usize,
+    tag: Tag,
+    content: &Content,
+) -> Result<(), NoMemory>
+    ensures changed { OnOk result (block.new ≡ from place (before (made tag content.now done done)) block.old) }
+    ensures unchanged { OnErr result (block.new ≡ block.old) }
+{
+    if place <= block.stmts.len() {
+        let content = content.copy(alloc)?;
+        block
+            .stmts
+            .insert(place, content.into_stmt(tag, empty(alloc), empty(alloc)))?;
     }
     Ok(())
 }
@@ -362,7 +393,8 @@ fn take_front(stmts: &mut Vec<Stmt>, count: usize) -> Result<Block, NoMemory>
 
 /// Lets a part say this.
 fn say(alloc: Global, part: &mut Stmt, content: &Content) -> Result<(), NoMemory>
-    ensures { OnOk result (part.new ≡ with_content content.now part.old) }
+    ensures changed { OnOk result (part.new ≡ with_content content.now part.old) }
+    ensures unchanged { OnErr result (part.new ≡ part.old) }
 {
     let content = content.copy(alloc)?;
     let tag = part.tag();
@@ -371,13 +403,33 @@ fn say(alloc: Global, part: &mut Stmt, content: &Content) -> Result<(), NoMemory
     Ok(())
 }
 
-/// The part that says this and has the other one in its first block.
-fn wrap(alloc: Global, tag: Tag, content: Content, part: Stmt) -> Result<Stmt, NoMemory>
-    ensures { IfOk result (λ whole. whole ≡ made tag content (before part done) done) }
+/// Puts a new part round this one.
+fn wrap(alloc: Global, part: &mut Stmt, tag: Tag, content: &Content) -> Result<(), NoMemory>
+    ensures changed { OnOk result (part.new ≡ made tag content.now (before part.old done) done) }
+    ensures unchanged { OnErr result (part.new ≡ part.old) }
 {
-    let mut stmts = Vec::new(alloc);
-    stmts.push(part)?;
-    Ok(content.into_stmt(tag, Block::new(stmts), empty(alloc)))
+    let content = content.copy(alloc)?;
+    let mut stmts = Vec::with_capacity(alloc, 1)?;
+    let whole = content.into_stmt(tag, empty(alloc), empty(alloc));
+    // No more memory is asked for from here on.
+    stmts.push(mem::replace(part, whole))?;
+    fill(part, Block::new(stmts));
+    Ok(())
+}
+
+/// Makes a block the first of a part, if it has blocks.
+fn fill(part: &mut Stmt, block: Block)
+    ensures { part.new ≡ with_block true (λ _. block) part.old }
+{
+    match part {
+        Stmt::If(_, _, yes, _) => {
+            *yes = block;
+        }
+        Stmt::While(_, _, body) => {
+            *body = block;
+        }
+        _ => {}
+    }
 }
 
 /// Puts something at a place of a body, if there is such a place.
@@ -388,7 +440,8 @@ pub(crate) fn put_at_place(
     what: Put<'_>,
 ) -> Result<(), NoMemory>
     requires once { (t : Tag) → times t body.old ≤ 1 }
-    ensures { OnOk result (body.new ≡ at_place place (put_by what.entry) body.old) }
+    ensures changed { OnOk result (body.new ≡ at_place place (put_by what.entry) body.old) }
+    ensures unchanged { puts_whole what.entry ≡ true → OnErr result (body.new ≡ body.old) }
 {
     match place.parent {
         None => put_into(alloc, body, place.at, what),

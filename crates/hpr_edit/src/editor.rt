@@ -1,15 +1,17 @@
 //! The editor: a program that commands change, and the inverses that take them back.
-ghost use Rattle.std.specs.Prelude.{◌≡◌, ◌≢◌, ◌≤◌, IfOk, IfErr, OnOk, OnErr};
+ghost use Rattle.std.specs.Prelude.{◌≡◌, ◌≢◌, ◌≤◌, [], IfOk, IfErr, OnOk, OnErr};
+ghost use Rattle.hpr_syntax.specs.Body.{done};
 ghost use Rattle.hpr_syntax.specs.Tree.{Tree};
 ghost use Rattle.hpr_edit.specs.Edited.{edited, becomes, refused};
 ghost use Rattle.hpr_edit.specs.Reverted.{reverted, Undoes, IsPutBackIssued};
 
-use crate::apply::{edited, next_tag};
+use crate::apply::edited;
 use crate::command::{Command, EditError, Inverse};
 use crate::revert::reverted;
-use hpr_syntax::{NoMemory, Program};
+use hpr_syntax::{Block, Issued, NoMemory, Program};
 use std::alloc::Global;
 use std::marker::Model;
+use std::mem;
 
 /// A program that is changed by commands, and the author of the new parts.
 ///
@@ -55,8 +57,9 @@ impl Editor {
     /// Carries out a command, and answers what takes it back.
     ///
     /// It is refused exactly by the first of [`EditError`]'s causes that holds, in their order, or for
-    /// want of memory, and the editor is then as it was. It takes time and memory in proportion to the
-    /// program, up to the logarithm that the search for repeated tags adds.
+    /// want of memory, and the editor is then as it was. It changes the program in place: it takes time in
+    /// proportion to the number of parts, to what it takes out or puts in, and to the number of authors; a move takes time
+    /// and memory in proportion to the program.
     pub fn apply(&mut self, alloc: Global, command: &Command) -> Result<Inverse, EditError>
         ensures edited { IfOk result (λ i. edited self.old.program command.now self.old.author
             ≡ becomes self.new.program i) }
@@ -67,14 +70,10 @@ impl Editor {
         ensures unchanged { OnErr result (self.new ≡ self.old) }
         ensures author { self.new.author ≡ self.old.author }
     {
-        let new = next_tag(self.program.issued(), self.author);
-        match edited(alloc, &self.program, command, new) {
-            Ok((program, inverse)) => {
-                self.program = program;
-                Ok(inverse)
-            }
-            Err(why) => Err(why),
-        }
+        let program = mem::replace(&mut self.program, nothing(alloc));
+        let (program, made) = edited(alloc, program, command, self.author);
+        self.program = program;
+        made
     }
 
     /// Takes a command back: body and finals are those of before the command. Issued numbers stay.
@@ -124,4 +123,15 @@ impl Editor {
         let Editor { program, .. } = self;
         program
     }
+}
+
+/// The program with no parts. It takes no memory.
+fn nothing(alloc: Global) -> Program
+    ensures { result ≡ record { issued = []; body = done; finals = [] } }
+{
+    Program::from_parts(
+        Issued::new(alloc),
+        Block::new(Vec::new(alloc)),
+        Vec::new(alloc),
+    )
 }

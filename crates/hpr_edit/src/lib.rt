@@ -7,6 +7,7 @@ mod command;
 mod editor;
 pub mod laws;
 mod places;
+mod refusal;
 mod revert;
 mod script;
 

@@ -1,16 +1,15 @@
+use Rattle.std.proofs.Common.{subst, arith}
+use Rattle.hpr_syntax.specs.Shape.{IsProgram}
+use Rattle.hpr_edit.specs.InPlace.{tree_of}
+use Rattle.hpr_edit.proofs.Proper.{carried_program, same_tree}
 use Rattle.hpr_edit.proofs.apply.edited.Goals as goal
 
-pub returns-in-Delete : goal.returns-in-Delete
-returns-in-Delete c = λ author _. rw c.in-Delete.is (c.delete.ensures author)
-
-pub returns-in-Move : goal.returns-in-Move
-returns-in-Move c = λ author _. rw c.in-Move.is (c.relocate.ensures author)
-
-pub returns-in-Set : goal.returns-in-Set
-returns-in-Set c = λ author _. rw c.in-Set.is (c.set.ensures author)
-
-pub returns-in-Unwrap : goal.returns-in-Unwrap
-returns-in-Unwrap c = λ author _. rw c.in-Unwrap.is (c.unwrap.ensures author)
-
-pub returns-in-Finals : goal.returns-in-Finals
-returns-in-Finals c = λ author _. rw c.in-Finals.is (c.name_finals.ensures author)
+pub from_parts-requires : goal.from_parts-requires
+from_parts-requires c =
+    let old = c.into_parts-issued.result in
+    let new = c.carry_out-made.new in
+    let is : IsProgram (tree_of old.0 old.1 old.2.items) = subst (λ x. IsProgram x) c.into_parts-issued.ensures.parts c.into_parts-issued.ensures.program in
+    let made = c.carry_out-made.ensures in
+    carried_program (tree_of old.0 old.1 old.2.items) is c.args.command.now c.read_command.ensures c.args.author (omega arith)
+    (tree_of new.issued new.body new.finals.items) c.carry_out-made.result made.made
+    (same_tree c.carry_out-made.result new.issued old.0 new.body old.1 new.finals.items old.2.items made.issued made.body made.finals)

@@ -1,23 +1,14 @@
-use Rattle.std.proofs.Common.{◌∙◌, ap, sym, not}
-use Rattle.hpr_syntax.specs.Parts.{find_stmt}
-use Rattle.hpr_syntax.specs.Rows.{content_of}
-use Rattle.hpr_edit.specs.declared.command.Inverse.TheVariants.{SetBack}
-use Rattle.hpr_edit.specs.declared.command.EditError.TheVariants.{KindDiffers}
-use Rattle.hpr_edit.specs.Places.{place_of}
-use Rattle.hpr_edit.specs.Changes.{at_part, saying}
-use Rattle.hpr_edit.specs.Edited.{refuse, same_kind, settled}
-use Rattle.hpr_edit.proofs.Ends.{passed, passed_found, ended}
+use Rattle.std.proofs.Common.{ap, sym, ◌∙◌}
+use Rattle.std.proofs.lemmas.Result.{err_from_is_err_and}
+use Rattle.hpr_edit.specs.Edited.{becomes}
+use Rattle.hpr_edit.specs.InPlace.{tree_of}
 use Rattle.hpr_edit.proofs.apply.set.Goals as goal
 
-pub returns : goal.returns
-returns c = λ author.
-    let p = c.args.program.now in
-    let t = c.args.tag in
-    let content = c.args.content.now in
-    let part = c.in-Some.part.now in
-    let new = record p { body = at_part t (saying content) p.body } in
-    passed_found t (find_stmt t p.body) (place_of t p.body) (λ s old. refuse (KindDiffers t) (not (same_kind content (content_of s))) (settled new (SetBack t (content_of s))))
-    part c.in-Some.field-0-1 c.answer.result c.in-Some.ensures.found.0 c.in-Some.ensures.found.1
-    (passed (KindDiffers t) (not (same_kind content (content_of part))) (settled new (SetBack t (content_of part))) c.answer.result (ap not (sym c.same_kind.ensures ∙ c.if-not-same_kind.false))
-    (ended (record p { body = c.in_ok-body.body }) new (SetBack t c.in_ok-old.old) (SetBack t (content_of part)) c.settle.result c.answer.result
-    c.answer.ensures (ap (λ y. record p { body = y }) c.in_ok-body.ensures) (ap (SetBack t) c.in_ok-old.ensures) c.settle.ensures))
+pub returns-in_err-inverse-clause-made : goal.returns-in_err-inverse-clause-made
+returns-in_err-inverse-clause-made c = λ issued finals author is.
+    let p = err_from_is_err_and c.from_residual.result c.from_residual.ensures.1 in
+    rw (p.1, p.2) (c.in_err-inverse.ensures issued finals author is)
+
+pub returns-clause-made : goal.returns-clause-made
+returns-clause-made c = λ issued finals author is.
+    c.in_ok-inverse.ensures issued finals author is ∙ ap (λ b. becomes (tree_of issued b finals) c.in_ok-inverse.inverse) (sym c.in_ok-change_body.ensures.changed)

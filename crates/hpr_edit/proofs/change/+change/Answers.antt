@@ -1,5 +1,6 @@
 use Rattle.std.proofs.Common.{rules, ◌≡◌, ◌<◌, ◌≤◌, ◌+◌, refl, ap, sym, ◌∙◌, subst, arith, length, get_or, take, add-one, true, false}
 use Rattle.std.proofs.lemmas.List.{get_or_default, take_all}
+use Rattle.std.proofs.lemmas.Result.{on_err_weaker}
 use Rattle.hpr_syntax.specs.declared.tree.Stmt.TheVariants.{If}
 use Rattle.hpr_syntax.specs.Body.{done}
 use Rattle.hpr_syntax.specs.BodyOf.{before, body_of}
@@ -28,7 +29,7 @@ change_part-returns-then-eq-clause-changed t c =
     let v : d ≡ get_or xs c.loop-at.at d = c.index.ensures in
     let w : same_tag (tag_of (get_or xs c.loop-at.at d)) c.args.tag ≡ true =
     ap (λ s. same_tag (tag_of s) c.args.tag) (sym v) ∙ ap (λ g. same_tag g c.args.tag) (sym c.tag.ensures) ∙ sym c.eq.ensures ∙ c.if-eq.true in
-    c.in_ok-act.ensures
+    c.in_ok-act.ensures.changed
     ∙ at_it c.args.tag (done_by c.args.change) c.loop-at.at xs d h c.loop-at.invariant.2 w
     ∙ ap (at_part c.args.tag (done_by c.args.change)) c.loop-at.invariant.0
 
@@ -125,3 +126,13 @@ change_within-returns-then-branch-clause-changed t c =
     let one : 1 ≡ times c.args.tag i.yes = ap one_if (sym c.if-branch.true) ∙ c.in_ok-change_part-in-If.ensures.found in
     in_yes c.args.tag (done_by c.args.change) i.field-0 i.field-1 i.yes i.no c.change_part.new.block le one c.in_ok-change_part-in-If.ensures.changed
     ∙ ap (in_part c.args.tag (done_by c.args.change)) (sym i.is)
+
+pub change_within-returns-else-branch-clause-unchanged :
+    goal.change_within-returns-else-branch-clause-unchanged
+change_within-returns-else-branch-clause-unchanged t c = λ whole.
+    let i = c.in-If in
+    let none : times c.args.tag i.yes ≡ 0 = sym c.in_ok-change_part-in-If.ensures.found ∙ ap one_if c.if-branch.false in
+    let same : c.change_part.new.block ≡ i.yes = c.in_ok-change_part-in-If.ensures.changed ∙ absent c.args.tag (done_by c.args.change) i.yes none in
+    on_err_weaker c.change_part-in-If.result
+    (λ e. ap (λ b. If i.field-0 i.field-1 b c.change_part-in-If.new.block) same ∙ ap (If i.field-0 i.field-1 i.yes) e ∙ sym i.is)
+    (c.change_part-in-If.ensures.unchanged whole)

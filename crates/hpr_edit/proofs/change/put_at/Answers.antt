@@ -6,8 +6,8 @@ use Rattle.hpr_edit.specs.InPlace.{put_by}
 use Rattle.hpr_edit.proofs.Lists.{set_at_place}
 use Rattle.hpr_edit.proofs.change.put_at.Goals as goal
 
-pub returns : goal.returns
-returns c =
+pub returns-clause-changed : goal.returns-clause-changed
+returns-clause-changed c =
     let xs = c.args.stmts.now.items in
     let d = c.index_mut.result.now in
     let h : c.args.at < length xs = grind (arith, c.requires) in
@@ -15,4 +15,4 @@ returns c =
     let v : d ≡ get_or xs c.args.at d = c.index_mut.ensures.value in
     on_ok_weaker c.put_in.result
     (λ e. set_at_place (λ s rest. before (f s) rest) c.args.at xs c.put_in.new.stmt d h (λ r. ap (λ y. before y r) (e ∙ ap f v)))
-    c.put_in.ensures
+    c.put_in.ensures.changed
