@@ -82,20 +82,22 @@ def leaning_definitions():
     """The same, where each definition stands in the first block of as many conditionals as can be."""
     program = Program()
     leaning(program, 64, 1740)
-    for _ in range(3990 - program.count if program.count > 3420 else 570):
+    for _ in range(3990 - program.count):
         program.put("y := x;")
     return graph_of(program.text([]))
 
 
 def names_at_each_use():
-    """Each use reads as many names as an expression may, and each name has several definitions that reach it."""
+    """Each use reads as many names as an expression may, and each name has two definitions that reach it."""
     program = Program()
     several = names(257)
-    for at in range(1900):
+    for name in several:
         program.put("if c then")
-        program.put(f"{several[at % 257]} := 1;")
+        program.put(f"{name} := 1;")
+        program.close("else")
+        program.put(f"{name} := 2;")
         program.close("fi")
-    for _ in range(190):
+    for _ in range(1900):
         program.put(f"y := {'+'.join(several)};")
     return graph_of(program.text([]))
 
