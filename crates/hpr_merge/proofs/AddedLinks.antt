@@ -1,5 +1,5 @@
 -- The links that are added to a slice are the edges that are added to it, in their order.
-use Rattle.std.proofs.Common.{◌≡◌, ℕ, zero, suc, ◌+◌, ◌<◌, ◌⊎◌, inl, inr, All, Bool, Some, None, List, [], ◌∷◌, ◌++◌, length, map, slice_get, sym, ap, ◌∙◌, subst, arith}
+use Rattle.std.proofs.Common.{◌≡◌, ℕ, zero, suc, ◌+◌, ◌<◌, ◌⊎◌, inl, inr, Bool, Option, Some, None, List, [], ◌∷◌, ◌++◌, length, map, slice_get, sym, ap, ◌∙◌, subst, arith}
 use Rattle.std.specs.Ordering.{ordering_then}
 use Rattle.std.specs.declared.cmp.Ordering.TheVariants.{Less}
 use Rattle.std.proofs.lemmas.Bool.{cases_lt}
@@ -20,12 +20,8 @@ use Rattle.hpr_slice.specs.Vertices.{IsOneOf, MarksExactly}
 use Rattle.hpr_graph.proofs.Lists.{some_inj, contains_at, place_of, get_longer}
 use Rattle.hpr_affected.proofs.SliceMarks.{third_marked, marked_third, marks_at}
 use Rattle.hpr_merge.specs.Added.{IsAddedLink, IsFirstAdded}
-use Rattle.hpr_merge.specs.Beside.{Pair, AreBeside, IsBeside, IsLeastAdded}
+use Rattle.hpr_merge.specs.Beside.{AreBeside, IsLeastAdded, IsLeastLink}
 use Rattle.hpr_graph.proofs.VertexOrder.{edge_never}
-
-pub one_within : (n m : ℕ) → n < m → All (λ k. k < m) (n ∷ [])
-one_within n m l zero d w = l
-one_within n m l (suc k) d w = absurd (omega (arith, w))
 
 -- the places of edges in the list of all edges row by row
 module _ {X : Type 0} where
@@ -131,11 +127,11 @@ module _ (m k : Numbered) (km : IsNumbered m) (kk : IsNumbered k) (b : AreBeside
       )
 
   -- where no link is added, no edge is
-  pub none_added : IsFirstAdded m k grown own None → IsLeastAdded (graph_in m) (graph_in k) v None
+  none_added : IsFirstAdded m k grown own None → IsLeastAdded (graph_in m) (graph_in k) v None
   none_added none e (((to, l, has, is), inside), new, own_to) = none to l has (added_link to l e is (((to, l, has, is), inside), new, own_to))
 
   -- the first link that is added is the least edge
-  pub least_added : (to : ℕ) (l : Link) (e : Edge) → IsFirstAdded m k grown own (Some (to, l)) → IsEdgeAt m.vertices to l e → IsLeast (IsAdded (graph_in m) (graph_in k) v) e
+  least_added : (to : ℕ) (l : Link) (e : Edge) → IsFirstAdded m k grown own (Some (to, l)) → IsEdgeAt m.vertices to l e → IsLeast (IsAdded (graph_in m) (graph_in k) v) e
   least_added to l e ((adds, (i, at, first)), before) is = (
     added_edge to l e (contains_at (row_of m to) i l at) is adds,
     λ f (((t, l', has, is'), inside), new, own_to) less.
@@ -149,22 +145,12 @@ module _ (m k : Numbered) (km : IsNumbered m) (kk : IsNumbered k) (b : AreBeside
 abbrev MarksOne : Numbered → ℕ → List Bool → Type 0
 MarksOne g at marks = MarksExactly g (ReachesOne (graph_in g) (IsOneOf g (at ∷ []))) marks
 
-marks_read : (w g : Numbered) (at : ℕ) (v : Vertex) (marks read : List Bool) → w ≡ g → read ≡ marks → slice_get g.vertices at ≡ Some v → MarksOne w at marks → MarksExactly g (ReachesOne (graph_in g) (λ s. s ≡ v)) read
-marks_read w g at v marks read same is at_v m = marks_at g at v read at_v (subst (λ (xs : List Bool). MarksOne g at xs) (sym is) (subst (λ (x : Numbered). MarksOne x at marks) same m))
-
-abbrev pair_of : Numbered → Numbered → Pair
-pair_of m k = record { merged = m; own = k }
-
--- what a search for the first added link says of the pair
-module _ (m k w n : Numbered) (p : Pair) (b : IsBeside link_cmp m k w n) (is : pair_of m k ≡ p) (at : ℕ) (wide narrow grown own : List Bool) (mw : MarksOne w at wide) (mn : MarksOne n at narrow) (gw : grown ≡ wide) (on : own ≡ narrow) where
-  pub pair_none : IsFirstAdded m k grown own None → (v : Vertex) → slice_get p.merged.vertices at ≡ Some v → IsLeastAdded (graph_in p.merged) (graph_in p.own) v None
-  pair_none none v =
-      subst (λ (s : Pair). slice_get s.merged.vertices at ≡ Some v → IsLeastAdded (graph_in s.merged) (graph_in s.own) v None) is
-      (λ at_v. none_added m k b.merged b.own b.beside v grown own (marks_read w m at v wide grown b.wide_is gw at_v mw)
-      (marks_read n k at v narrow own b.narrow_is on (ap (λ (vs : List Vertex). slice_get vs at) b.beside.vertices ∙ at_v) mn) none)
-
-  pub pair_some : (to : ℕ) (l : Link) (e : Edge) → IsFirstAdded m k grown own (Some (to, l)) → IsEdgeAt m.vertices to l e → (v : Vertex) → slice_get p.merged.vertices at ≡ Some v → IsLeastAdded (graph_in p.merged) (graph_in p.own) v (Some e)
-  pair_some to l e first edge v =
-      subst (λ (s : Pair). slice_get s.merged.vertices at ≡ Some v → IsLeastAdded (graph_in s.merged) (graph_in s.own) v (Some e)) is
-      (λ at_v. least_added m k b.merged b.own b.beside v grown own (marks_read w m at v wide grown b.wide_is gw at_v mw)
-      (marks_read n k at v narrow own b.narrow_is on (ap (λ (vs : List Vertex). slice_get vs at) b.beside.vertices ∙ at_v) mn) to l e first edge)
+-- what a search for the first added link says of two graphs
+pub least_link : (m k : Numbered) → IsNumbered m → IsNumbered k → AreBeside link_cmp m k → (at : ℕ) (grown own : List Bool) → MarksOne m at grown → MarksOne k at own → (o : Option (ℕ × Link)) → IsFirstAdded m k grown own o
+    → (v : Vertex) → slice_get m.vertices at ≡ Some v → IsLeastLink m k v o
+least_link m k km kk b at grown own mg mk None none v at_v =
+    none_added m k km kk b v grown own (marks_at m at v grown at_v mg) (marks_at k at v own (ap (λ (vs : List Vertex). slice_get vs at) b.vertices ∙ at_v) mk) none
+least_link m k km kk b at grown own mg mk (Some (to, l)) first v at_v = (
+  (let ((adds, (i, at_i, none)), before) = first in km.links to l (contains_at (row_of m to) i l at_i)),
+  λ e is. least_added m k km kk b v grown own (marks_at m at v grown at_v mg) (marks_at k at v own (ap (λ (vs : List Vertex). slice_get vs at) b.vertices ∙ at_v) mk) to l e first is,
+)

@@ -15,7 +15,8 @@ use Rattle.hpr_graph.proofs.InOrder.{vertices_agree}
 use Rattle.hpr_graph.proofs.Laws.{closed_by_numbers}
 use Rattle.hpr_slice.specs.Vertices.{IsOneOf}
 use Rattle.hpr_graph.proofs.Lists.{some_inj, in_none, contains_at, place_of, at_push}
-use Rattle.hpr_merge.specs.Beside.{AreBeside, IsLeastAdded}
+use Rattle.hpr_affected.specs.Numbers.{AreNumbersOf}
+use Rattle.hpr_merge.specs.Beside.{AreBeside}
 use Rattle.hpr_merge.specs.PointConflicts.{IsPointConflict, ArePointConflicts, IsEdgeOfPoint, with_edge}
 use Rattle.hpr_graph.proofs.EdgeOrder.{edge_one}
 use Rattle.hpr_graph.proofs.LinkOrder.{link_cmp}
@@ -28,10 +29,6 @@ IsBefore vs n v = (i : ℕ) × (i < n) × (slice_get vs i ≡ Some v)
 pub record AreConflictsTo (m k : Graph) (P : Vertex → Type 0) (vs : List Vertex) (n : ℕ) (ps : List (Vertex × Edge)) : Type 0 where
   pub exact : (p : Vertex × Edge) → Contains ps p ↔ (IsPointConflict m k P p × IsBefore vs n p.0)
   pub ascend : (i j : ℕ) (p q : Vertex × Edge) → i < j → slice_get ps i ≡ Some p → slice_get ps j ≡ Some q → vertex_cmp p.0 q.0 ≡ Less
-
-pub point_edge : (m k : Graph) (P : Vertex → Type 0) (v : Vertex) (o : Option Edge) → P v → IsLeastAdded m k v o → IsEdgeOfPoint m k P v o
-point_edge m k P v None p none = λ q. none
-point_edge m k P v (Some e) p least = (p, least)
 
 module _ (m k : Graph) (P : Vertex → Type 0) (vs : List Vertex) where
   pub conflicts_none : (ps : List (Vertex × Edge)) → ps ≡ [] → AreConflictsTo m k P vs 0 ps
@@ -115,8 +112,28 @@ module _ (m k : Graph) (P : Vertex → Type 0) (vs : List Vertex) where
   }
 
 -- what is said of the pair's graph is said of the graph
-pub edge_of_pair : (x m k : Numbered) (P : Vertex → Type 0) (v : Vertex) (o : Option Edge) → x ≡ m → IsEdgeOfPoint (graph_in x) (graph_in k) P v o → IsEdgeOfPoint (graph_in m) (graph_in k) P v o
-edge_of_pair x m k P v o is h = subst (λ (y : Numbered). IsEdgeOfPoint (graph_in y) (graph_in k) P v o) is h
+pub edge_of_pair : (x m k : Numbered) (ns : List ℕ) (at : ℕ) (o : Option Edge) → x ≡ m → ((v : Vertex) → slice_get x.vertices at ≡ Some v → IsEdgeOfPoint (graph_in x) (graph_in k) (IsOneOf x ns) v o)
+    → (v : Vertex) → slice_get m.vertices at ≡ Some v → IsEdgeOfPoint (graph_in m) (graph_in k) (IsOneOf m ns) v o
+edge_of_pair x m k ns at o is h = subst (λ (y : Numbered). (v : Vertex) → slice_get y.vertices at ≡ Some v → IsEdgeOfPoint (graph_in y) (graph_in k) (IsOneOf y ns) v o) is h
+
+-- conflicts at points that are said otherwise
+points_said : (m g : Graph) (P Q : Vertex → Type 0) (ps : List (Vertex × Edge)) → ((v : Vertex) → P v ↔ Q v) → ArePointConflicts m g P ps → ArePointConflicts m g Q ps
+points_said m g P Q ps same a = record {
+  exact = λ p. (
+    λ h. (let (here, least) = (a.exact p).0 h in ((same p.0).0 here, least)),
+    λ (here, least). (a.exact p).1 ((same p.0).1 here, least),
+  );
+  ascend = a.ascend;
+}
+
+pub points_there : (wide variant : Numbered) (g : Graph) (points numbers : List ℕ) (ps : List (Vertex × Edge)) → AreNumbersOf wide (IsOneOf variant points) numbers
+    → ArePointConflicts (graph_in wide) g (λ v. IsOneOf wide numbers v × HasVertex wide v) ps → ArePointConflicts (graph_in wide) g (λ v. IsOneOf variant points v × HasVertex wide v) ps
+points_there wide variant g points numbers ps are =
+    points_said (graph_in wide) g (λ v. IsOneOf wide numbers v × HasVertex wide v) (λ v. IsOneOf variant points v × HasVertex wide v) ps
+    (λ v. (
+      λ ((at, has, at_v), there). ((are.exact at v at_v).0 has, there),
+      λ (one, there). (let (at, at_v) = place_of wide.vertices v there in ((at, (are.exact at v at_v).1 one, at_v), there)),
+    ))
 
 -- both graphs with the vertices of both
 module _ (merged variant wide narrow : Numbered) (all : (v : Vertex) → HasVertex wide v ↔ (HasVertex merged v ⊎ HasVertex variant v)) (own : (v : Vertex) → HasVertex narrow v ↔ (HasVertex variant v ⊎ HasVertex merged v)) where

@@ -1,5 +1,5 @@
 -- The first link with a property, one link after another.
-use Rattle.std.proofs.Common.{◌≡◌, ℕ, ◌+◌, ◌<◌, ◌≤◌, ◌↔◌, inl, inr, Bool, false, IsTrue, Option, Some, None, List, length, get_or, Contains, slice_get, sym, ap, ◌∙◌, subst, arith}
+use Rattle.std.proofs.Common.{◌≡◌, ℕ, ◌+◌, ◌<◌, ◌≤◌, ◌↔◌, inl, inr, Bool, Option, Some, None, List, length, get_or, Contains, slice_get, sym, ap, ◌∙◌, subst, arith}
 use Rattle.std.proofs.lemmas.Bool.{cases_eq}
 use Rattle.std.proofs.lemmas.Option.{slice_get-get_or, slice_get_within}
 use Rattle.hpr_graph.specs.declared.link.Link.{Link}
@@ -12,12 +12,9 @@ module _ (P : Link → Type 0) (ls : List Link) where
   abbrev pub NoneBefore : ℕ → Type 0
   NoneBefore n = (j : ℕ) (m : Link) → j < n → slice_get ls j ≡ Some m → ¬ P m
 
-  pub none_more : (n : ℕ) (d : Link) (test : Bool) → n < length ls → IsTrue test ↔ P (get_or ls n d) → test ≡ false → NoneBefore n → NoneBefore (n + 1)
-  none_more n d test l tested fails before j m less at p = elim (cases_eq j n) [
-    | inl same ↦
-        (let is : get_or ls n d ≡ m = some_inj (get_or ls n d) m (sym (slice_get-get_or ls n d l) ∙ ap (slice_get ls) (sym same) ∙ at) in
-        let t = tested.1 (subst P (sym is) p) in
-        cc)
+  pub none_next : (n : ℕ) (d : Link) → n < length ls → ¬ P (get_or ls n d) → NoneBefore n → NoneBefore (n + 1)
+  none_next n d l fails before j m less at p = elim (cases_eq j n) [
+    | inl same ↦ fails (subst P (some_inj m (get_or ls n d) (sym at ∙ ap (slice_get ls) same ∙ slice_get-get_or ls n d l)) p)
     | inr other ↦ before j m (omega (arith, less, other)) at p
   ]
 

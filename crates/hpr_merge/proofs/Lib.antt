@@ -4,6 +4,10 @@ mod AddedLinks
 mod Widened
 mod ConflictLists
 mod ConflictPoints
+mod Bits
+mod Spreads
+mod Past
+mod LeastLinks
 pub mod MergedParts
 pub mod EdgeStands
 pub mod NoneListed

@@ -1,18 +1,22 @@
 //! The merged graph with a variant's graph beside it.
-ghost use Rattle.std.specs.Prelude.{◌≡◌, ◌↔◌, ◌⊎◌, ◌<◌, Some, IfOk, slice_get, length};
+ghost use Rattle.std.specs.Prelude.{◌≡◌, ◌↔◌, ◌⊎◌, ◌<◌, ◌≤◌, All, IfOk, length};
 ghost use Rattle.hpr_graph.specs.declared.vertex.Vertex.{Vertex};
 ghost use Rattle.hpr_graph.specs.declared.edge.Edge.{Edge};
 ghost use Rattle.hpr_graph.specs.Graphs.{IsOnce};
-ghost use Rattle.hpr_graph.specs.Numbered.{HasEdge, HasVertex, graph_in};
+ghost use Rattle.hpr_graph.specs.Numbered.{HasEdge, HasVertex, IsEdgeAt, IsLink};
 ghost use Rattle.hpr_graph.specs.Order.{vertex_cmp};
 ghost use Rattle.hpr_graph.specs.InOrder.{Ascends, RowsAscend};
-ghost use Rattle.hpr_merge.specs.Beside.{AreBeside, IsLeastAdded};
+ghost use Rattle.hpr_merge.specs.Beside.{AreBeside, AreLeastLinks};
 
 use crate::added::first_added;
+use crate::words::reach_words;
 use hpr_graph::{Edge, Graph, Link, NoMemory};
-use hpr_slice::Sources;
+use hpr_slice::steps_of;
 use std::alloc::Global;
 use std::marker::Model;
+
+/// So many slices are looked at together, as a word has bits.
+const TOGETHER: usize = 64;
 
 /// The merged graph with a variant's graph beside it, both with the same vertices by the same numbers, to
 /// compare their slices at many of them.
@@ -21,8 +25,9 @@ use std::marker::Model;
 pub(crate) struct Beside<'a> {
     merged: &'a Graph,
     variant: &'a Graph,
-    wide: Sources<'a>,
-    narrow: Sources<'a>,
+    wide: Vec<(usize, usize)>,
+    narrow: Vec<(usize, usize)>,
+    alloc: Global,
 }
 
 /// What was looked up is dropped in one call.
@@ -33,6 +38,7 @@ impl Drop for Beside<'_> {
             variant: _,
             wide: _,
             narrow: _,
+            alloc: _,
         } = self;
     }
 }
@@ -48,38 +54,73 @@ impl<'a> Model for Beside<'a> {
 
     ghost view = { λ b. record { merged = b.merged.now; own = b.variant.now } };
 
-    ghost invariant = { λ b. IsBeside ⟦<Link as Ord>⟧.cmp b.merged.now b.variant.now b.wide b.narrow };
+    ghost invariant = { λ b. IsBeside ⟦<Link as Ord>⟧.cmp b.merged.now b.variant.now b.wide.items b.narrow.items };
 }
 
 impl<'a> Beside<'a> {
-    /// The two graphs. Takes constant time.
-    pub(crate) fn of(alloc: Global, merged: &'a Graph, variant: &'a Graph) -> Beside<'a>
+    /// The two graphs. Looks once at each edge.
+    pub(crate) fn of(
+        alloc: Global,
+        merged: &'a Graph,
+        variant: &'a Graph,
+    ) -> Result<Beside<'a>, NoMemory>
         requires { AreBeside ⟦<Link as Ord>⟧.cmp merged.now variant.now }
-        ensures merged { result.merged ≡ merged.now }
-        ensures own { result.own ≡ variant.now }
+        ensures merged { IfOk result (λ b. b.merged ≡ merged.now) }
+        ensures own { IfOk result (λ b. b.own ≡ variant.now) }
     {
-        Beside {
+        let _vertices = merged.vertices();
+        let _others = variant.vertices();
+        Ok(Beside {
             merged,
             variant,
-            wide: Sources::of(alloc, merged),
-            narrow: Sources::of(alloc, variant),
-        }
+            wide: steps_of(alloc, merged)?,
+            narrow: steps_of(alloc, variant)?,
+            alloc,
+        })
     }
 
-    /// The least edge that the merged graph adds to the variant's slice at the vertex with this number and
-    /// that ends in a vertex of that slice, or none where there is none. Looks at each edge of the two
-    /// slices a fixed number of times, and looks those of the merged graph up among those of the variant.
-    pub(crate) fn added_at(&self, at: usize) -> Result<Option<Edge>, NoMemory>
-        requires { at < length self.now.merged.vertices }
-        ensures { IfOk result (λ edge. (v : Vertex) → slice_get self.now.merged.vertices at ≡ Some v
-            → IsLeastAdded (graph_in self.now.merged) (graph_in self.now.own) v edge) }
+    /// At each of the vertices with these numbers the link of the least edge that the merged graph adds to
+    /// the variant's slice and that ends in a vertex of that slice, with its target's number, or none where
+    /// there is none. Looks at each edge a few times for every 64 of them.
+    pub(crate) fn least_links(
+        &self,
+        numbers: &[usize],
+    ) -> Result<Vec<Option<(usize, Link)>>, NoMemory>
+        requires { All (λ n. n < length self.now.merged.vertices) numbers.now }
+        ensures { IfOk result (λ links. AreLeastLinks self.now numbers.now links.items) }
     {
-        let grown = self.wide.reaching(&[at])?;
-        let own = self.narrow.reaching(&[at])?;
-        match first_added(self.merged, self.variant, &grown, &own) {
-            Some((to, link)) => Ok(Some(self.merged.edge(to, link)?)),
-            None => Ok(None),
+        let mut links = Vec::with_capacity(self.alloc, numbers.len())?;
+        let mut start = 0;
+        while start < numbers.len() {
+            let end = numbers.len().min(start + TOGETHER);
+            let mut some = self.links_together(&numbers[start..end])?;
+            links.append(&mut some)?;
+            start = end;
         }
+        Ok(links)
+    }
+
+    /// The same of no more than 64 vertices.
+    fn links_together(&self, numbers: &[usize]) -> Result<Vec<Option<(usize, Link)>>, NoMemory>
+        requires few { length numbers.now ≤ 64 }
+        requires within { All (λ n. n < length self.now.merged.vertices) numbers.now }
+        ensures { IfOk result (λ links. AreLeastLinks self.now numbers.now links.items) }
+    {
+        let count = self.merged.vertices().len();
+        let _others = self.variant.vertices();
+        let grown = reach_words(self.alloc, &self.wide, count, numbers)?;
+        let own = reach_words(self.alloc, &self.narrow, count, numbers)?;
+        let some = numbers.len();
+        let links = first_added(self.alloc, self.merged, self.variant, &grown, &own, some)?;
+        Ok(links)
+    }
+
+    /// The edge that is this link into the vertex `to` of the merged graph.
+    pub(crate) fn edge(&self, to: usize, link: Link) -> Result<Edge, NoMemory>
+        requires { IsLink self.now.merged to link }
+        ensures { IfOk result (λ e. IsEdgeAt self.now.merged.vertices to link e) }
+    {
+        self.merged.edge(to, link)
     }
 }
 

@@ -1,6 +1,6 @@
 //! The conflicts of one variant.
 ghost use Rattle.std.specs.Prelude.{◌≡◌, ◌↔◌, ◌<◌, ◌∷◌, ◌++◌, [], if◌then◌else◌, Contains, Some, length, slice_get};
-ghost use Rattle.std.specs.Prelude.{IfOk, IsTrue, OnOk};
+ghost use Rattle.std.specs.Prelude.{All, IfOk, IsSome, IsTrue, OnOk, ℕ};
 ghost use Rattle.std.specs.Ordering.{nat_cmp};
 ghost use Rattle.hpr_graph.specs.declared.vertex.Vertex.{Vertex};
 ghost use Rattle.hpr_graph.specs.Graphs.{IsOnce};
@@ -12,11 +12,12 @@ ghost use Rattle.hpr_graph.specs.Whole.{IsWhole};
 ghost use Rattle.hpr_slice.specs.Vertices.{IsOneOf};
 ghost use Rattle.hpr_affected.specs.Comparison.{MarksAffected};
 ghost use Rattle.hpr_affected.specs.Numbers.{AreNumbersOf};
+ghost use Rattle.hpr_merge.specs.Beside.{AreLeastLinks};
 ghost use Rattle.hpr_merge.specs.PointConflicts.{ArePointConflicts, IsEdgeOfPoint, with_edge};
 
 use crate::beside::{Beside, widened};
 use hpr_affected::Comparison;
-use hpr_graph::{Edge, Graph, NoMemory, Vertex};
+use hpr_graph::{Edge, Graph, Link, NoMemory, Vertex};
 use hpr_search::is_marked;
 use std::alloc::Global;
 
@@ -27,7 +28,7 @@ use std::alloc::Global;
 ///
 /// Where the points are the affected ones, these are the variant's conflicts (Horwitz, Prins and Reps 1989,
 /// who name no edge). Goes forward once in the merged graph, to find the points in conflict. Only where
-/// there is one, puts both graphs in order, and makes two searches for each of them.
+/// there is one, puts both graphs in order, and looks at each of their edges a few times for every 64 of them.
 pub fn conflicts_of(
     alloc: Global,
     variant: &Graph,
@@ -111,55 +112,94 @@ fn conflicts_at(
     ensures { IfOk result (λ ps. ArePointConflicts (graph_in merged.now) (graph_in variant.now)
         (IsOneOf variant.now points.now) ps.items) }
 {
+    let _points = variant.vertices();
     let wide = widened(alloc, merged, variant)?;
     let narrow = widened(alloc, variant, merged)?;
-    let beside = Beside::of(alloc, &wide, &narrow);
-    conflicts_in(alloc, variant, points, &wide, &beside)
+    let beside = Beside::of(alloc, &wide, &narrow)?;
+    let numbers = numbers_there(alloc, variant, points, &wide)?;
+    conflicts_in(alloc, &numbers, &wide, &beside)
 }
 
-/// The conflicts at the vertices of this graph, in their order, of which the points are one variant's.
+/// The numbers that the vertices with these numbers, which ascend, have in the other graph, ascending.
+fn numbers_there(
+    alloc: Global,
+    graph: &Graph,
+    numbers: &[usize],
+    other: &Graph,
+) -> Result<Vec<usize>, NoMemory>
+    requires once { IsOnce graph.now.vertices }
+    requires numbers { Ascends nat_cmp numbers.now }
+    ensures { IfOk result (λ ns. AreNumbersOf other.now (IsOneOf graph.now numbers.now) ns.items) }
+{
+    let mut there = Vec::new(alloc);
+    for at in 0..other.vertex_count() {
+        let test = is_one_of(graph, numbers, other.vertex(at));
+        push_if(test, at, &mut there)?;
+    }
+    Ok(there)
+}
+
+/// The conflicts at the vertices of this graph with these numbers, in their order.
 fn conflicts_in(
     alloc: Global,
-    variant: &Graph,
-    points: &[usize],
+    numbers: &[usize],
     wide: &Graph,
     beside: &Beside,
 ) -> Result<Vec<(Vertex, Edge)>, NoMemory>
-    requires once { IsOnce variant.now.vertices }
-    requires points { Ascends nat_cmp points.now }
+    requires numbers { Ascends nat_cmp numbers.now }
+    requires within { All (λ n. n < length wide.now.vertices) numbers.now }
     requires order { Ascends vertex_cmp wide.now.vertices }
     requires wide { beside.now.merged ≡ wide.now }
     ensures { IfOk result (λ ps. ArePointConflicts (graph_in wide.now) (graph_in beside.now.own) (λ v.
-        IsOneOf variant.now points.now v × HasVertex wide.now v) ps.items) }
+        IsOneOf wide.now numbers.now v × HasVertex wide.now v) ps.items) }
 {
+    let _vertices = wide.vertices();
+    let links = beside.least_links(numbers)?;
     let mut conflicts = Vec::new(alloc);
     for at in 0..wide.vertex_count() {
         let vertex = wide.vertex(at);
-        let edge = edge_at(variant, points, beside, at, vertex)?;
+        let edge = edge_at(beside, numbers, &links, at)?;
         push_conflict(alloc, vertex, edge, &mut conflicts)?;
     }
     Ok(conflicts)
 }
 
-/// The least edge that is added at the vertex, which has this number in both graphs, if it is one of the
-/// points.
+/// The least edge that is added at the vertex with the number `at`, if it is one of those with these numbers,
+/// which ascend, by the links of these edges.
 fn edge_at(
-    variant: &Graph,
-    points: &[usize],
     beside: &Beside,
+    numbers: &[usize],
+    links: &[Option<(usize, Link)>],
     at: usize,
-    vertex: &Vertex,
 ) -> Result<Option<Edge>, NoMemory>
-    requires once { IsOnce variant.now.vertices }
-    requires points { Ascends nat_cmp points.now }
-    requires vertex { slice_get beside.now.merged.vertices at ≡ Some vertex.now }
-    ensures { IfOk result (λ edge. IsEdgeOfPoint (graph_in beside.now.merged) (graph_in beside.now.own)
-        (IsOneOf variant.now points.now) vertex.now edge) }
+    requires at { at < length beside.now.merged.vertices }
+    requires once { IsOnce beside.now.merged.vertices }
+    requires numbers { Ascends nat_cmp numbers.now }
+    requires links { AreLeastLinks beside.now numbers.now links.now }
+    ensures { IfOk result (λ edge. (v : Vertex) → slice_get beside.now.merged.vertices at ≡ Some v → IsEdgeOfPoint
+        (graph_in beside.now.merged) (graph_in beside.now.own) (IsOneOf beside.now.merged numbers.now) v edge) }
 {
-    if !is_one_of(variant, points, vertex) {
-        return Ok(None);
+    match link_at(numbers, links, at) {
+        Some((to, link)) => Ok(Some(beside.edge(to, link)?)),
+        None => Ok(None),
     }
-    beside.added_at(at)
+}
+
+/// The link beside the number in these lists, of which that of the numbers ascends, if the number is there.
+fn link_at(
+    numbers: &[usize],
+    links: &[Option<(usize, Link)>],
+    number: usize,
+) -> Option<(usize, Link)>
+    requires numbers { Ascends nat_cmp numbers.now }
+    requires count { length links.now ≡ length numbers.now }
+    ensures beside { (i : ℕ) → slice_get numbers.now i ≡ Some number → slice_get links.now i ≡ Some result }
+    ensures there { IsSome result → Contains numbers.now number }
+{
+    match numbers.binary_search(&number) {
+        Ok(at) => links[at],
+        Err(_) => None,
+    }
 }
 
 /// Whether the vertex is one of the graph with these numbers, which ascend.

@@ -2,3 +2,5 @@ mod SourceRows
 mod TargetRows
 mod Walks
 mod Marked
+mod StepLists
+pub mod Chains

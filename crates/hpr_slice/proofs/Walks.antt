@@ -33,13 +33,13 @@ leads_more g a (f ∷ es) e w h k = (w.0, w.1, w.2, leads_more g f.to es e w.3 h
 
 module _ (g : Numbered) (k : IsNumbered g) where
   -- a source is where an edge comes from
-  edge_of : (to from : ℕ) → HasSource (row_of g to) from → (e : Edge) × HasEdge g e × Leads e.kind × (slice_get g.vertices to ≡ Some e.to) × (slice_get g.vertices from ≡ Some e.from)
+  pub edge_of : (to from : ℕ) → HasSource (row_of g to) from → (e : Edge) × HasEdge g e × Leads e.kind × (slice_get g.vertices to ≡ Some e.to) × (slice_get g.vertices from ≡ Some e.from)
   edge_of to from (l, has, follows, is) =
       let (e, (to_at, from_at, kind)) = k.links to l has in
       (e, (to, l, has, (to_at, from_at, kind)), kind_leads g.vertices l.kind e.from e.kind kind follows, to_at, ap (slice_get g.vertices) (sym is) ∙ from_at)
 
   -- and where an edge comes from is a source
-  of_edge : (from : ℕ) (v : Vertex) (e : Edge) → HasEdge g e → Leads e.kind → e.from ≡ v → slice_get g.vertices from ≡ Some v → (to : ℕ) × (slice_get g.vertices to ≡ Some e.to) × HasSource (row_of g to) from
+  pub of_edge : (from : ℕ) (v : Vertex) (e : Edge) → HasEdge g e → Leads e.kind → e.from ≡ v → slice_get g.vertices from ≡ Some v → (to : ℕ) × (slice_get g.vertices to ≡ Some e.to) × HasSource (row_of g to) from
   of_edge from v e (to, l, has, (to_at, from_at, kind)) leads is at =
       let same : l.from ≡ from = k.once l.from from v (from_at ∙ ap Some is) at in
       (to, to_at, (l, has, leads_kind g.vertices l.kind e.from e.kind kind leads, same))

@@ -5,8 +5,10 @@
 
 mod slices;
 mod sources;
+mod steps;
 mod targets;
 
 pub use hpr_graph::{Graph, NoMemory};
 pub use slices::{forward, slice};
 pub use sources::Sources;
+pub use steps::steps_of;

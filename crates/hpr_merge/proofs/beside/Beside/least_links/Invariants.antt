@@ -1,0 +1,12 @@
+use Rattle.std.proofs.Common.{◌≤◌, ◌-◌, length, take}
+use Rattle.hpr_merge.specs.Beside.{AreLeastLinks}
+use Rattle.hpr_merge.proofs.beside.Beside.least_links.Given as goal
+
+abbrev pub invariant-loop-start : goal.invariant-loop-start
+invariant-loop-start l = record {
+  within : l.start ≤ length l.numbers;
+  links : AreLeastLinks l.self (take l.start l.numbers) l.links.items;
+}
+
+abbrev pub decreases-loop-start : goal.decreases-loop-start
+decreases-loop-start l = length l.numbers - l.start
