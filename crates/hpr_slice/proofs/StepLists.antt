@@ -1,5 +1,5 @@
 -- The steps of a graph, one row of links at a time.
-use Rattle.std.proofs.Common.{◌≡◌, ℕ, ◌+◌, ◌<◌, ◌≤◌, ◌↔◌, inl, inr, Bool, true, false, if◌then◌else◌, List, [], ◌∷◌, ◌++◌, length, Contains, sym, ap, ◌∙◌, subst, arith}
+use Rattle.std.proofs.Common.{◌≡◌, ℕ, zero, suc, ◌<◌, ◌≤◌, ◌↔◌, ◌⊎◌, inl, inr, Bool, true, false, if◌then◌else◌, List, [], ◌∷◌, ◌++◌, length, get_or, set, replicate, Contains, sym, ap, ◌∙◌, subst, arith, get_or-set_same, get_or-set_other}
 use Rattle.std.proofs.lemmas.Bool.{cases_eq}
 use Rattle.std.proofs.lemmas.List.Elements.{Contains-append_left, Contains-append_right, Contains-append_cases}
 use Rattle.std.proofs.lemmas.Option.{slice_get_within}
@@ -7,7 +7,9 @@ use Rattle.hpr_graph.specs.declared.link.Link.{Link}
 use Rattle.hpr_graph.specs.Numbered.{Numbered, IsNumbered, row_of}
 use Rattle.hpr_graph.proofs.Lists.{in_none, in_cons, in_here, in_later}
 use Rattle.hpr_slice.specs.Neighbours.{follows, HasSource, sources_of}
-use Rattle.hpr_slice.specs.Steps.{AreSteps, AreStepsWithin, steps_into}
+use Rattle.hpr_slice.specs.Steps.{AreSteps, AreStepsInto, AreStepsWithin, steps_into}
+use Rattle.hpr_search.specs.Marks.{IsMarked}
+use Rattle.hpr_search.proofs.Marked.{no_marks}
 use Rattle.hpr_slice.proofs.SourceRows.{sources_exact}
 
 -- the steps into a vertex are the sources there with it
@@ -42,35 +44,57 @@ source_within g k to from (l, has, follows, is) =
     let (e, at) = k.links to l has in
     let w = slice_get_within g.vertices l.from e.from at.1 in (omega (arith, w, is), slice_get_within g.vertices to e.to at.0)
 
--- the steps into the last vertices
-abbrev pub AreStepsFrom : Numbered → List (ℕ × ℕ) → ℕ → Type 0
-AreStepsFrom g steps passed = (from to : ℕ) → Contains steps (from, to) ↔ ((length g.vertices ≤ to + passed) × HasSource (row_of g to) from)
-
-pub steps_none : (g : Numbered) → IsNumbered g → (steps : List (ℕ × ℕ)) → steps ≡ [] → AreStepsFrom g steps 0
-steps_none g k steps none from to = (
+-- the steps into the marked vertices
+pub steps_none : (g : Numbered) (done : List Bool) (steps : List (ℕ × ℕ)) (n : ℕ) → done ≡ replicate n false → steps ≡ [] → AreStepsInto g done steps
+steps_none g done steps n blank none from to = (
   λ h. absurd (in_none (from, to) (subst (λ (xs : List (ℕ × ℕ)). Contains xs (from, to)) none h)),
-  λ (l, has). absurd (let w = (source_within g k to from has).1 in omega (arith, w, l)),
+  λ (m, has). absurd (no_marks n to (subst (λ (ms : List Bool). IsMarked ms to) blank m)),
 )
 
-pub steps_more : (g : Numbered) (steps new : List (ℕ × ℕ)) (passed at : ℕ) (links : List Link) → at + 1 + passed ≡ length g.vertices → links ≡ row_of g at → AreStepsFrom g steps passed
-    → new ≡ steps ++ steps_into at links → AreStepsFrom g new (passed + 1)
-steps_more g steps new passed at links place row before is from to = (
+pub marks_more : (done done' : List Bool) (at : ℕ) → at < length done → done' ≡ set done at true → (n : ℕ) → IsMarked done' n ↔ (IsMarked done n ⊎ (n ≡ at))
+marks_more done done' at within marks n = elim (cases_eq n at) [
+  | inl e ↦ (
+    λ h. inr e,
+    λ h. ap (λ (k : ℕ). get_or done' k false) e ∙ ap (λ (ms : List Bool). get_or ms at false) marks ∙ get_or-set_same done at true false within,
+  )
+  | inr ne ↦
+      (let same : get_or done' n false ≡ get_or done n false = ap (λ (ms : List Bool). get_or ms n false) marks ∙ get_or-set_other done at n true false ne in (
+        λ h. inl (sym same ∙ h),
+        λ h. elim h [ inl was ↦ same ∙ was | inr e ↦ absurd (ne e) ],
+      ))
+]
+
+pub steps_more : (g : Numbered) (done done' : List Bool) (steps new : List (ℕ × ℕ)) (at : ℕ) (links : List Link) → at < length done → done' ≡ set done at true → links ≡ row_of g at → ¬ IsMarked done at → AreStepsInto g done steps
+    → new ≡ steps ++ steps_into at links → AreStepsInto g done' new
+steps_more g done done' steps new at links within marks row fresh before is from to = (
   λ h. elim (Contains-append_cases steps (steps_into at links) (from, to) (subst (λ (xs : List (ℕ × ℕ)). Contains xs (from, to)) is h)) [
-    | inl was ↦ (let (l, has) = (before from to).0 was in (omega (arith, l), has))
-    | inr more ↦
-        (let (has, same) = steps_sources at links (from, to) more in
-        (omega (arith, same, place), subst (λ (xs : List Link). HasSource xs from) (row ∙ ap (row_of g) (sym same)) ((sources_exact links from).0 has)))
+    | inl was ↦ (let (m, has) = (before from to).0 was in ((more to).1 (inl m), has))
+    | inr new_one ↦
+        (let (has, same) = steps_sources at links (from, to) new_one in
+        ((more to).1 (inr same), subst (λ (xs : List Link). HasSource xs from) (row ∙ ap (row_of g) (sym same)) ((sources_exact links from).0 has)))
   ],
-  λ (l, has). subst (λ (xs : List (ℕ × ℕ)). Contains xs (from, to)) (sym is) (elim (cases_eq to at) [
-    | inl e ↦
+  λ (m, has). subst (λ (xs : List (ℕ × ℕ)). Contains xs (from, to)) (sym is) (elim ((more to).0 m) [
+    | inr e ↦
         (let here : Contains (sources_of links) from = (sources_exact links from).1 (subst (λ (xs : List Link). HasSource xs from) (ap (row_of g) e ∙ sym row) has) in
         Contains-append_right steps (steps_into at links) (from, to) (subst (λ (n : ℕ). Contains (steps_into at links) (from, n)) (sym e) (sources_steps at links from here)))
-    | inr ne ↦ Contains-append_left steps (steps_into at links) (from, to) ((before from to).1 (omega (arith, l, ne, place), has))
+    | inl was ↦ Contains-append_left steps (steps_into at links) (from, to) ((before from to).1 (was, has))
   ]),
 )
+  where
+    more : (n : ℕ) → IsMarked done' n ↔ (IsMarked done n ⊎ (n ≡ at))
+    more n = marks_more done done' at within marks n
 
-pub steps_whole : (g : Numbered) (steps : List (ℕ × ℕ)) (passed : ℕ) → length g.vertices ≤ passed → AreStepsFrom g steps passed → AreSteps g steps
-steps_whole g steps passed all before from to = (λ h. ((before from to).0 h).1, λ has. (before from to).1 (omega (arith, all), has))
+pub steps_whole : (g : Numbered) → IsNumbered g → (done : List Bool) (steps : List (ℕ × ℕ)) (n : ℕ) → length g.vertices ≤ n → ((k : ℕ) → k < n → IsMarked done k) → AreStepsInto g done steps → AreSteps g steps
+steps_whole g k done steps n all marked before from to = (
+  λ h. ((before from to).0 h).1,
+  λ has. (before from to).1 (marked to (let w = (source_within g k to from has).1 in omega (arith, w, all)), has),
+)
 
 pub steps_within : (g : Numbered) → IsNumbered g → (steps : List (ℕ × ℕ)) → AreSteps g steps → AreStepsWithin (length g.vertices) steps
 steps_within g k steps are step h = source_within g k step.1 step.0 ((are step.0 step.1).0 h)
+
+-- a mark that is read and isn't set
+pub not_marked : (done : List Bool) (at : ℕ) (mark : Bool) → at < length done → mark ≡ get_or done at mark → mark ≡ false → ¬ IsMarked done at
+not_marked [] at mark l is none h = absurd (omega (arith, l))
+not_marked (m ∷ done) zero mark l is none h = let both : true ≡ false = sym h ∙ sym is ∙ none in absurd cc
+not_marked (m ∷ done) (suc at) mark l is none h = not_marked done at mark (omega (arith, l)) is none h

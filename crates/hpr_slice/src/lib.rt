@@ -3,6 +3,7 @@
 //! The slices are those of Reps and Yang (1988).
 #![tactic(auto)]
 
+mod order;
 mod slices;
 mod sources;
 mod steps;

@@ -39,7 +39,7 @@ pub fn forward(alloc: Global, graph: &Graph, points: &[usize]) -> Result<Vec<boo
 }
 
 /// So many vertices, none of which is marked.
-fn unmarked(alloc: Global, count: usize) -> Result<Vec<bool>, NoMemory>
+pub(crate) fn unmarked(alloc: Global, count: usize) -> Result<Vec<bool>, NoMemory>
     ensures { IfOk result (λ marks. marks.items ≡ replicate count false) }
 {
     Ok(vec![in alloc; false; count]?)
