@@ -1,5 +1,5 @@
 -- The test of a vertex is whether it is directly affected.
-use Rattle.std.proofs.Common.{◌≡◌, ℕ, ◌<◌, ◌↔◌, inl, inr, Bool, true, false, IsTrue, Option, Some, None, List, length, slice_get, refl, sym, ap, ◌∙◌, subst, arith}
+use Rattle.std.proofs.Common.{◌≡◌, ℕ, ◌↔◌, inl, inr, Bool, true, false, IsTrue, Option, Some, None, List, slice_get, refl, sym, ap, ◌∙◌, subst}
 use Rattle.std.proofs.lemmas.Option.{slice_get_within}
 use Rattle.hpr_search.specs.Marks.{IsMarked}
 use Rattle.hpr_graph.specs.declared.vertex.Vertex.{Vertex}
@@ -16,10 +16,9 @@ use Rattle.hpr_graph.proofs.Lists.{some_inj, contains_at}
 use Rattle.hpr_graph.specs.Direct.{IsAlike, IsDirectlyAffected}
 use Rattle.hpr_closure.proofs.FiniteGraphs.{finite_by_numbers}
 use Rattle.hpr_closure.proofs.Reached.{edge_there}
-use Rattle.hpr_affected.specs.Lacking.{AreLacking, AreNumbersIn}
+use Rattle.hpr_affected.specs.Lacking.{AreNumbersIn}
 use Rattle.hpr_closure.specs.Counts.{counts_at, Counts}
-use Rattle.hpr_affected.specs.Differing.{CountsIn, AreDiffering, HasOwn, IsDiffering, IsDirectBy}
-use Rattle.hpr_affected.proofs.MarkRows.{past_none, cases_lt}
+use Rattle.hpr_affected.specs.Differing.{CountsLacking, AreDiffering, HasOwn, IsDiffering, IsDirectBy}
 use Rattle.hpr_affected.proofs.MovedLinks.{same_at, edge_from_there, there_from_edge}
 
 -- a link counts where its edge does
@@ -53,43 +52,35 @@ alike_edge g h e (kind.Independent x) v is a c = a.1 e c (subst Leads (sym is) t
 alike_edge g h e (kind.Carried x w) v is a c = a.1 e c (subst Leads (sym is) tt)
 alike_edge g h e (kind.Order u) v is a c = a.2 e (is ∙ ap (λ (w : Vertex). kind.Order w) c)
 
-module _ (g h : Numbered) (kg : IsNumbered g) (kh : IsNumbered h) (ns : List (Option ℕ)) (numbers : AreNumbersIn g h ns) (rows : List (List Link)) (lacks : AreLacking g h ns rows) where
+module _ (g h : Numbered) (kg : IsNumbered g) (kh : IsNumbered h) (ns : List (Option ℕ)) (numbers : AreNumbersIn g h ns) where
   -- a link counts that h lacks: so does its edge
-  own_edge : (n : ℕ) (v : Vertex) → slice_get g.vertices n ≡ Some v → CountsIn rows n → HasOwn (graph_in g) (graph_in h) v
-  own_edge n v at_n (to, (l, lacking, c)) = elim (cases_lt to (length g.vertices)) [
-    | inl less ↦
-        (let (has, absent) = (lacks.lacking to less).only l lacking in
-        let (e, is) = kg.links to l has in
-        (e, (to, l, has, is), (λ there. absent (there_from_edge g h kh ns numbers to l e is there)), counts_by g.vertices to n l l.kind e e.kind v is.0 is.2 at_n c))
-    | inr past ↦ absurd (past_none rows to (omega (arith, past, lacks.count)) l lacking)
-  ]
+  own_edge : (n : ℕ) (v : Vertex) → slice_get g.vertices n ≡ Some v → CountsLacking g h ns n → HasOwn (graph_in g) (graph_in h) v
+  own_edge n v at_n (to, (l, has, absent, c)) =
+      let (e, is) = kg.links to l has in
+      (e, (to, l, has, is), (λ there. absent (there_from_edge g h kh ns numbers to l e is there)), counts_by g.vertices to n l l.kind e e.kind v is.0 is.2 at_n c)
 
   -- and the other way round
-  own_link : (n : ℕ) (v : Vertex) → slice_get g.vertices n ≡ Some v → HasOwn (graph_in g) (graph_in h) v → CountsIn rows n
-  own_link n v at_n (e, (to, l, has, is), absent, c) = elim ((lacks.lacking to (slice_get_within g.vertices to e.to is.0)).all l has) [
-    | inl lacking ↦ (to, (l, lacking, by_counts g.vertices kg.once to n l.kind e e.kind v is.0 is.2 at_n c))
-    | inr there ↦ absurd (absent (edge_from_there g h kh ns numbers to l e is there))
-  ]
+  own_link : (n : ℕ) (v : Vertex) → slice_get g.vertices n ≡ Some v → HasOwn (graph_in g) (graph_in h) v → CountsLacking g h ns n
+  own_link n v at_n (e, (to, l, has, is), absent, c) =
+      (to, (l, has, (λ there. absent (edge_from_there g h kh ns numbers to l e is there)), by_counts g.vertices kg.once to n l.kind e e.kind v is.0 is.2 at_n c))
 
-  -- the marks of the rows are those of these vertices
-  pub own_marks : (marks : List Bool) → AreDiffering rows marks → IsDiffering g h ns marks
+  -- the marks are those of these vertices
+  pub own_marks : (marks : List Bool) → AreDiffering g h ns marks → IsDiffering g h ns marks
   own_marks marks d = record {
     numbers = numbers;
     own = record {
-      count = d.count ∙ lacks.count;
+      count = d.count;
       exact = λ at v at_v.
-          (let below : at < length rows = let w = slice_get_within g.vertices at v at_v in omega (arith, w, lacks.count) in (
+          (let below = slice_get_within g.vertices at v at_v in (
             λ marked. own_edge at v at_v ((d.exact at below).0 marked),
             λ own. (d.exact at below).1 (own_link at v at_v own),
           ));
     };
   }
 
--- the same of numbers and rows that are read
-pub own_read : (g h : Numbered) (kg : IsNumbered g) (kh : IsNumbered h) (ns read : List (Option ℕ)) (rows read_rows : List (List Link)) (marks : List Bool) → AreNumbersIn g h ns → read ≡ ns → AreLacking g h read rows → read_rows ≡ rows
-    → AreDiffering read_rows marks → IsDiffering g h ns marks
-own_read g h kg kh ns read rows read_rows marks numbers is lacks is_rows d =
-    own_marks g h kg kh ns numbers rows (subst (λ (xs : List (Option ℕ)). AreLacking g h xs rows) is lacks) marks (subst (λ (rs : List (List Link)). AreDiffering rs marks) is_rows d)
+-- the same of numbers that are read
+pub own_read : (g h : Numbered) (kg : IsNumbered g) (kh : IsNumbered h) (ns read : List (Option ℕ)) (marks : List Bool) → AreNumbersIn g h ns → read ≡ ns → AreDiffering g h read marks → IsDiffering g h ns marks
+own_read g h kg kh ns read marks numbers is d = own_marks g h kg kh ns numbers marks (subst (λ (xs : List (Option ℕ)). AreDiffering g h xs marks) is d)
 
 -- where no edge counts that h lacks, h has each edge that counts there
 kept_edge : (g h : Numbered) (kh : IsNumbered h) (v : Vertex) → ¬ HasOwn (graph_in g) (graph_in h) v → (e : Edge) → Counts e.kind e.to v → HasEdge g e → HasEdge h e

@@ -1,4 +1,3 @@
-mod LinkRows
 mod NumberRows
 mod MovedLinks
 pub mod PointLists

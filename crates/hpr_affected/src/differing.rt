@@ -1,12 +1,14 @@
 //! At which vertices a graph has edges that another lacks.
 ghost use Rattle.std.specs.Prelude.{◌≡◌, ◌↔◌, ◌⊎◌, ◌<◌, ℕ, false, IfOk, IsTrue, length, replicate};
+ghost use Rattle.std.specs.List.Sorted.{IsSorted};
 ghost use Rattle.hpr_search.specs.Marks.{IsMarked};
-ghost use Rattle.hpr_graph.specs.Numbered.{graph_in, rows_of};
+ghost use Rattle.hpr_graph.specs.Numbered.{graph_in, row_of};
 ghost use Rattle.hpr_graph.specs.Direct.{IsDirectlyAffected};
 ghost use Rattle.hpr_affected.specs.Numbers.{AreNumbersOf};
-ghost use Rattle.hpr_affected.specs.Differing.{AreDiffering, CountsAmong, IsDiffering, IsDirectBy};
+ghost use Rattle.hpr_affected.specs.Differing.{AreDiffering, CountsWithout, IsDiffering, IsDirectBy};
+ghost use Rattle.hpr_affected.specs.Lacking.{AreNumbersIn, IsKnown, IsThere};
 
-use crate::lacking::{lacking_rows, numbers_in};
+use crate::lacking::{is_known, numbers_in};
 use crate::lists::push_if;
 use hpr_closure::counts_at;
 use hpr_graph::links::number_at;
@@ -34,18 +36,24 @@ pub(crate) fn differing(
     let _vertices = graph.vertices();
     let _others = other.vertices();
     let numbers = numbers_in(alloc, graph, other)?;
-    let rows = lacking_rows(alloc, graph, other, &numbers)?;
-    let marks = differing_marks(alloc, &rows)?;
+    let marks = differing_marks(alloc, graph, other, &numbers)?;
     Ok(Differences { numbers, marks })
 }
 
-/// Marks where the links of the rows count.
-fn differing_marks(alloc: Global, rows: &[Vec<Link>]) -> Result<Vec<bool>, NoMemory>
-    ensures { IfOk result (λ marks. AreDiffering (rows_of rows.now) marks.items) }
+/// Marks where the links of the graph count that the other lacks, in which its vertices have these numbers.
+fn differing_marks(
+    alloc: Global,
+    graph: &Graph,
+    other: &Graph,
+    numbers: &[Option<usize>],
+) -> Result<Vec<bool>, NoMemory>
+    requires { AreNumbersIn graph.now other.now numbers.now }
+    ensures { IfOk result (λ marks. AreDiffering graph.now other.now numbers.now marks.items) }
 {
-    let mut marks = blank_row(alloc, rows.len())?;
-    for to in 0..rows.len() {
-        mark_among(&rows[to], to, &mut marks);
+    let count = graph.vertices().len();
+    let mut marks = blank_row(alloc, count)?;
+    for at in 0..count {
+        mark_lacking(graph, other, numbers, at, &mut marks);
     }
     Ok(marks)
 }
@@ -57,14 +65,56 @@ pub(crate) fn blank_row(alloc: Global, count: usize) -> Result<Vec<bool>, NoMemo
     Ok(vec![in alloc; false; count]?)
 }
 
-/// Marks where the links into the vertex `to` count.
-fn mark_among(links: &[Link], to: usize, marks: &mut Vec<bool>)
+/// Marks where the links into the vertex `at` of the graph count that the other lacks.
+fn mark_lacking(
+    graph: &Graph,
+    other: &Graph,
+    numbers: &[Option<usize>],
+    at: usize,
+    marks: &mut Vec<bool>,
+)
+    requires numbers { AreNumbersIn graph.now other.now numbers.now }
+    requires at { at < length graph.now.vertices }
+    ensures count { length marks.new.items ≡ length marks.old.items }
+    ensures exact { (n : ℕ) → n < length marks.old.items → IsMarked marks.new.items n ↔ (IsMarked marks.old.items n
+        ⊎ CountsWithout (IsThere other.now numbers.now at) (row_of graph.now at) at n) }
+{
+    let links = graph.edges_into(at);
+    match number_at(numbers, at) {
+        Some(to) => mark_unknown(links, numbers, other.edges_into(to), at, marks),
+        None => mark_unknown(links, numbers, &[], at, marks),
+    }
+}
+
+/// Marks where those of the links into the vertex `to` count that aren't among the known ones, which are
+/// sorted, by their numbers there.
+fn mark_unknown(
+    links: &[Link],
+    numbers: &[Option<usize>],
+    known: &[Link],
+    to: usize,
+    marks: &mut Vec<bool>,
+)
+    requires { IsSorted ⟦<Link as Ord>⟧.cmp known.now }
     ensures count { length marks.new.items ≡ length marks.old.items }
     ensures exact { (n : ℕ) → n < length marks.old.items → IsMarked marks.new.items n
-        ↔ (IsMarked marks.old.items n ⊎ CountsAmong links.now to n) }
+        ↔ (IsMarked marks.old.items n ⊎ CountsWithout (IsKnown numbers.now known.now) links.now to n) }
 {
+    let mut next = 0;
     for link in links {
-        mark(marks, counts_at(link.kind, to));
+        let is_there = is_known(*link, numbers, known, &mut next);
+        mark_unless(is_there, marks, counts_at(link.kind, to));
+    }
+}
+
+/// Marks the vertex with this number, if there is one, where the test doesn't hold.
+fn mark_unless(test: bool, marks: &mut Vec<bool>, at: usize)
+    ensures count { length marks.new.items ≡ length marks.old.items }
+    ensures exact { (n : ℕ) → n < length marks.old.items → IsMarked marks.new.items n
+        ↔ (IsMarked marks.old.items n ⊎ ((test ≡ false) × (at ≡ n))) }
+{
+    if !test {
+        mark(marks, at);
     }
 }
 
