@@ -3,7 +3,7 @@ use Rattle.std.proofs.Common.{◌≡◌, ℕ, ◌<◌, Bool, true, false, cond, 
 use Rattle.std.proofs.lemmas.Bool.{cases_eq, eq-eqb, ne_eqb}
 use Rattle.hpr_forest.specs.Marks.{is_in, IsMarksOf}
 
-push_same : (q : List ℕ) (c : ℕ) → is_in (q ++ c ∷ []) c ≡ true
+pub push_same : (q : List ℕ) (c : ℕ) → is_in (q ++ c ∷ []) c ≡ true
 push_same [] c = ap (λ b. cond b true false) (eq-eqb c c refl)
 push_same (x ∷ q) c = at (eqb x c) (push_same q c)
   where
@@ -11,7 +11,7 @@ push_same (x ∷ q) c = at (eqb x c) (push_same q c)
     at true e = refl
     at false e = e
 
-push_other : (q : List ℕ) (c x : ℕ) → (x ≡ c → ⊥) → is_in (q ++ c ∷ []) x ≡ is_in q x
+pub push_other : (q : List ℕ) (c x : ℕ) → (x ≡ c → ⊥) → is_in (q ++ c ∷ []) x ≡ is_in q x
 push_other [] c x ne = ap (λ b. cond b true false) (ne_eqb c x (λ e. ne (sym e)))
 push_other (y ∷ q) c x ne = ap (λ b. cond (eqb y x) true b) (push_other q c x ne)
 

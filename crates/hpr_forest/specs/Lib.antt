@@ -10,3 +10,5 @@ pub mod Trees
 pub mod ArrangedTrees
 pub mod Open
 pub mod Cuts
+pub mod Counting
+pub mod Pending

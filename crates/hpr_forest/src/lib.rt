@@ -12,14 +12,20 @@
 mod backtracking;
 mod blocks;
 mod choices;
+mod counts;
+mod filling;
 mod fitting;
 mod orders;
+mod pending;
 mod placing;
+mod ready;
 mod walk;
 
 pub use backtracking::Backtracking;
 pub use blocks::Blocks;
 pub use choices::Choices;
+pub use filling::has_order;
 pub use fitting::{Found, first_fitting};
 pub use orders::Orders;
+pub use pending::Pending;
 pub use walk::{advance, descend};

@@ -1,10 +1,11 @@
 //! The orders of a forest, one by one.
 
-ghost use Rattle.std.specs.Prelude.{◌≡◌, ℕ, List, vec_len, replicate, false, [], ◌∷◌, IfOk, IfSome, IfNone, OnErr};
+ghost use Rattle.std.specs.Prelude.{◌≡◌, ℕ, List, vec_len, [], ◌∷◌, IfOk, IfSome, IfNone, OnErr};
 ghost use Rattle.hpr_forest.specs.Choices.{IsWhole};
 ghost use Rattle.hpr_forest.specs.Lists.{LexLess, IsListOf};
 ghost use Rattle.hpr_forest.specs.Remaining.{can_of};
 
+use crate::filling::blank_row;
 use crate::{Blocks, Choices, advance, descend};
 use std::alloc::{AllocError, Global};
 use std::marker::Model;
@@ -42,14 +43,6 @@ impl Model for Orders {
     ghost view = { λ o. remaining o.blocks o.placed.items o.more };
 
     ghost invariant = { λ o. IsState o.blocks o.placed o.marks o.more };
-}
-
-/// A row with no marks.
-fn blank_row(alloc: Global, items: usize) -> Result<Vec<bool>, AllocError>
-    ensures blank { IfOk result (λ row. row.items ≡ replicate items false) }
-    ensures len { IfOk result (λ row. vec_len row ≡ items) }
-{
-    vec![in alloc; false; items]
 }
 
 impl Orders {

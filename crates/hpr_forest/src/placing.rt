@@ -23,7 +23,7 @@ fn all_marked(marks: &[bool], items: &[usize], placed: &[usize]) -> bool
     true
 }
 
-fn is_same(a: Option<usize>, b: Option<usize>) -> bool
+pub(crate) fn is_same(a: Option<usize>, b: Option<usize>) -> bool
     ensures { result ≡ same_parent a b }
 {
     match (a, b) {
