@@ -7,6 +7,7 @@ use Rattle.std.proofs.lemmas.List.{get_or-replicate, get_or_past, length-replica
 use Rattle.std.proofs.lemmas.List.Elements.{Contains-append_left, Contains-append_right, Contains-get_or}
 use Rattle.std.proofs.lemmas.Option.{slice_get_read, get_or_from_slice_get}
 use Rattle.hpr_forest.specs.declared.blocks.Blocks.{Blocks}
+use Rattle.hpr_forest.specs.declared.pending.Pending.{Pending}
 use Rattle.hpr_forest.specs.Choices.{Follows, IsBacktrackFree}
 use Rattle.hpr_forest.specs.Forest.{IsDistinct}
 use Rattle.hpr_forest.specs.Marks.{IsMarksOf, is_in}
@@ -20,7 +21,7 @@ use Rattle.hpr_region.specs.declared.plan.Plan.{Plan}
 use Rattle.hpr_region.specs.declared.rivals.Rivals.{Rivals}
 use Rattle.hpr_region.specs.declared.summary.Summary.{Summary}
 use Rattle.hpr_region.specs.Plans.{State, may_follow, number_at, numbers_at, placed_in, size_of}
-use Rattle.hpr_region.specs.States.{IsState}
+use Rattle.hpr_region.specs.States.{IsPendingBy, IsState}
 use Rattle.hpr_region.specs.Private.Needs.{AreNeeds, AreRivals}
 use Rattle.hpr_region.specs.Private.Summaries.{IsSummary}
 use Rattle.hpr_region.proofs.Judging.{not_true}
@@ -99,12 +100,12 @@ pub number_is : (xs : List ℕ) (c n : ℕ) → c < length xs → n ≡ get_or x
 number_is xs c n lt e = sym (get_or_from_slice_get xs c n 0 (slice_get_read xs (length xs) c n refl lt e))
 
 module _ (plan : Plan) (places : List (Option ℕ)) where
-  pub pushed : (items placed items' placed' : Vec ℕ Global) (marks marks' : Vec Bool Global) (summary summary' : Summary) (rivals : Rivals) (needs needs' : Vec ℕ Global) (low low' : ℕ) (c n : ℕ) → IsState plan places items placed marks summary rivals needs low → may_follow plan items.items c ≡ true → n ≡ number_at plan c
+  pub pushed : (items placed items' placed' : Vec ℕ Global) (marks marks' : Vec Bool Global) (summary summary' : Summary) (rivals : Rivals) (needs needs' : Vec ℕ Global) (low low' : ℕ) (pending pending' : Option Pending) (c n : ℕ) → IsState plan places items placed marks summary rivals needs low pending → may_follow plan items.items c ≡ true → n ≡ number_at plan c
       → items'.items ≡ items.items ++ c ∷ [] → vec_capacity items' ≡ vec_capacity items → placed'.items ≡ placed.items ++ n ∷ [] → vec_capacity placed' ≡ vec_capacity placed
       → marks'.items ≡ set marks.items c true → vec_len marks' ≡ vec_len marks
       → ((q : List ℕ) → IsSummary plan.flows q summary → is_in q c ≡ false → IsSummary plan.flows (q ++ c ∷ []) summary') → AreNeeds plan.flows rivals items'.items needs'.items
-      → low' ≤ length marks'.items → ((d : ℕ) → low ≤ d → d < low' → get_or marks'.items d false ≡ true) → IsState plan places items' placed' marks' summary' rivals needs' low'
-  pushed items placed items' placed' marks marks' summary summary' rivals needs needs' low low' c n s may is grown room grown' room' marked row summed counted within opened =
+      → low' ≤ length marks'.items → ((d : ℕ) → low ≤ d → d < low' → get_or marks'.items d false ≡ true) → IsPendingBy plan.choices (items.items ++ c ∷ []) pending' → IsState plan places items' placed' marks' summary' rivals needs' low' pending'
+  pushed items placed items' placed' marks marks' summary summary' rivals needs needs' low low' pending pending' c n s may is grown room grown' room' marked row summed counted within opened waits =
       let free = plan_free plan in
       let small : c < size_of plan = free.within items.items c may in
       let l : length marks.items ≡ vec_len marks = search rules in
@@ -127,14 +128,15 @@ module _ (plan : Plan) (places : List (Option ℕ)) where
           | inr new ↦ opened d new lt
         ];
         summed = subst (λ q. IsSummary plan.flows q summary') (sym grown) (summed items.items s.summed (free.fresh items.items c may));
+        waits = subst (λ q. IsPendingBy plan.choices q pending') (sym grown) waits;
       }
 
-  pub popped : (items placed items' placed' : Vec ℕ Global) (marks marks' : Vec Bool Global) (summary summary' : Summary) (rivals : Rivals) (needs needs' : Vec ℕ Global) (low low' : ℕ) (c : ℕ) → IsState plan places items placed marks summary rivals needs low
+  pub popped : (items placed items' placed' : Vec ℕ Global) (marks marks' : Vec Bool Global) (summary summary' : Summary) (rivals : Rivals) (needs needs' : Vec ℕ Global) (low low' : ℕ) (pending pending' : Option Pending) (c : ℕ) → IsState plan places items placed marks summary rivals needs low pending
       → items.items ≡ items'.items ++ c ∷ [] → vec_capacity items' ≡ vec_capacity items → placed'.items ≡ numbers_at plan items'.items → vec_capacity placed' ≡ vec_capacity placed
       → marks'.items ≡ set marks.items c false → vec_len marks' ≡ vec_len marks
       → ((q : List ℕ) → IsSummary plan.flows (q ++ c ∷ []) summary → IsSummary plan.flows q summary') → AreNeeds plan.flows rivals items'.items needs'.items
-      → low' ≤ low → low' ≤ c → IsState plan places items' placed' marks' summary' rivals needs' low'
-  popped items placed items' placed' marks marks' summary summary' rivals needs needs' low low' c s split room numbers room' marked row summed counted lower below =
+      → low' ≤ low → low' ≤ c → IsPendingBy plan.choices items'.items pending' → IsState plan places items' placed' marks' summary' rivals needs' low' pending'
+  popped items placed items' placed' marks marks' summary summary' rivals needs needs' low low' pending pending' c s split room numbers room' marked row summed counted lower below waits =
       let free = plan_free plan in
       let whole : Follows (may_follow plan) [] (items'.items ++ c ∷ []) = subst (Follows (may_follow plan) []) split s.front in
       let may : may_follow plan items'.items c ≡ true = follows_last (may_follow plan) (size_of plan) [] items'.items c whole in
@@ -155,19 +157,21 @@ module _ (plan : Plan) (places : List (Option ℕ)) where
             (let ne : ¬ (d ≡ c) = λ same. omega (arith, same, lt, below) in
             ap (λ (ms : List Bool). get_or ms d false) marked ∙ get_or-set_other marks.items c d false false ne ∙ s.low_marked d (omega (arith, lt, lower)));
         summed = summed items'.items (subst (λ q. IsSummary plan.flows q summary) split s.summed);
+        waits = waits;
       }
 
 -- what is known when the last item is taken back
 pub record IsFrontKept (plan : Plan) (marks : Vec Bool Global) (front : List ℕ) (c : ℕ) : Type 0 where
+  pub may : may_follow plan front c ≡ true
   pub marked : IsMarksOf (set marks.items c false) front
   pub within : c < size_of plan
   pub once : IsDistinct front
   pub fresh : is_in front c ≡ false
   pub room : length front < vec_len plan.flows.slots
 
-pub front_kept : (plan : Plan) (places : List (Option ℕ)) (items placed : Vec ℕ Global) (marks : Vec Bool Global) (summary : Summary) (rivals : Rivals) (needs : Vec ℕ Global) (low : ℕ) (front : List ℕ) (c : ℕ)
-    → IsState plan places items placed marks summary rivals needs low → items.items ≡ front ++ c ∷ [] → IsFrontKept plan marks front c
-front_kept plan places items placed marks summary rivals needs low front c s split =
+pub front_kept : (plan : Plan) (places : List (Option ℕ)) (items placed : Vec ℕ Global) (marks : Vec Bool Global) (summary : Summary) (rivals : Rivals) (needs : Vec ℕ Global) (low : ℕ) (pending : Option Pending) (front : List ℕ) (c : ℕ)
+    → IsState plan places items placed marks summary rivals needs low pending → items.items ≡ front ++ c ∷ [] → IsFrontKept plan marks front c
+front_kept plan places items placed marks summary rivals needs low pending front c s split =
     let free = plan_free plan in
     let whole : Follows (may_follow plan) [] (front ++ c ∷ []) = subst (Follows (may_follow plan) []) split s.front in
     let may : may_follow plan front c ≡ true = follows_last (may_follow plan) (size_of plan) [] front c whole in
@@ -175,6 +179,7 @@ front_kept plan places items placed marks summary rivals needs low front c s spl
     let small : c < size_of plan = free.within front c may in
     let l : length marks.items ≡ vec_len marks = search rules in
     record {
+      may = may;
       marked = marks_pop marks.items (set marks.items c false) front items.items c (omega (arith, small, l, s.row)) s.marked split (free.fresh front c may) refl;
       within = small;
       once = placed_once plan front before;
@@ -231,10 +236,10 @@ all_blank n i x = elim (cases_lt i n) [
 ]
 
 -- nothing is placed, and nothing is needed
-pub nothing_placed : (plan : Plan) (places : List (Option ℕ)) (items placed : Vec ℕ Global) (marks : Vec Bool Global) (summary : Summary) (rivals : Rivals) (needs : Vec ℕ Global) (n m : ℕ) → n ≡ size_of plan → items.items ≡ [] → n ≤ vec_capacity items → placed.items ≡ [] → n ≤ vec_capacity placed
+pub nothing_placed : (plan : Plan) (places : List (Option ℕ)) (items placed : Vec ℕ Global) (marks : Vec Bool Global) (summary : Summary) (rivals : Rivals) (needs : Vec ℕ Global) (pending : Option Pending) (n m : ℕ) → n ≡ size_of plan → items.items ≡ [] → n ≤ vec_capacity items → placed.items ≡ [] → n ≤ vec_capacity placed
     → marks.items ≡ replicate n false → vec_len marks ≡ n → ArePlaces plan.numbers.items places → IsSummary plan.flows [] summary → AreRivals plan.flows rivals → m ≡ vec_len plan.flows.slots → needs.items ≡ replicate m 0 → vec_len needs ≡ m
-    → IsState plan places items placed marks summary rivals needs 0
-nothing_placed plan places items placed marks summary rivals needs n m size none room none' room' blank row placing summed rivalry slots zeros count = record {
+    → IsPendingBy plan.choices [] pending → IsState plan places items placed marks summary rivals needs 0 pending
+nothing_placed plan places items placed marks summary rivals needs pending n m size none room none' room' blank row placing summed rivalry slots zeros count waits = record {
   front = subst (Follows (may_follow plan) []) (sym none) tt;
   numbers = none' ∙ sym (ap (numbers_at plan) none);
   row = row ∙ size;
@@ -248,4 +253,5 @@ nothing_placed plan places items placed marks summary rivals needs n m size none
       (record { count = (let l : length needs.items ≡ vec_len needs = search rules in l ∙ count ∙ slots); each = λ g l. ap (λ (xs : List ℕ). get_or xs g 0) zeros ∙ all_blank m g 0 });
   low_within = omega arith;
   low_marked = λ d l. absurd (omega (arith, l));
+  waits = subst (λ (xs : List ℕ). IsPendingBy plan.choices xs pending) (sym none) waits;
 }

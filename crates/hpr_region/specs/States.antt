@@ -1,12 +1,17 @@
 -- What a search keeps.
 --
--- IsState plan places items placed marks summary rivals needs low == the items may stand so, one behind the other, and have marks; `placed` has the numbers of their
+-- IsPendingBy choices items pending == the counts of what is still to be placed are those of the items, where there are tables
+-- IsState plan places items placed marks summary rivals needs low pending == the items may stand so, one behind the other, and have marks; `placed` has the numbers of their
 --                                           vertices; `places` has the item of each number; there is room for all items; the
---                                           summary and the counts of needs are those of the items; all items below `low` are among them
-use Rattle.std.specs.Prelude.{◌≡◌, ℕ, ◌<◌, ◌≤◌, Bool, true, false, Option, List, [], Vec, vec_len, vec_capacity, get_or}
+--                                           summary and the counts of needs and of what is still to be placed are those of the items;
+--                                           all items below `low` are among them
+use Rattle.std.specs.Prelude.{◌≡◌, ℕ, ◌<◌, ◌≤◌, Bool, true, false, Option, Some, None, List, [], Vec, vec_len, vec_capacity, get_or}
 use Rattle.std.specs.Global.{Global}
+use Rattle.hpr_forest.specs.declared.blocks.Blocks.{Blocks}
+use Rattle.hpr_forest.specs.declared.pending.Pending.{Pending}
 use Rattle.hpr_forest.specs.Choices.{Follows}
 use Rattle.hpr_forest.specs.Marks.{IsMarksOf}
+use Rattle.hpr_forest.specs.Pending.{IsPending}
 use Rattle.hpr_order.specs.Numbers.{ArePlaces}
 use Rattle.hpr_region.specs.declared.plan.Plan.{Plan}
 use Rattle.hpr_region.specs.declared.rivals.Rivals.{Rivals}
@@ -15,7 +20,12 @@ use Rattle.hpr_region.specs.Plans.{may_follow, numbers_at, size_of}
 use Rattle.hpr_region.specs.Private.Needs.{AreNeeds, AreRivals}
 use Rattle.hpr_region.specs.Private.Summaries.{IsSummary}
 
-pub record IsState (plan : Plan) (places : List (Option ℕ)) (items placed : Vec ℕ Global) (marks : Vec Bool Global) (summary : Summary) (rivals : Rivals) (needs : Vec ℕ Global) (low : ℕ) : Type 0 where
+abbrev pub IsPendingBy : Option Blocks → List ℕ → Option Pending → Type 0
+IsPendingBy None items pending = Unit {0}
+IsPendingBy (Some b) items None = ⊥
+IsPendingBy (Some b) items (Some p) = IsPending b items p
+
+pub record IsState (plan : Plan) (places : List (Option ℕ)) (items placed : Vec ℕ Global) (marks : Vec Bool Global) (summary : Summary) (rivals : Rivals) (needs : Vec ℕ Global) (low : ℕ) (pending : Option Pending) : Type 0 where
   pub front : Follows (may_follow plan) [] items.items
   pub numbers : placed.items ≡ numbers_at plan items.items
   pub row : vec_len marks ≡ size_of plan
@@ -28,3 +38,4 @@ pub record IsState (plan : Plan) (places : List (Option ℕ)) (items placed : Ve
   pub counted : AreNeeds plan.flows rivals items.items needs.items
   pub low_within : low ≤ size_of plan
   pub low_marked : (d : ℕ) → d < low → get_or marks.items d false ≡ true
+  pub waits : IsPendingBy plan.choices items.items pending

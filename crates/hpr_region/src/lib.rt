@@ -6,6 +6,7 @@ mod clashing;
 mod flows;
 pub mod laws;
 mod needs;
+mod pending;
 mod plan;
 mod planning;
 mod rivals;

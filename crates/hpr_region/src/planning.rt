@@ -1,8 +1,6 @@
 //! A plan is made from a graph.
 ghost use Rattle.std.specs.Prelude.{◌≡◌, ℕ, ◌≤◌, Some, None, List, [], replicate, false, length, slice_get, vec_len, IfOk, IfSome, IfNone, IsTrue};
 ghost use Rattle.hpr_graph.specs.Numbered.{graph_in};
-ghost use Rattle.hpr_forest.specs.Choices.{IsWhole};
-ghost use Rattle.hpr_forest.specs.Remaining.{can_of};
 ghost use Rattle.hpr_order.specs.declared.item.Item.{Item};
 ghost use Rattle.hpr_order.specs.Arranging.{IsRanking};
 ghost use Rattle.hpr_order.specs.Regions.{AreRegionsOf};
@@ -11,7 +9,7 @@ ghost use Rattle.hpr_region.specs.Plans.{IsPlanOf};
 
 use crate::plan::Plan;
 use crate::tables::flows_of;
-use hpr_forest::{Blocks, descend};
+use hpr_forest::{Blocks, has_order};
 use hpr_graph::{Graph, NoMemory, Vertex};
 use hpr_order::{Item, RegionTree, final_names, parts_by_rank};
 use std::alloc::{AllocError, Global};
@@ -75,19 +73,6 @@ fn have_serials(items: &[Item]) -> bool
         }
     }
     true
-}
-
-/// Whether there is a whole order by the tables. Takes memory for one.
-fn has_order(alloc: Global, blocks: &Blocks) -> Result<bool, AllocError>
-    ensures some { IfOk result (λ yes_. IsTrue yes_
-        → (l : List ℕ) × IsWhole (can_of blocks.now) (vec_len blocks.now.parents) l) }
-    ensures none { IfOk result (λ yes_. yes_ ≡ false
-        → (l : List ℕ) → ¬ IsWhole (can_of blocks.now) (vec_len blocks.now.parents) l) }
-{
-    let size = blocks.parents.len();
-    let mut placed = Vec::with_capacity(alloc, size)?;
-    let mut marks = blank_row(alloc, size)?;
-    Ok(descend(blocks, &mut marks, &mut placed))
 }
 
 /// A row with no marks.

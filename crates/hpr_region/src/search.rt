@@ -13,11 +13,12 @@ ghost use Rattle.hpr_order.specs.Arranging.{IsRanking};
 ghost use Rattle.hpr_region.specs.Plans.{BeginsWith, IsBegun, IsPlanOf, IsReady, clash_in, may_follow, number_at, placed_in, size_of, vertex_at, vertices_at};
 
 use crate::needs::{add_needs, no_needs, take_needs};
+use crate::pending::{count_placed, count_taken_back, none_placed};
 use crate::plan::Plan;
 use crate::planning::{blank_row, plan_of};
 use crate::rivals::Rivals;
 use crate::summary::Summary;
-use hpr_forest::Choices;
+use hpr_forest::Pending;
 use hpr_graph::links::number_at;
 use hpr_graph::{Graph, NoMemory, Vertex};
 use hpr_order::{RegionTree, places_of};
@@ -41,6 +42,8 @@ pub struct Search {
     needs: Vec<u128>,
     /// Each item below this one is placed.
     low: usize,
+    /// What is still to be placed, by the plan's tables.
+    pending: Option<Pending>,
 }
 
 impl Model for Search {
@@ -55,7 +58,8 @@ impl Model for Search {
 
     ghost view = { λ s. record { plan = s.plan; placed = s.items.items } };
 
-    ghost invariant = { λ s. IsState s.plan s.places.items s.items s.placed s.marks s.summary s.rivals s.needs s.low };
+    ghost invariant = { λ s. IsState s.plan s.places.items s.items s.placed s.marks s.summary s.rivals s.needs s.low
+        s.pending };
 }
 
 /// All are dropped in one call.
@@ -71,6 +75,7 @@ impl Drop for Search {
             rivals: _,
             needs: _,
             low: _,
+            pending: _,
         } = self;
     }
 }
@@ -126,7 +131,7 @@ impl Search {
     }
 
     /// The least item, from `from` on, that may be placed next; `None` where there is none. One pass over the
-    /// items, from the first that is not placed.
+    /// items, from the first that is not placed; what must come before each of them is counted, and not looked at.
     pub fn next_ready(&self, from: usize) -> Option<usize>
         ensures can { IfSome result (λ c. may_follow self.now.plan self.now.placed c ≡ true) }
         ensures within { IfSome result (λ c. c < size_of self.now.plan) }
@@ -139,11 +144,14 @@ impl Search {
         let Some(choices) = &self.plan.choices else {
             return None;
         };
-        choices.next_child(&self.marks, &self.items, from.max(self.low))
+        let Some(pending) = &self.pending else {
+            return None;
+        };
+        choices.next_ready(pending, &self.marks, &self.items, from.max(self.low))
     }
 
-    /// Whether the item, which may be placed next, doesn't clash with the parts placed so far. Looks at what it uses and
-    /// what goes into it alone.
+    /// Whether the item, which may be placed next, doesn't clash with the parts placed so far. Looks at what it uses
+    /// and what goes into it alone.
     pub fn admits(&self, item: usize) -> bool
         requires ready { may_follow self.now.plan self.now.placed item ≡ true }
         ensures { IsTrue result ↔ (clash_in self.now.plan self.now.placed item ≡ false) }
@@ -174,6 +182,7 @@ impl Search {
             &self.items,
             item,
         );
+        count_placed(&mut self.pending, &self.plan, &self.items, item);
         self.items.push_reserved(item);
         self.placed.push_reserved(number);
         self.marks[item] = true;
@@ -192,6 +201,7 @@ impl Search {
         self.placed.pop();
         self.marks[item] = false;
         self.low = self.low.min(item);
+        count_taken_back(&mut self.pending, &self.plan, &self.items, item);
         take_needs(
             &mut self.needs,
             &self.plan,
@@ -287,6 +297,7 @@ fn started(alloc: Global, vertices: usize, plan: Plan) -> Result<Search, NoMemor
     let summary = Summary::start(alloc, &plan.flows)?;
     let rivals = Rivals::start(alloc, &plan.flows)?;
     let needs = no_needs(alloc, plan.flows.size())?;
+    let pending = none_placed(alloc, &plan.choices)?;
     Ok(Search {
         plan,
         places,
@@ -297,6 +308,7 @@ fn started(alloc: Global, vertices: usize, plan: Plan) -> Result<Search, NoMemor
         rivals,
         needs,
         low: 0,
+        pending,
     })
 }
 
