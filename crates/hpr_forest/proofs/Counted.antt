@@ -1,7 +1,7 @@
 -- Counts of what is still to be placed.
 use Rattle.std.proofs.Common.{◌≡◌, ℕ, zero, suc, ◌+◌, ◌-◌, ◌<◌, ◌≤◌, ◌^◌, inl, inr, Bool, true, false, cond, eqb, List, [], ◌∷◌, ◌++◌, All, Vec, length, set, get_or, drop, Contains, refl, sym, ap, ◌∙◌, subst, arith, rules, vec_len, drop-cons, add-one}
 use Rattle.std.specs.Global.{Global}
-use Rattle.std.proofs.lemmas.Bool.{cases_eq, cases_lt, eq-eqb, ne_eqb}
+use Rattle.std.proofs.lemmas.Bool.{cases_Bool, cases_eq, eqb-true, cases_lt, eq-eqb, ne_eqb}
 use Rattle.std.proofs.lemmas.List.{get_or_default, get_or_past, get_or-set_same, get_or-set_other}
 use Rattle.std.proofs.lemmas.List.Elements.{Contains-get_or}
 use Rattle.std.proofs.lemmas.Option.{slice_get_past}
@@ -12,7 +12,8 @@ use Rattle.hpr_forest.specs.Counting.{AreCounts, AreOfRows, AreTurned, Table, le
 use Rattle.hpr_forest.specs.declared.blocks.Blocks.{Blocks}
 use Rattle.hpr_forest.specs.declared.counts.Counts.{Counts}
 use Rattle.hpr_forest.proofs.Marked.{push_other, push_same}
-use Rattle.hpr_forest.proofs.Unique.{in_cons, in_none}
+use Rattle.hpr_forest.specs.Pending.{AreOpen}
+use Rattle.hpr_forest.proofs.Unique.{in_cons, in_first, in_later, in_none}
 
 -- ---- rows of a table
 pub row_read : (rows : Table) (at : ℕ) (row : Vec ℕ Global) → at < length rows → row ≡ get_or rows at row → row_of rows at ≡ row.items
@@ -301,3 +302,54 @@ children_within b k d h =
     let e : length b.parents.items ≡ vec_len b.parents = search rules in
     let e' : length b.children.items ≡ vec_len b.children = search rules in
     omega (arith, (b.forest.down k d h).0, e, e', b.rows)
+
+-- ---- what is open
+pub often_in : (xs : List ℕ) (x : ℕ) → 1 ≤ occurrences xs x → Contains xs x
+often_in [] x le = absurd (omega (arith, le))
+often_in (y ∷ xs) x le = elim (cases_eq y x) [
+  | inl same ↦ subst (Contains (y ∷ xs)) same (in_first y xs)
+  | inr ne ↦ (
+      let none : one_if (eqb y x) ≡ 0 = ap one_if (ne_eqb y x ne) in
+      in_later y x xs (often_in xs x (omega (arith, le, none))))
+]
+
+none_full : (placed xs : List ℕ) → left_in placed xs ≡ 0 → all_in placed xs ≡ true
+none_full placed xs none = full_left placed xs ∙ ap (λ n. eqb n 0) none
+
+full_none : (placed xs : List ℕ) → all_in placed xs ≡ true → left_in placed xs ≡ 0
+full_none placed xs full = eqb-true (left_in placed xs) 0 (sym (full_left placed xs) ∙ full)
+
+pub open_start : (rows : Table) (c : Counts) (row : List Bool) → AreCounts rows [] c → ((k : ℕ) → k < length c.left.items → get_or c.left.items k 0 ≡ 0 → get_or row k false ≡ true)
+    → AreOpen rows [] row
+open_start rows c row are marked d lt fresh full = marked d (omega (arith, lt, are.count)) (are.each d ∙ full_none [] (row_of rows d) full)
+
+module _ (rows : Table) (placed : List ℕ) (n : ℕ) (fresh : is_in placed n ≡ false) (c c' : Counts) where
+  -- open where the number is placed too: it was before, or the number was the last of its row
+  pub open_place : (row row' : List Bool) → AreCounts rows placed c → AreCounts rows (placed ++ n ∷ []) c' → AreOpen rows placed row
+      → ((k : ℕ) → get_or (set row n false) k false ≡ true → get_or row' k false ≡ true)
+      → ((k : ℕ) → Contains (row_of c'.rows_with.items n) k → get_or c'.left.items k 0 ≡ 0 → get_or row' k false ≡ true) → AreOpen rows (placed ++ n ∷ []) row'
+  open_place row row' are are' was kept opened d lt out full = elim (cases_eq d n) [
+    | inl same ↦ absurd (let both : true ≡ false = sym (ap (is_in (placed ++ n ∷ [])) same ∙ push_same placed n) ∙ out in cc)
+    | inr ne ↦ elim (cases_Bool (all_in placed (row_of rows d))) [
+      | inl before ↦ kept d (get_or-set_other row n d false false ne ∙ was d lt (sym (push_other placed n d ne) ∙ out) before)
+      | inr not_yet ↦ (
+          let none : left_in (placed ++ n ∷ []) (row_of rows d) ≡ 0 = full_none (placed ++ n ∷ []) (row_of rows d) full in
+          let some : ¬ (left_in placed (row_of rows d) ≡ 0) = (λ z. (let both : true ≡ false = sym (none_full placed (row_of rows d) z) ∙ not_yet in absurd cc)) in
+          opened d
+          (often_in (row_of c'.rows_with.items n) d (omega (arith, some, none, left_push placed (row_of rows d) n fresh, are'.turned n d)))
+          (are'.each d ∙ none))
+    ]
+  ]
+
+  -- open where the number is taken back: it isn't one of its row
+  pub open_back : (row row' : List Bool) → AreCounts rows (placed ++ n ∷ []) c → AreCounts rows placed c' → AreOpen rows (placed ++ n ∷ []) row → n < length row
+      → ((k : ℕ) → ¬ Contains (row_of c'.rows_with.items n) k → get_or row' k false ≡ get_or row k false) → length row' ≡ length row → AreOpen rows placed (set row' n true)
+  open_back row row' are are' was small kept count d lt out full = elim (cases_eq d n) [
+    | inl same ↦ ap (λ k. get_or (set row' n true) k false) same ∙ get_or-set_same row' n true false (omega (arith, small, count))
+    | inr ne ↦ (
+        let none : left_in placed (row_of rows d) ≡ 0 = full_none placed (row_of rows d) full in
+        let more = left_push placed (row_of rows d) n fresh in
+        let apart : ¬ Contains (row_of c'.rows_with.items n) d = (λ h. omega (arith, often_there (row_of c'.rows_with.items n) d h, are'.turned n d, none, more)) in
+        get_or-set_other row' n d true false ne ∙ kept d apart
+        ∙ was d lt (push_other placed n d ne ∙ out) (none_full (placed ++ n ∷ []) (row_of rows d) (omega (arith, none, more))))
+  ]

@@ -11,4 +11,5 @@ pub mod ArrangedTrees
 pub mod Open
 pub mod Cuts
 pub mod Counting
+pub mod Runs
 pub mod Pending

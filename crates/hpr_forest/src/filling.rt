@@ -52,36 +52,13 @@ fn fill(
     ensures none { IsFalse result → (l : List ℕ)
         → ¬ IsWhole (can_of blocks.now) (vec_len blocks.now.parents) l }
 {
-    let mut from = 0;
     'fill: while placed.len() < blocks.parents.len() {
-        let Some(item) = next_round(blocks, pending, marks, placed, from) else {
+        let Some(item) = blocks.next_ready(pending, marks, placed, 0) else {
             return false;
         };
         pending.place(blocks, placed, item);
         placed.push_reserved(item);
         marks[item] = true;
-        from = item + 1;
     }
     true
-}
-
-/// An item that may be placed next: the least from `from` on, or else the least of all.
-fn next_round(
-    blocks: &Blocks,
-    pending: &Pending,
-    marks: &[bool],
-    placed: &[usize],
-    from: usize,
-) -> Option<usize>
-    requires pending { IsPending blocks.now placed.now pending.now }
-    requires row { length marks.now ≡ vec_len blocks.now.parents }
-    requires front { Follows (can_of blocks.now) [] placed.now }
-    requires marks { IsMarksOf marks.now placed.now }
-    ensures can { IfSome result (λ c. can_of blocks.now placed.now c ≡ true) }
-    ensures none { IfNone result ((d : ℕ) → d < vec_len blocks.now.parents → can_of blocks.now placed.now d ≡ false) }
-{
-    match blocks.next_ready(pending, marks, placed, from) {
-        Some(item) => Some(item),
-        None => blocks.next_ready(pending, marks, placed, 0),
-    }
 }

@@ -19,6 +19,7 @@ mod orders;
 mod pending;
 mod placing;
 mod ready;
+mod sparse;
 mod walk;
 
 pub use backtracking::Backtracking;

@@ -53,8 +53,7 @@ impl Blocks {
         pending.before.is_full(item)
     }
 
-    /// The least item, from `from` on, that may be placed next; `None` where there is none. Looks once at each item
-    /// from `from` on, and not at what must come before it.
+    /// The least item, from `from` on, that may be placed next; `None` where there is none. Looks at those alone before which none are left.
     pub fn next_ready(
         &self,
         pending: &Pending,
@@ -73,10 +72,12 @@ impl Blocks {
             → can_of self.now placed.now d ≡ false) }
     {
         let under = self.open_by(pending, placed);
-        for item in from..self.parents.len() {
+        let mut at = from;
+        'seek: while let Some(item) = pending.ready.next(at) {
             if self.may_by(pending, marks, placed, under, item) {
                 return Some(item);
             }
+            at = item + 1;
         }
         None
     }

@@ -14,7 +14,8 @@ returns-in_default-clause-none c = λ _.
     let q = c.fill.placed.items in
     let e : length q ≡ vec_len c.fill.placed = search rules in
     dead_end b q c.fill.invariant.front (omega (arith, e, c.fill-test.true, c.len.ensures, c.len-in-fill.ensures))
-    (subst (λ (xs : List ℕ). (d : ℕ) → d < vec_len b.parents → can_of b xs d ≡ false) c.deref-in-fill.ensures.value c.in_default.ensures.none)
+    (subst (λ (xs : List ℕ). (d : ℕ) → d < vec_len b.parents → can_of b xs d ≡ false) c.deref-in-fill.ensures.value
+    (λ d lt. c.in_default.ensures.none d (omega arith) lt))
 
 pub fill-preserved : goal.fill-preserved
 fill-preserved c =
