@@ -1,7 +1,7 @@
 -- Steps of a search: what stays when an item is placed or taken back, and what may be placed next.
-use Rattle.std.proofs.Common.{◌≡◌, ℕ, ◌-◌, ◌<◌, ◌≤◌, inl, inr, Bool, true, false, Option, Some, None, IfSome, List, [], ◌∷◌, ◌++◌, All, Vec, map, length, set, take, vec_len, vec_capacity, max, get_or, slice_get, Contains, refl, sym, ap, ◌∙◌, subst, arith, rules, length-append, get_or-set_same, get_or-set_other, replicate}
+use Rattle.std.proofs.Common.{◌≡◌, ℕ, ◌-◌, ◌<◌, ◌≤◌, inl, inr, Bool, true, false, Option, Some, None, IfSome, List, [], ◌∷◌, ◌++◌, All, Vec, map, length, set, take, vec_len, vec_capacity, get_or, slice_get, Contains, refl, sym, ap, ◌∙◌, subst, arith, rules, length-append, replicate}
 use Rattle.std.specs.Global.{Global}
-use Rattle.std.proofs.lemmas.Bool.{cases_eq, cases_lt}
+use Rattle.std.proofs.lemmas.Bool.{cases_lt}
 use Rattle.std.proofs.Math.Seq.{take-append_seam}
 use Rattle.std.proofs.lemmas.List.{get_or-replicate, get_or_past, length-replicate}
 use Rattle.std.proofs.lemmas.List.Elements.{Contains-append_left, Contains-append_right, Contains-get_or}
@@ -24,7 +24,6 @@ use Rattle.hpr_region.specs.Plans.{State, may_follow, number_at, numbers_at, pla
 use Rattle.hpr_region.specs.States.{IsPendingBy, IsState}
 use Rattle.hpr_region.specs.Private.Needs.{AreNeeds, AreRivals}
 use Rattle.hpr_region.specs.Private.Summaries.{IsSummary}
-use Rattle.hpr_region.proofs.Judging.{not_true}
 use Rattle.hpr_region.proofs.Planned.{choices_free}
 
 module _ (can : List ℕ → ℕ → Bool) (n : ℕ) (free : IsBacktrackFree can n) where
@@ -100,12 +99,12 @@ pub number_is : (xs : List ℕ) (c n : ℕ) → c < length xs → n ≡ get_or x
 number_is xs c n lt e = sym (get_or_from_slice_get xs c n 0 (slice_get_read xs (length xs) c n refl lt e))
 
 module _ (plan : Plan) (places : List (Option ℕ)) where
-  pub pushed : (items placed items' placed' : Vec ℕ Global) (marks marks' : Vec Bool Global) (summary summary' : Summary) (rivals : Rivals) (needs needs' : Vec ℕ Global) (low low' : ℕ) (pending pending' : Option Pending) (c n : ℕ) → IsState plan places items placed marks summary rivals needs low pending → may_follow plan items.items c ≡ true → n ≡ number_at plan c
+  pub pushed : (items placed items' placed' : Vec ℕ Global) (marks marks' : Vec Bool Global) (summary summary' : Summary) (rivals : Rivals) (needs needs' : Vec ℕ Global) (pending pending' : Option Pending) (c n : ℕ) → IsState plan places items placed marks summary rivals needs pending → may_follow plan items.items c ≡ true → n ≡ number_at plan c
       → items'.items ≡ items.items ++ c ∷ [] → vec_capacity items' ≡ vec_capacity items → placed'.items ≡ placed.items ++ n ∷ [] → vec_capacity placed' ≡ vec_capacity placed
       → marks'.items ≡ set marks.items c true → vec_len marks' ≡ vec_len marks
       → ((q : List ℕ) → IsSummary plan.flows q summary → is_in q c ≡ false → IsSummary plan.flows (q ++ c ∷ []) summary') → AreNeeds plan.flows rivals items'.items needs'.items
-      → low' ≤ length marks'.items → ((d : ℕ) → low ≤ d → d < low' → get_or marks'.items d false ≡ true) → IsPendingBy plan.choices (items.items ++ c ∷ []) pending' → IsState plan places items' placed' marks' summary' rivals needs' low' pending'
-  pushed items placed items' placed' marks marks' summary summary' rivals needs needs' low low' pending pending' c n s may is grown room grown' room' marked row summed counted within opened waits =
+      → IsPendingBy plan.choices (items.items ++ c ∷ []) pending' → IsState plan places items' placed' marks' summary' rivals needs' pending'
+  pushed items placed items' placed' marks marks' summary summary' rivals needs needs' pending pending' c n s may is grown room grown' room' marked row summed counted waits =
       let free = plan_free plan in
       let small : c < size_of plan = free.within items.items c may in
       let l : length marks.items ≡ vec_len marks = search rules in
@@ -119,24 +118,16 @@ module _ (plan : Plan) (places : List (Option ℕ)) where
         placing = s.placing;
         rivalry = s.rivalry;
         counted = counted;
-        low_within = (let l' : length marks'.items ≡ vec_len marks' = search rules in omega (arith, within, l', row, s.row));
-        low_marked = λ d lt. elim (cases_lt d low) [
-          | inl old ↦ elim (cases_eq d c) [
-            | inl same ↦ ap (λ (ms : List Bool). get_or ms d false) marked ∙ ap (λ k. get_or (set marks.items c true) k false) same ∙ get_or-set_same marks.items c true false (omega (arith, small, l, s.row))
-            | inr ne ↦ ap (λ (ms : List Bool). get_or ms d false) marked ∙ get_or-set_other marks.items c d true false ne ∙ s.low_marked d old
-          ]
-          | inr new ↦ opened d new lt
-        ];
         summed = subst (λ q. IsSummary plan.flows q summary') (sym grown) (summed items.items s.summed (free.fresh items.items c may));
         waits = subst (λ q. IsPendingBy plan.choices q pending') (sym grown) waits;
       }
 
-  pub popped : (items placed items' placed' : Vec ℕ Global) (marks marks' : Vec Bool Global) (summary summary' : Summary) (rivals : Rivals) (needs needs' : Vec ℕ Global) (low low' : ℕ) (pending pending' : Option Pending) (c : ℕ) → IsState plan places items placed marks summary rivals needs low pending
+  pub popped : (items placed items' placed' : Vec ℕ Global) (marks marks' : Vec Bool Global) (summary summary' : Summary) (rivals : Rivals) (needs needs' : Vec ℕ Global) (pending pending' : Option Pending) (c : ℕ) → IsState plan places items placed marks summary rivals needs pending
       → items.items ≡ items'.items ++ c ∷ [] → vec_capacity items' ≡ vec_capacity items → placed'.items ≡ numbers_at plan items'.items → vec_capacity placed' ≡ vec_capacity placed
       → marks'.items ≡ set marks.items c false → vec_len marks' ≡ vec_len marks
       → ((q : List ℕ) → IsSummary plan.flows (q ++ c ∷ []) summary → IsSummary plan.flows q summary') → AreNeeds plan.flows rivals items'.items needs'.items
-      → low' ≤ low → low' ≤ c → IsPendingBy plan.choices items'.items pending' → IsState plan places items' placed' marks' summary' rivals needs' low' pending'
-  popped items placed items' placed' marks marks' summary summary' rivals needs needs' low low' pending pending' c s split room numbers room' marked row summed counted lower below waits =
+      → IsPendingBy plan.choices items'.items pending' → IsState plan places items' placed' marks' summary' rivals needs' pending'
+  popped items placed items' placed' marks marks' summary summary' rivals needs needs' pending pending' c s split room numbers room' marked row summed counted waits =
       let free = plan_free plan in
       let whole : Follows (may_follow plan) [] (items'.items ++ c ∷ []) = subst (Follows (may_follow plan) []) split s.front in
       let may : may_follow plan items'.items c ≡ true = follows_last (may_follow plan) (size_of plan) [] items'.items c whole in
@@ -152,10 +143,6 @@ module _ (plan : Plan) (places : List (Option ℕ)) where
         placing = s.placing;
         rivalry = s.rivalry;
         counted = counted;
-        low_within = omega (arith, lower, s.low_within);
-        low_marked = λ d lt.
-            (let ne : ¬ (d ≡ c) = λ same. omega (arith, same, lt, below) in
-            ap (λ (ms : List Bool). get_or ms d false) marked ∙ get_or-set_other marks.items c d false false ne ∙ s.low_marked d (omega (arith, lt, lower)));
         summed = summed items'.items (subst (λ q. IsSummary plan.flows q summary) split s.summed);
         waits = waits;
       }
@@ -169,9 +156,9 @@ pub record IsFrontKept (plan : Plan) (marks : Vec Bool Global) (front : List ℕ
   pub fresh : is_in front c ≡ false
   pub room : length front < vec_len plan.flows.slots
 
-pub front_kept : (plan : Plan) (places : List (Option ℕ)) (items placed : Vec ℕ Global) (marks : Vec Bool Global) (summary : Summary) (rivals : Rivals) (needs : Vec ℕ Global) (low : ℕ) (pending : Option Pending) (front : List ℕ) (c : ℕ)
-    → IsState plan places items placed marks summary rivals needs low pending → items.items ≡ front ++ c ∷ [] → IsFrontKept plan marks front c
-front_kept plan places items placed marks summary rivals needs low pending front c s split =
+pub front_kept : (plan : Plan) (places : List (Option ℕ)) (items placed : Vec ℕ Global) (marks : Vec Bool Global) (summary : Summary) (rivals : Rivals) (needs : Vec ℕ Global) (pending : Option Pending) (front : List ℕ) (c : ℕ)
+    → IsState plan places items placed marks summary rivals needs pending → items.items ≡ front ++ c ∷ [] → IsFrontKept plan marks front c
+front_kept plan places items placed marks summary rivals needs pending front c s split =
     let free = plan_free plan in
     let whole : Follows (may_follow plan) [] (front ++ c ∷ []) = subst (Follows (may_follow plan) []) split s.front in
     let may : may_follow plan front c ≡ true = follows_last (may_follow plan) (size_of plan) [] front c whole in
@@ -186,22 +173,6 @@ front_kept plan places items placed marks summary rivals needs low pending front
       fresh = free.fresh front c may;
       room = more_room plan front c before may;
     }
-
--- a placed item may not be placed again
-pub placed_shut : (plan : Plan) (items : List ℕ) (row : List Bool) (low : ℕ) → IsMarksOf row items → ((d : ℕ) → d < low → get_or row d false ≡ true) → (d : ℕ) → d < low → may_follow plan items d ≡ false
-placed_shut plan items row low are marked d lt =
-    not_true (may_follow plan items d) (λ may.
-    let free = plan_free plan in
-    let out : is_in items d ≡ false = free.fresh items d may in
-    absurd (let no : true ≡ false = sym (marked d lt) ∙ are d ∙ out in cc))
-
--- a search that begins later finds the same, where nothing before may be placed
-pub least_from : (P : ℕ → Type 0) (o : Option ℕ) (from low top : ℕ) → top ≡ max from low → ((d : ℕ) → d < low → P d) → IfSome o (λ x. (d : ℕ) → top ≤ d → d < x → P d) → IfSome o (λ x. (d : ℕ) → from ≤ d → d < x → P d)
-least_from P None from low top e shut h = tt
-least_from P (Some x) from low top e shut h = λ d le lt. elim (cases_lt d low) [
-  | inl below ↦ shut d below
-  | inr above ↦ h d (omega (arith, e, le, above)) lt
-]
 
 -- the front of the images is the image of the front
 pub front_taken : (f : ℕ → ℕ) (items front : List ℕ) (c m : ℕ) (placed placed' : List ℕ) → items ≡ front ++ c ∷ [] → placed ≡ map f items → m ≡ length placed → placed' ≡ take (m - 1) placed → placed' ≡ map f front
@@ -238,7 +209,7 @@ all_blank n i x = elim (cases_lt i n) [
 -- nothing is placed, and nothing is needed
 pub nothing_placed : (plan : Plan) (places : List (Option ℕ)) (items placed : Vec ℕ Global) (marks : Vec Bool Global) (summary : Summary) (rivals : Rivals) (needs : Vec ℕ Global) (pending : Option Pending) (n m : ℕ) → n ≡ size_of plan → items.items ≡ [] → n ≤ vec_capacity items → placed.items ≡ [] → n ≤ vec_capacity placed
     → marks.items ≡ replicate n false → vec_len marks ≡ n → ArePlaces plan.numbers.items places → IsSummary plan.flows [] summary → AreRivals plan.flows rivals → m ≡ vec_len plan.flows.slots → needs.items ≡ replicate m 0 → vec_len needs ≡ m
-    → IsPendingBy plan.choices [] pending → IsState plan places items placed marks summary rivals needs 0 pending
+    → IsPendingBy plan.choices [] pending → IsState plan places items placed marks summary rivals needs pending
 nothing_placed plan places items placed marks summary rivals needs pending n m size none room none' room' blank row placing summed rivalry slots zeros count waits = record {
   front = subst (Follows (may_follow plan) []) (sym none) tt;
   numbers = none' ∙ sym (ap (numbers_at plan) none);
@@ -251,7 +222,5 @@ nothing_placed plan places items placed marks summary rivals needs pending n m s
   rivalry = rivalry;
   counted = subst (λ (xs : List ℕ). AreNeeds plan.flows rivals xs needs.items) (sym none)
       (record { count = (let l : length needs.items ≡ vec_len needs = search rules in l ∙ count ∙ slots); each = λ g l. ap (λ (xs : List ℕ). get_or xs g 0) zeros ∙ all_blank m g 0 });
-  low_within = omega arith;
-  low_marked = λ d l. absurd (omega (arith, l));
   waits = subst (λ (xs : List ℕ). IsPendingBy plan.choices xs pending) (sym none) waits;
 }

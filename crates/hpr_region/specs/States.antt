@@ -1,11 +1,10 @@
 -- What a search keeps.
 --
 -- IsPendingBy choices items pending == the counts of what is still to be placed are those of the items, where there are tables
--- IsState plan places items placed marks summary rivals needs low pending == the items may stand so, one behind the other, and have marks; `placed` has the numbers of their
+-- IsState plan places items placed marks summary rivals needs pending == the items may stand so, one behind the other, and have marks; `placed` has the numbers of their
 --                                           vertices; `places` has the item of each number; there is room for all items; the
---                                           summary and the counts of needs and of what is still to be placed are those of the items;
---                                           all items below `low` are among them
-use Rattle.std.specs.Prelude.{◌≡◌, ℕ, ◌<◌, ◌≤◌, Bool, true, false, Option, Some, None, List, [], Vec, vec_len, vec_capacity, get_or}
+--                                           summary and the counts of needs and of what is still to be placed are those of the items
+use Rattle.std.specs.Prelude.{◌≡◌, ℕ, ◌≤◌, Bool, Option, Some, None, List, [], Vec, vec_len, vec_capacity}
 use Rattle.std.specs.Global.{Global}
 use Rattle.hpr_forest.specs.declared.blocks.Blocks.{Blocks}
 use Rattle.hpr_forest.specs.declared.pending.Pending.{Pending}
@@ -25,7 +24,7 @@ IsPendingBy None items pending = Unit {0}
 IsPendingBy (Some b) items None = ⊥
 IsPendingBy (Some b) items (Some p) = IsPending b items p
 
-pub record IsState (plan : Plan) (places : List (Option ℕ)) (items placed : Vec ℕ Global) (marks : Vec Bool Global) (summary : Summary) (rivals : Rivals) (needs : Vec ℕ Global) (low : ℕ) (pending : Option Pending) : Type 0 where
+pub record IsState (plan : Plan) (places : List (Option ℕ)) (items placed : Vec ℕ Global) (marks : Vec Bool Global) (summary : Summary) (rivals : Rivals) (needs : Vec ℕ Global) (pending : Option Pending) : Type 0 where
   pub front : Follows (may_follow plan) [] items.items
   pub numbers : placed.items ≡ numbers_at plan items.items
   pub row : vec_len marks ≡ size_of plan
@@ -36,6 +35,4 @@ pub record IsState (plan : Plan) (places : List (Option ℕ)) (items placed : Ve
   pub summed : IsSummary plan.flows items.items summary
   pub rivalry : AreRivals plan.flows rivals
   pub counted : AreNeeds plan.flows rivals items.items needs.items
-  pub low_within : low ≤ size_of plan
-  pub low_marked : (d : ℕ) → d < low → get_or marks.items d false ≡ true
   pub waits : IsPendingBy plan.choices items.items pending

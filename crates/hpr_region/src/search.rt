@@ -1,5 +1,5 @@
 //! The search itself: what is placed, what may stand next, and what clashes.
-ghost use Rattle.std.specs.Prelude.{◌≡◌, ℕ, ◌<◌, ◌≤◌, ◌↔◌, ◌++◌, [], ◌∷◌, List, Some, None, true, false, slice_get, get_or, length, IfOk, IfSome, IfNone, IsTrue};
+ghost use Rattle.std.specs.Prelude.{◌≡◌, ℕ, ◌<◌, ◌≤◌, ◌↔◌, ◌++◌, [], ◌∷◌, List, Some, None, true, false, slice_get, length, IfOk, IfSome, IfNone, IsTrue};
 ghost use Rattle.hpr_syntax.specs.Issued.{Issued};
 ghost use Rattle.hpr_syntax.specs.Tree.{Tree};
 ghost use Rattle.hpr_graph.specs.declared.vertex.Vertex.{Vertex};
@@ -40,8 +40,6 @@ pub struct Search {
     summary: Summary,
     rivals: Rivals,
     needs: Vec<u128>,
-    /// Each item below this one is placed.
-    low: usize,
     /// What is still to be placed, by the plan's tables.
     pending: Option<Pending>,
 }
@@ -58,7 +56,7 @@ impl Model for Search {
 
     ghost view = { λ s. record { plan = s.plan; placed = s.items.items } };
 
-    ghost invariant = { λ s. IsState s.plan s.places.items s.items s.placed s.marks s.summary s.rivals s.needs s.low
+    ghost invariant = { λ s. IsState s.plan s.places.items s.items s.placed s.marks s.summary s.rivals s.needs
         s.pending };
 }
 
@@ -74,7 +72,6 @@ impl Drop for Search {
             summary: _,
             rivals: _,
             needs: _,
-            low: _,
             pending: _,
         } = self;
     }
@@ -130,8 +127,8 @@ impl Search {
         &self.placed
     }
 
-    /// The least item, from `from` on, that may be placed next; `None` where there is none. One pass over the
-    /// items, from the first that is not placed; what must come before each of them is counted, and not looked at.
+    /// The least item, from `from` on, that may be placed next; `None` where there is none. Looks at those alone before
+    /// which none are left to be placed.
     pub fn next_ready(&self, from: usize) -> Option<usize>
         ensures can { IfSome result (λ c. may_follow self.now.plan self.now.placed c ≡ true) }
         ensures within { IfSome result (λ c. c < size_of self.now.plan) }
@@ -147,7 +144,7 @@ impl Search {
         let Some(pending) = &self.pending else {
             return None;
         };
-        choices.next_ready(pending, &self.marks, &self.items, from.max(self.low))
+        choices.next_ready(pending, &self.marks, &self.items, from)
     }
 
     /// Whether the item, which may be placed next, doesn't clash with the parts placed so far. Looks at what it uses
@@ -186,7 +183,6 @@ impl Search {
         self.items.push_reserved(item);
         self.placed.push_reserved(number);
         self.marks[item] = true;
-        self.low = first_open(&self.marks, self.low);
     }
 
     /// Takes the last item back; `None` where nothing is placed, which stays so.
@@ -200,7 +196,6 @@ impl Search {
         self.summary.pop(&self.plan, item);
         self.placed.pop();
         self.marks[item] = false;
-        self.low = self.low.min(item);
         count_taken_back(&mut self.pending, &self.plan, &self.items, item);
         take_needs(
             &mut self.needs,
@@ -307,21 +302,6 @@ fn started(alloc: Global, vertices: usize, plan: Plan) -> Result<Search, NoMemor
         summary,
         rivals,
         needs,
-        low: 0,
         pending,
     })
-}
-
-/// The first item without a mark, from `from` on; the count of the items where each has one.
-fn first_open(marks: &[bool], from: usize) -> usize
-    requires { from ≤ length marks.now }
-    ensures within { result ≤ length marks.now }
-    ensures marked { (d : ℕ) → from ≤ d → d < result → get_or marks.now d false ≡ true }
-{
-    for at in from..marks.len() {
-        if !marks[at] {
-            return at;
-        }
-    }
-    marks.len()
 }

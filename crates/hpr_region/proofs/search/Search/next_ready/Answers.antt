@@ -6,7 +6,6 @@ use Rattle.hpr_forest.specs.Pending.{IsPending}
 use Rattle.hpr_forest.specs.Remaining.{can_of}
 use Rattle.hpr_region.specs.Plans.{State, can_by, may_follow}
 use Rattle.hpr_region.specs.States.{IsPendingBy}
-use Rattle.hpr_region.proofs.Searching.{least_from, placed_shut}
 use Rattle.hpr_region.proofs.search.Search.next_ready.Goals as goal
 
 pub next_ready-requires-clause-front : goal.next_ready-requires-clause-front
@@ -18,12 +17,11 @@ pub returns-clause-least : goal.returns-clause-least
 returns-clause-least c =
     let s = c.self.inside in
     let found = c.next_ready.result in
-    let items : IfSome found (λ x. (d : ℕ) → c.max.result ≤ d → d < x → can_of c.in-Some.choices s.items.items d ≡ false) =
-    subst (λ (xs : List ℕ). IfSome found (λ x. (d : ℕ) → c.max.result ≤ d → d < x → can_of c.in-Some.choices xs d ≡ false)) c.deref-2.ensures.value c.next_ready.ensures.least in
-    let after : IfSome found (λ x. (d : ℕ) → c.max.result ≤ d → d < x → may_follow s.plan s.items.items d ≡ false) =
-    subst (λ (o : Option Blocks). IfSome found (λ x. (d : ℕ) → c.max.result ≤ d → d < x → can_by o s.items.items d ≡ false)) (sym c.in-Some.is) items in
-    subst (λ (z : State). IfSome found (λ x. (d : ℕ) → c.args.from ≤ d → d < x → may_follow z.plan z.placed d ≡ false)) c.self.view_is
-    (least_from (λ d. may_follow s.plan s.items.items d ≡ false) found c.args.from s.low c.max.result c.max.ensures (placed_shut s.plan s.items.items s.marks.items s.low c.self.invariant.marked c.self.invariant.low_marked) after)
+    let items : IfSome found (λ x. (d : ℕ) → c.args.from ≤ d → d < x → can_of c.in-Some.choices s.items.items d ≡ false) =
+    subst (λ (xs : List ℕ). IfSome found (λ x. (d : ℕ) → c.args.from ≤ d → d < x → can_of c.in-Some.choices xs d ≡ false)) c.deref-2.ensures.value c.next_ready.ensures.least in
+    let after : IfSome found (λ x. (d : ℕ) → c.args.from ≤ d → d < x → may_follow s.plan s.items.items d ≡ false) =
+    subst (λ (o : Option Blocks). IfSome found (λ x. (d : ℕ) → c.args.from ≤ d → d < x → can_by o s.items.items d ≡ false)) (sym c.in-Some.is) items in
+    subst (λ (z : State). IfSome found (λ x. (d : ℕ) → c.args.from ≤ d → d < x → may_follow z.plan z.placed d ≡ false)) c.self.view_is after
 
 pub next_ready-requires-clause-pending : goal.next_ready-requires-clause-pending
 next_ready-requires-clause-pending c =

@@ -29,7 +29,7 @@ take_needs-requires c =
     let is : c.deref-3.result.now ≡ front = c.deref-3.ensures.value in
     let l : length s.plan.numbers.items ≡ vec_len s.plan.numbers = search rules in
     let e = s.plan.flow_count in
-    let taken = front_kept s.plan s.places.items s.items s.placed s.marks s.summary s.rivals s.needs s.low s.pending front item c.self.invariant c.in_ok-item.ensures.items in
+    let taken = front_kept s.plan s.places.items s.items s.placed s.marks s.summary s.rivals s.needs s.pending front item c.self.invariant c.in_ok-item.ensures.items in
     record {
       rivals = c.self.invariant.rivalry;
       row = c.deref-2.ensures.len ∙ (let row = c.self.invariant.row in omega (arith, row, l, e));
@@ -45,10 +45,10 @@ pub invariant_of-self-2 : goal.invariant_of-self-2
 invariant_of-self-2 c =
     let s = c.self.inside in
     let l : vec_len s.placed ≡ length s.placed.items = search rules in
-    popped s.plan s.places.items s.items s.placed c.pop.new.self c.pop-3.new.self s.marks _ s.summary c.pop-2.new.self s.rivals s.needs c.take_needs.new.needs s.low _ s.pending c.count_taken_back.new.pending c.in_ok-item.item c.self.invariant c.in_ok-item.ensures.items c.pop.ensures.capacity
+    popped s.plan s.places.items s.items s.placed c.pop.new.self c.pop-3.new.self s.marks _ s.summary c.pop-2.new.self s.rivals s.needs c.take_needs.new.needs s.pending c.count_taken_back.new.pending c.in_ok-item.item c.self.invariant c.in_ok-item.ensures.items c.pop.ensures.capacity
     (front_taken (number_at s.plan) s.items.items c.pop.new.self.items c.in_ok-item.item (vec_len s.placed) s.placed.items c.pop-3.new.self.items c.in_ok-item.ensures.items c.self.invariant.numbers l c.pop-3.ensures.rest)
     c.pop-3.ensures.capacity refl refl c.pop-2.ensures
-    (subst (λ (xs : List ℕ). AreNeeds s.plan.flows s.rivals xs c.take_needs.new.needs.items) c.deref-3.ensures.value c.take_needs.ensures) (omega (arith, c.min-self-inside.ensures)) (omega (arith, c.min-self-inside.ensures))
+    (subst (λ (xs : List ℕ). AreNeeds s.plan.flows s.rivals xs c.take_needs.new.needs.items) c.deref-3.ensures.value c.take_needs.ensures)
     (subst (λ (xs : List ℕ). IsPendingBy s.plan.choices xs c.count_taken_back.new.pending) c.deref.ensures.value c.count_taken_back.ensures)
 
 pub returns-clause-within : goal.returns-clause-within
@@ -63,7 +63,7 @@ count_taken_back-requires c =
     let item = c.in_ok-item.item in
     let front = c.pop.new.self.items in
     let is : c.deref.result.now ≡ front = c.deref.ensures.value in
-    let taken = front_kept s.plan s.places.items s.items s.placed s.marks s.summary s.rivals s.needs s.low s.pending front item c.self.invariant c.in_ok-item.ensures.items in
+    let taken = front_kept s.plan s.places.items s.items s.placed s.marks s.summary s.rivals s.needs s.pending front item c.self.invariant c.in_ok-item.ensures.items in
     record {
       pending = subst (λ (xs : List ℕ). IsPendingBy s.plan.choices xs s.pending) (c.in_ok-item.ensures.items ∙ ap (λ (xs : List ℕ). xs ++ item ∷ []) (sym is)) c.self.invariant.waits;
       may = ap (λ (xs : List ℕ). may_follow s.plan xs item) is ∙ taken.may;

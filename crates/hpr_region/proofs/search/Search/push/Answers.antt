@@ -1,4 +1,4 @@
-use Rattle.std.proofs.Common.{◌≡◌, ◌<◌, ◌≤◌, ℕ, Bool, List, [], ◌∷◌, ◌++◌, get_or, true, false, length, vec_len, refl, sym, ap, ◌∙◌, subst, arith, rules}
+use Rattle.std.proofs.Common.{◌≡◌, ◌<◌, ℕ, Bool, List, [], ◌∷◌, ◌++◌, true, false, length, vec_len, refl, sym, ap, ◌∙◌, subst, arith, rules}
 use Rattle.std.proofs.lemmas.List.{length-map}
 use Rattle.hpr_forest.specs.Forest.{IsDistinct}
 use Rattle.hpr_forest.specs.Marks.{IsMarksOf, is_in}
@@ -39,12 +39,10 @@ invariant_of-self c =
     let s = c.self.inside in
     let may : may_follow s.plan s.items.items c.args.item ≡ true = subst (λ (z : State). may_follow z.plan z.placed c.args.item ≡ true) (sym c.self.view_is) c.requires.ready in
     let small = plan_free s.plan in
-    pushed s.plan s.places.items s.items s.placed c.push_reserved.new.self c.push_reserved-2.new.self s.marks _ s.summary c.push.new.self s.rivals s.needs c.add_needs.new.needs s.low c.first_open-self-inside.result s.pending c.count_placed.new.pending c.args.item c.index-number.result.now c.self.invariant may
+    pushed s.plan s.places.items s.items s.placed c.push_reserved.new.self c.push_reserved-2.new.self s.marks _ s.summary c.push.new.self s.rivals s.needs c.add_needs.new.needs s.pending c.count_placed.new.pending c.args.item c.index-number.result.now c.self.invariant may
     (number_is s.plan.numbers.items c.args.item c.index-number.result.now (small.within s.items.items c.args.item may) c.index-number.ensures)
     c.push_reserved.ensures.items c.push_reserved.ensures.capacity c.push_reserved-2.ensures.items c.push_reserved-2.ensures.capacity refl refl c.push.ensures
     (subst (λ (xs : List ℕ). AreNeeds s.plan.flows s.rivals xs c.add_needs.new.needs.items) (ap (λ (xs : List ℕ). xs ++ c.args.item ∷ []) c.deref-2.ensures.value ∙ sym c.push_reserved.ensures.items) c.add_needs.ensures)
-    (subst (λ (ms : List Bool). c.first_open-self-inside.result ≤ length ms) c.deref-4.ensures.value c.first_open-self-inside.ensures.within)
-    (λ d le lt. ap (λ (ms : List Bool). get_or ms d false) (sym c.deref-4.ensures.value) ∙ c.first_open-self-inside.ensures.marked d le lt)
     (subst (λ (xs : List ℕ). IsPendingBy s.plan.choices (xs ++ c.args.item ∷ []) c.count_placed.new.pending) c.deref-3.ensures.value c.count_placed.ensures)
 
 pub index-number-requires : goal.index-number-requires
@@ -91,9 +89,6 @@ pub add_needs-requires-clause-needs : goal.add_needs-requires-clause-needs
 add_needs-requires-clause-needs c =
     let s = c.self.inside in
     subst (λ (xs : List ℕ). AreNeeds s.plan.flows s.rivals xs s.needs.items) (sym c.deref-2.ensures.value) c.self.invariant.counted
-
-pub first_open-self-inside-requires : goal.first_open-self-inside-requires
-first_open-self-inside-requires c = omega (arith, c.self.invariant.low_within, c.self.invariant.row, c.deref-4.ensures.len)
 
 pub index_mut-requires : goal.index_mut-requires
 index_mut-requires c =
