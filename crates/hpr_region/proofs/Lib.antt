@@ -17,3 +17,4 @@ pub mod Searching
 pub mod Exact
 pub mod Made
 pub mod Uses
+mod Finals

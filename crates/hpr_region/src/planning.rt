@@ -1,5 +1,7 @@
 //! A plan is made from a graph.
-ghost use Rattle.std.specs.Prelude.{◌≡◌, ℕ, ◌≤◌, Some, None, List, [], replicate, false, length, slice_get, vec_len, IfOk, IfSome, IfNone, IsTrue};
+ghost use Rattle.std.specs.Prelude.{◌≡◌, ℕ, ◌≤◌, Some, None, List, [], Contains, replicate, false, length, slice_get, vec_len, IfOk, IfSome, IfNone, IsTrue};
+ghost use Rattle.hpr_terms.specs.Names.{IsVariable};
+ghost use Rattle.hpr_graph.specs.declared.vertex.Vertex.{Vertex};
 ghost use Rattle.hpr_graph.specs.Numbered.{graph_in};
 ghost use Rattle.hpr_order.specs.declared.item.Item.{Item};
 ghost use Rattle.hpr_order.specs.Arranging.{IsRanking};
@@ -11,7 +13,7 @@ use crate::plan::Plan;
 use crate::tables::flows_of;
 use hpr_forest::{Blocks, has_order};
 use hpr_graph::{Graph, NoMemory, Vertex};
-use hpr_order::{Item, RegionTree, final_names, parts_by_rank};
+use hpr_order::{Item, RegionTree, parts_by_rank};
 use std::alloc::{AllocError, Global};
 
 /// What a search of the graph's arrangements, by this rank, knows from its start.
@@ -25,10 +27,8 @@ pub(crate) fn plan_of(
     requires rank { IsRanking (graph_in graph.now) rank.now }
     ensures { IfOk result (λ plan. IsPlanOf graph.now rank.now plan) }
 {
-    // no vertex stands twice
-    let _vertices = graph.vertices();
-    // an arrangement has these finals
-    let _finals = final_names(alloc, graph)?;
+    // no vertex stands twice, and the finals of an arrangement are variables
+    read_finals(graph.vertices());
     let parts = parts_by_rank(alloc, graph, regions, rank)?;
     let (numbers, items, choices) = parts.into_parts();
     let flows = flows_of(alloc, graph, &numbers, &items)?;
@@ -38,6 +38,18 @@ pub(crate) fn plan_of(
         choices,
         flows,
     })
+}
+
+/// Reads the names of the Final vertices.
+fn read_finals(vertices: &[Vertex])
+    ensures { (x : List ℕ) → Contains vertices.now (Vertex.Final x) → IsVariable x }
+{
+    for vertex in vertices {
+        let Vertex::Final(name) = vertex else {
+            continue;
+        };
+        let _text = name.text();
+    }
 }
 
 /// The tables, where some program has the items in an order by them; none where there is no such program.
