@@ -23,7 +23,8 @@ module _ (exit : ℕ) (finals names : List (List ℕ)) where
       (omega (arith, at), λ k there. absurd cc)
 
   module _ (n : ℕ) (name : List ℕ) (numbers numbers' : List ℕ) (once : IsOnce finals) (low : n < length finals) (is : name ≡ get_or finals n name)
-      (here : (i : ℕ) → slice_get names i ≡ Some name → get_or numbers' i 0 ≡ exit + n) (others : (i : ℕ) → ¬ (slice_get names i ≡ Some name) → get_or numbers' i 0 ≡ get_or numbers i 0)
+      (here : (i : ℕ) → slice_get names i ≡ Some name → get_or numbers' i 0 ≡ exit + n)
+      (others : (i : ℕ) → ¬ (slice_get names i ≡ Some name) → get_or numbers' i 0 ≡ get_or numbers i 0)
       (before : AreFinalNumbers exit (take n finals) names numbers) where
     at_name : slice_get finals n ≡ Some name
     at_name = slice_get-get_or finals n name low ∙ ap (λ (y : List ℕ). Some y) (sym is)
@@ -51,7 +52,8 @@ module _ (exit : ℕ) (finals names : List (List ℕ)) where
           (let at : get_or numbers' i 0 ≡ exit + n = here i (get ∙ ap (λ (y : List ℕ). Some y) (sym e)) in (
             omega (arith, at),
             λ k there. elim (one_more k x there) [
-              | inl was ↦ (let (l, below) = earlier k x was in let same : k ≡ n = once k n name (below ∙ ap (λ (y : List ℕ). Some y) (sym e)) at_name in absurd (omega (arith, l, same)))
+              | inl was ↦ (let (l, below) = earlier k x was in let same : k ≡ n = once k n name (below ∙ ap (λ (y : List ℕ). Some y) (sym e)) at_name in
+                  absurd (omega (arith, l, same)))
               | inr (same, _) ↦ at ∙ ap (λ (m : ℕ). exit + m) (sym same)
             ],
           ))
@@ -61,6 +63,8 @@ module _ (exit : ℕ) (finals names : List (List ℕ)) where
           (omega (arith, kept, was.0), λ k there. elim (one_more k x there) [ inl taken ↦ kept ∙ was.1 k taken | inr (same, e) ↦ absurd (ne e) ]))
     ]
 
-pub same_final_numbers : (exit exit' : ℕ) (finals finals' names names' : List (List ℕ)) (numbers : List ℕ) → exit ≡ exit' → finals ≡ finals' → names ≡ names' → AreFinalNumbers exit finals names numbers → AreFinalNumbers exit' finals' names' numbers
+pub same_final_numbers : (exit exit' : ℕ) (finals finals' names names' : List (List ℕ)) (numbers : List ℕ) → exit ≡ exit' → finals ≡ finals' → names ≡ names'
+    → AreFinalNumbers exit finals names numbers → AreFinalNumbers exit' finals' names' numbers
 same_final_numbers exit exit' finals finals' names names' numbers e f n are =
-    subst (λ (ns : List (List ℕ)). AreFinalNumbers exit' finals' ns numbers) n (subst (λ (fs : List (List ℕ)). AreFinalNumbers exit' fs names numbers) f (subst (λ (end : ℕ). AreFinalNumbers end finals names numbers) e are))
+    subst (λ (ns : List (List ℕ)). AreFinalNumbers exit' finals' ns numbers) n
+    (subst (λ (fs : List (List ℕ)). AreFinalNumbers exit' fs names numbers) f (subst (λ (end : ℕ). AreFinalNumbers end finals names numbers) e are))

@@ -49,7 +49,8 @@ module _ (t : Tree) (inits : List (List ℕ)) (v : Variable) (var : IsVariable t
         let (from, at) = only_source d l.from source in
         (from, (u, target, subst (λ (e : ℕ). IsFlowOf (spots t) x e u l.kind) at flowing))
 
-    module _ (row : List Bool) (free : IsFreeRow (spots t) row) (flows : List Flow) (exact : (f : Flow) → Contains flows f ↔ ((f.kind ≡ Independent) × Contains v.users.now f.to × IsMarked row f.to)) where
+    module _ (row : List Bool) (free : IsFreeRow (spots t) row) (flows : List Flow)
+        (exact : (f : Flow) → Contains flows f ↔ ((f.kind ≡ Independent) × Contains v.users.now f.to × IsMarked row f.to)) where
       flowing_at : (f : Flow) → Contains flows f ↔ (Contains v.users.now f.to × IsFlowAt (spots t) x 0 f.to f.kind)
       flowing_at f =
           let are = flows_of_row (spots t) x 0 refl row v.users.now (free x not_defined) f in

@@ -41,7 +41,8 @@ after_more R left right definitions k first into into' test l is before new test
 
 module _ (R : ℕ → Type 0) (left : ℕ) (xs : List ℕ) where
   -- those that come by unpaired change nothing
-  after_passed : (n m : ℕ) → n ≤ m → ((k : ℕ) → n ≤ k → k < m → k < length xs → ¬ R (get_or xs k 0)) → (o : Ordered) → After R left (take n xs) o ↔ After R left (take m xs) o
+  after_passed : (n m : ℕ) → n ≤ m → ((k : ℕ) → n ≤ k → k < m → k < length xs → ¬ R (get_or xs k 0)) → (o : Ordered)
+      → After R left (take n xs) o ↔ After R left (take m xs) o
   after_passed n m l pass o = (
     (λ (is, t, r). (let (i, low, within, e) = taken_place xs n o.right t in (is, place_taken xs m o.right i (omega (arith, low, l)) within e, r))),
     (λ (is, t, r). (let (i, low, within, e) = taken_place xs m o.right t in
@@ -51,7 +52,8 @@ module _ (R : ℕ → Type 0) (left : ℕ) (xs : List ℕ) where
         ])),
   )
 
-  pub after_none : (m : ℕ) → ((k : ℕ) → k < m → k < length xs → ¬ R (get_or xs k 0)) → (into : List Ordered) (o : Ordered) → Contains into o ↔ (Contains into o ⊎ After R left (take m xs) o)
+  pub after_none : (m : ℕ) → ((k : ℕ) → k < m → k < length xs → ¬ R (get_or xs k 0)) → (into : List Ordered) (o : Ordered)
+      → Contains into o ↔ (Contains into o ⊎ After R left (take m xs) o)
   after_none m pass into o = (
     (λ h. inl h),
     (λ h. elim h [
@@ -64,8 +66,10 @@ module _ (R : ℕ → Type 0) (left : ℕ) (xs : List ℕ) where
   pair_at n = record { left = left; right = get_or xs n 0 }
 
   -- one more pair, and then some that come by unpaired
-  pub after_pushed : (n m : ℕ) → n < length xs → n + 1 ≤ m → R (get_or xs n 0) → ((k : ℕ) → n + 1 ≤ k → k < m → k < length xs → ¬ R (get_or xs k 0)) → (first into into' : List Ordered) → into' ≡ into ++ pair_at n ∷ []
-      → ((o : Ordered) → Contains into o ↔ (Contains first o ⊎ After R left (take n xs) o)) → (o : Ordered) → Contains into' o ↔ (Contains first o ⊎ After R left (take m xs) o)
+  pub after_pushed : (n m : ℕ) → n < length xs → n + 1 ≤ m → R (get_or xs n 0) → ((k : ℕ) → n + 1 ≤ k → k < m → k < length xs → ¬ R (get_or xs k 0))
+      → (first into into' : List Ordered) → into' ≡ into ++ pair_at n ∷ []
+      → ((o : Ordered) → Contains into o ↔ (Contains first o ⊎ After R left (take n xs) o)) → (o : Ordered)
+      → Contains into' o ↔ (Contains first o ⊎ After R left (take m xs) o)
   after_pushed n m low l r pass first into into' is before o =
       let new : (p : Ordered) → Contains into' p ↔ (Contains into p ⊎ (IsTrue true × (pair_at n ≡ p))) = λ p.
       let more = pushed into (pair_at n) p in
@@ -73,10 +77,12 @@ module _ (R : ℕ → Type 0) (left : ℕ) (xs : List ℕ) where
         (λ h. elim (more.0 h) [ inl was ↦ inl was | inr e ↦ inr (refl, e) ]),
         (λ h. elim h [ inl was ↦ more.1 (inl was) | inr (t, e) ↦ more.1 (inr e) ]),
       ) in
-      either_same (after_more R left (get_or xs n 0) xs n first into into' true low (get_or_default xs n 0 (get_or xs n 0) low) before new ((λ t. r), (λ h. refl)) o) (after_passed (n + 1) m l pass o)
+      either_same (after_more R left (get_or xs n 0) xs n first into into' true low (get_or_default xs n 0 (get_or xs n 0) low) before new
+      ((λ t. r), (λ h. refl)) o) (after_passed (n + 1) m l pass o)
 
   -- and the pair is new
-  pub after_once : (n : ℕ) → n < length xs → IsOnce xs → (first into into' : List Ordered) → into' ≡ into ++ pair_at n ∷ [] → ((o : Ordered) → Contains into o ↔ (Contains first o ⊎ After R left (take n xs) o))
+  pub after_once : (n : ℕ) → n < length xs → IsOnce xs → (first into into' : List Ordered) → into' ≡ into ++ pair_at n ∷ []
+      → ((o : Ordered) → Contains into o ↔ (Contains first o ⊎ After R left (take n xs) o))
       → ((o : Ordered) → Contains first o → o.left ≡ left → ⊥) → IsOnce into → IsOnce into'
   after_once n low each first into into' is before fresh once =
       once_after into into' (pair_at n) once (λ h. elim ((before (pair_at n)).0 h) [
@@ -85,17 +91,20 @@ module _ (R : ℕ → Type 0) (left : ℕ) (xs : List ℕ) where
       ]) is
 
 -- the definitions behind the left one that no conditional has in another branch
-module _ (places : List Place) (left at : ℕ) (xs : List ℕ) (rises : IsStrictlyIncreasing xs) (get : slice_get xs at ≡ Some left) (spans : List Span) (same : spans ≡ others_at places left) where
+module _ (places : List Place) (left at : ℕ) (xs : List ℕ) (rises : IsStrictlyIncreasing xs) (get : slice_get xs at ≡ Some left) (spans : List Span)
+    (same : spans ≡ others_at places left) where
   parted : (q : ℕ) → IsAmong spans q → IsParted places left q
   parted q h = subst (λ (ss : List Span). IsAmong ss q) same h
 
   at_left : get_or xs at 0 ≡ left
   at_left = get_or_from_slice_get xs at left 0 get
 
-  pub passed_later : (start next : ℕ) → ((k : ℕ) → start ≤ k → k < next → IsAmong spans (get_or xs k 0)) → (k : ℕ) → start ≤ k → k < next → k < length xs → ¬ IsBefore places left (get_or xs k 0)
+  pub passed_later : (start next : ℕ) → ((k : ℕ) → start ≤ k → k < next → IsAmong spans (get_or xs k 0)) → (k : ℕ) → start ≤ k → k < next → k < length xs
+      → ¬ IsBefore places left (get_or xs k 0)
   passed_later start next passed k from low within (less, apart) = apart (parted (get_or xs k 0) (passed k from low))
 
-  pub passed_first : (next : ℕ) → ((k : ℕ) → at + 1 ≤ k → k < next → IsAmong spans (get_or xs k 0)) → (k : ℕ) → k < next → k < length xs → ¬ IsBefore places left (get_or xs k 0)
+  pub passed_first : (next : ℕ) → ((k : ℕ) → at + 1 ≤ k → k < next → IsAmong spans (get_or xs k 0)) → (k : ℕ) → k < next → k < length xs
+      → ¬ IsBefore places left (get_or xs k 0)
   passed_first next passed k low within before = elim (cases_lt k (at + 1)) [
     | inl early ↦ (let up = rising_le xs rises k at (omega (arith, early)) (slice_get_within xs at left get) in omega (arith, up, at_left, before.0))
     | inr late ↦ passed_later (at + 1) next passed k late low within before

@@ -41,4 +41,5 @@ module _ (spots : List Spot) (x : List ℕ) (definitions users : List ℕ) where
 pub row_reaching : (spots : List Spot) (x : List ℕ) (definitions users : List ℕ) (rows read : List (Vec ℕ Global)) (k u : ℕ) (row : List ℕ) → AreReaching spots x definitions users rows → read ≡ rows → slice_get users k ≡ Some u → row ≡ points_at read k
     → IsStrictlyIncreasing row × ((p : ℕ) → Contains row p ↔ (Contains definitions p × Reaches spots x [] p u))
 row_reaching spots x definitions users rows read k u row are same at is =
-    subst (λ (ps : List ℕ). IsStrictlyIncreasing ps × ((p : ℕ) → Contains ps p ↔ (Contains definitions p × Reaches spots x [] p u))) (sym (is ∙ ap (λ (rs : List (Vec ℕ Global)). points_at rs k) same)) (are k u at)
+    subst (λ (ps : List ℕ). IsStrictlyIncreasing ps × ((p : ℕ) → Contains ps p ↔ (Contains definitions p × Reaches spots x [] p u)))
+    (sym (is ∙ ap (λ (rs : List (Vec ℕ Global)). points_at rs k) same)) (are k u at)

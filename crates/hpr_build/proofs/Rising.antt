@@ -54,7 +54,8 @@ pub record IsPlaceFrom (xs : List ℕ) (bound at : ℕ) : Type 0 where
   pub below : (k : ℕ) → k < at → get_or xs k 0 < bound
   pub above : (k : ℕ) → at ≤ k → k < length xs → bound ≤ get_or xs k 0
 
-pub place_of_search : (xs : List ℕ) (bound : ℕ) (r : Result ℕ ℕ) → IsStrictlyIncreasing xs → IsBinarySearchResult (λ y. nat_cmp y bound) xs r → MatchResult r (λ i. IsPlaceFrom xs bound i) (λ i. IsPlaceFrom xs bound i)
+pub place_of_search : (xs : List ℕ) (bound : ℕ) (r : Result ℕ ℕ) → IsStrictlyIncreasing xs → IsBinarySearchResult (λ y. nat_cmp y bound) xs r
+    → MatchResult r (λ i. IsPlaceFrom xs bound i) (λ i. IsPlaceFrom xs bound i)
 place_of_search xs bound (Ok i) rises found =
     let (low, is) = searched xs bound (Ok i) found (rising_le xs rises) in
     record {
@@ -67,7 +68,8 @@ place_of_search xs bound (Err i) rises found =
     record { within = low; below = before; above = λ k l h. (let more = after k l h in omega (arith, more)) }
 
 -- each number from one in a span up to the span's end is in it
-pub passed_span : (xs : List ℕ) → IsStrictlyIncreasing xs → (spans : List Span) (at next end : ℕ) → at < length xs → ((s : Span) × Contains spans s × (s.from ≤ get_or xs at 0) × (get_or xs at 0 < s.to) × (s.to ≡ end)) → IsPlaceFrom xs end next
+pub passed_span : (xs : List ℕ) → IsStrictlyIncreasing xs → (spans : List Span) (at next end : ℕ) → at < length xs
+    → ((s : Span) × Contains spans s × (s.from ≤ get_or xs at 0) × (get_or xs at 0 < s.to) × (s.to ≡ end)) → IsPlaceFrom xs end next
     → (at < next) × ((k : ℕ) → at ≤ k → k < next → IsAmong spans (get_or xs k 0))
 passed_span xs rises spans at next end here (s, has, low, high, is) place = (
   (elim (cases_lt at next) [

@@ -47,8 +47,10 @@ module _ (definers : List Bool) (links : List Link) (i : ℕ) (l : Link) (here :
   )
 
   -- the sources among one link more
-  pub from_more : (sources sources' : List ℕ) (test : Bool) → IsTrue test ↔ (IsFlowKind l.kind × IsMarked definers l.from) → ((p : ℕ) → Contains sources p ↔ (IsMarked definers p × HasFlowFrom (take i links) p))
-      → ((p : ℕ) → Contains sources' p ↔ (Contains sources p ⊎ (IsTrue test × (l.from ≡ p)))) → (p : ℕ) → Contains sources' p ↔ (IsMarked definers p × HasFlowFrom (take (i + 1) links) p)
+  pub from_more : (sources sources' : List ℕ) (test : Bool) → IsTrue test ↔ (IsFlowKind l.kind × IsMarked definers l.from)
+      → ((p : ℕ) → Contains sources p ↔ (IsMarked definers p × HasFlowFrom (take i links) p))
+      → ((p : ℕ) → Contains sources' p ↔ (Contains sources p ⊎ (IsTrue test × (l.from ≡ p)))) → (p : ℕ)
+      → Contains sources' p ↔ (IsMarked definers p × HasFlowFrom (take (i + 1) links) p)
   from_more sources sources' test tests before new p = (
     (λ h. elim ((new p).0 h) [
       | inl was ↦ (let (m, f) = (before p).0 was in (m, (flow_more p).1 (inl f)))

@@ -3,7 +3,8 @@
 -- IsFlowKind kind           == the kind of a flow edge
 -- HasFlowFrom links p       == one of the links is a flow edge from p
 -- HasFlows tree inits g     == the flow edges in the graph are exactly those of the program
--- AreReaching spots x definitions users rows == for each of the users there is a row with the definitions from which an undisturbed path for x goes there, ascending
+-- AreReaching spots x definitions users rows == for each of the users there is a row with the definitions from which an
+--                              undisturbed path for x goes there, ascending
 use Rattle.std.specs.Prelude.{◌≡◌, ℕ, ◌↔◌, Some, List, [], Vec, Contains}
 use Rattle.std.specs.Global.{Global}
 use Rattle.std.specs.List.{slice_get}
@@ -32,4 +33,5 @@ HasFlows tree inits g = (to : ℕ) (l : Link) → IsFlowKind l.kind → HasLink 
 
 abbrev pub AreReaching : List Spot → List ℕ → List ℕ → List ℕ → List (Vec ℕ Global) → Type 0
 AreReaching spots x definitions users rows =
-    (k u : ℕ) → slice_get users k ≡ Some u → IsStrictlyIncreasing (points_at rows k) × ((p : ℕ) → Contains (points_at rows k) p ↔ (Contains definitions p × Reaches spots x [] p u))
+    (k u : ℕ) → slice_get users k ≡ Some u → IsStrictlyIncreasing (points_at rows k)
+    × ((p : ℕ) → Contains (points_at rows k) p ↔ (Contains definitions p × Reaches spots x [] p u))

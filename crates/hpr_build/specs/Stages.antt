@@ -36,7 +36,8 @@ pub record AreTables (t : Tables) : Type 0 where
   pub user_rows : vec_len t.variables.users ≡ vec_len t.variables.names
   pub users : AreUsers (spots t.program.now) t.variables.names.items t.variables.users.items
   pub final_rows : vec_len t.final_numbers ≡ vec_len t.variables.names
-  pub finals : AreFinalNumbers (exit_of t.program.now) t.program.now.finals t.variables.names.items t.final_numbers.items
+  pub finals :
+      AreFinalNumbers (exit_of t.program.now) t.program.now.finals t.variables.names.items t.final_numbers.items
   pub free : IfSome t.free (IsFreeRow (spots t.program.now))
 
 pub record IsVariable (tree : Tree) (v : Variable) : Type 0 where

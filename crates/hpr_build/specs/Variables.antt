@@ -3,7 +3,8 @@
 -- points_at rows i             == the points in the row i; none where there is no such row
 -- AreUsers spots names rows    == for each name there is a row with the points that use it, each once
 -- AreDefinitions spots names rows == for each name there is a row with the points that define it, each once
--- AreFinalNumbers exit finals names numbers == for each name there is a number: exit + k, where it is the k-th name of `end`, and else none below exit
+-- AreFinalNumbers exit finals names numbers == for each name there is a number: exit + k, where it is the k-th name of
+--                                 `end`, and else none below exit
 -- IsFreeRow spots row          == the row marks what each name that no point defines reaches from Enter
 use Rattle.std.specs.Prelude.{◌≡◌, ℕ, ◌+◌, ◌≤◌, ◌↔◌, Bool, Option, Some, None, List, [], Vec, Contains, slice_index_or}
 use Rattle.std.specs.Global.{Global}
@@ -31,7 +32,8 @@ AreDefinitions spots names rows =
 
 abbrev pub AreFinalNumbers : ℕ → List (List ℕ) → List (List ℕ) → List ℕ → Type 0
 AreFinalNumbers exit finals names numbers =
-    (i : ℕ) (x : List ℕ) → slice_get names i ≡ Some x → (exit ≤ slice_index_or numbers i 0) × ((k : ℕ) → slice_get finals k ≡ Some x → slice_index_or numbers i 0 ≡ exit + k)
+    (i : ℕ) (x : List ℕ) → slice_get names i ≡ Some x → (exit ≤ slice_index_or numbers i 0)
+    × ((k : ℕ) → slice_get finals k ≡ Some x → slice_index_or numbers i 0 ≡ exit + k)
 
 abbrev pub IsFreeRow : List Spot → List Bool → Type 0
 IsFreeRow spots row = (y : List ℕ) → ¬ IsDefined spots y → (q : ℕ) → IsMarked row q ↔ Reaches spots y [] 0 q

@@ -1,5 +1,6 @@
 //! The order between definitions of one name.
-ghost use Rattle.std.specs.Prelude.{◌≡◌, ℕ, ◌<◌, ◌≤◌, ◌↔◌, ◌⊎◌, Some, length, slice_index, All, Contains, OnOk, IfOk, IfSome, IfNone};
+ghost use Rattle.std.specs.Prelude.{◌≡◌, ℕ, ◌<◌, ◌≤◌, ◌↔◌, ◌⊎◌, Some, length, slice_index, All, Contains};
+ghost use Rattle.std.specs.Prelude.{OnOk, IfOk, IfSome, IfNone};
 ghost use Rattle.std.specs.List.{slice_get};
 ghost use Rattle.std.specs.List.Sorted.{IsStrictlyIncreasing};
 ghost use Rattle.hpr_build.specs.declared.orders.Ordered.{Ordered};
@@ -20,7 +21,8 @@ pub(crate) struct Ordered {
 
 /// The end of one of the spans that have the point, if one has it.
 fn end_around(spans: &[Span], point: usize) -> Option<usize>
-    ensures some { IfSome result (λ end. (s : Span) × Contains spans.now s × (s.from ≤ point) × (point < s.to) × (s.to ≡ end)) }
+    ensures some { IfSome result (λ end. (s : Span) × Contains spans.now s × (s.from ≤ point) × (point < s.to)
+        × (s.to ≡ end)) }
     ensures none { IfNone result (¬ IsAmong spans.now point) }
 {
     for span in spans {

@@ -76,7 +76,8 @@ pub unmarked_turn : (old M U D : Type 0) → ¬ M → old ↔ (old ⊎ (M × U �
 unmarked_turn old M U D free = ((λ h. inl h), (λ h. elim h [ inl o ↦ o | inr k ↦ absurd (free k.0) ]))
 
 -- the rows after one more of the names that are used
-pub turn_used : {X : Type 0} (used : List X) (k : ℕ) (name x : X) (A A' O E : Type 0) → k < length used → name ≡ get_or used k name → A' ↔ (A ⊎ ((name ≡ x) × E)) → A ↔ (O ⊎ (Contains (take k used) x × E)) → A' ↔ (O ⊎ (Contains (take (k + 1) used) x × E))
+pub turn_used : {X : Type 0} (used : List X) (k : ℕ) (name x : X) (A A' O E : Type 0) → k < length used → name ≡ get_or used k name
+    → A' ↔ (A ⊎ ((name ≡ x) × E)) → A ↔ (O ⊎ (Contains (take k used) x × E)) → A' ↔ (O ⊎ (Contains (take (k + 1) used) x × E))
 turn_used {X} used k name x A A' O E l is new old =
     let more = taken_item used k name x l is in (
       (λ h. elim (new.0 h) [

@@ -32,7 +32,8 @@ module _ (names : List (List ℕ)) (sorted : IsStrictlySortedBy (slice_cmp nat_c
       ]
 
   module _ (name : List ℕ) (point at : ℕ) (found : slice_get names at ≡ Some name) (old new : List (List ℕ)) (pushed : IsPushed old at point new) where
-    pub pushed_row : (i : ℕ) (x : List ℕ) → slice_get names i ≡ Some x → (p : ℕ) → Contains (numbers_at new i) p ↔ (Contains (numbers_at old i) p ⊎ ((name ≡ x) × (point ≡ p)))
+    pub pushed_row : (i : ℕ) (x : List ℕ) → slice_get names i ≡ Some x → (p : ℕ)
+        → Contains (numbers_at new i) p ↔ (Contains (numbers_at old i) p ⊎ ((name ≡ x) × (point ≡ p)))
     pushed_row i x get p = (
       (λ h. elim ((pushed i p).0 h) [
         | inl was ↦ inl was
@@ -44,7 +45,8 @@ module _ (names : List (List ℕ)) (sorted : IsStrictlySortedBy (slice_cmp nat_c
       ]),
     )
 
-pub unpushed_row : (names : List (List ℕ)) (name : List ℕ) (point : ℕ) (rows : List (List ℕ)) → ¬ Contains names name → (i : ℕ) (x : List ℕ) → slice_get names i ≡ Some x
+pub unpushed_row : (names : List (List ℕ)) (name : List ℕ) (point : ℕ) (rows : List (List ℕ)) → ¬ Contains names name → (i : ℕ) (x : List ℕ)
+    → slice_get names i ≡ Some x
     → (p : ℕ) → Contains (numbers_at rows i) p ↔ (Contains (numbers_at rows i) p ⊎ ((name ≡ x) × (point ≡ p)))
 unpushed_row names name point rows none i x get p = (
   (λ h. inl h),

@@ -26,4 +26,5 @@ IsUsedAfterAll spots x = (u : ℕ) × (steps : List Step) × NumberPath spots 0 
 
 abbrev pub AreUsersOf : List Spot → List (List ℕ) → List (List ℕ) → Type 0
 AreUsersOf spots names rows =
-    (i : ℕ) (x : List ℕ) → slice_get names i ≡ Some x → (i < length rows) × ((p : ℕ) → Contains (numbers_at rows i) p ↔ UsesAt spots p x)
+    (i : ℕ) (x : List ℕ) → slice_get names i ≡ Some x
+    → (i < length rows) × ((p : ℕ) → Contains (numbers_at rows i) p ↔ UsesAt spots p x)

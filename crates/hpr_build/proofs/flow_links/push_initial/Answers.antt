@@ -7,7 +7,8 @@ returns-in_ok-push-in-Some-clause-exact c =
     let t = c.args.tables.now in
     let inits = t.inits.items in
     let (zero_is, (k, at, is)) = c.in-Some.ensures.some in
-    initial_more t.program.now inits c.args.variable.now.name.now k c.in-Some.number (names_once inits c.requires.inits_ascending) at is c.args.into.now.items c.push.new.self.items c.in_ok-push-in-Some.ensures.items
+    initial_more t.program.now inits c.args.variable.now.name.now k c.in-Some.number (names_once inits c.requires.inits_ascending) at is c.args.into.now.items
+    c.push.new.self.items c.in_ok-push-in-Some.ensures.items
 
 pub returns-in_ok-push-in-Some-clause-once : goal.returns-in_ok-push-in-Some-clause-once
 returns-in_ok-push-in-Some-clause-once c = initial_once c.in-Some.number c.args.into.now.items c.push.new.self.items c.in_ok-push-in-Some.ensures.items

@@ -28,9 +28,11 @@ loop-user-preserved c =
               | inr to ↦ new.1 (inr (c.has.ensures.1 (subst (IsMarked c.args.row.now) (sym to) m), λ i. record { to = to i; kind = sym kind i }))
             ]),
           );
-      once = λ once. c.in_ok-push_if.ensures.once (c.loop-user.invariant.once once) (λ h. not_before us k u once c.loop-user-test.true is ((c.loop-user.invariant.exact _).0 h).1);
+      once = λ once. c.in_ok-push_if.ensures.once (c.loop-user.invariant.once once)
+          (λ h. not_before us k u once c.loop-user-test.true is ((c.loop-user.invariant.exact _).0 h).1);
     }
 
 pub returns-clause-exact : goal.returns-clause-exact
 returns-clause-exact c = λ f.
-    subst (λ (us : List ℕ). Contains c.loop-user.flows.items f ↔ ((f.kind ≡ Independent) × Contains us f.to × IsMarked c.args.row.now f.to)) (take_all c.loop-user.user-index c.args.users.now (omega (arith, c.loop-user-test.false))) (c.loop-user.invariant.exact f)
+    subst (λ (us : List ℕ). Contains c.loop-user.flows.items f ↔ ((f.kind ≡ Independent) × Contains us f.to × IsMarked c.args.row.now f.to))
+    (take_all c.loop-user.user-index c.args.users.now (omega (arith, c.loop-user-test.false))) (c.loop-user.invariant.exact f)

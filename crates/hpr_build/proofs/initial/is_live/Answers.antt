@@ -11,4 +11,5 @@ returns-in-Some c =
     let x = c.args.name.now in
     let none : c.args.definitions.now ≡ [] = nil_from_length c.args.definitions.now (eqb-true (length c.args.definitions.now) 0 (sym c.is_empty.ensures ∙ c.if-is_empty.true)) in
     let free : IsFreeRow s c.in-Some.row = subst (λ (o : Option (List Bool)). IfSome o (IsFreeRow s)) c.in-Some.is c.requires.free in
-    live_by_row s x c.in-Some.row c.args.users.now c.has_any.result (free x (undefined s x c.args.definitions.now c.requires.definitions none)) c.requires.users c.has_any.ensures
+    live_by_row s x c.in-Some.row c.args.users.now c.has_any.result (free x (undefined s x c.args.definitions.now c.requires.definitions none))
+    c.requires.users c.has_any.ensures

@@ -31,4 +31,5 @@ returns-clause-once c =
     let number = c.target_of-number.result in
     let pairs = c.in_ok-pairs.pairs.items in
     let made : c.in_ok-links.links.items ≡ map (order_link number) pairs = made_orders number pairs c.deref-2.result.now c.in_ok-links.links.items c.in_ok-links.ensures c.deref-2.ensures.value in
-    subst (λ (ns : List NewLink). IsOnce ns) (sym made) (order_links_once c.args.tables.now.program.now c.args.variable.now c.requires.variable number pairs c.in_ok-pairs.ensures.once)
+    subst (λ (ns : List NewLink). IsOnce ns) (sym made) (order_links_once c.args.tables.now.program.now c.args.variable.now c.requires.variable number pairs
+    c.in_ok-pairs.ensures.once)

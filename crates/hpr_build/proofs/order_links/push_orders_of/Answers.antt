@@ -83,5 +83,9 @@ loop-at-init c = record {
 pub returns-then-variable-lt2-clause-added : goal.returns-then-variable-lt2-clause-added
 returns-then-variable-lt2-clause-added c = λ to l. (
   (λ h. inl h),
-  (λ h. elim h [ inl was ↦ was | inr o ↦ absurd (no_orders c.args.tables.now.program.now c.args.variable.now c.requires.variable c.if-variable-lt2.true to l o) ]),
+  (λ h. elim h [
+    | inl was ↦ was
+    | inr o ↦ absurd (no_orders c.args.tables.now.program.now c.args.variable.now c.requires.variable c.if-variable-lt2.true to l
+        o)
+  ]),
 )

@@ -14,8 +14,13 @@ not_here spans i q s l is before here (r, there, low, high) =
     ]
 
 pub returns-then-point-span-clause-some : goal.returns-then-point-span-clause-some
-returns-then-point-span-clause-some c =
-    (_, (c.loop-span.span-index, c.loop-span-test.true, get_or_default c.args.spans.now c.loop-span.span-index _ _ c.loop-span-test.true), c.if-span-point.true, c.if-point-span.true, refl)
+returns-then-point-span-clause-some c = (
+  _,
+  (c.loop-span.span-index, c.loop-span-test.true, get_or_default c.args.spans.now c.loop-span.span-index _ _ c.loop-span-test.true),
+  c.if-span-point.true,
+  c.if-point-span.true,
+  refl,
+)
 
 pub loop-span-preserved : goal.loop-span-preserved
 loop-span-preserved c =
@@ -28,4 +33,5 @@ loop-span-preserved c =
     ])
 
 pub returns-clause-none : goal.returns-clause-none
-returns-clause-none c = λ among. c.loop-span.invariant (subst (λ (xs : List Span). IsAmong xs c.args.point) (sym (take_all c.loop-span.span-index c.args.spans.now c.loop-span-test.false)) among)
+returns-clause-none c = λ among. c.loop-span.invariant (subst (λ (xs : List Span). IsAmong xs c.args.point)
+    (sym (take_all c.loop-span.span-index c.args.spans.now c.loop-span-test.false)) among)

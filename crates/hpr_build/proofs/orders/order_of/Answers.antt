@@ -22,12 +22,15 @@ loop-at-preserved c =
     let xs = c.args.definitions.now in
     let left : ℕ = get_or xs k 0 in
     record {
-      exact = order_more (IsBefore c.args.places.now) xs k left c.loop-at.pairs.items _ c.loop-at-test.true (get_or_default xs k 0 left c.loop-at-test.true) c.loop-at.invariant.exact c.in_ok-push_after.ensures.exact;
+      exact = order_more (IsBefore c.args.places.now) xs k left c.loop-at.pairs.items _ c.loop-at-test.true (get_or_default xs k 0 left c.loop-at-test.true)
+          c.loop-at.invariant.exact c.in_ok-push_after.ensures.exact;
       once = c.in_ok-push_after.ensures.once c.loop-at.invariant.once
-          (λ o h e. not_before xs k left (rising_once xs c.requires.ascending) c.loop-at-test.true (get_or_default xs k 0 left c.loop-at-test.true) (subst (Contains (take k xs)) e ((c.loop-at.invariant.exact o).0 h).0));
+          (λ o h e. not_before xs k left (rising_once xs c.requires.ascending) c.loop-at-test.true (get_or_default xs k 0 left c.loop-at-test.true)
+          (subst (Contains (take k xs)) e ((c.loop-at.invariant.exact o).0 h).0));
     }
 
 pub returns-clause-exact : goal.returns-clause-exact
 returns-clause-exact c = λ o.
-    let P : List ℕ → Type 0 = λ xs. Contains c.loop-at.pairs.items o ↔ (Contains xs o.left × Contains c.args.definitions.now o.right × IsBefore c.args.places.now o.left o.right) in
+    let P : List ℕ → Type 0 = λ xs. Contains c.loop-at.pairs.items o ↔
+    (Contains xs o.left × Contains c.args.definitions.now o.right × IsBefore c.args.places.now o.left o.right) in
     subst P (take_all c.loop-at.at c.args.definitions.now (omega (arith, c.loop-at-test.false))) (c.loop-at.invariant.exact o)

@@ -6,6 +6,7 @@ use Rattle.hpr_build.proofs.orders.order_of.Given as goal
 
 abbrev pub invariant-loop-at : goal.invariant-loop-at
 invariant-loop-at l = record {
-  exact : (o : Ordered) → Contains l.pairs.items o ↔ (Contains (take l.at l.definitions) o.left × Contains l.definitions o.right × IsBefore l.places o.left o.right);
+  exact : (o : Ordered) → Contains l.pairs.items o ↔ (Contains (take l.at l.definitions) o.left × Contains l.definitions o.right × IsBefore l.places o.left
+      o.right);
   once : IsOnce l.pairs.items;
 }

@@ -19,6 +19,7 @@ loop-at-preserved c =
 pub loop-at-smaller : goal.loop-at-smaller
 loop-at-smaller c =
     let place = c.place_from-at.ensures in
-    let (low, inside) = passed_span c.args.points.now c.requires.points c.args.spans.now c.loop-at.at c.place_from-at.result c.in-Some.end c.loop-at-test.true c.in-Some.ensures.some
+    let (low, inside) = passed_span c.args.points.now c.requires.points c.args.spans.now c.loop-at.at c.place_from-at.result c.in-Some.end c.loop-at-test.true
+    c.in-Some.ensures.some
     (record { within = place.within; below = place.below; above = place.above }) in
     omega (arith, low, c.loop-at-test.true)

@@ -32,7 +32,8 @@ loop-user-preserved c =
     record {
       len = omega (arith, c.in_ok-push.ensures.len, c.loop-user.invariant.len);
       exact = one_use_more (spots c.args.tables.now.program.now) v.name.now v.definitions.now xs k u c.loop-user.rows.items c.push.new.self.items c.in_ok-row.row c.loop-user-test.true
-          (get_or_default xs k 0 u c.loop-user-test.true) (omega (arith, c.loop-user.invariant.len, c.loop-user.rows.ok.0)) c.in_ok-push.ensures.items c.loop-user.invariant.exact (c.in_ok-row.ensures.ascending, c.in_ok-row.ensures.exact);
+          (get_or_default xs k 0 u c.loop-user-test.true) (omega (arith, c.loop-user.invariant.len, c.loop-user.rows.ok.0)) c.in_ok-push.ensures.items
+          c.loop-user.invariant.exact (c.in_ok-row.ensures.ascending, c.in_ok-row.ensures.exact);
     }
 
 pub returns-clause-exact : goal.returns-clause-exact

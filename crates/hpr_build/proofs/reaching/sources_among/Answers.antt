@@ -11,11 +11,13 @@ loop-link-init c = from_none c.args.definers.now c.in_ok-sources.sources.items c
 
 pub loop-link-preserved : goal.loop-link-preserved
 loop-link-preserved c =
-    from_more c.args.definers.now c.args.links.now c.loop-link.link-index _ c.loop-link-test.true (get_or_default c.args.links.now c.loop-link.link-index _ _ c.loop-link-test.true)
+    from_more c.args.definers.now c.args.links.now c.loop-link.link-index _ c.loop-link-test.true
+    (get_or_default c.args.links.now c.loop-link.link-index _ _ c.loop-link-test.true)
     c.loop-link.sources.items c.push_if.new.into.items c.is_from.result c.is_from.ensures c.loop-link.invariant c.in_ok-push_if.ensures.exact
 
 pub returns-clause-exact : goal.returns-clause-exact
 returns-clause-exact c = λ p.
-    let whole = subst (λ (ls : List Link). Contains c.loop-link.sources.items p ↔ (IsMarked c.args.definers.now p × HasFlowFrom ls p)) (take_all c.loop-link.link-index c.args.links.now (omega (arith, c.loop-link-test.false))) (c.loop-link.invariant p) in
+    let whole = subst (λ (ls : List Link). Contains c.loop-link.sources.items p ↔ (IsMarked c.args.definers.now p × HasFlowFrom ls p))
+    (take_all c.loop-link.link-index c.args.links.now (omega (arith, c.loop-link-test.false))) (c.loop-link.invariant p) in
     let same = c.ascending.ensures.same p in
     ((λ h. whole.0 (same.0 h)), (λ h. same.1 (whole.1 h)))

@@ -39,7 +39,8 @@ returns-clause-tables c =
       user_rows = c.in_ok-variables.ensures.user_rows;
       users = subst (λ (s : List Spot). AreUsers s names c.in_ok-variables.variables.users.items) succ c.in_ok-variables.ensures.users;
       final_rows = omega (arith, c.in_ok-final_numbers.ensures.len, c.deref-3.ensures.len);
-      finals = same_final_numbers _ _ c.finals-2.result.now c.args.program.now.finals c.deref-3.result.now names c.in_ok-final_numbers.final_numbers.items (ap (λ (n : ℕ). n + 1) c.part_count-exit.ensures.count) c.finals-2.ensures.finals c.deref-3.ensures.value c.in_ok-final_numbers.ensures.exact;
+      finals = same_final_numbers _ _ c.finals-2.result.now c.args.program.now.finals c.deref-3.result.now names c.in_ok-final_numbers.final_numbers.items
+          (ap (λ (n : ℕ). n + 1) c.part_count-exit.ensures.count) c.finals-2.ensures.finals c.deref-3.ensures.value c.in_ok-final_numbers.ensures.exact;
       free = subst (λ (s : List Spot). IfSome c.in_ok-free.free (IsFreeRow s)) succ c.in_ok-free.ensures;
     }
 
@@ -49,4 +50,5 @@ returns-clause-vertices c =
     c.in_ok-push_vertices.ensures c.requires (c.deref.ensures.value ∙ c.in_ok-places.ensures) c.finals.ensures.finals c.deref-2.ensures.value
 
 pub final_numbers-requires-clause-finals : goal.final_numbers-requires-clause-finals
-final_numbers-requires-clause-finals c = subst (λ (xs : List (List ℕ)). IsOnce xs) (sym c.finals-2.ensures.finals) (finals_once c.args.program.now c.finals-2.ensures.program)
+final_numbers-requires-clause-finals c = subst (λ (xs : List (List ℕ)). IsOnce xs) (sym c.finals-2.ensures.finals)
+    (finals_once c.args.program.now c.finals-2.ensures.program)

@@ -21,7 +21,8 @@ returns-clause-variable c =
     let defines = c.requires.tables.definitions at x get in
     let uses = c.requires.tables.users at x get in
     let numbers = c.requires.tables.finals at x get in
-    let number : c.index-2.result.now ≡ get_or t.final_numbers.items at 0 = c.index-2.ensures ∙ get_or_default t.final_numbers.items at c.index-2.result.now 0 (omega (arith, here, c.requires.tables.final_rows, t.final_numbers.ok.0, t.variables.names.ok.0)) in
+    let number : c.index-2.result.now ≡ get_or t.final_numbers.items at 0 = c.index-2.ensures ∙ get_or_default t.final_numbers.items at c.index-2.result.now 0
+    (omega (arith, here, c.requires.tables.final_rows, t.final_numbers.ok.0, t.variables.names.ok.0)) in
     record {
       definitions_once = subst (λ (ps : List ℕ). IsOnce ps) (sym definitions) defines.0;
       definitions = λ p. subst (λ (ps : List ℕ). Contains ps p ↔ (defined_at (spots t.program.now) p ≡ Some x)) (sym definitions) (defines.1 p);

@@ -10,7 +10,8 @@ exact c x =
     let s = c.args.succ.now in
     let defined = c.in_ok-defined.defined.items in
     let firsts : Contains c.in_ok-live.live.items x ↔ (IsUsedAfterAll s x × (¬ Contains defined x)) = rw c.as_slice.ensures.value at (c.in_ok-live.ensures x) in
-    let boths : Contains c.push_live.new.into.items x ↔ (Contains c.in_ok-live.live.items x ⊎ (Contains defined x × IsLive s x)) = rw c.as_slice-3.ensures.value at (c.in_ok-push_live.ensures x) in
+    let boths : Contains c.push_live.new.into.items x ↔ (Contains c.in_ok-live.live.items x ⊎ (Contains defined x × IsLive s x)) = rw
+    c.as_slice-3.ensures.value at (c.in_ok-push_live.ensures x) in
     both_kinds s x defined c.in_ok-live.live.items c.push_live.new.into.items (c.in_ok-defined.ensures.exact x) firsts boths
 
 pub returns-clause-sound : goal.returns-clause-sound
@@ -20,4 +21,5 @@ pub returns-clause-complete : goal.returns-clause-complete
 returns-clause-complete c = IfOk-weaker c.in_order.result _ _ (λ v same x h. (same x).1 ((exact c x).1 h)) c.in_order.ensures.same
 
 pub push_live-requires-clause-users : goal.push_live-requires-clause-users
-push_live-requires-clause-users c = subst (λ (ns : List (List ℕ)). AreUsersOf c.args.succ.now ns c.in_ok-users.users) (c.as_slice-2.ensures.value ∙ sym c.as_slice-3.ensures.value) c.in_ok-users.ensures
+push_live-requires-clause-users c = subst (λ (ns : List (List ℕ)). AreUsersOf c.args.succ.now ns c.in_ok-users.users)
+    (c.as_slice-2.ensures.value ∙ sym c.as_slice-3.ensures.value) c.in_ok-users.ensures

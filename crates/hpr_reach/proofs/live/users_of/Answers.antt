@@ -16,7 +16,8 @@ pub loop-point-preserved : goal.loop-point-preserved
 loop-point-preserved c = record {
   names = omega (arith, c.in_ok-push_users.ensures.count, c.loop-point.invariant.names);
   points = omega (arith, c.in_ok-push_users.ensures.count, c.loop-point.invariant.points);
-  rows = λ i x get p. turn_point (λ q. UsesAt c.args.succ.now q x) c.loop-point.point p _ _ (c.in_ok-push_users.ensures.rows i x get p) (c.loop-point.invariant.rows i x get p);
+  rows = λ i x get p. turn_point (λ q. UsesAt c.args.succ.now q x) c.loop-point.point p _ _ (c.in_ok-push_users.ensures.rows i x get p)
+      (c.loop-point.invariant.rows i x get p);
 }
 
 pub returns : goal.returns
