@@ -1,7 +1,7 @@
 use Rattle.std.proofs.Common.{◌≡◌, take, vec_len}
 use Rattle.hpr_paths.specs.Successors.{spots}
 use Rattle.hpr_build.specs.Reaching.{AreReaching}
-use Rattle.hpr_build.proofs.reaching.reaching_rows.Given as goal
+use Rattle.hpr_build.proofs.reaching.rows_by_searches.Given as goal
 
 abbrev pub invariant-loop-user : goal.invariant-loop-user
 invariant-loop-user l = record {

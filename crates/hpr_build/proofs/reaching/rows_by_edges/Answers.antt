@@ -5,7 +5,7 @@ use Rattle.hpr_paths.specs.Successors.{spots}
 use Rattle.hpr_build.specs.Reaching.{AreReaching}
 use Rattle.hpr_build.proofs.OrderFamily.{points_within}
 use Rattle.hpr_build.proofs.ReachingRows.{one_use_more}
-use Rattle.hpr_build.proofs.reaching.reaching_rows.Goals as goal
+use Rattle.hpr_build.proofs.reaching.rows_by_edges.Goals as goal
 
 pub marked-requires : goal.marked-requires
 marked-requires c =
