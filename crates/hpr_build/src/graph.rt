@@ -41,8 +41,9 @@ fn push_edges(alloc: Global, tables: &Tables, graph: &mut Draft) -> Result<(), B
 /// Refuses with `TooManyEdges` where the graph has more than `most_edges` edges, and only there, and
 /// with `Memory` where memory runs out.
 ///
-/// Takes one search of the program for each definition of a name that is used, and for each loop around it to
-/// which its value comes round two more.
+/// Takes one search of the program for all names that no part defines, one for each definition of a name that is
+/// used, one more where many edges go into the uses of its name, and for each loop around it to which its value
+/// comes round two more.
 pub fn graph_of(alloc: Global, program: &Program, most_edges: usize) -> Result<Graph, BuildError>
     ensures graph { IfOk result (λ g. Same (graph_in g) (graph_of program.now)) }
     ensures within { IfOk result (λ g. ¬ HasMoreEdges (graph_of program.now) most_edges) }
