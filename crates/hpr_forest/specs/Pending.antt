@@ -11,7 +11,8 @@ use Rattle.hpr_forest.specs.declared.blocks.Blocks.{Blocks}
 use Rattle.hpr_forest.specs.declared.pending.Pending.{Pending}
 
 abbrev pub AreOpen : Table → List ℕ → List Bool → Type 0
-AreOpen rows placed row = (d : ℕ) → d < length rows → is_in placed d ≡ false → all_in placed (row_of rows d) ≡ true → get_or row d false ≡ true
+AreOpen rows placed row =
+    (d : ℕ) → d < length rows → is_in placed d ≡ false → all_in placed (row_of rows d) ≡ true → get_or row d false ≡ true
 
 pub record IsPending (b : Blocks) (placed : List ℕ) (p : Pending) : Type 0 where
   pub before : AreCounts b.before.items placed p.before

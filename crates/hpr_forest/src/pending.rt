@@ -10,8 +10,8 @@ use crate::sparse::SparseRow;
 use std::alloc::{AllocError, Global};
 
 /// What the placed items of a forest leave to be placed: for each item how many of those that must come before it
-/// aren't placed, and how many of those under it. An item for which none of the first are left is marked as ready, until
-/// it is placed.
+/// aren't placed, and how many of those under it. An item for which none of the first are left is marked as ready,
+/// until it is placed.
 pub struct Pending {
     pub(crate) before: Counts,
     pub(crate) under: Counts,
@@ -77,7 +77,8 @@ impl Pending {
 /// A mark at each entry that is 0.
 fn open_row(alloc: Global, left: &[usize]) -> Result<SparseRow, AllocError>
     ensures count { IfOk result (λ row. length row ≡ length left.now) }
-    ensures marked { IfOk result (λ row. (k : ℕ) → k < length left.now → get_or left.now k 0 ≡ 0 → get_or row k false ≡ true) }
+    ensures marked { IfOk result (λ row. (k : ℕ) → k < length left.now → get_or left.now k 0 ≡ 0
+        → get_or row k false ≡ true) }
 {
     let mut row = SparseRow::blank(alloc, left.len())?;
     for at in 0..left.len() {

@@ -53,7 +53,8 @@ impl Blocks {
         pending.before.is_full(item)
     }
 
-    /// The least item, from `from` on, that may be placed next; `None` where there is none. Looks at those alone before which none are left.
+    /// The least item, from `from` on, that may be placed next; `None` where there is none. Looks at those alone before
+    /// which none are left.
     pub fn next_ready(
         &self,
         pending: &Pending,
