@@ -36,7 +36,8 @@ pub struct ManyMerged {
 ///
 /// The graphs are whole, as those of programs are. Refuses for want of memory alone. Compares each variant
 /// once with the base, and once with the merged graph, which grows by one variant's changes after another;
-/// only where a variant has conflicts, puts vertices and edges in order, and makes two searches for each.
+/// only where a variant has conflicts, puts vertices and edges in order, and looks at each edge a few times for
+/// every 64 of them.
 pub fn merge_many(alloc: Global, base: &Graph, variants: &[Graph]) -> Result<ManyMerged, NoMemory>
     requires least { 2 ≤ length variants.now }
     requires most { length variants.now ≤ MAX_VARIANTS }

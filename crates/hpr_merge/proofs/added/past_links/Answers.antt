@@ -1,12 +1,7 @@
-use Rattle.std.proofs.Common.{◌∙◌, ◌<◌, false, arith}
-use Rattle.hpr_graph.specs.declared.link.LinkKind.TheVariants.{Control}
-use Rattle.hpr_graph.specs.declared.link.Link.{Link}
+use Rattle.std.proofs.Common.{◌∙◌, ◌<◌, arith}
 use Rattle.hpr_merge.specs.Added.{MoreEach}
 use Rattle.hpr_merge.proofs.Past.{past_more, past_whole, past_closed}
 use Rattle.hpr_merge.proofs.added.past_links.Goals as goal
-
-no_link : Link
-no_link = record { from = 0; kind = Control false }
 
 pub returns-then-left-eq0-clause-past : goal.returns-then-left-eq0-clause-past
 returns-then-left-eq0-clause-past c = λ i l.
@@ -14,13 +9,12 @@ returns-then-left-eq0-clause-past c = λ i l.
     (c.loop-link.invariant.past i l)
 
 pub loop-link-preserved : goal.loop-link-preserved
-unfolding no_link
 loop-link-preserved c = record {
   count = c.past_link-left.ensures.count ∙ c.loop-link.invariant.count;
   past = λ i l.
       (let few = c.requires.few in
       let below : i < 64 = omega (arith, l, few) in
-      past_more (MoreEach c.args.grown.now c.args.own.now c.args.own_links.now) c.args.links.now c.args.to c.args.waiting c.args.firsts.now.items i c.loop-link.link-index c.loop-link.left c.more_word-more.result c.past_link-left.result no_link
+      past_more (MoreEach c.args.grown.now c.args.own.now c.args.own_links.now) c.args.links.now c.args.to c.args.waiting c.args.firsts.now.items i c.loop-link.link-index c.loop-link.left c.more_word-more.result c.past_link-left.result _
       c.loop-link.firsts.items _ c.loop-link-test.true (c.loop-link.invariant.past i l) (c.more_word-more.ensures i below) (c.past_link-left.ensures.left i below) (c.past_link-left.ensures.kept i)
       (c.past_link-left.ensures.put i (omega (arith, l, c.loop-link.invariant.count))));
 }
