@@ -11,20 +11,20 @@ use Rattle.hpr_graph.specs.Whole.{HasEnds}
 use Rattle.hpr_graph.proofs.Laws.{vertices_map}
 
 -- the vertices and edges of what is put together
-module _ (bare g other u r : Numbered) (vertices : bare.vertices ≡ other.vertices) (none : (to : ℕ) (l : Link) → ¬ HasLink bare to l) (united : Same (graph_in u) (union_of (graph_in bare) (graph_in g))) (ordered : Same (graph_in r) (graph_in u)) where
+module _ (bare g other u r : Numbered) (vertices : bare.vertices ≡ other.vertices) (none : (to : ℕ) (l : Link) → ¬ HasLink bare to l) (united : Same (graph_in u) (union_of (graph_in g) (graph_in bare))) (ordered : Same (graph_in r) (graph_in u)) where
   pub all_vertices : (v : Vertex) → HasVertex r v ↔ (HasVertex g v ⊎ HasVertex other v)
   all_vertices v = (
-    λ h. elim ((united.0 v).0 ((ordered.0 v).0 h)) [ inl of_bare ↦ inr (subst (λ (vs : List Vertex). Contains vs v) vertices of_bare) | inr of_g ↦ inl of_g ],
+    λ h. elim ((united.0 v).0 ((ordered.0 v).0 h)) [ inl of_g ↦ inl of_g | inr of_bare ↦ inr (subst (λ (vs : List Vertex). Contains vs v) vertices of_bare) ],
     λ h. elim h [
-      | inl of_g ↦ (ordered.0 v).1 ((united.0 v).1 (inr of_g))
-      | inr of_other ↦ (ordered.0 v).1 ((united.0 v).1 (inl (subst (λ (vs : List Vertex). Contains vs v) (sym vertices) of_other)))
+      | inl of_g ↦ (ordered.0 v).1 ((united.0 v).1 (inl of_g))
+      | inr of_other ↦ (ordered.0 v).1 ((united.0 v).1 (inr (subst (λ (vs : List Vertex). Contains vs v) (sym vertices) of_other)))
     ],
   )
 
   pub all_edges : (e : Edge) → HasEdge r e ↔ HasEdge g e
   all_edges e = (
-    λ h. elim ((united.1 e).0 ((ordered.1 e).0 h)) [ inl (to, l, has, at) ↦ absurd (none to l has) | inr of_g ↦ of_g ],
-    λ h. (ordered.1 e).1 ((united.1 e).1 (inr h)),
+    λ h. elim ((united.1 e).0 ((ordered.1 e).0 h)) [ inl of_g ↦ of_g | inr (to, l, has, at) ↦ absurd (none to l has) ],
+    λ h. (ordered.1 e).1 ((united.1 e).1 (inl h)),
   )
 
 -- what leads in one graph leads in another with all of its edges

@@ -124,7 +124,7 @@ impl<'a> Beside<'a> {
     }
 }
 
-/// The graph with the vertices of the other too, in order. Looks each vertex of the graph up once.
+/// The graph with the vertices of the other too, in order. Looks each vertex of the other up once.
 pub(crate) fn widened(alloc: Global, graph: &Graph, other: &Graph) -> Result<Graph, NoMemory>
     ensures vertices { IfOk result (λ g. (v : Vertex) → HasVertex g v
         ↔ (HasVertex graph.now v ⊎ HasVertex other.now v)) }
@@ -134,5 +134,5 @@ pub(crate) fn widened(alloc: Global, graph: &Graph, other: &Graph) -> Result<Gra
     ensures other { IfOk result (λ g. IsOnce other.now.vertices) }
 {
     let bare = Graph::of_vertices(alloc, other.vertices())?;
-    bare.union(graph)?.in_order()
+    graph.union(&bare)?.in_order()
 }
