@@ -3,8 +3,8 @@
 --
 -- CountsWithout K links to n     == one of these links into the vertex `to` that hasn't K counts at n
 -- CountsLacking g h ns n         == a link of g counts at n that h, by these numbers there, lacks
--- AreDiffering g h ns marks      == there is a mark for each vertex of g, and exactly those are marked at which such a link
---                                   counts
+-- AreDiffering g h ns marks      == there is a mark for each vertex of g, and exactly those are marked at which such a
+--                                   link counts
 -- HasOwn g h v                   == some edge of g that h lacks counts at v
 -- IsDiffering g h ns marks       == the numbers in h of the vertices of g; exactly those of these are marked at which an
 --                                   edge counts that h lacks
