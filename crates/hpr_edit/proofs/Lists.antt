@@ -3,7 +3,7 @@ use Rattle.std.proofs.Common.{◌≡◌, ℕ, zero, suc, ◌+◌, ◌≤◌, ◌
 use Rattle.std.specs.Option.{option_copied}
 use Rattle.std.specs.List.{insert, remove}
 use Rattle.std.proofs.lemmas.Bool.{leb-true, leb-false}
-use Rattle.std.proofs.lemmas.List.{length-take-le, append_assoc, set-get_or}
+use Rattle.std.proofs.lemmas.List.{length-take-le, append_assoc, set-get_or, get_or_default}
 use Rattle.std.proofs.lemmas.List.Edits.{length-remove}
 use Rattle.hpr_terms.specs.declared.tag.Tag.{Tag}
 use Rattle.hpr_terms.specs.declared.expr.Expr.{Expr}
@@ -117,12 +117,19 @@ pub said_with : (c : Content) (s : Stmt) (r : Body) → before (with_content c s
 said_with c s r = refl
 
 -- the first part behind a cut
-pub first_behind : (n : ℕ) (xs : List Stmt) (d : Stmt) → n < length xs → d ≡ get_or (drop n xs) 0 d → d ≡ get_or xs n d
+first_behind : (n : ℕ) (xs : List Stmt) (d : Stmt) → n < length xs → d ≡ get_or (drop n xs) 0 d → d ≡ get_or xs n d
 first_behind n xs d h v = v ∙ ap (λ l. get_or l 0 d) (drop-cons xs n d h)
 
 -- how many parts a list has that is a block
-pub length_of : (fs : List Stmt) (b : Body) → body_of fs ≡ b → length fs ≡ width b
+length_of : (fs : List Stmt) (b : Body) → body_of fs ≡ b → length fs ≡ width b
 length_of fs b e = sym (width_body fs) ∙ ap width e
+
+-- how many parts the lists have that are the blocks of the part behind a cut
+pub count_of : (n k : ℕ) (xs fs ss : List Stmt) (d i : Stmt) → n < length xs → d ≡ get_or (drop n xs) 0 d → i ≡ get_or xs n i
+    → k ≡ width (first_block i) + width (second_block i) → body_of fs ≡ first_block d → body_of ss ≡ second_block d → k ≡ length fs + length ss
+count_of n k xs fs ss d i h v w e f s =
+    let is : i ≡ d = w ∙ get_or_default xs n i d h ∙ sym (first_behind n xs d h v) in
+    omega (arith, e ∙ ap (λ x. width (first_block x) + width (second_block x)) is, length_of fs (first_block d) f, length_of ss (second_block d) s)
 
 -- what stands in a part put in its place
 pub spliced : (n : ℕ) (xs fs ss rs : List Stmt) (d : Stmt) → n < length xs → d ≡ get_or (drop n xs) 0 d → rs ≡ remove (drop n xs) 0 → body_of fs ≡ first_block d → body_of ss ≡ second_block d

@@ -13,8 +13,10 @@
 -- Located t body found   == what is found is the part with this tag and its place; nothing, where no part has the tag
 -- Refused edited why     == why the command is refused; memory aside
 -- Makes edited tree r    == the command makes this tree, and the result is its inverse; or it is refused
--- Allows edited tree inverse r == the result is the tag of a new part, with which the command makes this tree and has this inverse; or it is refused
--- Moves edited tree inverse r == the result is the body and the place with which it makes this tree and has this inverse; or it is refused
+-- Allows edited tree i r == the result is the tag of a new part, with which the command makes the tree and has the inverse i;
+--                           or it is refused
+-- Moves edited tree i r  == the result is a body and a place, with which the command makes the tree and has the inverse i;
+--                           or it is refused
 -- IsProperCommand c      == the names in a command are variables, and its numbers in range
 use Rattle.std.specs.Prelude.{◌≡◌, ℕ, ◌+◌, Bool, true, false, Option, Some, None, Result, List, All}
 use Rattle.std.proofs.Common.{Ok, Err, Bor}

@@ -4,7 +4,8 @@
 -- room_at parent body       == how many levels are left for what stands in the block that a place names
 -- none_left n t             == where no level is left, the tag
 -- said_refusal t c          == why no part with this tag says this, if none does
--- new_refusal deep t c n    == why n parts, of which a new one with this tag says this, make no program; `deep` stands too deep
+-- new_refusal deep t c n    == why n parts, of which a new one with this tag says this and `deep` stands too deep, make no
+--                              program
 -- deep_refusal deep         == why a body is that of no program in which this part stands too deep
 -- names_alone names         == the tree of no parts with these names of `end`
 use Rattle.std.specs.Prelude.{ℕ, List, [], zero, suc, ◌-◌, Option, Some, None, option_map, if◌then◌else◌}
@@ -24,7 +25,8 @@ abbrev pub left_at : Tag → ℕ → Body → Option ℕ
 left_at t n done = None
 left_at t n (action u d rest) = if same_tag u t then Some n else left_at t n rest
 left_at t n (branch u e a b rest) =
-    if same_tag u t then Some n else option_or (left_at t (n - 1) a) (option_or (left_at t (n - 1) b) (left_at t n rest))
+    if same_tag u t then Some n
+    else option_or (left_at t (n - 1) a) (option_or (left_at t (n - 1) b) (left_at t n rest))
 left_at t n (loop u e b rest) = if same_tag u t then Some n else option_or (left_at t (n - 1) b) (left_at t n rest)
 
 -- the levels below one where so many are left; none where there is no such part

@@ -1,7 +1,7 @@
 //! Commands, each carried out in place, where none of its tests refuses it.
 //!
-//! What is edited is a program. So of the tests of a program only those are made that the command can make it fail, and each of them
-//! on what the command changes. They come before the change; and want of memory leaves everything as it was.
+//! What is edited is a program. So of the tests of a program only those are made that the command can make it fail, and
+//! each of them on what the command changes. They come before the change; and want of memory leaves everything as it was.
 ghost use Rattle.std.specs.Prelude.{◌≡◌, ℕ, ◌≤◌, ◌+◌, List, IfSome, IfOk, OnErr};
 ghost use Rattle.hpr_terms.specs.declared.limits.TheConstants.{MAX_PARTS};
 ghost use Rattle.hpr_terms.specs.declared.tag.Tag.{Tag};
@@ -13,7 +13,8 @@ ghost use Rattle.hpr_syntax.specs.Shape.{IsProgram};
 ghost use Rattle.hpr_edit.specs.declared.command.Command.TheVariants.{Insert, Delete, Move, Set, Wrap, Unwrap, Finals};
 ghost use Rattle.hpr_edit.specs.declared.command.Inverse.TheVariants.{Remove, Lift, Rewrap, MoveBack};
 ghost use Rattle.hpr_edit.specs.Places.{width};
-ghost use Rattle.hpr_edit.specs.Changes.{at_part, at_place, first_block, second_block, gone, saying, wrapped, unwrapped};
+ghost use Rattle.hpr_edit.specs.Changes.{at_part, at_place, gone, saying, wrapped, unwrapped};
+ghost use Rattle.hpr_edit.specs.Changes.{first_block, second_block};
 ghost use Rattle.hpr_edit.specs.Edited.{edited, new_tag, is_action, same_kind};
 ghost use Rattle.hpr_edit.specs.InPlace.{times, tree_of, Located, Settles, Makes, Allows, Moves, IsProperCommand};
 ghost use Rattle.hpr_edit.specs.Tested.{names_alone};

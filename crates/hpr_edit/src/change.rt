@@ -9,7 +9,8 @@ ghost use Rattle.hpr_syntax.specs.BodyOf.{before, body_of};
 ghost use Rattle.hpr_syntax.specs.Parts.{tag_of, same_tag};
 ghost use Rattle.hpr_syntax.specs.Rows.{made};
 ghost use Rattle.hpr_edit.specs.Changes.{at_part, at_place, from, with_block, first_block, second_block, gone, saying, wrapped, unwrapped, firsts, later, rewrapped};
-ghost use Rattle.hpr_edit.specs.InPlace.{times, one_if, put_by, done_by, on_first, in_part, with_content, puts_whole, is_whole};
+ghost use Rattle.hpr_edit.specs.InPlace.{times, one_if, put_by, done_by, on_first, in_part, with_content};
+ghost use Rattle.hpr_edit.specs.InPlace.{puts_whole, is_whole};
 ghost use Rattle.hpr_edit.specs.Places.{width};
 
 use crate::command::Place;

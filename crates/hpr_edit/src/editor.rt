@@ -57,9 +57,9 @@ impl Editor {
     /// Carries out a command, and answers what takes it back.
     ///
     /// It is refused exactly by the first of [`EditError`]'s causes that holds, in their order, or for
-    /// want of memory, and the editor is then as it was. It changes the program in place: it takes time in
-    /// proportion to the number of parts, to what it takes out or puts in, and to the number of authors; a move takes time
-    /// and memory in proportion to the program.
+    /// want of memory, and the editor is then as it was. It changes the program in place, and takes time in
+    /// proportion to the number of parts and of authors and to what it takes out or puts in. A move takes
+    /// memory in proportion to the program too.
     pub fn apply(&mut self, alloc: Global, command: &Command) -> Result<Inverse, EditError>
         ensures edited { IfOk result (λ i. edited self.old.program command.now self.old.author
             ≡ becomes self.new.program i) }
