@@ -98,7 +98,7 @@ def wide_uses(of):
         program.put("if c then")
         program.put(f"{several[at % 257]} := 1;")
         program.close("fi")
-    for _ in range(190 // of):
+    for _ in range(115 // of):
         program.put(f"y := {'+'.join(several)};")
     return {"f": program.text([])}, [["slice", "f", "entry"]]
 
@@ -286,7 +286,7 @@ CASES = {
     "3,980 parts, each with 125 names of its own": free_names,
     "1,750 definitions in different branches, 499 uses": parted_definitions,
     "the same, in branches 64 deep": leaning_definitions,
-    "190 uses of 257 names each, of which each has some definitions": wide_uses,
+    "115 uses of 257 names each, of which each has some definitions": wide_uses,
     "1,900 names inside 63 loops": nested_loops,
     "7,800 conflicts, a million order edges": many_conflicts,
     "the same, whose least edge comes late": conflicts_last,
