@@ -122,35 +122,3 @@ module _ (g h : Numbered) (ns : List (Option ℕ)) where
     λ (m, mv, has). absurd (in_none m has),
     λ (to, m, number, mv, has). absurd (let both : None ≡ Some to = sym none ∙ number in cc),
   )
-
--- what another row marks too
-pub also_none : (first marks more : List Bool) → marks ≡ first → AreMarked first marks (λ n. (n < 0) × IsMarked more n)
-also_none first marks more e = rw e (record { count = refl; exact = λ n l. (λ h. inl h, λ h. elim h [ inl was ↦ was | inr (less, also) ↦ absurd (omega (arith, less)) ]) })
-
-pub also_more : (first old new more : List Bool) (i : ℕ) → AreMarked first old (λ n. (n < i) × IsMarked more n) → length new ≡ length old
-    → ((n : ℕ) → n < length old → IsMarked new n ↔ (IsMarked old n ⊎ (IsMarked more i × (i ≡ n)))) → AreMarked first new (λ n. (n < i + 1) × IsMarked more n)
-also_more first old new more i a count exact = record {
-  count = count ∙ a.count;
-  exact = λ n l.
-      (let now = exact n (omega (arith, l, a.count)) in
-      let was = a.exact n l in (
-        λ h. elim (now.0 h) [
-          | inl m ↦ elim (was.0 m) [ inl first_one ↦ inl first_one | inr (less, also) ↦ inr (omega (arith, less), also) ]
-          | inr (also, here) ↦ inr (omega (arith, here), subst (IsMarked more) here also)
-        ],
-        λ h. elim h [
-          | inl first_one ↦ now.1 (inl (was.1 (inl first_one)))
-          | inr (less, also) ↦ elim (cases_eq i n) [
-            | inl here ↦ now.1 (inr (subst (IsMarked more) (sym here) also, here))
-            | inr other ↦ now.1 (inl (was.1 (inr (omega (arith, less, other), also))))
-          ]
-        ],
-      ));
-}
-
-pub also_all : (first marks more : List Bool) (i : ℕ) → length marks ≤ i → AreMarked first marks (λ n. (n < i) × IsMarked more n) → (n : ℕ) → n < length first → IsMarked marks n ↔ (IsMarked first n ⊎ IsMarked more n)
-also_all first marks more i l a n below =
-    let either = a.exact n below in (
-      λ h. elim (either.0 h) [ inl was ↦ inl was | inr (less, also) ↦ inr also ],
-      λ h. either.1 (elim h [ inl was ↦ inl was | inr also ↦ inr (omega (arith, l, below, a.count), also) ]),
-    )

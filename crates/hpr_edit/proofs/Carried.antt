@@ -50,9 +50,6 @@ module _ (p : Tree) (is : IsProgram p) where
     pub named_next : (next : Stmt → Place → Edited) (old : Place) → place_of t p.body ≡ Some old → named t p.body next ≡ next s old
     named_next next old ps = rw (fs, ps) refl
 
-  pub unknown : (t : Tag) (next : Stmt → Place → Edited) → find_stmt t p.body ≡ None → named t p.body next ≡ refused (NoTag t)
-  unknown t next h = rw h refl
-
   -- Insert
   module _ (place : Place) (c : Content) (author : ℕ) (t : Tag) (there : is_place place p.body ≡ true) (new : Some t ≡ new_tag author p.issued) where
     abbrev pub after_insert : Tag → Tree
@@ -94,16 +91,10 @@ module _ (p : Tree) (is : IsProgram p) where
         → edited p (Unwrap t) author ≡ becomes (record p { body = at_part t unwrapped p.body }) (Rewrap old t (content_of s) (width (first_block s)) (width (second_block s)))
     unwrap_becomes author h = named_next t s fs _ old ps ∙ passes (KindDiffers t) (is_action (content_of s)) _ h ∙ settled_fits _ _ (unwrap_fits p is t s old at)
 
-    pub unwrap_differs : (author : ℕ) → is_action (content_of s) ≡ true → edited p (Unwrap t) author ≡ refused (KindDiffers t)
-    unwrap_differs author h = named_next t s fs _ old ps ∙ refuses (KindDiffers t) (is_action (content_of s)) _ h
-
     -- Move
     module _ (place : Place) (author : ℕ) where
       abbrev pub left : Body
       left = at_part t gone p.body
-
-      pub move_into : stands_in place.parent s ≡ true → edited p (Move t place) author ≡ refused (IntoItself t)
-      move_into h = named_next t s fs _ old ps ∙ refuses (IntoItself t) (stands_in place.parent s) _ h
 
       module _ (out : stands_in place.parent s ≡ false) where
         pub move_nowhere : is_place place left ≡ false → edited p (Move t place) author ≡ refused NoPlace

@@ -34,9 +34,6 @@ times_gone t u (loop v e b rest) =
 pub once_gone : (b : Body) → ((t : Tag) → times t b ≤ 1) → (t u : Tag) → times u (at_part t gone b) ≤ 1
 once_gone b h t u = omega (arith, times_gone t u b, h u)
 
-pub once_taken : (p : Tree) → IsProgram p → (t u : Tag) → times u (at_part t gone p.body) ≤ 1
-once_taken p is t u = once_gone p.body (once p is) t u
-
 -- a test
 pub passed : (why : EditError) (b : Bool) (next : Edited) (t : Tree) (r : Result Inverse EditError) → b ≡ false → Makes next t r → Makes (refuse why b next) t r
 passed why b next t r e h = rw e h
@@ -52,11 +49,6 @@ spare false new next h = (refl, same_Some new next h)
 pub spent : (b : Bool) (next : Tag) → (if b then None else Some next) ≡ None → b ≡ true
 spent true next h = refl
 spent false next h = absurd cc
-
--- where the part was found
-pub passed_found : (t : Tag) (o : Option Stmt) (p : Option Place) (next : Stmt → Place → Edited) (s : Stmt) (place : Place) (e : Edited)
-    → o ≡ Some s → p ≡ Some place → next s place ≡ e → found t o p next ≡ e
-passed_found t o p next s place e f g h = rw (f, g) h
 
 -- the last test
 pub settled_fits : (t : Tree) (i : Inverse) → shape t ≡ None → settled t i ≡ becomes t i

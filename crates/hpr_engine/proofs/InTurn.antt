@@ -12,11 +12,3 @@ module _ {X : Type 0} where
   none_to_come [] (suc i) l = refl
   none_to_come (x ∷ xs) zero l = absurd (omega (arith, l))
   none_to_come (x ∷ xs) (suc i) l = none_to_come xs i (omega (arith, l))
-
-  -- all have P where those to come have it
-  pub all_next : (P : X → Type 0) (xs : List X) (i : ℕ) (x : X) → i < length xs → x ≡ get_or xs i x → P x → (AllByRecursion P (drop i xs) → AllByRecursion P xs)
-      → AllByRecursion P (drop (i + 1) xs) → AllByRecursion P xs
-  all_next P xs i x l is own so_far rest = so_far (subst (AllByRecursion P) (sym (next_to_come xs i x l is)) (own, rest))
-
-  pub all_came : (P : X → Type 0) (xs : List X) (i : ℕ) → length xs ≤ i → (AllByRecursion P (drop i xs) → AllByRecursion P xs) → AllByRecursion P xs
-  all_came P xs i l so_far = so_far (subst (AllByRecursion P) (sym (none_to_come xs i l)) tt)

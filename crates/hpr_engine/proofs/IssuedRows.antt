@@ -1,9 +1,8 @@
 -- Issued numbers are at least 1, and are raised program by program.
-use Rattle.std.proofs.Common.{◌≡◌, ℕ, zero, suc, ◌+◌, ◌<◌, ◌≤◌, List, [], ◌∷◌, map, drop, length, get_or, sym, ap, ◌∙◌, arith}
-use Rattle.hpr_syntax.specs.Issued.{Issued, AscendsFrom, IsIssued, raised_by}
+use Rattle.std.proofs.Common.{◌≡◌, ℕ, zero, suc, ◌+◌, ◌<◌, ◌≤◌, List, [], ◌∷◌, map, drop, length, get_or, arith}
+use Rattle.hpr_syntax.specs.Issued.{Issued, AscendsFrom, IsIssued}
 use Rattle.hpr_syntax.specs.Tree.{Tree}
 use Rattle.hpr_graph.specs.Answer.{issued_all, issued_of_all}
-use Rattle.hpr_engine.proofs.InTurn.{next_to_come, none_to_come}
 
 ascends_number : (low : ℕ) (ps : List (ℕ × ℕ)) (i : ℕ) (d : ℕ × ℕ) → AscendsFrom low ps → i < length ps → 1 ≤ (get_or ps i d).1
 ascends_number low [] i d h l = absurd (omega arith)
@@ -16,12 +15,3 @@ issued_number ps i d h l = ascends_number 0 ps i d h l
 -- the numbers so far, which those of the variants to come raise to those of all
 abbrev pub AreRaised : Tree → List Tree → ℕ → Issued → Type 0
 AreRaised base vs i now = issued_all now (map (λ v. v.issued) (drop i vs)) ≡ issued_of_all base vs
-
-module _ (base : Tree) (vs : List Tree) (i : ℕ) (now : Issued) (so_far : AreRaised base vs i now) where
-  pub raised_next : (v : Tree) (next : Issued) → i < length vs → v ≡ get_or vs i v → next ≡ raised_by v.issued now → AreRaised base vs (i + 1) next
-  raised_next v next l is raises =
-      ap (λ (k : Issued). issued_all k (map (λ v. v.issued) (drop (i + 1) vs))) raises
-      ∙ sym (ap (λ (ws : List Tree). issued_all now (map (λ v. v.issued) ws)) (next_to_come vs i v l is)) ∙ so_far
-
-  pub raised_all : length vs ≤ i → now ≡ issued_of_all base vs
-  raised_all l = sym (ap (λ (ws : List Tree). issued_all now (map (λ v. v.issued) ws)) (none_to_come vs i l)) ∙ so_far

@@ -29,14 +29,6 @@ pub record AreKept (g : Numbered) (P : Vertex → Type 0) (taken taken' : List (
   pub kept : AreKeptMore g P taken keep keep'
   pub more : AreTakenMore g P taken taken'
 
--- no vertex yet
-pub kept_none : (g : Numbered) (P : Vertex → Type 0) → ((v : Vertex) → ¬ P v) → (taken : List (ℕ × ℕ)) (keep : List Bool) → AreKept g P taken taken keep keep
-kept_none g P none taken keep = record {
-  marks = refl;
-  kept = λ v. (λ h. inl h, λ h. elim h [ inl was ↦ was | inr (t, tag, p, free) ↦ absurd (none v p) ]);
-  more = λ t. (λ h. inl h, λ h. elim h [ inl was ↦ was | inr (w, tag, p) ↦ absurd (none w p) ]);
-}
-
 -- one vertex more
 module _ (g : Numbered) (P R : Vertex → Type 0) (x : Vertex) (joins : (v : Vertex) → R v ↔ (P v ⊎ (x ≡ v))) (one : HasOneContent R)
     (taken next last : List (ℕ × ℕ)) (keep keep' keep'' : List Bool) (so_far : AreKept g P taken next keep keep') (now : AreKept g (λ v. v ≡ x) next last keep' keep'') where

@@ -34,22 +34,11 @@ place_most (x ∷ l) r p = at (eqb x p) (place_most l r p)
     at true h = omega arith
     at false h = omega (arith, h)
 
-last_split : (x : ℕ) (xs : List ℕ) → (l : List ℕ) × (p : ℕ) × (x ∷ xs ≡ l ++ p ∷ []) × (slice_get (x ∷ xs) (length xs) ≡ Some p)
-last_split x [] = ([], x, refl, refl)
-last_split x (y ∷ xs) = let (l, p, e, is) = last_split y xs in (x ∷ l, p, ap (λ w. x ∷ w) e, is)
-
 module _ (f : Forest) where
   -- what is open is this item, or one in which it stands
   abbrev pub IsClimb : List ℕ → Option ℕ → Type 0
   IsClimb q None = open_in f q q ≡ None
   IsClimb q (Some p) = (l r : List ℕ) × (q ≡ l ++ p ∷ r) × IsFull f q r
-
-  pub climb_last : (q : List ℕ) → IsClimb q (slice_get q (length q - 1))
-  climb_last [] = refl
-  climb_last (x ∷ xs) =
-      let (l, p, e, is) = last_split x xs in
-      let at : slice_get (x ∷ xs) (length (x ∷ xs) - 1) ≡ Some p = ap (slice_get (x ∷ xs)) (let k : length (x ∷ xs) - 1 ≡ length xs = omega arith in k) ∙ is in
-      subst (IsClimb (x ∷ xs)) (sym at) (l, [], e, λ w h. absurd (in_none w h))
 
   climb_full : (q l r : List ℕ) (p : ℕ) → q ≡ l ++ p ∷ r → IsFull f l l → all_in q (f.children p) ≡ true → IsFull f q r → IsFull f q q
   climb_full q l r p e before here after x h y k = elim (Contains-append_cases l (p ∷ r) x (subst (λ w. Contains w x) e h)) [

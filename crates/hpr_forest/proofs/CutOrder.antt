@@ -94,27 +94,3 @@ whole_lists can n it live =
       complete = λ x w. all.complete x (x, w, sym (never_cut [] x));
       ascending = all.ascending;
     }
-
--- a number may stand next exactly where some whole list begins so
-pub ready_exactly : (can : List ℕ → ℕ → Bool) (n : ℕ) → IsBacktrackFree can n → IsLive can n → (q : List ℕ) (c : ℕ) → Follows can [] q → length q < n
-    → (can q c ≡ true) ↔ ((r : List ℕ) × IsWhole can n (q ++ c ∷ r))
-ready_exactly can n it live q c f short = (on, back)
-  where
-    on : can q c ≡ true → (r : List ℕ) × IsWhole can n (q ++ c ∷ r)
-    on may =
-        let f' : Follows can [] (q ++ c ∷ []) = follows_push can n [] q c f may in
-        let e : length (q ++ c ∷ []) + (n - (length q + 1)) ≡ n = omega (arith, length-append q (c ∷ []), short) in
-        let (l, w) = live q c f may in
-        let (r, len, g) = extend can n never it live l w (n - (length q + 1)) (q ++ c ∷ []) f' e in
-        (r, record { len = omega (arith, len, length-append q (c ∷ r), short); follows = both q [] (c ∷ r) f (may, g) })
-      where
-        both : (p front rest : List ℕ) → Follows can front p → Follows can (front ++ p) rest → Follows can front (p ++ rest)
-        both [] front rest a b = subst (λ (z : List ℕ). Follows can z rest) (append-nil front) b
-        both (d ∷ p) front rest a b = (a.0, both p (front ++ d ∷ []) rest a.1 (subst (λ (z : List ℕ). Follows can z rest) (sym (append_assoc front (d ∷ []) p)) b))
-
-    back : ((r : List ℕ) × IsWhole can n (q ++ c ∷ r)) → can q c ≡ true
-    back (r, w) = last [] q w.follows
-      where
-        last : (front p : List ℕ) → Follows can front (p ++ c ∷ r) → can (front ++ p) c ≡ true
-        last front [] g = subst (λ (z : List ℕ). can z c ≡ true) (sym (append-nil front)) g.0
-        last front (d ∷ p) g = subst (λ (z : List ℕ). can z c ≡ true) (append_assoc front (d ∷ []) p) (last (front ++ d ∷ []) p g.1)

@@ -14,8 +14,6 @@
 --                              variant, the point and the edge
 -- told_as c                 == the number of the conflict's side, its point and its edge
 -- told_many c               == the number of the conflict's variant, here from 0, its point and its edge
--- IsConflict base a b c     == at the conflict's side its point is a conflict in the merged graph, and its edge is the
---                              least added one
 -- ComesBefore c d           == A's conflicts come first, and on one side the order is that of the points
 -- AreConflicts base a b cs  == the list has exactly the conflicts, in this order, each once
 use Rattle.std.specs.Prelude.{◌≡◌, ℕ, zero, suc, ◌-◌, ◌<◌, ◌⊎◌, ◌↔◌, List, [], ◌∷◌, Contains, slice_get, Some}
@@ -74,9 +72,6 @@ told_as c = (number_of c.side, c.point, c.edge)
 
 abbrev pub told_many : ManyConflict → ℕ × Vertex × Edge
 told_many c = (c.variant - 1, c.point, c.edge)
-
-abbrev pub IsConflict : Graph → Graph → Graph → Conflict → Type 0
-IsConflict base a b c = IsConflictOf base (a ∷ b ∷ []) (number_of c.side) c.point c.edge
 
 abbrev pub ComesBefore : Conflict → Conflict → Type 0
 ComesBefore c d = ComesFirst (number_of c.side) c.point (number_of d.side) d.point

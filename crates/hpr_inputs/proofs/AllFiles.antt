@@ -112,9 +112,6 @@ module _ (files : Option Files) (xs : List (Bor (List ℕ))) (i : ℕ) (ps : Lis
         subst (λ ws. StopIs (λ r. IfTold files (λ fs. IsRefusedByAll fs ws r)) (IsReached files ws) before now s) parts
         (behind_fails files before now (take i (names xs)) (get_or xs i d).now (drop (i + 1) (names xs)) ps s are h)
 
-  pub all_read : length xs ≤ i → IfTold files (λ fs. AreAllFilesOf fs (names xs) ps)
-  all_read past fs t = subst (λ ws. AreAllFilesOf fs ws ps) (take_all i (names xs) (subst (λ n. n ≤ i) (sym (length-map xs (λ s. s.now))) past)) (are fs t)
-
 -- each of the names may be asked for
 pub served_at : (serves : List ℕ → Bool) (xs : List (Bor (List ℕ))) (i : ℕ) (d : Bor (List ℕ)) → i < length xs → All (λ n. IsTrue (serves n)) (names xs) → IsTrue (serves (get_or xs i d).now)
 served_at serves xs i d low all =

@@ -18,13 +18,6 @@ pub within_more : (p : Tree) (ps : List Tree) → ¬ HasTooManyEdges p → AreAl
 within_more p [] own rest = own
 within_more p (q ∷ ps) own rest = (own, rest)
 
-pub made_none : (vs : List Tree) (gs : List Numbered) → gs ≡ [] → AreMade vs 0 gs
-made_none vs gs none = record {
-  graphs = λ hs are. subst (λ (fs : List Numbered). AreGraphsOf vs (fs ++ hs)) (sym none) are;
-  within = λ all. all;
-  first = λ k large. (let same : k ≡ 0 + k = omega arith in subst (IsFirstTooLargeOf vs) same large);
-}
-
 module _ (vs : List Tree) (i : ℕ) (gs : List Numbered) (so_far : AreMade vs i gs) where
   module _ (v : Tree) (l : i < length vs) (is : v ≡ get_or vs i v) where
     next : v ∷ drop (i + 1) vs ≡ drop i vs

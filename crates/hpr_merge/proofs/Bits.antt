@@ -49,12 +49,6 @@ both_marked ws x y i =
       λ (a, b). both.1 ((column_bit ws i x).0 a, (column_bit ws i y).0 b),
     )
 
--- where there is a bit, there is a word
-pub bit_within : (ws : List ℕ) (x i : ℕ) → HasBit (get_or ws x 0) i → x < length ws
-bit_within [] x i h = absurd (no_bit i h)
-bit_within (w ∷ ws) zero i h = omega arith
-bit_within (w ∷ ws) (suc x) i h = let l = bit_within ws x i h in omega (arith, l)
-
 pub blank_bit : (n x i : ℕ) → ¬ HasBit (get_or (replicate n 0) x 0) i
 blank_bit zero x i h = no_bit i h
 blank_bit (suc n) zero i h = no_bit i h
@@ -121,10 +115,6 @@ left_bit a b i fits l =
       λ h. (let (x, y) = both.0 h in (x, no.0 y)),
       λ (x, y). both.1 (x, no.1 y),
     )
-
--- a test of a bit
-pub tested_bit : (n i : ℕ) → bit_and (n / 2 ^ i) 1 ≡ 1 ↔ HasBit n i
-tested_bit n i = let e = shr_and_one n i in (λ h. sym e ∙ h, λ h. e ∙ h)
 
 -- the bits of a vertex that both words have
 pub here_bit : (w : ℕ) (grown own : List ℕ) (to i : ℕ) → HasBit (bit_and (bit_and w (get_or grown to 0)) (get_or own to 0)) i ↔ (HasBit w i × (IsMarked (column grown i) to × IsMarked (column own i) to))

@@ -66,7 +66,3 @@ module _ (m g : Numbered) (points : List ℕ) where
         λ yes. (let (has, affected) = u.0 yes in ((at, has, at_v), affected)),
         λ ((n, has, at_n), affected). u.1 (subst (Contains points) (once n at v at_n at_v) has, affected),
       )
-
--- the marks that are read are those of the graphs beside one another
-pub marks_read : (s : Sides) (marks read : List Bool) → read ≡ marks → MarksAffected s.graph s.other marks → MarksAffected s.graph s.other read
-marks_read s marks read is m = subst (MarksAffected s.graph s.other) (sym is) m

@@ -31,13 +31,6 @@ pub record ArePastTo (P : ℕ → Link → Type 0) (ls : List Link) (n to waitin
   pub put : HasBit waiting i → ¬ HasBit left i → (l : Link) × IsFirst (P i) ls (Some l) × (slice_get new i ≡ Some (Some (to, l)))
 
 module _ (P : ℕ → Link → Type 0) (ls : List Link) (to waiting : ℕ) (old : List (Option (ℕ × Link))) (i : ℕ) where
-  pub past_none : ArePastTo P ls 0 to waiting waiting old old i
-  past_none = record {
-    others = λ no. (no, refl);
-    kept = λ h. (h, λ j m l. absurd (omega (arith, l)), refl);
-    put = λ h no. absurd (no h);
-  }
-
   pub past_more : (n left more left' : ℕ) (d : Link) (now new : List (Option (ℕ × Link))) → n < length ls → ArePastTo P ls n to waiting left old now i
       → HasBit more i ↔ (HasBit left i × P i (get_or ls n d)) → HasBit left' i ↔ (HasBit left i × (¬ HasBit more i))
       → (¬ HasBit more i → slice_get new i ≡ slice_get now i) → (HasBit more i → slice_get new i ≡ Some (Some (to, get_or ls n d)))

@@ -11,8 +11,5 @@ use Rattle.hpr_graph.specs.InOrder.{Ascends}
 use Rattle.hpr_graph.proofs.LinkOrder.{link_cmp}
 use Rattle.hpr_graph.proofs.Searches.{sorted_ascending, found_sorted}
 
-pub links_sorted : (xs : List Link) → Ascends link_cmp xs → IsSorted link_cmp xs
-links_sorted xs up = sorted_ascending link_cmp total-law xs up
-
 pub number_found : (xs : List ℕ) (n : ℕ) (r : Result ℕ ℕ) → Ascends nat_cmp xs → IsSearchInRange r (length xs) → IsBinarySearchResult (λ y. nat_cmp y n) xs r → IsTrue (is_ok r) ↔ Contains xs n
 number_found xs n r up = found_sorted nat_cmp nat_cmp_total xs nat_cmp-IsAntisymmetric n (sorted_ascending nat_cmp nat_cmp_total xs up) r

@@ -4,7 +4,6 @@ pub mod Alike
 pub mod Member
 pub mod Counted
 pub mod First
-mod Tried
 mod Fitting
 pub mod Regular
 mod Refused

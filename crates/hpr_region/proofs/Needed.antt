@@ -248,9 +248,6 @@ module _ (t : Flows) where
 
     -- ---- the counts, step by step
     module _ (q : List ℕ) (c : ℕ) where
-      counts_once : (k g : ℕ) → one_if (flow.same_variable (Some k) (Some g)) ≡ one_if (eqb k g)
-      counts_once k g = refl
-
       pub tied_step : (g i : ℕ) (ss : List ℕ) (o : Option ℕ) → i < length ss → tie t r q c (get_or ss i 0) ≡ o → tied t r q c g (drop i ss) ≡ one_if (flow.same_variable o (Some g)) + tied t r q c g (drop (i + 1) ss)
       tied_step g i ss o lt e =
           total_drop (λ d. one_if (flow.same_variable (tie t r q c d) (Some g))) ss i 0 lt ∙ ap (λ z. one_if (flow.same_variable z (Some g)) + tied t r q c g (drop (i + 1) ss)) e

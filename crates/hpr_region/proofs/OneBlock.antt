@@ -212,9 +212,6 @@ headed B n k t d c h e (s, q, suffix, begins) =
     subst (λ (z : Tag). StandsBehind B n z c) (sym e)
     record { block = B; next = n; rest = k; from = s; behind = q; inside = whole; heads = h; suffix = suffix; begins = begins }
 
-not_some : (up : Parent) (t : Tag) (l : Bool) (B : Skeleton) → IsFresh up B → StandsIn B (at t) → ¬ (up ≡ Some (t, l))
-not_some up t l B fr i e = fr t l e i
-
 fresh_none : (t : Tag) (l : Bool) (B : Skeleton) → ¬ StandsIn B (at t) → IsFresh (Some (t, l)) B
 fresh_none t l B n p m e i = n (subst (λ (z : Tag). StandsIn B (at z)) (sym (some_pair_parts t p l m e).0) i)
 

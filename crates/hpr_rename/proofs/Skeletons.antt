@@ -176,12 +176,6 @@ module _ (f : Tag → Tag) where
     body_twice (branch t e a b k) = let p = back t in let r = body_twice a in let s = body_twice b in let q = body_twice k in (λ i. branch (p i) e (r i) (s i) (q i))
     body_twice (loop t e b k) = let p = back t in let s = body_twice b in let q = body_twice k in (λ i. loop (p i) e (s i) (q i))
 
-    pub sk_twice : (sk : Skeleton) → sk_with (sk_with sk) ≡ sk
-    sk_twice nil = refl
-    sk_twice (act t k) = let p = back t in let q = sk_twice k in (λ i. act (p i) (q i))
-    sk_twice (fork t b c k) = let p = back t in let r = sk_twice b in let s = sk_twice c in let q = sk_twice k in (λ i. fork (p i) (r i) (s i) (q i))
-    sk_twice (round t b k) = let p = back t in let s = sk_twice b in let q = sk_twice k in (λ i. round (p i) (s i) (q i))
-
     pub point_twice : (p : Point) → point_with (point_with p) ≡ p
     point_twice enter = refl
     point_twice (at t) = ap at (back t)

@@ -45,12 +45,6 @@ source_within g k to from (l, has, follows, is) =
     let w = slice_get_within g.vertices l.from e.from at.1 in (omega (arith, w, is), slice_get_within g.vertices to e.to at.0)
 
 -- the steps into the marked vertices
-pub steps_none : (g : Numbered) (done : List Bool) (steps : List (ℕ × ℕ)) (n : ℕ) → done ≡ replicate n false → steps ≡ [] → AreStepsInto g done steps
-steps_none g done steps n blank none from to = (
-  λ h. absurd (in_none (from, to) (subst (λ (xs : List (ℕ × ℕ)). Contains xs (from, to)) none h)),
-  λ (m, has). absurd (no_marks n to (subst (λ (ms : List Bool). IsMarked ms to) blank m)),
-)
-
 pub marks_more : (done done' : List Bool) (at : ℕ) → at < length done → done' ≡ set done at true → (n : ℕ) → IsMarked done' n ↔ (IsMarked done n ⊎ (n ≡ at))
 marks_more done done' at within marks n = elim (cases_eq n at) [
   | inl e ↦ (

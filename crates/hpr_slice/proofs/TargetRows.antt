@@ -28,12 +28,6 @@ pushed_one old new l n follows more from to = (
   ],
 )
 
-pub pushed_none : (old : List (List ℕ)) (l : Link) (n : ℕ) → ¬ Follows l.kind → IsPushedFrom old (l ∷ []) n old
-pushed_none old l n never from to = (
-  λ h. inl h,
-  λ h. elim h [ inl o ↦ o | inr (has, e) ↦ absurd (never ((one_source l from).0 has).0) ],
-)
-
 more_source : (links : List Link) (i from : ℕ) (d : Link) → i < length links → HasSource (take (i + 1) links) from ↔ (HasSource (take i links) from ⊎ HasSource (get_or links i d ∷ []) from)
 more_source links i from d k = (
   λ (l, there, follows, is). elim ((in_taken links i d l k).0 there) [

@@ -3,7 +3,6 @@ pub mod OrderBlocks
 pub mod PartBound
 pub mod DepthBound
 pub mod Runs
-pub mod MoreSteps
 pub mod ExactSteps
 pub mod ValueByUses
 pub mod ActByUses

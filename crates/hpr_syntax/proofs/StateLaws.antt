@@ -52,18 +52,3 @@ get_put s x v = let g = get-insert nat_list_cmp_total s x v x in let f = same_it
 
 pub get_other : (s : Values) (x y : List ℕ) (v : Value) → ¬ (Some y ≡ Some x) → value_at (put s y v) x ≡ value_at s x
 get_other s x y v n = let g = get-insert nat_list_cmp_total s y v x in let f = same_not x y n in rw (g, f) refl
-
--- a state behind a part
-pub value_given : (c : Content) (v : Value) (s : Values) (x : List ℕ) → assigned c ≡ Some x → value_at (next_state c v s) x ≡ v
-value_given (Assign y e) v s x is = let same : y ≡ x = cc in rw same (get_put s x v)
-value_given (If e) v s x is = absurd cc
-value_given (While e) v s x is = absurd cc
-value_given (Write y e) v s x is = let same : y ≡ x = cc in rw same (get_put s x v)
-value_given (Store y i e) v s x is = let same : y ≡ x = cc in rw same (get_put s x v)
-
-pub value_kept : (c : Content) (v : Value) (s : Values) (x : List ℕ) → ¬ (assigned c ≡ Some x) → value_at (next_state c v s) x ≡ value_at s x
-value_kept (Assign y e) v s x n = get_other s x y v n
-value_kept (If e) v s x n = refl
-value_kept (While e) v s x n = refl
-value_kept (Write y e) v s x n = get_other s x y v n
-value_kept (Store y i e) v s x n = get_other s x y v n

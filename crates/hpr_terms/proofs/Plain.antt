@@ -78,10 +78,6 @@ then_one : {X : Type 0} (b : Bool) (x y : X) → b ≡ true → (if b then x els
 then_one true x y e = refl
 then_one false x y e = absurd (differ (sym e))
 
-pub base_of_array : (x : List ℕ) → IsName x → base_of (array_of x) ≡ x
-unfolding base_of
-base_of_array x h = then_one (is_array (array_of x)) (take (length (array_of x) - 2) (array_of x)) (array_of x) (array_is x h) ∙ front_of x
-
 -- and each array's name is so
 pub array_parts : (w : List ℕ) → IsArray w → (w ≡ array_of (base_of w)) × IsName (base_of w)
 unfolding is_array base_of
