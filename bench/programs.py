@@ -194,9 +194,10 @@ def main():
         seed, parts = numbers
         print("".join(variants(sample(parts, seed))), end="")
         return 0
-    rows = pathlib.Path(__file__).resolve().parent.parent / "crates" / "hpr_calls" / "stdout"
-    stored = rows.read_text().partition("# a sample of 12 parts: base, A and B\n")[2].partition("#")[0]
-    same = [line.strip() for line in stored.splitlines()] == "".join(variants(sample(12))).splitlines()
+    rows = pathlib.Path(__file__).resolve().parent.parent / "crates" / "hpr_calls" / "stdin"
+    stored = rows.read_text().partition("a sample of 12 parts: base, A and B\n")[2].partition("#")[0]
+    told = [line[1:].strip() for line in stored.splitlines() if line.startswith("=")]
+    same = told == "".join(variants(sample(12))).splitlines()
     print(f"programs: the sample of seed 7 with 12 parts is {'' if same else 'not '}that of the stored row")
     return 0 if same else 1
 

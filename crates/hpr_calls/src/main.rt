@@ -17,7 +17,7 @@ mod term;
 mod text;
 mod tree;
 
-use hpr_rows::{Calls, Out, Row, take};
+use hpr_rows::{Calls, Out, Row, Sheet, take};
 use std::io;
 
 struct ProgramCalls;
@@ -47,16 +47,13 @@ impl Calls for ProgramCalls {
 fn main(rt: HostRuntime) -> io::Result<()> {
     let alloc = rt.alloc();
     let mut texts = Vec::new(alloc);
-    let mut out = Out::new(alloc);
+    let mut sheet = Sheet::new(alloc);
     for line in rt.lines(alloc) {
         let line = line?;
-        if take::<ProgramCalls>(alloc, &mut texts, &mut out, line.as_str()).is_none() {
-            println!(rt; "bad row: {line}")?;
+        if take::<ProgramCalls>(alloc, &mut texts, &mut sheet, line.as_str()).is_none() {
+            sheet.refuse(line.as_str());
         }
     }
-    if out.is_cut() {
-        println!(rt; "memory ran out")?;
-    }
-    let text = out.text();
+    let text = sheet.end(alloc);
     print!(rt; "{text}")
 }

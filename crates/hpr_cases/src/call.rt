@@ -2,9 +2,10 @@
 use crate::case::{Case, Over, Plan};
 use crate::last_count::{LastCountSink, call_at_last_count};
 use crate::noting::NotingShelf;
-use crate::text::{put, words};
+use crate::text::words;
 use hpr_app::{Status, hpr};
 use hpr_io::{MemoryShelf, MemorySink, SteadyShelf, SteadySink};
+use hpr_rows::{Out, put, put_count};
 use std::alloc::Global;
 
 fn sink(alloc: Global, plan: &Plan) -> Option<MemorySink> {
@@ -13,22 +14,21 @@ fn sink(alloc: Global, plan: &Plan) -> Option<MemorySink> {
 }
 
 // Puts the bytes of a text, under their count, and with a newline behind them where they end with none.
-fn put_part(told: &mut String, name: &str, bytes: &[u8]) -> Option<()> {
+fn put_part(told: &mut Out, title: &str, bytes: &[u8]) -> Option<()> {
     if bytes.is_empty() {
         return Some(());
     }
     let text = std::str::from_utf8(bytes).ok()?;
-    let count = bytes.len();
-    write!(told, "{name} {count}\n").ok()?;
+    put_count(told, title, bytes.len() as u64);
     let end = if text.ends_with('\n') { "" } else { "\n" };
-    put(told, &[text, end])
+    put(told, &[text, end]);
+    Some(())
 }
 
-fn put_told(told: &mut String, status: &Status, out: &[u8], err: &[u8]) -> Option<()> {
-    let number = status.number();
-    write!(told, "status {number}\n").ok()?;
-    put_part(told, "out", out)?;
-    put_part(told, "err", err)
+fn put_told(told: &mut Out, status: &Status, out: &[u8], err: &[u8]) -> Option<()> {
+    put_count(told, "status ", u64::from(status.number()));
+    put_part(told, "out ", out)?;
+    put_part(told, "err ", err)
 }
 
 // Makes the call over a shelf that may fail, and the sinks of the case.
@@ -37,7 +37,7 @@ fn over_memory(
     case: &Case,
     shelf: &mut MemoryShelf,
     words: &[String],
-    told: &mut String,
+    told: &mut Out,
 ) -> Option<()> {
     let mut out = sink(alloc, &case.out)?;
     let mut err = sink(alloc, &case.err)?;
@@ -51,12 +51,12 @@ fn over_noting_shelf(
     case: &Case,
     shelf: &mut NotingShelf,
     words: &[String],
-    told: &mut String,
+    told: &mut Out,
 ) -> Option<()> {
     let mut out = sink(alloc, &case.out)?;
     let mut err = sink(alloc, &case.err)?;
     let status = hpr(alloc, words, shelf, &mut out, &mut err);
-    put(told, &[shelf.notes.as_str()])?;
+    put(told, &[shelf.notes.as_str()]);
     put_told(told, &status, out.bytes(), err.bytes())
 }
 
@@ -66,7 +66,7 @@ fn over_last_count(
     case: &Case,
     shelf: &mut MemoryShelf,
     words: &[String],
-    told: &mut String,
+    told: &mut Out,
 ) -> Option<()> {
     let mut out = sink(alloc, &case.out)?;
     let mut err = LastCountSink::new(sink(alloc, &case.err)?);
@@ -80,7 +80,7 @@ fn over_steady_shelf(
     case: &Case,
     shelf: &mut SteadyShelf,
     words: &[String],
-    told: &mut String,
+    told: &mut Out,
 ) -> Option<()> {
     let mut out = sink(alloc, &case.out)?;
     let mut err = sink(alloc, &case.err)?;
@@ -93,7 +93,7 @@ fn over_steady_sinks(
     alloc: Global,
     shelf: &mut SteadyShelf,
     words: &[String],
-    told: &mut String,
+    told: &mut Out,
 ) -> Option<()> {
     let status = hpr(
         alloc,
@@ -129,7 +129,7 @@ fn memory_shelf(alloc: Global, case: &Case) -> Option<MemoryShelf> {
 }
 
 // Makes the call over the files of the case.
-fn call(alloc: Global, case: &Case, words: &[String], told: &mut String) -> Option<()> {
+fn call(alloc: Global, case: &Case, words: &[String], told: &mut Out) -> Option<()> {
     match case.over {
         Over::Memory => over_memory(alloc, case, &mut memory_shelf(alloc, case)?, words, told),
         Over::NotingShelf => {
@@ -151,7 +151,7 @@ fn call(alloc: Global, case: &Case, words: &[String], told: &mut String) -> Opti
 }
 
 /// Tells what the call with the words of a line comes to.
-pub(crate) fn tell(alloc: Global, case: &Case, line: &str, told: &mut String) -> Option<()> {
+pub(crate) fn tell(alloc: Global, case: &Case, line: &str, told: &mut Out) -> Option<()> {
     let words = words(alloc, line)?;
     call(alloc, case, words.as_slice(), told)
 }

@@ -1,14 +1,6 @@
 //! The bytes and numbers that lines spell.
 use std::alloc::{AllocError, Global};
 
-/// Puts the pieces, one after the other.
-pub(crate) fn put(told: &mut String, pieces: &[&str]) -> Option<()> {
-    for piece in pieces {
-        told.push_str(piece).ok()?;
-    }
-    Some(())
-}
-
 fn digit(byte: u8) -> u8 {
     match byte {
         b'0'..=b'9' => byte - b'0',

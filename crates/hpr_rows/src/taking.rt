@@ -1,6 +1,7 @@
 //! The lines of rows.
+use crate::comparing::Sheet;
 use crate::lines::take_line;
-use crate::printing::{Out, put};
+use crate::printing::Out;
 use crate::words::{Row, Text};
 use std::alloc::Global;
 
@@ -32,20 +33,24 @@ fn answer_line<C: Calls>(alloc: Global, texts: &[Text], out: &mut Out, line: &st
     C::answer(row, out)
 }
 
-/// Takes a line: a title, a line that spells texts, or a call. There is no answer where it is none of them.
+/// Takes a line: a title, a line that spells texts, a call, or a line that it is to print. There is no answer where it is
+/// none of them.
 pub fn take<C: Calls>(
     alloc: Global,
     texts: &mut Vec<Text>,
-    out: &mut Out,
+    sheet: &mut Sheet,
     line: &str,
 ) -> Option<()> {
-    if line.starts_with("# ") {
+    if let Some(title) = line.strip_prefix("# ") {
         *texts = Vec::new(alloc);
-        put(out, &[line, "\n"]);
+        sheet.begin(alloc, title);
+        return Some(());
+    }
+    if sheet.takes(line) {
         return Some(());
     }
     match line.strip_prefix("$ ") {
-        Some(words) => answer_line::<C>(alloc, texts, out, words),
+        Some(words) => answer_line::<C>(alloc, texts, sheet.told(), words),
         None => take_line(alloc, texts, line),
     }
 }
