@@ -28,6 +28,7 @@ pub mod BridgeLeft
 pub mod ReachingRows
 mod Sources
 mod InitialNames
-mod FinalNumbers
+mod Permuted
+mod UseRows
 mod FreeFlows
 mod Rising

@@ -22,10 +22,10 @@ pub target_high : (end at u : ℕ) → end ≤ u → target_of end at u ≡ at
 target_high end at u l = grind (arith, nat_tests)
 
 -- Exit uses the names of `end`
-exit_uses : (t : Tree) (x : List ℕ) → Contains t.finals x → UsesAt (spots t) (exit_of t) x
+pub exit_uses : (t : Tree) (x : List ℕ) → Contains t.finals x → UsesAt (spots t) (exit_of t) x
 exit_uses t x h = (exit t.finals, last_role t, h)
 
-uses_exit : (t : Tree) (x : List ℕ) → UsesAt (spots t) (exit_of t) x → Contains t.finals x
+pub uses_exit : (t : Tree) (x : List ℕ) → UsesAt (spots t) (exit_of t) x → Contains t.finals x
 uses_exit t x (r, is, uses) =
     let e : Some r ≡ Some (exit t.finals) = sym is ∙ last_role t in
     let same : r ≡ exit t.finals = cc in

@@ -5,5 +5,6 @@ pub mod Variables
 pub mod Links
 pub mod NewLinks
 pub mod Stages
+pub mod Uses
 pub mod Private
 pub mod Reaching

@@ -16,10 +16,10 @@ use crate::error::BuildError;
 use crate::flows::{Flow, FlowKind, enter_flows, flows_from, marked};
 use crate::pushes::{NewLink, push_links};
 use crate::tables::{Tables, Variable, variable_at};
+use crate::variables::place_near;
 use hpr_graph::{Draft, Link, LinkKind};
 use hpr_paths::{Name, NoMemory};
 use hpr_reach::BitRow;
-use hpr_terms::names::place_of;
 use std::alloc::Global;
 
 /// A vertex that defines a name, by its number, with the point where it does: a part at its own, an
@@ -44,13 +44,14 @@ fn part_sources(alloc: Global, definitions: &[usize]) -> Result<Vec<Source>, NoM
     Ok(sources)
 }
 
-/// The number of the vertex of the initial definition of the name, if the program takes it from before.
-fn initial_number(tables: &Tables, name: &Name) -> Option<usize>
+/// The number of the vertex of the initial definition of the name, if the program takes it from before. It is looked for
+/// first at the place `near` among these names.
+fn initial_number(tables: &Tables, name: &Name, near: usize) -> Option<usize>
     requires { AreTables tables.now }
     ensures some { IfSome result (λ v. IsInitialAt tables.now.program.now tables.now.inits.items name.now 0 v) }
     ensures none { IfNone result (¬ Contains tables.now.inits.items name.now) }
 {
-    match place_of(&tables.inits, name) {
+    match place_near(&tables.inits, name, near) {
         Some(place) => Some(tables.vertex_count - tables.inits.len() + place),
         None => None,
     }
@@ -69,7 +70,7 @@ fn push_initial(
     ensures once { OnOk result (IsOnce into.old.items → ((s : Source) → Contains into.old.items s → ¬ (s.point ≡ 0))
         → IsOnce into.new.items) }
 {
-    match initial_number(tables, variable.name) {
+    match initial_number(tables, variable.name, variable.place) {
         Some(number) => {
             into.push(Source { number, point: 0 })?;
             Ok(())
@@ -227,7 +228,7 @@ fn push_free_flows(
     ensures too_many { IsErrOf result BuildError.TooManyEdges
         → HasMoreLinks tables.now.program.now tables.now.inits.items tables.now.most }
 {
-    match initial_number(tables, variable.name) {
+    match initial_number(tables, variable.name, variable.place) {
         Some(number) => {
             let links = free_links(alloc, tables, variable, row, number)?;
             push_links(tables, &links, graph)

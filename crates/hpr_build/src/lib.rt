@@ -15,6 +15,7 @@ mod places;
 mod pushes;
 mod reaching;
 mod tables;
+mod uses;
 mod variables;
 
 pub use error::BuildError;

@@ -5,20 +5,20 @@ ghost use Rattle.std.specs.List.{slice_get};
 ghost use Rattle.std.specs.List.Sorted.{IsStrictlySortedBy};
 ghost use Rattle.std.specs.Cmp.Lexicographic.{slice_cmp};
 ghost use Rattle.std.specs.Ordering.{nat_cmp};
-ghost use Rattle.hpr_graph.specs.Graphs.{IsOnce};
 ghost use Rattle.hpr_graph.specs.declared.vertex.Vertex.TheVariants.{Entry, Init, Final};
 ghost use Rattle.hpr_build.specs.Links.{part_vertex, name_vertex, vertices_of, exit_of};
 ghost use Rattle.hpr_build.specs.Stages.{AreTables, IsVariable};
-ghost use Rattle.hpr_build.specs.Variables.{points_at, AreFinalNumbers};
+ghost use Rattle.hpr_build.specs.Uses.{AreApart, AreEndsBy};
+ghost use Rattle.hpr_build.specs.Variables.{points_at};
 
 use crate::initial::{free_row, live_names};
 use crate::places::{Place, places};
-use crate::variables::{Variables, variables_of};
+use crate::uses::{Use, uses_of};
+use crate::variables::{Variables, place_near, variables_of};
 use hpr_graph::Vertex;
 use hpr_paths::{Name, NoMemory, Succ, successors};
 use hpr_reach::BitRow;
 use hpr_syntax::Program;
-use hpr_terms::names::place_of;
 use std::alloc::Global;
 
 /// What is known of a program: its points, its parts, the names that it takes from before it, the
@@ -116,39 +116,49 @@ fn repeated(alloc: Global, number: usize, count: usize) -> Result<Vec<usize>, No
     Ok(vec![in alloc; number; count]?)
 }
 
-/// Puts the number at the place of the name, if it has one.
-fn put_number(names: &[Name], name: &Name, number: usize, numbers: &mut Vec<usize>)
+/// Puts the number of the vertex that uses the name at the place of the name, if it is that of a name of `end`, and tells the
+/// place. It is looked for first at the place `near`, which is told where there is none.
+fn put_end(names: &[Name], one: &Use, exit: usize, near: usize, numbers: &mut Vec<usize>) -> usize
     requires names { IsStrictlySortedBy (slice_cmp nat_cmp) names.now }
     requires len { vec_len numbers.old ≡ length names.now }
     ensures len { vec_len numbers.new ≡ vec_len numbers.old }
-    ensures here { (i : ℕ) → slice_get names.now i ≡ Some name.now → slice_index_or numbers.new.items i 0 ≡ number }
-    ensures others { (i : ℕ) → ¬ (slice_get names.now i ≡ Some name.now)
+    ensures here { exit ≤ one.now.number → (i : ℕ) → slice_get names.now i ≡ Some one.now.name
+        → slice_index_or numbers.new.items i 0 ≡ one.now.number }
+    ensures parts { one.now.number < exit → numbers.new.items ≡ numbers.old.items }
+    ensures others { (i : ℕ) → ¬ (slice_get names.now i ≡ Some one.now.name)
         → slice_index_or numbers.new.items i 0 ≡ slice_index_or numbers.old.items i 0 }
 {
-    if let Some(at) = place_of(names, name) {
-        numbers[at] = number;
+    if one.number < exit {
+        return near;
+    }
+    match place_near(names, &one.name, near) {
+        Some(at) => {
+            numbers[at] = one.number;
+            at
+        }
+        None => near,
     }
 }
 
 /// For each of these names, which are in order, the number of its vertex of `end`, or Exit's own number where it
-/// has none.
+/// has none, by the uses of names.
 ///
-/// Looks up each name of `end` once.
+/// Looks at each use once.
 fn final_numbers(
     alloc: Global,
     exit: usize,
-    finals: &[Name],
+    uses: &[Use],
     names: &[Name],
 ) -> Result<Vec<usize>, NoMemory>
     requires names { IsStrictlySortedBy (slice_cmp nat_cmp) names.now }
-    requires finals { IsOnce finals.now }
-    requires room { exit + length finals.now < 2 ^ 64 }
+    requires apart { AreApart exit uses.now }
     ensures len { IfOk result (λ numbers. vec_len numbers ≡ length names.now) }
-    ensures exact { IfOk result (λ numbers. AreFinalNumbers exit finals.now names.now numbers.items) }
+    ensures exact { IfOk result (λ numbers. AreEndsBy exit uses.now names.now numbers.items) }
 {
     let mut numbers = repeated(alloc, exit, names.len())?;
-    for (at, name) in finals.iter().enumerate() {
-        put_number(names, name, exit + at, &mut numbers);
+    let mut near = 0;
+    for one in uses {
+        near = put_end(names, one, exit, near, &mut numbers);
     }
     Ok(numbers)
 }
@@ -169,13 +179,14 @@ pub(crate) fn tables_of<'a>(
 {
     let succ = successors(alloc, program)?;
     let places = places(alloc, program)?;
-    let variables = variables_of(alloc, &succ)?;
+    let uses = uses_of(alloc, program, &succ)?;
+    let variables = variables_of(alloc, program, &succ, &uses)?;
     let free = free_row(alloc, &succ, &variables)?;
     let inits = live_names(alloc, &succ, &variables, &free)?;
     push_vertices(alloc, &places, program.finals(), &inits, vertices)?;
     let vertex_count = vertices.len();
     let exit = program.part_count() + 1;
-    let final_numbers = final_numbers(alloc, exit, program.finals(), &variables.names)?;
+    let final_numbers = final_numbers(alloc, exit, &uses, &variables.names)?;
     Ok(Tables {
         program,
         succ,
@@ -190,11 +201,12 @@ pub(crate) fn tables_of<'a>(
     })
 }
 
-/// A name with the points that define it and those that use it, and the number of its vertex of
-/// `end`, which is that of Exit's point where it has none.
+/// A name, the one with this place among those that are used, with the points that define it and those that use it, and
+/// the number of its vertex of `end`, which is that of Exit's point where it has none.
 #[derive(Clone, Copy)]
 pub(crate) struct Variable<'a> {
     pub(crate) name: &'a Name,
+    pub(crate) place: usize,
     pub(crate) definitions: &'a [usize],
     pub(crate) users: &'a [usize],
     pub(crate) final_number: usize,
@@ -217,6 +229,7 @@ pub(crate) fn variable_at<'a>(tables: &'a Tables, at: usize) -> Variable<'a>
 {
     Variable {
         name: &tables.variables.names[at],
+        place: at,
         definitions: row_at(&tables.variables.definitions, at),
         users: row_at(&tables.variables.users, at),
         final_number: tables.final_numbers[at],

@@ -2,23 +2,26 @@ use Rattle.std.proofs.Common.{◌≡◌, length, ◌↔◌, ◌+◌, ◌∙◌, 
 use Rattle.hpr_paths.specs.Spots.{Spot, UsesAt}
 use Rattle.hpr_reach.specs.Live.{IsLive}
 use Rattle.hpr_reach.proofs.ByTags.{live_tags}
+use Rattle.hpr_build.specs.declared.uses.Use.{Use}
+use Rattle.hpr_build.specs.Uses.{AreApart, AreUses}
 use Rattle.hpr_build.specs.Variables.{AreUsers, AreDefinitions, IsFreeRow}
 use Rattle.hpr_graph.specs.declared.vertex.Vertex.{Vertex}
 use Rattle.hpr_build.specs.Links.{vertices_of}
 use Rattle.hpr_graph.specs.Graphs.{IsOnce}
-use Rattle.hpr_build.proofs.BridgeVertices.{finals_once}
 use Rattle.hpr_build.proofs.ControlFamily.{put_vertices}
-use Rattle.hpr_build.proofs.FinalNumbers.{same_final_numbers}
+use Rattle.hpr_build.proofs.UseRows.{ends_are, same_ends, uses_apart}
 use Rattle.hpr_build.proofs.tables.tables_of.Goals as goal
 
 pub returns-clause-tables : goal.returns-clause-tables
 returns-clause-tables c =
     let t = c.args.program.now in
     let made : c.push_vertices.new.into.items ≡ vertices_of t c.in_ok-inits.inits.items =
-    put_vertices c.args.program.now c.in_ok-inits.inits.items c.deref-2.result.now c.finals.result.now c.deref.result.now c.args.vertices.now.items c.push_vertices.new.into.items
-    c.in_ok-push_vertices.ensures c.requires (c.deref.ensures.value ∙ c.in_ok-places.ensures) c.finals.ensures.finals c.deref-2.ensures.value in
+    put_vertices c.args.program.now c.in_ok-inits.inits.items c.deref-3.result.now c.finals.result.now c.deref-2.result.now c.args.vertices.now.items c.push_vertices.new.into.items
+    c.in_ok-push_vertices.ensures c.requires (c.deref-2.ensures.value ∙ c.in_ok-places.ensures) c.finals.ensures.finals c.deref-3.ensures.value in
     let succ = c.in_ok-succ.ensures in
     let names = c.in_ok-variables.variables.names.items in
+    let uses = c.in_ok-uses.uses.items in
+    let are = c.in_ok-uses.ensures.exact in
     record {
       program = c.finals.ensures.program;
       succ = succ;
@@ -39,16 +42,26 @@ returns-clause-tables c =
       user_rows = c.in_ok-variables.ensures.user_rows;
       users = subst (λ (s : List Spot). AreUsers s names c.in_ok-variables.variables.users.items) succ c.in_ok-variables.ensures.users;
       final_rows = omega (arith, c.in_ok-final_numbers.ensures.len, c.deref-3.ensures.len);
-      finals = same_final_numbers _ _ c.finals-2.result.now c.args.program.now.finals c.deref-3.result.now names c.in_ok-final_numbers.final_numbers.items
-          (ap (λ (n : ℕ). n + 1) c.part_count-exit.ensures.count) c.finals-2.ensures.finals c.deref-3.ensures.value c.in_ok-final_numbers.ensures.exact;
+      finals = ends_are t uses are names c.in_ok-final_numbers.final_numbers.items
+          (same_ends _ _ c.deref-4.result.now uses c.deref-5.result.now names c.in_ok-final_numbers.final_numbers.items
+          (ap (λ (n : ℕ). n + 1) c.part_count-exit.ensures.count) c.deref-4.ensures.value c.deref-5.ensures.value c.in_ok-final_numbers.ensures.exact);
       free = subst (λ (s : List Spot). IfSome c.in_ok-free.free (IsFreeRow s)) succ c.in_ok-free.ensures;
     }
 
 pub returns-clause-vertices : goal.returns-clause-vertices
 returns-clause-vertices c =
-    put_vertices c.args.program.now c.in_ok-inits.inits.items c.deref-2.result.now c.finals.result.now c.deref.result.now c.args.vertices.now.items c.push_vertices.new.into.items
-    c.in_ok-push_vertices.ensures c.requires (c.deref.ensures.value ∙ c.in_ok-places.ensures) c.finals.ensures.finals c.deref-2.ensures.value
+    put_vertices c.args.program.now c.in_ok-inits.inits.items c.deref-3.result.now c.finals.result.now c.deref-2.result.now c.args.vertices.now.items c.push_vertices.new.into.items
+    c.in_ok-push_vertices.ensures c.requires (c.deref-2.ensures.value ∙ c.in_ok-places.ensures) c.finals.ensures.finals c.deref-3.ensures.value
 
-pub final_numbers-requires-clause-finals : goal.final_numbers-requires-clause-finals
-final_numbers-requires-clause-finals c = subst (λ (xs : List (List ℕ)). IsOnce xs) (sym c.finals-2.ensures.finals)
-    (finals_once c.args.program.now c.finals-2.ensures.program)
+pub final_numbers-requires-clause-apart : goal.final_numbers-requires-clause-apart
+final_numbers-requires-clause-apart c =
+    let t = c.args.program.now in
+    let uses = c.in_ok-uses.uses.items in
+    subst (λ (us : List Use). AreApart (c.part_count-exit.result + 1) us) (sym c.deref-4.ensures.value)
+    (subst (λ (n : ℕ). AreApart n uses) (sym (ap (λ (n : ℕ). n + 1) c.part_count-exit.ensures.count)) (uses_apart t uses c.in_ok-uses.ensures.exact c.finals.ensures.program))
+
+pub variables_of-requires-clause-uses : goal.variables_of-requires-clause-uses
+variables_of-requires-clause-uses c = subst (λ (us : List Use). AreUses c.args.program.now us) (sym c.deref.ensures.value) c.in_ok-uses.ensures.exact
+
+pub variables_of-requires-clause-once : goal.variables_of-requires-clause-once
+variables_of-requires-clause-once c = subst (λ (us : List Use). IsOnce us) (sym c.deref.ensures.value) c.in_ok-uses.ensures.once

@@ -2,7 +2,7 @@ use Rattle.std.proofs.Common.{◌<◌, ℕ, List, [], ◌∷◌, length, arith}
 use Rattle.std.specs.List.Sorted.{IsStrictlySortedBy}
 use Rattle.std.specs.Cmp.Lexicographic.{slice_cmp}
 use Rattle.std.specs.Ordering.{nat_cmp}
-use Rattle.hpr_build.proofs.variables.each_once.Goals as goal
+use Rattle.hpr_build.proofs.uses.each_once.Goals as goal
 
 few_sorted : (names : List (List ℕ)) → length names < 2 → IsStrictlySortedBy (slice_cmp nat_cmp) names
 unfolding IsStrictlySortedBy
