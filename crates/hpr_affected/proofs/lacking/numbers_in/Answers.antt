@@ -8,9 +8,9 @@ loop-vertex-init c = numbers_none _ _ _ c.in_ok-numbers.ensures.items
 
 pub loop-vertex-preserved : goal.loop-vertex-preserved
 loop-vertex-preserved c =
-    numbers_more c.args.graph.now c.args.other.now c.loop-vertex.numbers.items _ c.number_of.result c.loop-vertex.vertex-index c.vertex-item.result c.loop-vertex.invariant
+    numbers_more c.args.graph.now c.args.other.now c.loop-vertex.numbers.items _ c.number_near-number.result c.loop-vertex.vertex-index c.vertex-item.result c.loop-vertex.invariant
     (read_at _ _ c.loop-vertex.vertex-index c.vertex-item.result c.vertices-vertex-items.ensures.vertices c.loop-vertex-test.true c.vertex-item.is)
-    c.number_of.ensures.found c.number_of.ensures.stranger.0 c.in_ok-push.ensures.items
+    c.number_near-number.ensures.found c.number_near-number.ensures.stranger.0 c.in_ok-push.ensures.items
 
 pub returns : goal.returns
 returns c =
