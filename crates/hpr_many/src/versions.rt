@@ -133,11 +133,12 @@ fn merged_graph(
         points.now.preserved.items }
     ensures { IfOk result (λ g. Same (graph_in g) (merged_all (graph_in base.now) (graphs_in variants.now))) }
 {
-    let mut merged = Graph::of_vertices(alloc, &[])?;
+    let mut changed = Graph::of_vertices(alloc, &[])?;
     for at in 0..variants.len() {
         let part = slice(alloc, &variants[at], &points.affected[at])?;
-        merged = merged.union(&part)?;
+        changed = changed.union(&part)?;
     }
+    // a union copies the first graph and looks the second one up, and most is shared
     let shared = slice(alloc, base, &points.preserved)?;
-    merged.union(&shared)
+    shared.union(&changed)
 }

@@ -1,5 +1,5 @@
 -- The points in conflict are those affected points that the merged graph has with another slice.
-use Rattle.std.proofs.Common.{◌≡◌, ℕ, ◌↔◌, Bool, IsTrue, Some, List, [], ◌∷◌, Contains, slice_get, sym, subst}
+use Rattle.std.proofs.Common.{◌≡◌, ℕ, ◌↔◌, Bool, IsTrue, Some, List, [], ◌∷◌, Contains, slice_get, sym, subst, arith}
 use Rattle.hpr_graph.specs.declared.vertex.Vertex.{Vertex}
 use Rattle.hpr_graph.specs.declared.edge.Edge.{Edge}
 use Rattle.hpr_graph.specs.Conflicts.{IsAdded}
@@ -66,3 +66,14 @@ module _ (m g : Numbered) (points : List ℕ) where
         λ yes. (let (has, affected) = u.0 yes in ((at, has, at_v), affected)),
         λ ((n, has, at_n), affected). u.1 (subst (Contains points) (once n at v at_n at_v) has, affected),
       )
+
+-- of no points none is in conflict
+pub none_of_none : (m g : Numbered) (points kept : List ℕ) → points ≡ [] → kept ≡ [] → AreNumbersOf g (InConflict m g points) kept
+none_of_none m g points kept none is = subst (λ (ns : List ℕ). AreNumbersOf g (InConflict m g points) ns) (sym is) (record {
+  ascend = λ i j x y l p q. absurd cc;
+  within = λ k d l. absurd (omega (arith, l));
+  exact = λ at v get. (
+    λ h. absurd (in_none at h),
+    λ (one, affected). (let (n, has, there) = one in absurd (in_none n (subst (λ (ns : List ℕ). Contains ns n) none has))),
+  );
+})

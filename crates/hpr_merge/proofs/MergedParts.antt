@@ -1,9 +1,9 @@
 -- The parts of the merged graph, by the numbers of their points.
-use Rattle.std.proofs.Common.{◌≡◌, ℕ, ◌<◌, ◌↔◌, List, All, length, sym, subst}
+use Rattle.std.proofs.Common.{◌≡◌, ℕ, ◌<◌, ◌↔◌, List, All, length, inl, inr, sym, subst}
 use Rattle.std.specs.Ordering.{nat_cmp}
 use Rattle.hpr_graph.specs.declared.vertex.Vertex.{Vertex}
 use Rattle.hpr_graph.specs.declared.edge.Edge.{Edge}
-use Rattle.hpr_graph.specs.Graphs.{Graph, Same}
+use Rattle.hpr_graph.specs.Graphs.{Graph, Same, union_of}
 use Rattle.hpr_graph.specs.InOrder.{Ascends}
 use Rattle.hpr_graph.specs.Numbered.{Numbered, graph_in}
 use Rattle.hpr_graph.specs.Points.{IsAffected}
@@ -13,6 +13,13 @@ use Rattle.hpr_slice.specs.Vertices.{IsOneOf}
 use Rattle.hpr_affected.specs.Numbers.{AreNumbersOf}
 use Rattle.hpr_affected.proofs.NumberedPoints.{one_of_points}
 use Rattle.hpr_merge.specs.PointConflicts.{ArePointConflicts}
+
+-- a union is the same either way
+pub union_either : (g h : Graph) → Same (union_of g h) (union_of h g)
+union_either g h = (
+  λ v. (λ a. elim a [ inl x ↦ inr x | inr y ↦ inl y ], λ a. elim a [ inl y ↦ inr y | inr x ↦ inl x ]),
+  λ e. (λ a. elim a [ inl x ↦ inr x | inr y ↦ inl y ], λ a. elim a [ inl y ↦ inr y | inr x ↦ inl x ]),
+)
 
 -- the slice at the vertices with these numbers is that at those with the property
 module _ (g : Numbered) (P : Vertex → Type 0) (ns : List ℕ) (a : AreNumbersOf g P ns) where

@@ -49,7 +49,8 @@ pub fn conflicts_of(
 }
 
 /// Those of the points of a variant, by their numbers, which ascend, that the merged graph has with
-/// another slice: they are reached in it from what is directly affected beside the variant.
+/// another slice: they are reached in it from what is directly affected beside the variant. Where there is no point, as
+/// in a variant that is the base, no graph is looked at.
 fn conflicting(
     alloc: Global,
     variant: &Graph,
@@ -62,6 +63,9 @@ fn conflicting(
     ensures { IfOk result (λ kept. AreNumbersOf variant.now (λ v. IsOneOf variant.now points.now v
         × IsAffected (graph_in merged.now) (graph_in variant.now) v) kept.items) }
 {
+    if points.is_empty() {
+        return Ok(Vec::new(alloc));
+    }
     let comparison = Comparison::of(alloc, merged, variant)?;
     let reached = comparison.affected_marks()?;
     let mut kept = Vec::new(alloc);

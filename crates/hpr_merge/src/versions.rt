@@ -127,7 +127,9 @@ fn merged_graph(
     let part_a = slice(alloc, a, &points.a)?;
     let part_b = slice(alloc, b, &points.b)?;
     let shared = slice(alloc, base, &points.shared)?;
-    part_a.union(&part_b)?.union(&shared)
+    // a union copies the first graph and looks the second one up, and most is shared
+    let changed = part_a.union(&part_b)?;
+    shared.union(&changed)
 }
 
 /// The conflicts of A at some of its points, and behind them those of B at some of its.

@@ -5,13 +5,13 @@ use Rattle.hpr_graph.specs.Numbered.{graph_in, graphs_in}
 use Rattle.hpr_graph.specs.Points.{IsAffected, IsPreservedBy, changed, merged_all}
 use Rattle.hpr_graph.specs.Slices.{slice_of}
 use Rattle.hpr_graph.proofs.Laws.{same_then, union_same}
-use Rattle.hpr_merge.proofs.MergedParts.{points_slice, points_within}
+use Rattle.hpr_merge.proofs.MergedParts.{points_slice, points_within, union_either}
 use Rattle.hpr_many.proofs.ManyParts.{nothing_in, united_all, united_more}
 use Rattle.hpr_many.proofs.ManyPoints.{own_points, row_inside}
 use Rattle.hpr_many.proofs.versions.merged_graph.Goals as goal
 
 pub loop-at-init : goal.loop-at-init
-loop-at-init c = nothing_in c.in_ok-merged.merged c.in_ok-merged.ensures.vertices c.in_ok-merged.ensures.none
+loop-at-init c = nothing_in c.in_ok-changed.changed c.in_ok-changed.ensures.vertices c.in_ok-changed.ensures.none
 
 pub index-requires : goal.index-requires
 index-requires c =
@@ -40,20 +40,20 @@ loop-at-preserved c =
     let row = c.index.result.now in
     let l = c.loop-at-test.true in
     let own = own_points base gs c.args.points.now.affected.items c.requires.affected c.loop-at.at l g row c.index-variants-at.is c.index.ensures in
-    united_more (graph_in base) gs c.loop-at.at g (graph_in c.loop-at.merged) (graph_in c.in_ok-part.part) (graph_in c.in_ok-merged-2.merged) l c.index-variants-at.is c.loop-at.invariant
-    (points_slice g (IsAffected (graph_in g) (graph_in base)) row.items own c.deref.result.now (graph_in c.in_ok-part.part) c.deref.ensures.value c.in_ok-part.ensures) c.in_ok-merged-2.ensures
+    united_more (graph_in base) gs c.loop-at.at g (graph_in c.loop-at.changed) (graph_in c.in_ok-part.part) (graph_in c.in_ok-changed-2.changed) l c.index-variants-at.is c.loop-at.invariant
+    (points_slice g (IsAffected (graph_in g) (graph_in base)) row.items own c.deref.result.now (graph_in c.in_ok-part.part) c.deref.ensures.value c.in_ok-part.ensures) c.in_ok-changed-2.ensures
 
 pub returns : goal.returns
 returns c =
     let base = c.args.base.now in
     let gs = c.args.variants.now in
-    let merged = graph_in c.loop-at.merged in
+    let merged = graph_in c.loop-at.changed in
     let shared = graph_in c.in_ok-shared.shared in
     let all = changed (graph_in base) (graphs_in gs) in
     let kept = slice_of (graph_in base) (IsPreservedBy (graph_in base) (graphs_in gs)) in
-    IfOk-weaker c.union-2.result (λ g. Same (graph_in g) (union_of merged shared)) (λ g. Same (graph_in g) (merged_all (graph_in base) (graphs_in gs)))
+    IfOk-weaker c.union-2.result (λ g. Same (graph_in g) (union_of shared merged)) (λ g. Same (graph_in g) (merged_all (graph_in base) (graphs_in gs)))
     (λ g same.
-    same_then (graph_in g) (union_of merged shared) (union_of all kept) same
+    same_then (graph_in g) (union_of merged shared) (union_of all kept) (same_then (graph_in g) (union_of shared merged) (union_of merged shared) same (union_either shared merged))
     (union_same merged all shared kept (united_all (graph_in base) gs c.loop-at.at merged (omega (arith, c.loop-at-test.false, c.loop-at.auto.at-end)) c.loop-at.invariant)
     (points_slice base (IsPreservedBy (graph_in base) (graphs_in gs)) c.args.points.now.preserved.items c.requires.preserved c.deref-2.result.now shared c.deref-2.ensures.value c.in_ok-shared.ensures)))
     c.union-2.ensures

@@ -5,4 +5,4 @@ use Rattle.hpr_graph.specs.Points.{changed}
 use Rattle.hpr_many.proofs.versions.merged_graph.Given as goal
 
 abbrev pub invariant-loop-at : goal.invariant-loop-at
-invariant-loop-at l = Same (graph_in l.merged) (changed (graph_in l.base) (graphs_in (take l.at l.variants)))
+invariant-loop-at l = Same (graph_in l.changed) (changed (graph_in l.base) (graphs_in (take l.at l.variants)))

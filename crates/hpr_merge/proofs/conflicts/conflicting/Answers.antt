@@ -1,6 +1,7 @@
 use Rattle.std.proofs.Common.{ap, length, arith}
+use Rattle.std.proofs.lemmas.List.{nil_from_length}
 use Rattle.hpr_affected.proofs.PointLists.{before_none, before_more, before_all}
-use Rattle.hpr_merge.proofs.ConflictPoints.{conflict_test}
+use Rattle.hpr_merge.proofs.ConflictPoints.{conflict_test, none_of_none}
 use Rattle.hpr_merge.proofs.conflicts.conflicting.Goals as goal
 
 pub loop-at-init : goal.loop-at-init
@@ -15,3 +16,7 @@ loop-at-preserved c =
 
 pub returns : goal.returns
 returns c = before_all _ _ _ c.loop-at.at c.loop-at.invariant (omega (arith, c.loop-at-test.false, c.loop-at.auto.at-end, ap length c.vertices-at-end.ensures.vertices))
+
+pub returns-then-is_empty : goal.returns-then-is_empty
+returns-then-is_empty c =
+    none_of_none c.args.merged.now c.args.variant.now c.args.points.now c.new.result.items (nil_from_length c.args.points.now (grind (arith, c.is_empty.ensures, c.if-is_empty.true))) c.new.ensures.items

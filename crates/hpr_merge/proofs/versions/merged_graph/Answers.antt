@@ -2,8 +2,9 @@ use Rattle.std.proofs.lemmas.Result.{IfOk-weaker}
 use Rattle.hpr_graph.specs.Graphs.{Same, union_of}
 use Rattle.hpr_graph.specs.Numbered.{graph_in}
 use Rattle.hpr_graph.specs.Points.{IsAffected, IsPreserved, merged}
+use Rattle.hpr_graph.proofs.Laws.{same_then}
 use Rattle.hpr_merge.proofs.BothSides.{merged_parts}
-use Rattle.hpr_merge.proofs.MergedParts.{points_slice, points_within}
+use Rattle.hpr_merge.proofs.MergedParts.{points_slice, points_within, union_either}
 use Rattle.hpr_merge.proofs.versions.merged_graph.Goals as goal
 
 pub slice-requires : goal.slice-requires
@@ -22,11 +23,13 @@ returns c =
     let a = c.args.a.now in
     let b = c.args.b.now in
     let points = c.args.points.now in
-    IfOk-weaker c.union-2.result (λ g. Same (graph_in g) (union_of (graph_in c.in_ok-union.field-0) (graph_in c.in_ok-shared.shared))) (λ g. Same (graph_in g) (merged (graph_in base) (graph_in a) (graph_in b)))
+    let changed = graph_in c.in_ok-changed.changed in
+    let shared = graph_in c.in_ok-shared.shared in
+    IfOk-weaker c.union-2.result (λ g. Same (graph_in g) (union_of shared changed)) (λ g. Same (graph_in g) (merged (graph_in base) (graph_in a) (graph_in b)))
     (λ g same.
-    merged_parts (graph_in base) (graph_in a) (graph_in b) (graph_in c.in_ok-part_a.part_a) (graph_in c.in_ok-part_b.part_b) (graph_in c.in_ok-shared.shared) (graph_in c.in_ok-union.field-0) (graph_in g)
+    merged_parts (graph_in base) (graph_in a) (graph_in b) (graph_in c.in_ok-part_a.part_a) (graph_in c.in_ok-part_b.part_b) shared changed (graph_in g)
     (points_slice a (IsAffected (graph_in a) (graph_in base)) points.a.items c.requires.on_a c.deref.result.now (graph_in c.in_ok-part_a.part_a) c.deref.ensures.value c.in_ok-part_a.ensures)
     (points_slice b (IsAffected (graph_in b) (graph_in base)) points.b.items c.requires.on_b c.deref-2.result.now (graph_in c.in_ok-part_b.part_b) c.deref-2.ensures.value c.in_ok-part_b.ensures)
-    (points_slice base (IsPreserved (graph_in base) (graph_in a) (graph_in b)) points.shared.items c.requires.on_base c.deref-3.result.now (graph_in c.in_ok-shared.shared) c.deref-3.ensures.value c.in_ok-shared.ensures)
-    c.in_ok-union.ensures same)
+    (points_slice base (IsPreserved (graph_in base) (graph_in a) (graph_in b)) points.shared.items c.requires.on_base c.deref-3.result.now shared c.deref-3.ensures.value c.in_ok-shared.ensures)
+    c.in_ok-changed.ensures (same_then (graph_in g) (union_of shared changed) (union_of changed shared) same (union_either shared changed)))
     c.union-2.ensures
