@@ -143,7 +143,7 @@ pub at_head : (t : Tag) (f : Stmt → Body → Body) (s : Stmt) (x : Body) → s
 at_head t f (If u e a b) y h = rw h refl
 at_head t f s y h = rw h refl
 
-find_head : (t : Tag) (s : Stmt) (x : Body) → same_tag (tag_of s) t ≡ true → find_stmt t (before s x) ≡ Some s
+pub find_head : (t : Tag) (s : Stmt) (x : Body) → same_tag (tag_of s) t ≡ true → find_stmt t (before s x) ≡ Some s
 find_head t (If u e a b) y h = rw h refl
 find_head t s y h = rw h refl
 

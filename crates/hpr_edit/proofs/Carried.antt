@@ -1,5 +1,7 @@
 -- What becomes of a program by each command, as far as the tests that are made decide it.
-use Rattle.std.proofs.Common.{◌≡◌, ℕ, ◌+◌, Bool, true, false, not, Option, Some, None, Err, List, refl, ap, sym, ◌∙◌, arith}
+use Rattle.std.proofs.Common.{◌≡◌, ℕ, ◌+◌, Bool, true, false, not, if◌then◌else◌, Option, Some, None, Err, List, ◌⊎◌, inl, inr, refl, ap, sym, subst, ◌∙◌, arith}
+use Rattle.std.specs.Option.{option_map}
+use Rattle.std.proofs.lemmas.Option.{same_Some}
 use Rattle.hpr_terms.specs.declared.limits.TheConstants.{MAX_LEVELS}
 use Rattle.hpr_terms.specs.declared.tag.Tag.{Tag}
 use Rattle.hpr_syntax.specs.declared.tree.Stmt.{Stmt}
@@ -21,7 +23,7 @@ use Rattle.hpr_edit.specs.Places.{width, is_place, place_of}
 use Rattle.hpr_edit.specs.Changes.{at_part, at_place, gone, first_block, second_block, saying, wrapped, unwrapped}
 use Rattle.hpr_edit.specs.Edited.{Edited, becomes, refused, refuse, named, settled, edited, new_tag, next_tag, is_spent, same_kind, is_action, stands_in}
 use Rattle.hpr_edit.specs.InPlace.{times, Settles, Refused}
-use Rattle.hpr_edit.specs.Tested.{left_at, below, room_at, none_left, said_refusal, deep_refusal, new_refusal, names_alone}
+use Rattle.hpr_edit.specs.Tested.{left_at, below, room_at, none_left, said_refusal, deep_refusal, new_refusal, misplaced, names_alone}
 use Rattle.hpr_edit.proofs.Around.{place_in, place_plug, times_plug, times_head, FoundIn, found_in}
 use Rattle.hpr_edit.proofs.Tags.{once}
 use Rattle.hpr_edit.proofs.Undone.{Known, known}
@@ -33,6 +35,21 @@ passes why b next h = rw h refl
 
 refuses : (why : EditError) (b : Bool) (next : Edited) → b ≡ true → refuse why b next ≡ refused why
 refuses why b next h = rw h refl
+
+-- why a part isn't put at a place
+abbrev pub judged : Bool → Option ShapeError → Option EditError
+judged there o = if there then option_map Shape o else Some NoPlace
+
+fits : (there : Bool) (o : Option ShapeError) → judged there o ≡ None → (there ≡ true) × (o ≡ None)
+fits true None h = (refl, refl)
+fits true (Some e) h = absurd cc
+fits false o h = absurd cc
+
+fails : (there : Bool) (o : Option ShapeError) (why : EditError) → judged there o ≡ Some why
+    → ((there ≡ false) × (why ≡ NoPlace)) ⊎ ((there ≡ true) × (e : ShapeError) × (o ≡ Some e) × (why ≡ Shape e))
+fails true None why h = absurd cc
+fails true (Some e) why h = inr (refl, e, refl, sym (same_Some (Shape e) why h))
+fails false o why h = inl (refl, sym (same_Some NoPlace why h))
 
 module _ (p : Tree) (is : IsProgram p) where
   -- a part that is found has a place
@@ -97,22 +114,22 @@ module _ (p : Tree) (is : IsProgram p) where
       left = at_part t gone p.body
 
       module _ (out : stands_in place.parent s ≡ false) where
-        pub move_nowhere : is_place place left ≡ false → edited p (Move t place) author ≡ refused NoPlace
-        move_nowhere h =
-            named_next t s fs _ old ps ∙ passes (IntoItself t) (stands_in place.parent s) _ out ∙ refuses NoPlace (not (is_place place left)) _ (ap not h)
+        next_move : is_place place left ≡ true → edited p (Move t place) author ≡ settled (record p { body = at_place place (before s) left }) (MoveBack t old)
+        next_move there =
+            named_next t s fs _ old ps ∙ passes (IntoItself t) (stands_in place.parent s) _ out ∙ passes NoPlace (not (is_place place left)) _ (ap not there)
 
-        module _ (there : is_place place left ≡ true) where
-          next_move : edited p (Move t place) author ≡ settled (record p { body = at_place place (before s) left }) (MoveBack t old)
-          next_move =
-              named_next t s fs _ old ps ∙ passes (IntoItself t) (stands_in place.parent s) _ out ∙ passes NoPlace (not (is_place place left)) _ (ap not there)
+        pub move_becomes : misplaced place s left ≡ None → edited p (Move t place) author ≡ becomes (record p { body = at_place place (before s) left }) (MoveBack t old)
+        move_becomes n =
+            let k = fits (is_place place left) _ n in
+            next_move k.0 ∙ settled_fits _ _ (move_tested p is t s old place at k.0 ∙ k.1)
 
-          pub move_becomes : deep_refusal (first_deep (room_at place.parent left) (before s done)) ≡ None
-              → edited p (Move t place) author ≡ becomes (record p { body = at_place place (before s) left }) (MoveBack t old)
-          move_becomes n = next_move ∙ settled_fits _ _ (move_tested p is t s old place at there ∙ n)
-
-          pub move_refused : (why : ShapeError) → deep_refusal (first_deep (room_at place.parent left) (before s done)) ≡ Some why
-              → edited p (Move t place) author ≡ refused (Shape why)
-          move_refused why n = next_move ∙ settled_why _ _ why (move_tested p is t s old place at there ∙ n)
+        pub move_refused : (why : EditError) → misplaced place s left ≡ Some why → Refused (edited p (Move t place) author) why
+        move_refused why n = elim (fails (is_place place left) _ why n) [
+          | inl k ↦
+            subst (Refused (edited p (Move t place) author)) (sym k.1)
+                (named_next t s fs _ old ps ∙ passes (IntoItself t) (stands_in place.parent s) _ out ∙ refuses NoPlace (not (is_place place left)) _ (ap not k.0))
+          | inr k ↦ subst (Refused (edited p (Move t place) author)) (sym k.3) (next_move k.0 ∙ settled_why _ _ k.1 (move_tested p is t s old place at k.0 ∙ k.2))
+        ]
 
   module _ (t : Tag) (s : Stmt) (c : Content) (author : ℕ) (fs : find_stmt t p.body ≡ Some s) where
     -- Set

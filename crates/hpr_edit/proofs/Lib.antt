@@ -13,3 +13,4 @@ pub mod Shaped
 pub mod Proper
 pub mod Carried
 pub mod Scripts
+pub mod Exchanged

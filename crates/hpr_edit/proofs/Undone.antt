@@ -118,7 +118,7 @@ insert_back t body place c le new is =
     ∙ sym k.is
 
 -- Delete
-delete_back : (t : Tag) (body : Body) (s : Stmt) (old : Place) → Known t body s old → at_place old (before s) (at_part t gone body) ≡ body
+pub delete_back : (t : Tag) (body : Body) (s : Stmt) (old : Place) → Known t body s old → at_place old (before s) (at_part t gone body) ≡ body
 delete_back t body s old k =
     rw (known_at t body s old k gone)
     (known_back t body s old k (before s) k.rest (λ u. omega (arith, times_before u s k.rest)) refl)

@@ -7,6 +7,7 @@
 -- new_refusal deep t c n    == why n parts, of which a new one with this tag says this and `deep` stands too deep, make no
 --                              program
 -- deep_refusal deep         == why a body is that of no program in which this part stands too deep
+-- misplaced place s left    == why the part s isn't put at this place of what is left without it, if it isn't
 -- names_alone names         == the tree of no parts with these names of `end`
 use Rattle.std.specs.Prelude.{ℕ, List, [], zero, suc, ◌-◌, Option, Some, None, option_map, if◌then◌else◌}
 use Rattle.std.specs.Option.{option_or}
@@ -19,7 +20,13 @@ use Rattle.hpr_syntax.specs.Body.{Body, done, action, branch, loop}
 use Rattle.hpr_syntax.specs.Parts.{same_tag}
 use Rattle.hpr_syntax.specs.Rows.{Parent}
 use Rattle.hpr_syntax.specs.Tree.{Tree}
-use Rattle.hpr_syntax.specs.Shape.{says_large, is_wrong, too_many}
+use Rattle.hpr_syntax.specs.Shape.{first_deep, says_large, is_wrong, too_many}
+use Rattle.hpr_syntax.specs.BodyOf.{before}
+use Rattle.hpr_syntax.specs.declared.tree.Stmt.{Stmt}
+use Rattle.hpr_edit.specs.declared.command.Place.{Place}
+use Rattle.hpr_edit.specs.declared.command.EditError.{EditError}
+use Rattle.hpr_edit.specs.declared.command.EditError.TheVariants.{NoPlace, Shape}
+use Rattle.hpr_edit.specs.Places.{is_place}
 
 abbrev pub left_at : Tag → ℕ → Body → Option ℕ
 left_at t n done = None
@@ -50,6 +57,10 @@ deep_refusal deep = option_map TooDeep deep
 
 abbrev pub new_refusal : Option Tag → Tag → Content → ℕ → Option ShapeError
 new_refusal deep t c n = option_or (deep_refusal deep) (option_or (said_refusal t c) (too_many n))
+
+abbrev pub misplaced : Place → Stmt → Body → Option EditError
+misplaced place s left =
+    if is_place place left then option_map Shape (deep_refusal (first_deep (room_at place.parent left) (before s done))) else Some NoPlace
 
 abbrev pub names_alone : List (List ℕ) → Tree
 names_alone names = record { issued = []; body = done; finals = names }

@@ -1,8 +1,9 @@
 //! Commands, each carried out in place, where none of its tests refuses it.
 //!
 //! What is edited is a program. So of the tests of a program only those are made that the command can make it fail, and
-//! each of them on what the command changes. They come before the change; and want of memory leaves everything as it was.
-ghost use Rattle.std.specs.Prelude.{◌≡◌, ℕ, ◌≤◌, ◌+◌, List, IfSome, IfOk, OnErr};
+//! each of them on what the command changes. Memory is got before the change, so that want of it leaves everything as it
+//! was; a part that may not be moved is put back.
+ghost use Rattle.std.specs.Prelude.{◌≡◌, ℕ, ◌≤◌, ◌+◌, List, IfSome, IfOk, IfErr, OnErr};
 ghost use Rattle.hpr_terms.specs.declared.limits.TheConstants.{MAX_PARTS};
 ghost use Rattle.hpr_terms.specs.declared.tag.Tag.{Tag};
 ghost use Rattle.hpr_syntax.specs.Body.{Body, done, part_count};
@@ -11,19 +12,21 @@ ghost use Rattle.hpr_syntax.specs.Issued.{Issued, raised};
 ghost use Rattle.hpr_syntax.specs.Rows.{content_of, made};
 ghost use Rattle.hpr_syntax.specs.Shape.{IsProgram};
 ghost use Rattle.hpr_edit.specs.declared.command.Command.TheVariants.{Insert, Delete, Move, Set, Wrap, Unwrap, Finals};
-ghost use Rattle.hpr_edit.specs.declared.command.Inverse.TheVariants.{Remove, Lift, Rewrap, MoveBack};
+ghost use Rattle.hpr_edit.specs.declared.command.Inverse.TheVariants.{Remove, Lift, Rewrap};
 ghost use Rattle.hpr_edit.specs.Places.{width};
 ghost use Rattle.hpr_edit.specs.Changes.{at_part, at_place, gone, saying, wrapped, unwrapped};
 ghost use Rattle.hpr_edit.specs.Changes.{first_block, second_block};
 ghost use Rattle.hpr_edit.specs.Edited.{edited, new_tag, is_action, same_kind};
-ghost use Rattle.hpr_edit.specs.InPlace.{times, tree_of, Located, Settles, Makes, Allows, Moves, IsProperCommand};
+ghost use Rattle.hpr_edit.specs.InPlace.{times, tree_of, Leaves, Refused, Settles, Makes, Allows, IsProperCommand};
 ghost use Rattle.hpr_edit.specs.Tested.{names_alone};
 
-use crate::change::{Change, Put, change_body, put_at_place};
+use crate::change::{Change, change_body};
 use crate::command::{Command, EditError, FinalNames, Inverse, Place};
-use crate::places::{is_place, place_of, stands_in, width};
+use crate::exchange::take_out;
+use crate::places::{is_place, located, stands_in, width};
+use crate::put::{empty, put_part, put_round, room_for};
 use crate::refusal::{
-    deep_refusal, first_deep, new_refusal, none_left, room_at, room_in, said_refusal,
+    first_deep, misplaced, new_refusal, none_left, room_at, said_refusal,
 };
 use hpr_syntax::proper::{read_content, read_names};
 use hpr_syntax::{
@@ -85,7 +88,7 @@ fn carry_out(
 {
     match command {
         Command::Insert(place, content) => insert(alloc, issued, body, *place, content, author),
-        Command::Delete(tag) => delete(alloc, body, *tag),
+        Command::Delete(tag) => delete(body, *tag),
         Command::Move(tag, place) => relocate(alloc, body, *tag, *place),
         Command::Set(tag, content) => set(alloc, body, *tag, content),
         Command::Wrap(tag, content) => wrap(alloc, issued, body, *tag, content, author),
@@ -111,10 +114,14 @@ fn insert(
     ensures issued { OnErr result (issued.new ≡ issued.old) }
     ensures body { OnErr result (body.new ≡ body.old) }
 {
-    let tag = tag_to_insert(issued, body, place, content, author)?;
-    let numbers = issued_with(alloc, issued, tag)?;
-    put_at_place(alloc, body, place, Put::New(tag, content))?;
-    *issued = numbers;
+    let count = body.part_count();
+    let tag = tag_to_insert(issued, body, place, content, author, count)?;
+    let content = content.copy(alloc)?;
+    let room = room_for(alloc, count)?;
+    issued.raise(tag.author, tag.serial)?;
+    // No more memory is asked for from here on.
+    let part = content.into_stmt(tag, empty(alloc), empty(alloc));
+    put_part(alloc, body, place, part, room);
     Ok(Inverse::Remove(tag))
 }
 
@@ -125,8 +132,10 @@ fn tag_to_insert(
     place: Place,
     content: &Content,
     author: u32,
+    count: usize,
 ) -> Result<Tag, EditError>
-    requires few { part_count body.now ≤ MAX_PARTS }
+    requires few { count ≤ MAX_PARTS }
+    requires count { count ≡ part_count body.now }
     ensures allowed { (finals : List (List ℕ)) → IsProgram (tree_of issued.now body.now finals)
         → Allows (edited (tree_of issued.now body.now finals) (Insert place content.now) author)
         (λ t. tree_of (raised t.author t.serial issued.now)
@@ -140,73 +149,65 @@ fn tag_to_insert(
         return Err(EditError::SerialsSpent);
     };
     let deep = none_left(room_at(body, place.parent), tag);
-    match new_refusal(deep, tag, content, body.part_count() + 1) {
+    match new_refusal(deep, tag, content, count + 1) {
         Some(why) => Err(EditError::Shape(why)),
         None => Ok(tag),
     }
 }
 
 /// Deletes a part and all that stands in it.
-fn delete(alloc: Global, body: &mut Block, tag: Tag) -> Result<Inverse, EditError>
+fn delete(body: &mut Block, tag: Tag) -> Result<Inverse, EditError>
     requires once { (t : Tag) → times t body.old ≤ 1 }
     ensures made { (issued : Issued) (finals : List (List ℕ)) (author : ℕ) → IsProgram (tree_of issued body.old finals)
         → Makes (edited (tree_of issued body.old finals) (Delete tag) author) (tree_of issued body.new finals) result }
     ensures body { OnErr result (body.new ≡ body.old) }
 {
-    let inverse = inverse_of_delete(alloc, body, tag)?;
-    change_body(alloc, body, tag, Change::Take)?;
-    Ok(inverse)
-}
-
-/// What takes back that a part is deleted, if it may be.
-fn inverse_of_delete(alloc: Global, body: &Block, tag: Tag) -> Result<Inverse, EditError>
-    ensures { (issued : Issued) (finals : List (List ℕ)) (author : ℕ) → IsProgram (tree_of issued body.now finals)
-        → Makes (edited (tree_of issued body.now finals) (Delete tag) author)
-        (tree_of issued (at_part tag gone body.now) finals) result }
-{
-    let Some((part, old)) = located(body, tag) else {
+    let Some(found) = located(body, tag) else {
         return Err(EditError::NoTag(tag));
     };
-    Ok(Inverse::PutBack(old, part.copy(alloc)?))
+    let old = found.place;
+    let part = take_out(body, tag).unwrap();
+    Ok(Inverse::PutBack(old, part))
 }
 
 /// Moves a part with all that stands in it.
 fn relocate(alloc: Global, body: &mut Block, tag: Tag, place: Place) -> Result<Inverse, EditError>
     requires once { (t : Tag) → times t body.old ≤ 1 }
+    requires few { part_count body.old ≤ MAX_PARTS }
     ensures made { (issued : Issued) (finals : List (List ℕ)) (author : ℕ) → IsProgram (tree_of issued body.old finals)
         → Makes (edited (tree_of issued body.old finals) (Move tag place) author)
         (tree_of issued body.new finals) result }
     ensures body { OnErr result (body.new ≡ body.old) }
 {
-    let (moved, old) = moved(alloc, body, tag, place)?;
-    *body = moved;
-    Ok(Inverse::MoveBack(tag, old))
+    let old = place_to_leave(body, tag, place)?;
+    let room = room_for(alloc, body.part_count())?;
+    // No more memory is asked for from here on.
+    let part = take_out(body, tag).unwrap();
+    match misplaced(body, &part, place) {
+        None => {
+            put_part(alloc, body, place, part, room);
+            Ok(Inverse::MoveBack(tag, old))
+        }
+        Some(why) => {
+            put_part(alloc, body, old, part, room);
+            Err(why)
+        }
+    }
 }
 
-/// A copy of the body in which a part stands elsewhere, with its old place, if it may stand there.
-fn moved(alloc: Global, body: &Block, tag: Tag, place: Place) -> Result<(Block, Place), EditError>
-    requires once { (t : Tag) → times t body.now ≤ 1 }
-    ensures { (issued : Issued) (finals : List (List ℕ)) (author : ℕ) → IsProgram (tree_of issued body.now finals)
-        → Moves (edited (tree_of issued body.now finals) (Move tag place) author)
-        (λ b. tree_of issued b finals) (MoveBack tag) result }
+/// Where the part with this tag stands that is to be moved to a place, which isn't in it.
+fn place_to_leave(body: &Block, tag: Tag, place: Place) -> Result<Place, EditError>
+    ensures leaves { IfOk result (λ old. Leaves tag place.parent old body.now) }
+    ensures refused { (issued : Issued) (finals : List (List ℕ)) (author : ℕ) → IsProgram (tree_of issued body.now finals)
+        → IfErr result (Refused (edited (tree_of issued body.now finals) (Move tag place) author)) }
 {
-    let Some((part, old)) = located(body, tag) else {
+    let Some(found) = located(body, tag) else {
         return Err(EditError::NoTag(tag));
     };
-    if stands_in(place.parent, part) {
+    if stands_in(place.parent, found.part) {
         return Err(EditError::IntoItself(tag));
     }
-    let mut moved = body.copy(alloc)?;
-    change_body(alloc, &mut moved, tag, Change::Take)?;
-    if !is_place(&moved, place) {
-        return Err(EditError::NoPlace);
-    }
-    let deep = first_deep(part, room_at(&moved, place.parent));
-    if let Some(why) = deep_refusal(deep) {
-        return Err(EditError::Shape(why));
-    }
-    put_at_place(alloc, &mut moved, place, Put::Part(part))?;
-    Ok((moved, old))
+    Ok(found.place)
 }
 
 /// Lets a part say something else.
@@ -263,9 +264,11 @@ fn wrap(
     ensures body { OnErr result (body.new ≡ body.old) }
 {
     let new = tag_to_wrap(issued, body, tag, content, author)?;
-    let numbers = issued_with(alloc, issued, new)?;
-    change_body(alloc, body, tag, Change::Wrap(new, content))?;
-    *issued = numbers;
+    let content = content.copy(alloc)?;
+    let room = room_for(alloc, 0)?;
+    issued.raise(new.author, new.serial)?;
+    // No more memory is asked for from here on.
+    put_round(alloc, body, tag, new, content, room);
     Ok(Inverse::Lift(new))
 }
 
@@ -284,7 +287,7 @@ fn tag_to_wrap(
         (at_part tag (wrapped t content.now) body.now) finals) Lift result }
     ensures serial { IfOk result (λ t. 1 ≤ t.serial) }
 {
-    let Some(part) = body.find(tag) else {
+    let Some(found) = located(body, tag) else {
         return Err(EditError::NoTag(tag));
     };
     if is_action(content) {
@@ -293,7 +296,7 @@ fn tag_to_wrap(
     let Some(new) = next_tag(issued, author) else {
         return Err(EditError::SerialsSpent);
     };
-    let deep = first_deep(part, room_in(body, tag));
+    let deep = first_deep(found.part, found.levels.saturating_sub(1));
     match new_refusal(deep, new, content, body.part_count() + 1) {
         Some(why) => Err(EditError::Shape(why)),
         None => Ok(new),
@@ -318,13 +321,13 @@ fn inverse_of_unwrap(alloc: Global, body: &Block, tag: Tag) -> Result<Inverse, E
         → Makes (edited (tree_of issued body.now finals) (Unwrap tag) author)
         (tree_of issued (at_part tag unwrapped body.now) finals) result }
 {
-    let Some((part, place)) = located(body, tag) else {
+    let Some(found) = located(body, tag) else {
         return Err(EditError::NoTag(tag));
     };
-    if says_action(part) {
+    if says_action(found.part) {
         return Err(EditError::KindDiffers(tag));
     }
-    Ok(rewrapping(alloc, part, tag, place)?)
+    Ok(rewrapping(alloc, found.part, tag, found.place)?)
 }
 
 /// What puts a part with this tag, which says what this one says, round what stands in this one.
@@ -368,15 +371,6 @@ fn alone(alloc: Global, names: Vec<Name>) -> Result<Program, EditError>
         Err(ShapeError::Memory) => Err(EditError::Memory),
         Err(why) => Err(EditError::Shape(why)),
     }
-}
-
-/// The part with this tag, and where it stands.
-fn located(body: &Block, tag: Tag) -> Option<(&Stmt, Place)>
-    ensures { Located tag body.now result }
-{
-    let part = body.find(tag)?;
-    let place = place_of(body, tag)?;
-    Some((part, place))
 }
 
 /// The tag of the author's next part, or none where its serials are spent.
@@ -432,14 +426,4 @@ fn widths(part: &Stmt) -> (usize, usize)
         Stmt::While(_, _, body) => (width(body), 0),
         _ => (0, 0),
     }
-}
-
-/// The issued numbers of a program and of this tag.
-fn issued_with(alloc: Global, issued: &Issued, new: Tag) -> Result<Issued, NoMemory>
-    requires { 1 ≤ new.serial }
-    ensures { IfOk result (λ i. i ≡ raised new.author new.serial issued.now) }
-{
-    let mut numbers = issued.copy(alloc)?;
-    numbers.raise(new.author, new.serial)?;
-    Ok(numbers)
 }

@@ -8,12 +8,13 @@ ghost use Rattle.hpr_syntax.specs.Body.{done};
 ghost use Rattle.hpr_syntax.specs.BodyOf.{before, body_of};
 ghost use Rattle.hpr_syntax.specs.Parts.{tag_of, same_tag};
 ghost use Rattle.hpr_syntax.specs.Rows.{made};
-ghost use Rattle.hpr_edit.specs.Changes.{at_part, at_place, from, with_block, first_block, second_block, gone, saying, wrapped, unwrapped, firsts, later, rewrapped};
+ghost use Rattle.hpr_edit.specs.Changes.{at_part, at_place, from, with_block, first_block, second_block, gone, saying, unwrapped, firsts, later, rewrapped};
 ghost use Rattle.hpr_edit.specs.InPlace.{times, one_if, put_by, done_by, on_first, in_part, with_content};
 ghost use Rattle.hpr_edit.specs.InPlace.{puts_whole, is_whole};
 ghost use Rattle.hpr_edit.specs.Places.{width};
 
 use crate::command::Place;
+use crate::put::empty;
 use hpr_syntax::{Block, Content, NoMemory, Stmt};
 use hpr_terms::Tag;
 use std::alloc::Global;
@@ -24,8 +25,6 @@ use std::mem;
 pub(crate) enum Put<'a> {
     /// A copy of this part.
     Part(&'a Stmt),
-    /// A part with this tag and content, and with no parts in it.
-    New(Tag, &'a Content),
     /// A part with this tag and content. So many parts from the place on go into its first block, and
     /// so many of those behind them into its second.
     Round(Tag, &'a Content, usize, usize),
@@ -38,8 +37,6 @@ pub(crate) enum Change<'a> {
     Take,
     /// It says this.
     Say(&'a Content),
-    /// A new part with this tag and content is put round it.
-    Wrap(Tag, &'a Content),
     /// What stands in it takes its place.
     Unwrap,
     /// This is put into one of its blocks, at this place. The bool is true for a loop's body and for
@@ -126,7 +123,6 @@ fn act(alloc: Global, stmts: &mut Vec<Stmt>, at: usize, change: Change<'_>) -> R
             Ok(())
         }
         Change::Say(content) => say_at(alloc, stmts, at, content),
-        Change::Wrap(tag, content) => wrap_at(alloc, stmts, at, tag, content),
         Change::Unwrap => unwrap_at(alloc, stmts, at),
         Change::Put(branch, place, what) => put_at(alloc, stmts, at, branch, place, what),
     }
@@ -153,22 +149,6 @@ fn say_at(
     ensures unchanged { OnErr result (stmts.new.items ≡ stmts.old.items) }
 {
     say(alloc, &mut stmts[at], content)
-}
-
-/// Puts a new part round the part at this place.
-fn wrap_at(
-    alloc: Global,
-    stmts: &mut Vec<Stmt>,
-    at: usize,
-    tag: Tag,
-    content: &Content,
-) -> Result<(), NoMemory>
-    requires { at < vec_len stmts.old }
-    ensures changed { OnOk result (body_of stmts.new.items ≡ from at (on_first (wrapped tag content.now))
-        (body_of stmts.old.items)) }
-    ensures unchanged { OnErr result (stmts.new.items ≡ stmts.old.items) }
-{
-    wrap(alloc, &mut stmts[at], tag, content)
 }
 
 /// Puts what stands in the part at this place there.
@@ -219,13 +199,6 @@ fn take_block(alloc: Global, block: &mut Block) -> Block
     ensures { result ≡ block.old }
 {
     mem::replace(block, empty(alloc))
-}
-
-/// The block with no parts.
-fn empty(alloc: Global) -> Block
-    ensures { result ≡ done }
-{
-    Block::new(Vec::new(alloc))
 }
 
 /// Puts something into a block of the part at this place.
@@ -283,7 +256,6 @@ fn put_into(alloc: Global, block: &mut Block, place: usize, what: Put<'_>) -> Re
 {
     match what {
         Put::Part(part) => put_part(alloc, block, place, part),
-        Put::New(tag, content) => put_new(alloc, block, place, tag, content),
         Put::Round(tag, content, first, second) => enclose(
             alloc, block, place, tag, content, first, second,
         ),
@@ -298,27 +270,6 @@ fn put_part(alloc: Global, block: &mut Block, place: usize, part: &Stmt) -> Resu
 {
     if place <= block.stmts.len() {
         block.stmts.insert(place, part.copy(alloc)?)?;
-    }
-    Ok(())
-}
-
-/// Puts a new part with no parts in it into a block, if there is such a place.
-#[tactic(auto, using(crate::proofs::Lists::inserted, crate::proofs::Lists::from_past))]
-fn put_new(
-    alloc: Global,
-    block: &mut Block,
-    place: usize,
-    tag: Tag,
-    content: &Content,
-) -> Result<(), NoMemory>
-    ensures changed { OnOk result (block.new ≡ from place (before (made tag content.now done done)) block.old) }
-    ensures unchanged { OnErr result (block.new ≡ block.old) }
-{
-    if place <= block.stmts.len() {
-        let content = content.copy(alloc)?;
-        block
-            .stmts
-            .insert(place, content.into_stmt(tag, empty(alloc), empty(alloc)))?;
     }
     Ok(())
 }
@@ -402,35 +353,6 @@ fn say(alloc: Global, part: &mut Stmt, content: &Content) -> Result<(), NoMemory
     let (first, second) = take_blocks(alloc, part);
     *part = content.into_stmt(tag, first, second);
     Ok(())
-}
-
-/// Puts a new part round this one.
-fn wrap(alloc: Global, part: &mut Stmt, tag: Tag, content: &Content) -> Result<(), NoMemory>
-    ensures changed { OnOk result (part.new ≡ made tag content.now (before part.old done) done) }
-    ensures unchanged { OnErr result (part.new ≡ part.old) }
-{
-    let content = content.copy(alloc)?;
-    let mut stmts = Vec::with_capacity(alloc, 1)?;
-    let whole = content.into_stmt(tag, empty(alloc), empty(alloc));
-    // No more memory is asked for from here on.
-    stmts.push(mem::replace(part, whole))?;
-    fill(part, Block::new(stmts));
-    Ok(())
-}
-
-/// Makes a block the first of a part, if it has blocks.
-fn fill(part: &mut Stmt, block: Block)
-    ensures { part.new ≡ with_block true (λ _. block) part.old }
-{
-    match part {
-        Stmt::If(_, _, yes, _) => {
-            *yes = block;
-        }
-        Stmt::While(_, _, body) => {
-            *body = block;
-        }
-        _ => {}
-    }
 }
 
 /// Puts something at a place of a body, if there is such a place.

@@ -58,8 +58,8 @@ impl Editor {
     ///
     /// It is refused exactly by the first of [`EditError`]'s causes that holds, in their order, or for
     /// want of memory, and the editor is then as it was. It changes the program in place, and takes time in
-    /// proportion to the number of parts and of authors and to what it takes out or puts in. A move takes
-    /// memory in proportion to the program too.
+    /// proportion to the number of parts and to what it takes out or puts in, and an author's first part to
+    /// the number of authors. An insert and a move ask for room for all parts, and give back what isn't used.
     pub fn apply(&mut self, alloc: Global, command: &Command) -> Result<Inverse, EditError>
         ensures edited { IfOk result (λ i. edited self.old.program command.now self.old.author
             ≡ becomes self.new.program i) }

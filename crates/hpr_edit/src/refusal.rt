@@ -3,48 +3,20 @@ ghost use Rattle.std.specs.Prelude.{◌≡◌, Some, None};
 ghost use Rattle.hpr_syntax.specs.Body.{done};
 ghost use Rattle.hpr_syntax.specs.BodyOf.{before};
 ghost use Rattle.hpr_syntax.specs.Shape.{first_deep, too_many};
-ghost use Rattle.hpr_edit.specs.Tested.{left_at, below, room_at, none_left, said_refusal, deep_refusal, new_refusal};
+ghost use Rattle.hpr_edit.specs.Tested.{left_at, below, room_at, none_left, said_refusal, deep_refusal, new_refusal, misplaced};
 
+use crate::command::{EditError, Place};
+use crate::places::{is_place, located};
 use hpr_syntax::{Block, Content, ShapeError, Stmt, has_wrong_name, is_large_content};
 use hpr_terms::Tag;
 use hpr_terms::limits::{MAX_LEVELS, MAX_PARTS};
 
-/// How many levels are left where the part with this tag stands, of so many for the block.
-#[cycle(left)]
-fn left_at(block: &Block, tag: Tag, levels: usize) -> Option<usize>
-    ensures { result ≡ left_at tag levels block.now }
-{
-    for stmt in &block.stmts {
-        if let Some(left) = left_in(stmt, tag, levels) {
-            return Some(left);
-        }
-    }
-    None
-}
-
-#[cycle(left)]
-fn left_in(stmt: &Stmt, tag: Tag, levels: usize) -> Option<usize>
-    ensures { result ≡ left_at tag levels (before stmt.now done) }
-{
-    if stmt.tag() == tag {
-        return Some(levels);
-    }
-    match stmt {
-        Stmt::If(_, _, yes, no) => match left_at(yes, tag, levels.saturating_sub(1)) {
-            Some(left) => Some(left),
-            None => left_at(no, tag, levels.saturating_sub(1)),
-        },
-        Stmt::While(_, _, body) => left_at(body, tag, levels.saturating_sub(1)),
-        _ => None,
-    }
-}
-
 /// How many levels are left for what stands in the part with this tag of a program's body.
-pub(crate) fn room_in(body: &Block, tag: Tag) -> usize
+fn room_in(body: &Block, tag: Tag) -> usize
     ensures { result ≡ below (left_at tag MAX_LEVELS body.now) }
 {
-    match left_at(body, tag, MAX_LEVELS) {
-        Some(left) => left.saturating_sub(1),
+    match located(body, tag) {
+        Some(found) => found.levels.saturating_sub(1),
         None => 0,
     }
 }
@@ -139,4 +111,18 @@ pub(crate) fn new_refusal(
         return Some(ShapeError::TooManyParts(count));
     }
     None
+}
+
+/// Why this part isn't put at this place of what is left without it, if it isn't.
+pub(crate) fn misplaced(left: &Block, part: &Stmt, place: Place) -> Option<EditError>
+    ensures { result ≡ misplaced place part.now left.now }
+{
+    if !is_place(left, place) {
+        return Some(EditError::NoPlace);
+    }
+    let deep = first_deep(part, room_at(left, place.parent));
+    match deep_refusal(deep) {
+        Some(why) => Some(EditError::Shape(why)),
+        None => None,
+    }
 }

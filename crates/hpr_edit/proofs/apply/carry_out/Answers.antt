@@ -12,8 +12,11 @@ insert-requires-clause-few c = few_parts (tree_of c.args.issued.now c.args.body.
 pub delete-requires : goal.delete-requires
 delete-requires c = record { once = once (tree_of c.args.issued.now c.args.body.now c.args.finals.now.items) c.requires }
 
-pub relocate-requires : goal.relocate-requires
-relocate-requires c = record { once = once (tree_of c.args.issued.now c.args.body.now c.args.finals.now.items) c.requires }
+pub relocate-requires-clause-once : goal.relocate-requires-clause-once
+relocate-requires-clause-once c = once (tree_of c.args.issued.now c.args.body.now c.args.finals.now.items) c.requires
+
+pub relocate-requires-clause-few : goal.relocate-requires-clause-few
+relocate-requires-clause-few c = few_parts (tree_of c.args.issued.now c.args.body.now c.args.finals.now.items) c.requires
 
 pub set-requires : goal.set-requires
 set-requires c = record { once = once (tree_of c.args.issued.now c.args.body.now c.args.finals.now.items) c.requires }

@@ -10,8 +10,8 @@ returns-in-Some-new_refusal-clause-allowed c = λ finals is.
     let content = c.args.content.now in
     insert_refused (tree_of c.args.issued.now c.args.body.now finals) is c.args.place content c.args.author t
     (sym c.is_place.ensures ∙ c.if-not-is_place.false) (sym c.in-Some.is ∙ c.next_tag.ensures.tag) c.in-Some-new_refusal.why
-    (ap (λ n. new_refusal (none_left (room_at c.args.place.parent c.args.body.now) t) t content (n + 1)) (sym c.part_count.ensures)
-    ∙ ap (λ d. new_refusal d t content (c.part_count.result + 1)) (sym (c.none_left-deep.ensures ∙ ap (λ n. none_left n t) c.room_at.ensures))
+    (ap (λ n. new_refusal (none_left (room_at c.args.place.parent c.args.body.now) t) t content (n + 1)) (sym c.requires.count)
+    ∙ ap (λ d. new_refusal d t content (c.args.count + 1)) (sym (c.none_left-deep.ensures ∙ ap (λ n. none_left n t) c.room_at.ensures))
     ∙ sym c.new_refusal.ensures
     ∙ c.in-Some-new_refusal.is)
 
@@ -21,7 +21,7 @@ returns-in-None-clause-allowed c = λ finals is.
     let content = c.args.content.now in
     insert_becomes (tree_of c.args.issued.now c.args.body.now finals) is c.args.place content c.args.author t
     (sym c.is_place.ensures ∙ c.if-not-is_place.false) (sym c.in-Some.is ∙ c.next_tag.ensures.tag)
-    (ap (λ n. new_refusal (none_left (room_at c.args.place.parent c.args.body.now) t) t content (n + 1)) (sym c.part_count.ensures)
-    ∙ ap (λ d. new_refusal d t content (c.part_count.result + 1)) (sym (c.none_left-deep.ensures ∙ ap (λ n. none_left n t) c.room_at.ensures))
+    (ap (λ n. new_refusal (none_left (room_at c.args.place.parent c.args.body.now) t) t content (n + 1)) (sym c.requires.count)
+    ∙ ap (λ d. new_refusal d t content (c.args.count + 1)) (sym (c.none_left-deep.ensures ∙ ap (λ n. none_left n t) c.room_at.ensures))
     ∙ sym c.new_refusal.ensures
     ∙ c.in-None.is)
