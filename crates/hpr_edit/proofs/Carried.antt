@@ -23,7 +23,7 @@ use Rattle.hpr_edit.specs.Places.{width, is_place, place_of}
 use Rattle.hpr_edit.specs.Changes.{at_part, at_place, gone, first_block, second_block, saying, wrapped, unwrapped}
 use Rattle.hpr_edit.specs.Edited.{Edited, becomes, refused, refuse, named, settled, edited, new_tag, next_tag, is_spent, same_kind, is_action, stands_in}
 use Rattle.hpr_edit.specs.InPlace.{times, Settles, Refused}
-use Rattle.hpr_edit.specs.Tested.{left_at, below, room_at, none_left, said_refusal, deep_refusal, new_refusal, misplaced, names_alone}
+use Rattle.hpr_edit.specs.Tested.{left_at, below, room_at, none_left, said_refusal, new_refusal, misplaced, names_alone}
 use Rattle.hpr_edit.proofs.Around.{place_in, place_plug, times_plug, times_head, FoundIn, found_in}
 use Rattle.hpr_edit.proofs.Tags.{once}
 use Rattle.hpr_edit.proofs.Undone.{Known, known}
@@ -126,8 +126,8 @@ module _ (p : Tree) (is : IsProgram p) where
         pub move_refused : (why : EditError) → misplaced place s left ≡ Some why → Refused (edited p (Move t place) author) why
         move_refused why n = elim (fails (is_place place left) _ why n) [
           | inl k ↦
-            subst (Refused (edited p (Move t place) author)) (sym k.1)
-                (named_next t s fs _ old ps ∙ passes (IntoItself t) (stands_in place.parent s) _ out ∙ refuses NoPlace (not (is_place place left)) _ (ap not k.0))
+              subst (Refused (edited p (Move t place) author)) (sym k.1)
+              (named_next t s fs _ old ps ∙ passes (IntoItself t) (stands_in place.parent s) _ out ∙ refuses NoPlace (not (is_place place left)) _ (ap not k.0))
           | inr k ↦ subst (Refused (edited p (Move t place) author)) (sym k.3) (next_move k.0 ∙ settled_why _ _ k.1 (move_tested p is t s old place at k.0 ∙ k.2))
         ]
 

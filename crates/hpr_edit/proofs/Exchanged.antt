@@ -10,10 +10,10 @@ use Rattle.hpr_syntax.specs.BodyOf.{before, body_of}
 use Rattle.hpr_syntax.specs.Parts.{same_tag, tag_of, find_stmt}
 use Rattle.hpr_syntax.specs.Rows.{stmt_by}
 use Rattle.hpr_syntax.proofs.NoRefusal.{or_none}
-use Rattle.hpr_edit.specs.Changes.{at_part, first_block, second_block}
+use Rattle.hpr_edit.specs.Changes.{at_part, gone, first_block, second_block}
 use Rattle.hpr_edit.specs.InPlace.{times, one_if, placing, found_within}
 use Rattle.hpr_edit.specs.Places.{width}
-use Rattle.hpr_edit.proofs.Around.{plug, absent, absent_found, no_one, times_before, times_plug, times_head, find_before, find_head, at_plug, FoundIn, found_in}
+use Rattle.hpr_edit.proofs.Around.{plug, absent, absent_found, times_before, times_plug, times_head, find_before, find_head, at_plug, FoundIn, found_in}
 use Rattle.hpr_edit.proofs.Tested.{or_nothing, parts_before, parts_plug}
 use Rattle.hpr_edit.proofs.Lists.{Visit}
 
@@ -119,9 +119,9 @@ module _ (t : Tag) (b : Body) (d : Stmt) (le : times t b ≤ 1) where
     parts_found : part_count (before s done) ≤ part_count b
     parts_found = omega (arith, ap part_count at.is, parts_plug at.around (before s at.rest), parts_before s at.rest)
 
-    pub parts_left : (f : Stmt → Body → Body) → ((r : Body) → f s r ≡ r) → part_count (at_part t f b) ≤ part_count b
-    parts_left f e =
-        omega (arith, ap part_count (changed f), ap part_count (e at.rest), ap part_count at.is, parts_plug at.around (before s at.rest), parts_plug at.around (f s at.rest), parts_before s at.rest)
+    parts_left : part_count (at_part t gone b) ≤ part_count b
+    parts_left =
+        omega (arith, ap part_count (changed gone), ap part_count at.is, parts_plug at.around (before s at.rest), parts_plug at.around at.rest, parts_before s at.rest)
 
   pub exchanged_again : (o : Option Stmt) → find_stmt t b ≡ o → (f g : Stmt → Body → Body) → same_tag (tag_of d) t ≡ true → ((r : Body) → g d r ≡ f (unwrap_or o d) r)
       → at_part t g (at_part t (placing (Some d)) b) ≡ at_part t f b
@@ -139,3 +139,11 @@ module _ (t : Tag) (b : Body) (d : Stmt) (le : times t b ≤ 1) where
       → width (first_block (unwrap_or o d)) + width (second_block (unwrap_or o d)) < n
   room_within (Some s) n fs z h = omega (arith, h, parts_found s fs, widths_parts s)
   room_within None n fs z h = omega (arith, h, z)
+
+-- a part that is taken out
+fewer_by : (t : Tag) (b : Body) (o : Option Stmt) → times t b ≤ 1 → find_stmt t b ≡ o → part_count (at_part t gone b) ≤ part_count b
+fewer_by t b (Some s) le fs = parts_left t b s le s fs
+fewer_by t b None le fs = let e = absent t gone b (none_stands t b fs) in omega (arith, ap part_count e)
+
+pub fewer : (t : Tag) (b : Body) → times t b ≤ 1 → part_count (at_part t gone b) ≤ part_count b
+fewer t b le = fewer_by t b (find_stmt t b) le refl

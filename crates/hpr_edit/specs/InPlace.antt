@@ -1,15 +1,14 @@
 -- Steps of the code, which changes a body in its place.
 --
 -- times t body           == how many parts have this tag
--- put_by what            == what is put in place of the rest of a block
+-- enclosing round        == what is put in place of the rest of a block where a part is put round its first parts
 -- done_by change         == what the change puts in place of a part and of the rest of its block
 -- on_first f block       == `f part rest` stands in place of a block's first part and of the rest
 -- placing hand           == in place of a part and of the rest of its block: the part in the hand, if there is one, and the rest
 -- found_within t part    == the part with this tag in the blocks of a part
 -- in_part t f part       == the part with the change f made at the part with this tag in it
 -- with_content c part    == the part, saying this
--- puts_whole what        == where memory runs out, the block in which this is put stays as it was
--- is_whole change        == the same of a change
+-- is_whole change        == where memory runs out, the block that is changed stays as it was
 -- tree_of i body names   == the tree of these three
 -- Settles tree result    == the result is this tree where it is a program, and else its refusal; memory aside
 -- Located t body found   == what is found is the part with this tag and its place; nothing, where no part has the tag
@@ -21,7 +20,7 @@
 -- IsProperCommand c      == the names in a command are variables, and its numbers in range
 use Rattle.std.specs.Prelude.{◌≡◌, ℕ, ◌+◌, Bool, true, false, Option, Some, None, Result, List, All}
 use Rattle.std.specs.Option.{option_or}
-use Rattle.std.proofs.Common.{Ok, Err, Bor}
+use Rattle.std.proofs.Common.{Ok, Err}
 use Rattle.hpr_terms.specs.Names.{IsVariable}
 use Rattle.hpr_terms.specs.declared.tag.Tag.{Tag}
 use Rattle.hpr_syntax.specs.declared.tree.Stmt.{Stmt}
@@ -34,10 +33,8 @@ use Rattle.hpr_syntax.specs.Proper.{IsProperContent}
 use Rattle.hpr_syntax.specs.Tree.{Tree}
 use Rattle.hpr_syntax.specs.Shape.{IsProgram, shape}
 use Rattle.hpr_edit.specs.declared.change.Change.{Change}
-use Rattle.hpr_edit.specs.declared.change.Change.TheVariants.{Take, Say, Unwrap}
-use Rattle.hpr_edit.specs.declared.change.Change.TheVariants as change
-use Rattle.hpr_edit.specs.declared.change.Put.{Put}
-use Rattle.hpr_edit.specs.declared.change.Put.TheVariants.{Part, Round}
+use Rattle.hpr_edit.specs.declared.change.Change.TheVariants.{Say, Unwrap, Enclose}
+use Rattle.hpr_edit.specs.declared.change.Round.{Round}
 use Rattle.hpr_edit.specs.declared.command.Place.{Place}
 use Rattle.hpr_edit.specs.declared.command.Command.{Command}
 use Rattle.hpr_edit.specs.declared.command.Command.TheVariants.{Insert, Finals}
@@ -48,7 +45,7 @@ use Rattle.hpr_edit.specs.declared.command.EditError.TheVariants.{NoTag, Shape, 
 use Rattle.hpr_edit.specs.declared.places.Found.{Found}
 use Rattle.hpr_edit.specs.Places.{place_of}
 use Rattle.hpr_syntax.specs.Rows.{Parent, stmt_by, made}
-use Rattle.hpr_edit.specs.Changes.{at_part, from, with_block, first_block, second_block, gone, saying, unwrapped, rewrapped}
+use Rattle.hpr_edit.specs.Changes.{at_part, from, with_block, first_block, second_block, saying, unwrapped, rewrapped}
 use Rattle.hpr_edit.specs.Edited.{Edited, becomes, refused, named, stands_in}
 
 abbrev pub one_if : Bool → ℕ
@@ -61,15 +58,13 @@ times t (action u d rest) = one_if (same_tag u t) + times t rest
 times t (branch u e a b rest) = one_if (same_tag u t) + times t a + times t b + times t rest
 times t (loop u e b rest) = one_if (same_tag u t) + times t b + times t rest
 
-abbrev pub put_by : Put → Body → Body
-put_by (Part x) rest = before x.now rest
-put_by (Round t c k m) rest = rewrapped t c.now k m rest
+abbrev pub enclosing : Round → Body → Body
+enclosing r rest = rewrapped r.tag r.content.now r.first r.second rest
 
 abbrev pub done_by : Change → Stmt → Body → Body
-done_by Take part rest = gone part rest
 done_by (Say c) part rest = saying c.now part rest
 done_by Unwrap part rest = unwrapped part rest
-done_by (change.Put w n x) part rest = before (with_block w (from n (put_by x)) part) rest
+done_by (Enclose w n r) part rest = before (with_block w (from n (enclosing r)) part) rest
 
 abbrev pub on_first : (Stmt → Body → Body) → Body → Body
 on_first f done = done
@@ -94,12 +89,8 @@ in_part t f part = part
 abbrev pub with_content : Content → Stmt → Stmt
 with_content c part = made (tag_of part) c (first_block part) (second_block part)
 
-abbrev pub puts_whole : Put → Bool
-puts_whole (Round t c k m) = false
-puts_whole _ = true
-
 abbrev pub is_whole : Change → Bool
-is_whole (change.Put w n x) = puts_whole x
+is_whole (Enclose w n r) = false
 is_whole _ = true
 
 abbrev pub tree_of : List (ℕ × ℕ) → Body → List (List ℕ) → Tree

@@ -25,9 +25,7 @@ use crate::command::{Command, EditError, FinalNames, Inverse, Place};
 use crate::exchange::take_out;
 use crate::places::{is_place, located, stands_in, width};
 use crate::put::{empty, put_part, put_round, room_for};
-use crate::refusal::{
-    first_deep, misplaced, new_refusal, none_left, room_at, said_refusal,
-};
+use crate::refusal::{first_deep, misplaced, new_refusal, none_left, room_at, said_refusal};
 use hpr_syntax::proper::{read_content, read_names};
 use hpr_syntax::{
     Block, Content, Issued, NoMemory, Program, ShapeError, Stmt, content_of, structure_of,

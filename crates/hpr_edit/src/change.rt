@@ -3,14 +3,13 @@
 //! One walk goes down to the part with a tag, along a path of references, and does there what is
 //! asked. It looks at each part of the block at most once. It ends on blocks of any depth, but the
 //! stack that it takes is outside what is proved.
-ghost use Rattle.std.specs.Prelude.{◌≡◌, ◌<◌, ◌≤◌, ◌+◌, true, vec_len, IfOk, OnOk, OnErr};
+ghost use Rattle.std.specs.Prelude.{◌≡◌, ◌<◌, ◌≤◌, ◌+◌, ◌++◌, true, vec_len, vec_capacity, IfOk, OnOk, OnErr};
 ghost use Rattle.hpr_syntax.specs.Body.{done};
 ghost use Rattle.hpr_syntax.specs.BodyOf.{before, body_of};
 ghost use Rattle.hpr_syntax.specs.Parts.{tag_of, same_tag};
 ghost use Rattle.hpr_syntax.specs.Rows.{made};
-ghost use Rattle.hpr_edit.specs.Changes.{at_part, at_place, from, with_block, first_block, second_block, gone, saying, unwrapped, firsts, later, rewrapped};
-ghost use Rattle.hpr_edit.specs.InPlace.{times, one_if, put_by, done_by, on_first, in_part, with_content};
-ghost use Rattle.hpr_edit.specs.InPlace.{puts_whole, is_whole};
+ghost use Rattle.hpr_edit.specs.Changes.{at_part, at_place, from, with_block, first_block, second_block, saying, unwrapped, firsts, later};
+ghost use Rattle.hpr_edit.specs.InPlace.{times, one_if, enclosing, done_by, is_whole, on_first, in_part, with_content};
 ghost use Rattle.hpr_edit.specs.Places.{width};
 
 use crate::command::Place;
@@ -20,28 +19,26 @@ use hpr_terms::Tag;
 use std::alloc::Global;
 use std::mem;
 
-/// What is put at a place of a block.
+/// A part with this tag and content, put round others: so many parts from a place on go into its first block, and so
+/// many of those behind them into its second.
 #[derive(Clone, Copy)]
-pub(crate) enum Put<'a> {
-    /// A copy of this part.
-    Part(&'a Stmt),
-    /// A part with this tag and content. So many parts from the place on go into its first block, and
-    /// so many of those behind them into its second.
-    Round(Tag, &'a Content, usize, usize),
+pub(crate) struct Round<'a> {
+    pub tag: Tag,
+    pub content: &'a Content,
+    pub first: usize,
+    pub second: usize,
 }
 
 /// What is done to a part.
 #[derive(Clone, Copy)]
 pub(crate) enum Change<'a> {
-    /// It goes, with all that stands in it.
-    Take,
     /// It says this.
     Say(&'a Content),
     /// What stands in it takes its place.
     Unwrap,
-    /// This is put into one of its blocks, at this place. The bool is true for a loop's body and for
-    /// a conditional's first block.
-    Put(bool, usize, Put<'a>),
+    /// This is put round parts of one of its blocks, from this place on. The bool is true for a loop's
+    /// body and for a conditional's first block.
+    Enclose(bool, usize, Round<'a>),
 }
 
 /// Changes the part with this tag, and tells whether there is one.
@@ -118,22 +115,12 @@ fn act(alloc: Global, stmts: &mut Vec<Stmt>, at: usize, change: Change<'_>) -> R
     ensures unchanged { is_whole change.entry ≡ true → OnErr result (stmts.new.items ≡ stmts.old.items) }
 {
     match change {
-        Change::Take => {
-            take_at(stmts, at);
-            Ok(())
-        }
         Change::Say(content) => say_at(alloc, stmts, at, content),
         Change::Unwrap => unwrap_at(alloc, stmts, at),
-        Change::Put(branch, place, what) => put_at(alloc, stmts, at, branch, place, what),
+        Change::Enclose(branch, place, round) => {
+            enclose_within(alloc, stmts, at, branch, place, round)
+        }
     }
-}
-
-/// Takes the part at this place away.
-fn take_at(stmts: &mut Vec<Stmt>, at: usize)
-    requires { at < vec_len stmts.old }
-    ensures { body_of stmts.new.items ≡ from at (on_first gone) (body_of stmts.old.items) }
-{
-    stmts.remove(at);
 }
 
 /// Lets the part at this place say this.
@@ -161,13 +148,31 @@ fn unwrap_at(alloc: Global, stmts: &mut Vec<Stmt>, at: usize) -> Result<(), NoMe
     let mut rest = stmts.split_off(at)?;
     let mut part = rest.remove(0);
     let (first, second) = take_blocks(alloc, &mut part);
-    let mut first = first.into_stmts();
-    let mut second = second.into_stmts();
     // No more memory is asked for from here on.
-    stmts.append(&mut first)?;
-    stmts.append(&mut second)?;
-    stmts.append(&mut rest)?;
+    append_all(stmts, first.into_stmts(), second.into_stmts(), rest);
     Ok(())
+}
+
+/// Puts these parts behind others. There is room for them.
+fn append_all(stmts: &mut Vec<Stmt>, first: Vec<Stmt>, second: Vec<Stmt>, third: Vec<Stmt>)
+    requires { vec_len stmts.old + vec_len first + vec_len second + vec_len third ≤ vec_capacity stmts.old }
+    ensures { stmts.new.items ≡ ((stmts.old.items ++ first.items) ++ second.items) ++ third.items }
+{
+    append(stmts, first);
+    append(stmts, second);
+    append(stmts, third);
+}
+
+/// Puts these parts behind others. There is room for them.
+fn append(stmts: &mut Vec<Stmt>, mut more: Vec<Stmt>)
+    requires { vec_len stmts.old + vec_len more ≤ vec_capacity stmts.old }
+    ensures items { stmts.new.items ≡ stmts.old.items ++ more.items }
+    ensures len { vec_len stmts.new ≡ vec_len stmts.old + vec_len more }
+    ensures capacity { vec_capacity stmts.old ≤ vec_capacity stmts.new }
+{
+    if stmts.append(&mut more).is_err() {
+        unreachable!();
+    }
 }
 
 /// How many parts the blocks of a part have, without those that stand in them.
@@ -201,46 +206,44 @@ fn take_block(alloc: Global, block: &mut Block) -> Block
     mem::replace(block, empty(alloc))
 }
 
-/// Puts something into a block of the part at this place.
-fn put_at(
+/// Puts a new part round parts of a block of the part at this place.
+fn enclose_within(
     alloc: Global,
     stmts: &mut Vec<Stmt>,
     at: usize,
     branch: bool,
     place: usize,
-    what: Put<'_>,
+    round: Round<'_>,
 ) -> Result<(), NoMemory>
     requires { at < vec_len stmts.old }
-    ensures changed { OnOk result (body_of stmts.new.items ≡ from at
-        (on_first (λ part rest. before (with_block branch (from place (put_by what.entry)) part) rest))
+    ensures { OnOk result (body_of stmts.new.items ≡ from at
+        (on_first (λ part rest. before (with_block branch (from place (enclosing round.entry)) part) rest))
         (body_of stmts.old.items)) }
-    ensures unchanged { puts_whole what.entry ≡ true → OnErr result (stmts.new.items ≡ stmts.old.items) }
 {
-    put_in(alloc, &mut stmts[at], branch, place, what)
+    enclose_in(alloc, &mut stmts[at], branch, place, round)
 }
 
-/// Puts something into a part's block.
-fn put_in(
+/// Puts a new part round parts of a block of this part.
+fn enclose_in(
     alloc: Global,
     stmt: &mut Stmt,
     branch: bool,
     place: usize,
-    what: Put<'_>,
+    round: Round<'_>,
 ) -> Result<(), NoMemory>
-    ensures changed { OnOk result (stmt.new ≡ with_block branch (from place (put_by what.entry)) stmt.old) }
-    ensures unchanged { puts_whole what.entry ≡ true → OnErr result (stmt.new ≡ stmt.old) }
+    ensures { OnOk result (stmt.new ≡ with_block branch (from place (enclosing round.entry)) stmt.old) }
 {
     match stmt {
         Stmt::If(_, _, yes, no) => {
             if branch {
-                put_into(alloc, yes, place, what)
+                enclose(alloc, yes, place, round)
             } else {
-                put_into(alloc, no, place, what)
+                enclose(alloc, no, place, round)
             }
         }
         Stmt::While(_, _, body) => {
             if branch {
-                put_into(alloc, body, place, what)
+                enclose(alloc, body, place, round)
             } else {
                 Ok(())
             }
@@ -249,46 +252,13 @@ fn put_in(
     }
 }
 
-/// Puts something into a block, if there is such a place.
-fn put_into(alloc: Global, block: &mut Block, place: usize, what: Put<'_>) -> Result<(), NoMemory>
-    ensures changed { OnOk result (block.new ≡ from place (put_by what.entry) block.old) }
-    ensures unchanged { puts_whole what.entry ≡ true → OnErr result (block.new ≡ block.old) }
-{
-    match what {
-        Put::Part(part) => put_part(alloc, block, place, part),
-        Put::Round(tag, content, first, second) => enclose(
-            alloc, block, place, tag, content, first, second,
-        ),
-    }
-}
-
-/// Puts a copy of a part into a block, if there is such a place.
-#[tactic(auto, using(crate::proofs::Lists::inserted, crate::proofs::Lists::from_past))]
-fn put_part(alloc: Global, block: &mut Block, place: usize, part: &Stmt) -> Result<(), NoMemory>
-    ensures changed { OnOk result (block.new ≡ from place (before part.now) block.old) }
-    ensures unchanged { OnErr result (block.new ≡ block.old) }
-{
-    if place <= block.stmts.len() {
-        block.stmts.insert(place, part.copy(alloc)?)?;
-    }
-    Ok(())
-}
-
 /// Puts a new part round parts of a block from this place on, if there is such a place.
 #[tactic(auto, using(crate::proofs::Lists::from_past))]
-fn enclose(
-    alloc: Global,
-    block: &mut Block,
-    place: usize,
-    tag: Tag,
-    content: &Content,
-    first: usize,
-    second: usize,
-) -> Result<(), NoMemory>
-    ensures { OnOk result (block.new ≡ from place (rewrapped tag content.now first second) block.old) }
+fn enclose(alloc: Global, block: &mut Block, place: usize, round: Round<'_>) -> Result<(), NoMemory>
+    ensures { OnOk result (block.new ≡ from place (enclosing round.entry) block.old) }
 {
     if place <= block.stmts.len() {
-        enclose_at(alloc, &mut block.stmts, place, tag, content, first, second)?;
+        enclose_at(alloc, &mut block.stmts, place, round)?;
     }
     Ok(())
 }
@@ -298,39 +268,30 @@ fn enclose_at(
     alloc: Global,
     stmts: &mut Vec<Stmt>,
     at: usize,
-    tag: Tag,
-    content: &Content,
-    first: usize,
-    second: usize,
+    round: Round<'_>,
 ) -> Result<(), NoMemory>
     requires { at ≤ vec_len stmts.old }
-    ensures { OnOk result (body_of stmts.new.items ≡ from at (rewrapped tag content.now first second)
-        (body_of stmts.old.items)) }
+    ensures { OnOk result (body_of stmts.new.items ≡ from at (enclosing round.entry) (body_of stmts.old.items)) }
 {
     let mut rest = stmts.split_off(at)?;
-    let part = take_enclosed(alloc, &mut rest, tag, content, first, second)?;
+    let part = take_enclosed(alloc, &mut rest, round)?;
     stmts.push(part)?;
     stmts.append(&mut rest)?;
     Ok(())
 }
 
 /// Takes so many of the parts, and so many behind them, as the blocks of a part that says this.
-fn take_enclosed(
-    alloc: Global,
-    stmts: &mut Vec<Stmt>,
-    tag: Tag,
-    content: &Content,
-    first: usize,
-    second: usize,
-) -> Result<Stmt, NoMemory>
-    ensures part { IfOk result (λ part. part ≡ made tag content.now (firsts first (body_of stmts.old.items))
-        (firsts second (later first (body_of stmts.old.items)))) }
-    ensures rest { OnOk result (body_of stmts.new.items ≡ later second (later first (body_of stmts.old.items))) }
+fn take_enclosed(alloc: Global, stmts: &mut Vec<Stmt>, round: Round<'_>) -> Result<Stmt, NoMemory>
+    ensures part { IfOk result (λ part. part ≡ made round.entry.tag round.entry.content.now
+        (firsts round.entry.first (body_of stmts.old.items))
+        (firsts round.entry.second (later round.entry.first (body_of stmts.old.items)))) }
+    ensures rest { OnOk result (body_of stmts.new.items
+        ≡ later round.entry.second (later round.entry.first (body_of stmts.old.items))) }
 {
-    let content = content.copy(alloc)?;
-    let yes = take_front(stmts, first)?;
-    let no = take_front(stmts, second)?;
-    Ok(content.into_stmt(tag, yes, no))
+    let content = round.content.copy(alloc)?;
+    let yes = take_front(stmts, round.first)?;
+    let no = take_front(stmts, round.second)?;
+    Ok(content.into_stmt(round.tag, yes, no))
 }
 
 /// Takes so many of the parts, or all if there are no more, and leaves those behind them.
@@ -355,19 +316,23 @@ fn say(alloc: Global, part: &mut Stmt, content: &Content) -> Result<(), NoMemory
     Ok(())
 }
 
-/// Puts something at a place of a body, if there is such a place.
-pub(crate) fn put_at_place(
+/// Puts a new part round parts from a place of a body on, if there is such a place.
+pub(crate) fn enclose_at_place(
     alloc: Global,
     body: &mut Block,
     place: Place,
-    what: Put<'_>,
+    round: Round<'_>,
 ) -> Result<(), NoMemory>
     requires once { (t : Tag) → times t body.old ≤ 1 }
-    ensures changed { OnOk result (body.new ≡ at_place place (put_by what.entry) body.old) }
-    ensures unchanged { puts_whole what.entry ≡ true → OnErr result (body.new ≡ body.old) }
+    ensures { OnOk result (body.new ≡ at_place place (enclosing round.entry) body.old) }
 {
     match place.parent {
-        None => put_into(alloc, body, place.at, what),
-        Some((tag, branch)) => change_body(alloc, body, tag, Change::Put(branch, place.at, what)),
+        None => enclose(alloc, body, place.at, round),
+        Some((tag, branch)) => change_body(
+            alloc,
+            body,
+            tag,
+            Change::Enclose(branch, place.at, round),
+        ),
     }
 }

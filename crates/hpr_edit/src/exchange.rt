@@ -3,7 +3,8 @@
 //! One walk goes down to the part with a tag, and looks at each part of the body at most once.
 ghost use Rattle.std.specs.Prelude.{◌≡◌, ◌≤◌, ◌<◌, ◌+◌, Some, vec_len, slice_index_or};
 ghost use Rattle.std.specs.Option.{option_or, unwrap_or};
-ghost use Rattle.hpr_syntax.specs.Body.{done};
+ghost use Rattle.hpr_terms.specs.declared.tag.Tag.{Tag};
+ghost use Rattle.hpr_syntax.specs.Body.{done, part_count};
 ghost use Rattle.hpr_syntax.specs.BodyOf.{before, body_of};
 ghost use Rattle.hpr_syntax.specs.Parts.{tag_of, same_tag, find_stmt};
 ghost use Rattle.hpr_edit.specs.Changes.{at_part, from, gone};
@@ -72,8 +73,10 @@ fn exchange_at(stmts: &mut Vec<Stmt>, at: usize, hand: &mut Option<Stmt>)
 
 /// Takes the part with this tag out, if there is one.
 pub(crate) fn take_out(body: &mut Block, tag: Tag) -> Option<Stmt>
-    requires once { times tag body.old ≤ 1 }
+    requires once { (t : Tag) → times t body.old ≤ 1 }
     ensures left { body.new ≡ at_part tag gone body.old }
+    ensures once { (t : Tag) → times t body.new ≤ 1 }
+    ensures fewer { part_count body.new ≤ part_count body.old }
     ensures part { result ≡ find_stmt tag body.old }
 {
     let mut hand = None;

@@ -82,7 +82,12 @@ pub(crate) fn located(body: &Block, tag: Tag) -> Option<Found<'_>>
 
 /// The part with this tag in a block under this parent, of which the parts have so many levels.
 #[cycle(find)]
-fn find_from(block: &Block, tag: Tag, parent: Option<(Tag, bool)>, levels: usize) -> Option<Found<'_>>
+fn find_from(
+    block: &Block,
+    tag: Tag,
+    parent: Option<(Tag, bool)>,
+    levels: usize,
+) -> Option<Found<'_>>
     ensures part { option_map (λ f. f.part.now) result ≡ find_stmt tag block.now }
     ensures place { option_map (λ f. f.place) result ≡ place_from tag parent 0 block.now }
     ensures levels { option_map (λ f. f.levels) result ≡ left_at tag levels block.now }
@@ -110,7 +115,11 @@ fn find_in(
     let own = stmt.tag();
     if own == tag {
         let place = Place { parent, at };
-        return Some(Found { part: stmt, place, levels });
+        return Some(Found {
+            part: stmt,
+            place,
+            levels,
+        });
     }
     let below = levels.saturating_sub(1);
     match stmt {

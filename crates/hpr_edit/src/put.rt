@@ -27,13 +27,7 @@ pub(crate) fn room_for(alloc: Global, count: usize) -> Result<Vec<Stmt>, NoMemor
 
 /// Puts a part at a place of a body, if there is such a place.
 #[tactic(auto, using(crate::proofs::Exchanged::width_parts))]
-pub(crate) fn put_part(
-    alloc: Global,
-    body: &mut Block,
-    place: Place,
-    part: Stmt,
-    room: Vec<Stmt>,
-)
+pub(crate) fn put_part(alloc: Global, body: &mut Block, place: Place, part: Stmt, room: Vec<Stmt>)
     requires once { (t : Tag) → times t body.old ≤ 1 }
     requires empty { room.items ≡ [] }
     requires room { part_count body.old < vec_capacity room }

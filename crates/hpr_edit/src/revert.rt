@@ -1,14 +1,18 @@
 //! Inverses, each carried out on a copy of the program that is edited.
 ghost use Rattle.std.specs.Prelude.{◌≡◌, ◌≤◌, IfOk, OnOk};
+ghost use Rattle.hpr_terms.specs.declared.limits.TheConstants.{MAX_PARTS};
+ghost use Rattle.hpr_syntax.specs.Body.{part_count};
 ghost use Rattle.hpr_syntax.specs.BodyOf.{before};
 ghost use Rattle.hpr_syntax.specs.Parts.{find_stmt};
 ghost use Rattle.hpr_syntax.specs.Tree.{Tree};
-ghost use Rattle.hpr_edit.specs.Changes.{at_part, at_place, gone};
+ghost use Rattle.hpr_edit.specs.Changes.{at_place};
 ghost use Rattle.hpr_edit.specs.Reverted.{reverted, body_back, finals_back, moved, Undoes, IsPutBackIssued};
 ghost use Rattle.hpr_edit.specs.InPlace.{times};
 
-use crate::change::{Change, Put, change_body, put_at_place};
+use crate::change::{Change, Round, change_body, enclose_at_place};
 use crate::command::{Inverse, Place};
+use crate::exchange::take_out;
+use crate::put::{put_part, room_for};
 use hpr_syntax::{Block, NoMemory, Program, Stmt};
 use hpr_terms::{Name, Tag, copy_names};
 use std::alloc::Global;
@@ -44,68 +48,62 @@ fn finals_back(alloc: Global, finals: &[Name], inverse: &Inverse) -> Result<Vec<
 fn body_back(alloc: Global, program: &Program, inverse: &Inverse) -> Result<Block, NoMemory>
     ensures { IfOk result (λ body. body ≡ body_back inverse.now program.now.body) }
 {
-    let old = program.body();
-    let mut body = old.copy(alloc)?;
-    change_back(alloc, old, &mut body, inverse)?;
+    let mut body = program.body().copy(alloc)?;
+    change_back(alloc, &mut body, inverse)?;
     Ok(body)
 }
 
-/// Makes the body, which is a copy of the old one, that of before a command.
-fn change_back(
-    alloc: Global,
-    old: &Block,
-    body: &mut Block,
-    inverse: &Inverse,
-) -> Result<(), NoMemory>
+/// Makes the body that of before a command.
+fn change_back(alloc: Global, body: &mut Block, inverse: &Inverse) -> Result<(), NoMemory>
     requires once { (t : Tag) → times t body.old ≤ 1 }
-    requires copy { body.old ≡ old.now }
+    requires few { part_count body.old ≤ MAX_PARTS }
     ensures { OnOk result (body.new ≡ body_back inverse.now body.old) }
 {
     match inverse {
-        Inverse::Remove(tag) => change_body(alloc, body, *tag, Change::Take),
-        Inverse::PutBack(place, part) => put_at_place(alloc, body, *place, Put::Part(part)),
-        Inverse::MoveBack(tag, place) => move_back(alloc, old, body, *tag, *place),
+        Inverse::Remove(tag) => {
+            drop(take_out(body, *tag));
+            Ok(())
+        }
+        Inverse::PutBack(place, part) => put_copy(alloc, body, *place, part),
+        Inverse::MoveBack(tag, place) => move_back(alloc, body, *tag, *place),
         Inverse::SetBack(tag, content) => change_body(alloc, body, *tag, Change::Say(content)),
         Inverse::Lift(tag) => change_body(alloc, body, *tag, Change::Unwrap),
-        Inverse::Rewrap(place, tag, content, first, second) => put_at_place(
+        Inverse::Rewrap(place, tag, content, first, second) => enclose_at_place(
             alloc,
             body,
             *place,
-            Put::Round(*tag, content, *first, *second),
+            Round {
+                tag: *tag,
+                content,
+                first: *first,
+                second: *second,
+            },
         ),
         Inverse::FinalsBack(_) => Ok(()),
     }
 }
 
-/// Takes a part of the old body out of its copy and puts it at a place.
-fn move_back(
-    alloc: Global,
-    old: &Block,
-    body: &mut Block,
-    tag: Tag,
-    place: Place,
-) -> Result<(), NoMemory>
+/// Puts a copy of a part at a place.
+fn put_copy(alloc: Global, body: &mut Block, place: Place, part: &Stmt) -> Result<(), NoMemory>
     requires once { (t : Tag) → times t body.old ≤ 1 }
-    requires copy { body.old ≡ old.now }
-    ensures { OnOk result (body.new ≡ moved (find_stmt tag body.old) tag place body.old) }
+    requires few { part_count body.old ≤ MAX_PARTS }
+    ensures { OnOk result (body.new ≡ at_place place (before part.now) body.old) }
 {
-    match old.find(tag) {
-        None => Ok(()),
-        Some(part) => put_elsewhere(alloc, body, tag, place, part),
-    }
+    let part = part.copy(alloc)?;
+    let room = room_for(alloc, body.part_count())?;
+    put_part(alloc, body, place, part, room);
+    Ok(())
 }
 
-/// Takes a part out and puts a copy of this one at a place.
-fn put_elsewhere(
-    alloc: Global,
-    body: &mut Block,
-    tag: Tag,
-    place: Place,
-    part: &Stmt,
-) -> Result<(), NoMemory>
+/// Takes a part out, if there is one, and puts it at a place.
+fn move_back(alloc: Global, body: &mut Block, tag: Tag, place: Place) -> Result<(), NoMemory>
     requires once { (t : Tag) → times t body.old ≤ 1 }
-    ensures { OnOk result (body.new ≡ at_place place (before part.now) (at_part tag gone body.old)) }
+    requires few { part_count body.old ≤ MAX_PARTS }
+    ensures { OnOk result (body.new ≡ moved (find_stmt tag body.old) tag place body.old) }
 {
-    change_body(alloc, body, tag, Change::Take)?;
-    put_at_place(alloc, body, place, Put::Part(part))
+    let room = room_for(alloc, body.part_count())?;
+    if let Some(part) = take_out(body, tag) {
+        put_part(alloc, body, place, part, room);
+    }
+    Ok(())
 }

@@ -1,41 +1,20 @@
-use Rattle.std.proofs.Common.{◌≡◌, ◌≤◌, Some, None, ap, sym, refl, ◌∙◌, subst, arith}
+use Rattle.std.proofs.Common.{◌≡◌, None, ap, sym, ◌∙◌}
 use Rattle.std.proofs.lemmas.Option.{same_Some}
 use Rattle.std.proofs.lemmas.Result.{err_from_is_err_and}
-use Rattle.hpr_syntax.specs.Body.{part_count}
 use Rattle.hpr_syntax.specs.BodyOf.{before}
 use Rattle.hpr_edit.specs.declared.command.Inverse.TheVariants.{MoveBack}
 use Rattle.hpr_edit.specs.Changes.{at_part, at_place, gone}
 use Rattle.hpr_edit.specs.Edited.{becomes}
-use Rattle.hpr_edit.specs.InPlace.{times, tree_of, Leaves}
+use Rattle.hpr_edit.specs.InPlace.{tree_of, Leaves}
 use Rattle.hpr_edit.specs.Tested.{misplaced}
-use Rattle.hpr_edit.proofs.Ends.{once_gone}
 use Rattle.hpr_edit.proofs.Undone.{known, delete_back}
 use Rattle.hpr_edit.proofs.Carried.{move_becomes, move_refused}
-use Rattle.hpr_edit.proofs.Exchanged.{parts_left}
 use Rattle.hpr_edit.proofs.apply.relocate.Goals as goal
 
 pub returns-in_err-old-clause-made : goal.returns-in_err-old-clause-made
 returns-in_err-old-clause-made c = λ issued finals author is.
     let p = err_from_is_err_and c.from_residual.result c.from_residual.ensures.1 in
     rw (p.1, p.2) (c.in_err-old.ensures.refused issued finals author is)
-
-pub put_part-requires-clause-once : goal.put_part-requires-clause-once
-put_part-requires-clause-once c = λ u. subst (λ b. times u b ≤ 1) (sym c.take_out.ensures.left) (once_gone c.args.body.now c.requires.once c.args.tag u)
-
-pub put_part-requires-clause-room : goal.put_part-requires-clause-room
-put_part-requires-clause-room c =
-    let b = c.args.body.now in
-    let l : Leaves c.args.tag c.args.place.parent c.in_ok-old.old b = c.in_ok-old.ensures.leaves in
-    omega (arith, c.in_ok-room.ensures.room, c.part_count.ensures, ap part_count c.take_out.ensures.left, parts_left c.args.tag b l.part (c.requires.once c.args.tag) l.part l.found gone (λ r. refl))
-
-pub put_part-requires-in-Some-clause-once : goal.put_part-requires-in-Some-clause-once
-put_part-requires-in-Some-clause-once c = λ u. subst (λ b. times u b ≤ 1) (sym c.take_out.ensures.left) (once_gone c.args.body.now c.requires.once c.args.tag u)
-
-pub put_part-requires-in-Some-clause-room : goal.put_part-requires-in-Some-clause-room
-put_part-requires-in-Some-clause-room c =
-    let b = c.args.body.now in
-    let l : Leaves c.args.tag c.args.place.parent c.in_ok-old.old b = c.in_ok-old.ensures.leaves in
-    omega (arith, c.in_ok-room.ensures.room, c.part_count.ensures, ap part_count c.take_out.ensures.left, parts_left c.args.tag b l.part (c.requires.once c.args.tag) l.part l.found gone (λ r. refl))
 
 pub returns-in-None-clause-made : goal.returns-in-None-clause-made
 returns-in-None-clause-made c = λ issued finals author is.
