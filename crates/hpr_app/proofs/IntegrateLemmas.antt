@@ -10,8 +10,8 @@ use Rattle.hpr_engine.specs.declared.stop.Which.{Which}
 use Rattle.hpr_engine.specs.declared.stop.Which.TheVariants as which
 use Rattle.hpr_inputs.specs.Answer.{Merges}
 use Rattle.hpr_inputs.specs.Decision.{Decision, refuses}
-use Rattle.hpr_decisions.specs.Graphs.{too_many_edges}
-use Rattle.hpr_decisions.specs.Integrate.{report, OnGraphs}
+use Rattle.hpr_decisions.specs.Graphs.{OnGraphs, too_many_edges}
+use Rattle.hpr_decisions.specs.Integrate.{report}
 use Rattle.hpr_app.specs.Private.Stopped.{file_of, IsStopped}
 use Rattle.hpr_inputs.specs.declared.answer.Report.{Report}
 use Rattle.hpr_inputs.specs.declared.answer.Stop.{Stop}

@@ -17,8 +17,8 @@ use Rattle.hpr_inputs.specs.declared.answer.Kind.TheVariants as kind
 use Rattle.hpr_inputs.specs.declared.answer.Report.{Report}
 use Rattle.hpr_inputs.specs.declared.answer.Stop.{Stop}
 use Rattle.hpr_inputs.proofs.ReadLemmas.{merges_map}
-use Rattle.hpr_decisions.specs.Graphs.{too_many_edges}
-use Rattle.hpr_decisions.specs.IntegrateMany.{IntegratedMany, IsAnswerOfMany, IsReportedOfMany, OnAllGraphs, conflict_of}
+use Rattle.hpr_decisions.specs.Graphs.{OnAllGraphs, too_many_edges}
+use Rattle.hpr_decisions.specs.IntegrateMany.{IntegratedMany, IsAnswerOfMany, IsReportedOfMany, conflict_of}
 use Rattle.hpr_decisions.proofs.Unrefused.{within_all}
 use Rattle.hpr_app.specs.Private.ManyStopped.{IsManyStopped}
 

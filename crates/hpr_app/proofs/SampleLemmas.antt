@@ -12,7 +12,8 @@ use Rattle.hpr_inputs.specs.declared.answer.Report.{Report}
 use Rattle.hpr_inputs.specs.declared.answer.Stop.{Stop}
 use Rattle.hpr_inputs.specs.declared.answer.Stop.TheVariants as stop
 use Rattle.hpr_inputs.proofs.ReadLemmas.{merges_map}
-use Rattle.hpr_decisions.specs.Integrate.{OnGraphs, report}
+use Rattle.hpr_decisions.specs.Graphs.{OnGraphs}
+use Rattle.hpr_decisions.specs.Integrate.{report}
 use Rattle.hpr_decisions.specs.Sampled.{IsSampled, SampleOutcome}
 use Rattle.hpr_app.proofs.IntegrateLemmas.{IsUnprinted}
 

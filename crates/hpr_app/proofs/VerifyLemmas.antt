@@ -15,7 +15,7 @@ use Rattle.hpr_inputs.specs.declared.answer.Stop.{Stop}
 use Rattle.hpr_inputs.specs.declared.answer.Stop.TheVariants as stop
 use Rattle.hpr_inputs.proofs.ReadLemmas.{merges_map}
 use Rattle.hpr_decisions.specs.Graphs.{too_many_edges}
-use Rattle.hpr_decisions.specs.IntegrateMany.{OnAllGraphs}
+use Rattle.hpr_decisions.specs.Graphs.{OnAllGraphs}
 use Rattle.hpr_decisions.specs.VerifyFiles.{IsVerified, report_verdict}
 use Rattle.hpr_decisions.proofs.KindLemmas.{Suits, on_all_graphs, verify_suits}
 use Rattle.hpr_decisions.proofs.Unrefused.{within_all}

@@ -4,7 +4,7 @@ ghost use Rattle.std.specs.Fmt.{decimal};
 ghost use Rattle.hpr_sample.specs.Sample.{IsSampleSize};
 ghost use Rattle.hpr_inputs.specs.Answer.{Merges};
 ghost use Rattle.hpr_inputs.specs.Decision.{prints};
-ghost use Rattle.hpr_decisions.specs.Integrate.{OnGraphs};
+ghost use Rattle.hpr_decisions.specs.Graphs.{OnGraphs};
 ghost use Rattle.hpr_decisions.specs.Sampled.{IsSampled, SampleOutcome, sample_line};
 
 use crate::integrate::stopped;

@@ -12,14 +12,14 @@ use Rattle.hpr_syntax.specs.Tree.{Tree}
 use Rattle.hpr_syntax.specs.Values.{Values}
 use Rattle.hpr_graph.specs.declared.edge.Edge.{Edge}
 use Rattle.hpr_graph.specs.declared.vertex.Vertex.{Vertex}
-use Rattle.hpr_graph.specs.Answer.{Answer, AnswerBy, interference, printed, no_program, spent, IsAnswer, IsAnswerBy}
+use Rattle.hpr_graph.specs.Answer.{AnswerBy, interference, printed, no_program, spent, IsAnswerBy}
 use Rattle.hpr_graph.specs.Conflicts.{told_as}
 use Rattle.hpr_graph.specs.Points.{IsAffected}
 use Rattle.hpr_graph.specs.ProgramGraph.{graph_of}
 use Rattle.hpr_graph.specs.Slices.{slice_of}
 use Rattle.hpr_report.specs.AffectedText.{IsAffectedText}
 use Rattle.hpr_words.specs.Request.{Request, Text, IsInRange, integrate, integrate_many, run, graph, slice, affected, trial, edit, tag, sample, verify}
-use Rattle.hpr_decisions.specs.Complete.{DonePrinting, Completes, CompletesBy, CompletesMany, IsOnlyText, IsOtherText, PrintsOther, RequestCompletes, Runs, Tries}
+use Rattle.hpr_decisions.specs.Complete.{DonePrinting, CompletesBy, IsOnlyText, IsOtherText, PrintsOther, RequestCompletes, Runs, Tries}
 use Rattle.hpr_inputs.specs.Decision.{Decision, Prints, prints}
 use Rattle.hpr_decisions.specs.AffectedFiles.{AffectedPoints, AffectedOutcome}
 use Rattle.hpr_decisions.specs.EditFiles.{EditOutcome, OnScript, TagOutcome, edit_decision}
@@ -34,9 +34,10 @@ use Rattle.hpr_decisions.specs.Graphs.{OnGraph}
 use Rattle.hpr_inputs.specs.Files.{OnFile, OnFiles}
 use Rattle.hpr_inputs.specs.ReadsAll.{AreAllFilesOf}
 use Rattle.hpr_inputs.proofs.AllFiles.{are_programs}
-use Rattle.hpr_decisions.specs.Integrate.{OnGraphs, report, report_by, IsReported, Integrated, IntegrateOutcome}
-use Rattle.hpr_decisions.specs.IntegrateMany.{IsAnswerOfMany, IntegrateManyOutcome, Told, report_many, told_text}
+use Rattle.hpr_decisions.specs.Integrate.{report_by, OutcomeBy}
+use Rattle.hpr_decisions.specs.IntegrateMany.{Told, told_text}
 use Rattle.hpr_decisions.proofs.ManyDecided.{of_many, of_verified}
+use Rattle.hpr_decisions.proofs.Unrefused.{of_all_graphs}
 use Rattle.hpr_decisions.specs.Outcome.{RequestOutcome, OutcomeIfTold}
 use Rattle.hpr_inputs.specs.Points.{IsNamed, IsPoint, OnPoints}
 use Rattle.hpr_edit.specs.declared.command.Command.{Command}
@@ -65,10 +66,6 @@ pub of_program_graph : (file : Text) (p : Tree) (next : Type 0) (r : Decision) �
 of_program_graph file p next r few (inl (many, _)) = absurd (few many)
 of_program_graph file p next r few (inr (_, n)) = n
 
-pub of_program_graphs : (base : List ℕ) (p : Tree) (a : List ℕ) (q : Tree) (b : List ℕ) (r : Tree) (next : Type 0) (d : Decision) → AreInLimit p q r → OnGraphs base p a q b r next d → next
-of_program_graphs base p a q b r next d few o =
-    of_program_graph b r next d few.1.1 (of_program_graph a q (OnGraph b r next d) d few.1.0 (of_program_graph base p (OnGraph a q (OnGraph b r next d) d) d few.0 o))
-
 -- what is known of the decision that reports an answer of base and its variants
 module _ {X : Type 0} (at : X → ℕ × Vertex × Edge) (say : List X → List ℕ) (p : Tree) (vs : List Tree) (tries : ℕ) (old new : Option (List ℕ)) (s : Status)
     (x : AnswerBy X) (answer : IsAnswerBy at p vs tries x) (is : s ≡ status_of (report_by say tries x)) (took : new ≡ taken_then old (text_of (report_by say tries x))) where
@@ -96,60 +93,36 @@ module _ {X : Type 0} (at : X → ℕ × Vertex × Edge) (say : List X → List 
       let (m, shown, settled) = only_answer at p v vs tries x is_p is_v only one answer in
       printed_so m (IsOnlyText p vs v) (m, settled, refl) shown
 
-module _ (p q r : Tree) (tries : ℕ) (old new : Option (List ℕ)) (s : Status) where
-  module _ (fs : Files) (base a b : List ℕ) (d : Decision) (o : IntegrateOutcome fs base a b tries d) (hp : IsFileOf (bytes_of fs base) p) (hq : IsFileOf (bytes_of fs a) q)
-      (hr : IsFileOf (bytes_of fs b) r) (few : AreInLimit p q r) where
-    abbrev BehindGraphs : Type 0
-    BehindGraphs = IsReported p q r tries d
-
-    behind_graphs : BehindGraphs
-    behind_graphs =
-        of_program_graphs base p a q b r BehindGraphs d few (of_programs fs base a b (λ p q r. Integrated base p a q b r tries d) d p q r o hp hq hr)
-
-    module _ (is : s ≡ status_of d) (took : new ≡ taken_then old (text_of d)) where
-      abbrev Answered : Type 0
-      Answered = (x : Answer) × IsAnswer p q r tries x × (s ≡ status_of (report tries x)) × (new ≡ taken_then old (text_of (report tries x)))
-
-      answered : Answered
-      answered =
-          let (x, answer, shown) = behind_graphs in
-          (x, answer, is ∙ ap status_of shown, took ∙ ap (λ y. taken_then old (text_of y)) shown)
-
-      of_three : Completes p q r tries old new s
-      of_three =
-          let (x, answer, is_x, took_x) = answered in
-          answer_completes told_as conflicts_text p (q ∷ r ∷ []) tries old new s x answer is_x took_x hp.program (hq.program, (hr.program, tt))
-
-      other_printed : 1 ≤ tries → (q ≡ p → DonePrinting (IsOtherText p q r r) old new s) × (r ≡ p → DonePrinting (IsOtherText p q r q) old new s)
-      other_printed one =
-          let (x, answer, is_x, took_x) = answered in
-          let only = only_printed told_as conflicts_text p (q ∷ r ∷ []) tries old new s x answer is_x took_x in (
-            λ e. only r hp.program hr.program one (subst (λ (t : Tree). IsOnlyChange p (t ∷ r ∷ []) r) (sym e) (b_alone p r)),
-            λ e. only q hp.program hq.program one (subst (λ (t : Tree). IsOnlyChange p (q ∷ t ∷ []) q) (sym e) (a_alone p q)),
-          )
-
--- the same of three variants or more
-module _ (p : Tree) (ps : List Tree) (tries : ℕ) (old new : Option (List ℕ)) (s : Status) (fs : Files) (base : Text) (names : List Text) (d : Decision)
-    (o : IntegrateManyOutcome fs base names tries d) (hp : IsFileOf (bytes_of fs base) p) (hps : AreAllFilesOf fs names ps) (few : AreAllInLimit (p ∷ ps))
+-- the same of the programs of files
+module _ {X : Type 0} (at : X → ℕ × Vertex × Edge) (say : List X → List ℕ) (p : Tree) (ps : List Tree) (tries : ℕ) (old new : Option (List ℕ)) (s : Status) (fs : Files) (base : Text) (names : List Text) (d : Decision)
+    (o : OutcomeBy at say fs base names tries d) (hp : IsFileOf (bytes_of fs base) p) (hps : AreAllFilesOf fs names ps) (few : AreAllInLimit (p ∷ ps))
     (is : s ≡ status_of d) (took : new ≡ taken_then old (text_of d)) where
-  abbrev AnsweredMany : Type 0
-  AnsweredMany = (x : AnswerBy Told) × IsAnswerOfMany p ps tries x × (s ≡ status_of (report_many tries x)) × (new ≡ taken_then old (text_of (report_many tries x)))
+  abbrev Answered : Type 0
+  Answered = (x : AnswerBy X) × IsAnswerBy at p ps tries x × (s ≡ status_of (report_by say tries x)) × (new ≡ taken_then old (text_of (report_by say tries x)))
 
-  answered_many : AnsweredMany
-  answered_many =
-      let (x, answer, shown) = of_many fs base names tries d p ps o hp hps few in
+  answered : Answered
+  answered =
+      let (x, answer, shown) = of_many at say fs base names tries d p ps o hp hps few in
       (x, answer, is ∙ ap status_of shown, took ∙ ap (λ y. taken_then old (text_of y)) shown)
 
-  of_variants : CompletesMany p ps tries old new s
+  of_variants : CompletesBy at say p ps tries old new s
   of_variants =
-      let (x, answer, is_x, took_x) = answered_many in
-      answer_completes {X = Told} (λ t. t) told_text p ps tries old new s x answer is_x took_x hp.program (are_programs fs names ps hps)
+      let (x, answer, is_x, took_x) = answered in
+      answer_completes at say p ps tries old new s x answer is_x took_x hp.program (are_programs fs names ps hps)
 
   only_of_variants : 1 ≤ tries → (v : Tree) → IsOnlyChange p ps v → DonePrinting (IsOnlyText p ps v) old new s
   only_of_variants one v only =
-      let (x, answer, is_x, took_x) = answered_many in
+      let (x, answer, is_x, took_x) = answered in
       let is_v = All-contains IsProgram ps v (All-from_recursion IsProgram ps (are_programs fs names ps hps)) only.1 in
-      only_printed {X = Told} (λ t. t) told_text p ps tries old new s x answer is_x took_x v hp.program is_v one only
+      only_printed at say p ps tries old new s x answer is_x took_x v hp.program is_v one only
+
+-- of two variants, where one is the base
+other_printed : (p q r : Tree) (old new : Option (List ℕ)) (s : Status) → ((v : Tree) → IsOnlyChange p (q ∷ r ∷ []) v → DonePrinting (IsOnlyText p (q ∷ r ∷ []) v) old new s)
+    → (q ≡ p → DonePrinting (IsOtherText p q r r) old new s) × (r ≡ p → DonePrinting (IsOtherText p q r q) old new s)
+other_printed p q r old new s only = (
+  λ e. only r (subst (λ (t : Tree). IsOnlyChange p (t ∷ r ∷ []) r) (sym e) (b_alone p r)),
+  λ e. only q (subst (λ (t : Tree). IsOnlyChange p (q ∷ t ∷ []) q) (sym e) (a_alone p q)),
+)
 
 module _ (state : Values) (p : Tree) (old new : Option (List ℕ)) (s : Status) where
   of_run : (fs : Files) (file : List ℕ) (words : List Text) (steps : ℕ) (trace : Bool) (d : Decision) → s ≡ status_of d → new ≡ taken_then old (text_of d)
@@ -166,7 +139,7 @@ module _ (state : Values) (p q r : Tree) (old new : Option (List ℕ)) (s : Stat
   of_trial fs base a b words steps d is took o told hp hq hr few =
       let on_files = of_state (states_of words) state told (λ t d. OnFiles fs base a b (λ p q r. Tried base p a q b r t steps d) d) d o in
       let on_graphs = of_programs fs base a b (λ p q r. Tried base p a q b r state steps d) d p q r on_files hp hq hr in
-      (d, of_program_graphs base p a q b r (IsTried p q r state steps d) d few on_graphs, is, took)
+      (d, of_all_graphs (base ∷ a ∷ b ∷ []) (p ∷ q ∷ r ∷ []) (IsTried p q r state steps d) d few on_graphs, is, took)
 
 module _ (old new : Option (List ℕ)) (s : Status) (fs : Files) (d : Decision) (is : s ≡ status_of d) (took : new ≡ taken_then old (text_of d)) where
   of_graph : (file : Text) (json : Bool) (p : Tree) → GraphOutcome fs file json d → IsFileOf (bytes_of fs file) p → (HasTooManyEdges p → ⊥)
@@ -211,8 +184,10 @@ module _ (old new : Option (List ℕ)) (s : Status) (fs : Files) (d : Decision) 
 
 request_completes : (request : Request) (fs : Files) (old new : Option (List ℕ)) (s : Status) (d : Decision) → s ≡ status_of d → new ≡ taken_then old (text_of d)
     → RequestOutcome request fs d → RequestCompletes request fs old new s
-request_completes (integrate base a b tries) fs old new s d is took o = λ p q r hp hq hr few. of_three p q r tries old new s fs base a b d o hp hq hr few is took
-request_completes (integrate_many base variants tries) fs old new s d is took o = λ p ps hp hps few. of_variants p ps tries old new s fs base variants d o hp hps few is took
+request_completes (integrate base a b tries) fs old new s d is took o = λ p q r hp hq hr few.
+    of_variants told_as conflicts_text p (q ∷ r ∷ []) tries old new s fs base (a ∷ b ∷ []) d o hp (hq, (hr, tt)) few is took
+request_completes (integrate_many base variants tries) fs old new s d is took o = λ p ps hp hps few.
+    of_variants {X = Told} (λ t. t) told_text p ps tries old new s fs base variants d o hp hps few is took
 request_completes (run file words steps trace) fs old new s d is took o = λ state p told hp. of_run state p old new s fs file words steps trace d is took o told hp
 request_completes (graph file json) fs old new s d is took o = λ p hp few. of_graph old new s fs d is took file json p o hp few
 request_completes (slice file points program) fs old new s d is took o = λ p hp few named. of_slice old new s fs d is took file points program p o hp few named
@@ -222,15 +197,16 @@ request_completes (edit file script author) fs old new s d is took o = λ p q cs
 request_completes (tag file author) fs old new s d is took o = λ p hp. of_tag old new s fs d is took file author p o hp
 request_completes (sample seed parts) fs old new s d is took o = λ few.
     (let three = made.sample seed parts in
-    (d, of_program_graphs (codes "base") three.base (codes "A") three.a (codes "B") three.b (IsSampled seed parts three.base three.a three.b d) d few o.1, is, took))
+    (d, of_all_graphs (codes "base" ∷ codes "A" ∷ codes "B" ∷ []) (three.base ∷ three.a ∷ three.b ∷ []) (IsSampled seed parts three.base three.a three.b d) d few o.1, is, took))
 request_completes (verify base a b m) fs old new s d is took o = λ p q r t hp hq hr ht few. (d, of_verified fs base a b m d p q r t o hp hq hr ht few, is, took)
 
 -- where one variant is the base, the other one is printed
 request_prints_other : (request : Request) (fs : Files) (old new : Option (List ℕ)) (s : Status) (d : Decision) → s ≡ status_of d → new ≡ taken_then old (text_of d)
     → IsInRange request → RequestOutcome request fs d → PrintsOther request fs old new s
-request_prints_other (integrate base a b tries) fs old new s d is took range o = λ p q r hp hq hr few. other_printed p q r tries old new s fs base a b d o hp hq hr few is took range.0
+request_prints_other (integrate base a b tries) fs old new s d is took range o = λ p q r hp hq hr few.
+    other_printed p q r old new s (only_of_variants told_as conflicts_text p (q ∷ r ∷ []) tries old new s fs base (a ∷ b ∷ []) d o hp (hq, (hr, tt)) few is took range.0)
 request_prints_other (integrate_many base variants tries) fs old new s d is took range o = λ p v ps hp hps few only.
-    only_of_variants p ps tries old new s fs base variants d o hp hps few is took range.2 v only
+    only_of_variants {X = Told} (λ t. t) told_text p ps tries old new s fs base variants d o hp hps few is took range.2 v only
 request_prints_other _ fs old new s d is took range o = tt
 
 module _ (request : Request) (fs : Files) (reads : List ℕ → Type 0) (before now : ℕ) (out err : Change)

@@ -1,5 +1,7 @@
 -- Which kinds the answers to a request have, whatever the shelf tells.
 use Rattle.std.proofs.Common.{◌≡◌, ℕ, Bool, true, false, List, [], ◌∷◌, inl, inr, subst, sym, Ok, Err, Result, codes}
+use Rattle.hpr_terms.specs.declared.limits.TheConstants.{DEFAULT_TRIES}
+use Rattle.hpr_syntax.specs.Print.{text}
 use Rattle.hpr_syntax.specs.Run as means
 use Rattle.hpr_syntax.specs.Run.{Outcome, ends, faults, more}
 use Rattle.hpr_syntax.specs.Tree.{Tree}
@@ -26,11 +28,11 @@ use Rattle.hpr_decisions.specs.AffectedFiles.{AffectedPoints}
 use Rattle.hpr_decisions.specs.Answered.{AnswersInKind}
 use Rattle.hpr_decisions.specs.EditFiles.{edit_decision}
 use Rattle.hpr_decisions.specs.GraphFile.{Graphed, IsShown}
-use Rattle.hpr_decisions.specs.Graphs.{OnGraph}
-use Rattle.hpr_decisions.specs.Integrate.{Integrated, IsReported, OnGraphs, report_by}
-use Rattle.hpr_decisions.specs.IntegrateMany.{IntegratedMany, IsReportedOfMany, OnAllGraphs, told_text}
+use Rattle.hpr_decisions.specs.Graphs.{OnAllGraphs, OnGraph}
+use Rattle.hpr_decisions.specs.Integrate.{Integrated, IsReported, report_with}
+use Rattle.hpr_decisions.specs.IntegrateMany.{IntegratedMany, IsReportedOfMany, told_text}
 use Rattle.hpr_decisions.specs.RunFile.{Ran, kind_of}
-use Rattle.hpr_decisions.specs.Sampled.{IsSampled, SampleOutcome, sample_report}
+use Rattle.hpr_decisions.specs.Sampled.{IsSampled, SampleOutcome, sample_line}
 use Rattle.hpr_decisions.specs.SliceFile.{IsSliceShown, Sliced}
 use Rattle.hpr_decisions.specs.Statuses.{DoesIntegrate, DoesRun, DoesVerify, IsKindOf}
 use Rattle.hpr_decisions.specs.TrialFiles.{IsTrialBy, IsTried, ShowsIf, Tried, have_ended, steps_together}
@@ -60,11 +62,11 @@ module _ (request : Request) where
     ran does (faults tag fault steps) text is = at_decision _ is does
     ran does (more steps) text is = at_decision _ is does
 
-    reported : {X : Type 0} → DoesIntegrate request → (say : List X → List ℕ) (tries : ℕ) (x : AnswerBy X) → d ≡ report_by say tries x → Suits request d
-    reported does say tries (interference cs) is = at_decision _ is does
-    reported does say tries (printed m) is = at_decision _ is tt
-    reported does say tries (no_program n) is = at_decision _ is does
-    reported does say tries spent is = at_decision _ is does
+    reported : {X : Type 0} → DoesIntegrate request → (show : Tree → List ℕ) (say : List X → List ℕ) (tries : ℕ) (x : AnswerBy X) → d ≡ report_with show say tries x → Suits request d
+    reported does show say tries (interference cs) is = at_decision _ is does
+    reported does show say tries (printed m) is = at_decision _ is tt
+    reported does show say tries (no_program n) is = at_decision _ is does
+    reported does show say tries spent is = at_decision _ is does
 
     shown : DoesRun request → (have : Bool) (o o1 o2 om : Outcome) → ShowsIf have o o1 o2 om d → Suits request d
     shown does true o o1 o2 om h = done _ h
@@ -80,10 +82,6 @@ module _ (request : Request) where
     on_graph : (file : Text) (p : Tree) (next : Type 0) → (next → Suits request d) → OnGraph file p next d → Suits request d
     on_graph file p next suits (inl (many, is)) = at_decision _ is tt
     on_graph file p next suits (inr (few, h)) = suits h
-
-    on_graphs : (base : Text) (p : Tree) (a : Text) (q : Tree) (b : Text) (s : Tree) (next : Type 0) → (next → Suits request d) → OnGraphs base p a q b s next d → Suits request d
-    on_graphs base p a q b s next suits =
-        on_graph base p (OnGraph a q (OnGraph b s next d) d) (on_graph a q (OnGraph b s next d) (on_graph b s next suits))
 
     pub on_all_graphs : (names : List Text) (ps : List Tree) (next : Type 0) → (next → Suits request d) → OnAllGraphs names ps next d → Suits request d
     on_all_graphs [] ps next suits h = suits h
@@ -115,13 +113,13 @@ pub integrate_suits : (base : Text) (p : Tree) (a : Text) (q : Tree) (b : Text) 
     → Suits (integrate base a b tries) d
 integrate_suits base p a q b s tries d =
     let request = integrate base a b tries in
-    on_graphs request d base p a q b s (IsReported p q s tries d) (λ reports. let (x, answer, is) = reports in reported request d tt conflicts_text tries x is)
+    on_all_graphs request d (base ∷ a ∷ b ∷ []) (p ∷ q ∷ s ∷ []) (IsReported p q s tries d) (λ reports. let (x, answer, is) = reports in reported request d tt text conflicts_text tries x is)
 
 pub integrate_many_suits : (base : Text) (p : Tree) (names : List Text) (ps : List Tree) (tries : ℕ) (d : Decision) → IntegratedMany base p names ps tries d
     → Suits (integrate_many base names tries) d
 integrate_many_suits base p names ps tries d =
     let request = integrate_many base names tries in
-    on_all_graphs request d (base ∷ names) (p ∷ ps) (IsReportedOfMany p ps tries d) (λ reports. let (x, answer, is) = reports in reported request d tt told_text tries x is)
+    on_all_graphs request d (base ∷ names) (p ∷ ps) (IsReportedOfMany p ps tries d) (λ reports. let (x, answer, is) = reports in reported request d tt text told_text tries x is)
 
 pub run_suits : (file : Text) (words : List Text) (p : Tree) (state : Values) (steps : ℕ) (trace : Bool) (d : Decision) → Ran p state steps trace d
     → Suits (run file words steps trace) d
@@ -142,7 +140,7 @@ module _ (base a b : Text) (words : List Text) (steps : ℕ) (p q s : Tree) (sta
   tried_by spent is = at_decision tries d _ is tt
 
   pub trial_suits : Tried base p a q b s state steps d → Suits tries d
-  trial_suits = on_graphs tries d base p a q b s (IsTried p q s state steps d) (λ tried. let (x, answer, is) = tried in tried_by x is)
+  trial_suits = on_all_graphs tries d (base ∷ a ∷ b ∷ []) (p ∷ q ∷ s ∷ []) (IsTried p q s state steps d) (λ tried. let (x, answer, is) = tried in tried_by x is)
 
 pub edit_suits : (file script : Text) (author : ℕ) (x : Applied) (d : Decision) → d ≡ edit_decision script x → Suits (edit file script author) d
 edit_suits file script author (becomes p) d is = at_decision (edit file script author) d _ is tt
@@ -151,21 +149,12 @@ edit_suits file script author (refused k why) d is = at_decision (edit file scri
 pub print_suits : (request : Request) (text : List ℕ) (d : Decision) → d ≡ prints Done text → Suits request d
 print_suits request text d is = at_decision request d _ is tt
 
-module _ (seed parts : ℕ) (d : Decision) where
-  abbrev samples : Request
-  samples = sample seed parts
-
-  sampled_by : (p q s : Tree) (x : Answer) → d ≡ sample_report seed parts p q s x → Suits samples d
-  sampled_by p q s (interference cs) is = at_decision samples d _ is tt
-  sampled_by p q s (printed m) is = at_decision samples d _ is tt
-  sampled_by p q s (no_program n) is = at_decision samples d _ is tt
-  sampled_by p q s spent is = at_decision samples d _ is tt
-
-  pub sample_suits : SampleOutcome seed parts d → Suits samples d
-  sample_suits (size, h) =
-      let three = made.sample seed parts in
-      on_graphs samples d (codes "base") three.base (codes "A") three.a (codes "B") three.b (IsSampled seed parts three.base three.a three.b d)
-      (λ sampled. let (x, answer, is) = sampled in sampled_by three.base three.a three.b x is) h
+pub sample_suits : (seed parts : ℕ) (d : Decision) → SampleOutcome seed parts d → Suits (sample seed parts) d
+sample_suits seed parts d (size, h) =
+    let three = made.sample seed parts in
+    let line = sample_line seed parts three.base three.a three.b in
+    on_all_graphs (sample seed parts) d (codes "base" ∷ codes "A" ∷ codes "B" ∷ []) (three.base ∷ three.a ∷ three.b ∷ []) (IsSampled seed parts three.base three.a three.b d)
+    (λ sampled. let (x, answer, is) = sampled in reported (sample seed parts) d tt line conflicts_text DEFAULT_TRIES x is) h
 
 pub verify_suits : (base a b offered : Text) (p q s o : Tree) (d : Decision) → IsVerified p q s o d → Suits (verify base a b offered) d
 verify_suits base a b offered p q s o d (v, _, is) = judged (verify base a b offered) d tt v is

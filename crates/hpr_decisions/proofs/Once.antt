@@ -20,14 +20,17 @@ use Rattle.hpr_inputs.specs.Decision.{Decision, OnRead, Prints, prints, refuses}
 use Rattle.hpr_decisions.specs.Ends.{Change, Ends, Decided, SaysIfAny, has_text, message_of, status_of}
 use Rattle.hpr_decisions.specs.GraphFile.{IsShown}
 use Rattle.hpr_decisions.specs.SliceFile.{IsSliceShown}
-use Rattle.hpr_decisions.specs.Graphs.{OnGraph}
-use Rattle.hpr_graph.specs.Answer.{Answer, AnswerBy, interference, printed, no_program, spent}
+use Rattle.hpr_decisions.specs.Graphs.{OnAllGraphs, OnGraph}
+use Rattle.hpr_graph.specs.declared.edge.Edge.{Edge}
+use Rattle.hpr_graph.specs.declared.vertex.Vertex.{Vertex}
+use Rattle.hpr_graph.specs.Answer.{AnswerBy, interference, printed, no_program, spent}
+use Rattle.hpr_graph.specs.Conflicts.{told_as}
 use Rattle.hpr_engine.specs.Budget as budget
-use Rattle.hpr_engine.proofs.OneAnswer.{one_answer, one_answer_by}
+use Rattle.hpr_engine.proofs.OneAnswer.{one_answer_by}
 use Rattle.hpr_report.specs.ConflictsText.{conflicts_text}
 use Rattle.hpr_inputs.specs.Files.{OnFile, OnFiles, OnAllFiles}
-use Rattle.hpr_decisions.specs.Integrate.{OnGraphs, report_by, spent_text, no_program_text, IsReported, Integrated}
-use Rattle.hpr_decisions.specs.IntegrateMany.{OnAllGraphs, IntegratedMany, IntegrateManyOutcome, IsReportedOfMany, Told, told_text}
+use Rattle.hpr_decisions.specs.Integrate.{report_with, spent_text, no_program_text, IsReportedBy, IsReportedWith, IntegratedBy, OutcomeBy}
+use Rattle.hpr_decisions.specs.IntegrateMany.{Told, told_text}
 use Rattle.hpr_verify.proofs.Verdicts.{one_verdict}
 use Rattle.hpr_decisions.specs.VerifyFiles.{IsVerified, report_verdict}
 use Rattle.hpr_decisions.specs.Outcome.{RequestOutcome, Outcome, OutcomeIfTold, HasSearched, AgreeButForBudget}
@@ -41,7 +44,7 @@ use Rattle.hpr_inputs.specs.States.{OnState, RefusedWord, states_of}
 use Rattle.hpr_decisions.specs.TrialFiles.{IsTried, Tried}
 use Rattle.hpr_sample.specs.Sample as made
 use Rattle.hpr_sample.proofs.SamplePrograms.{is_sample}
-use Rattle.hpr_decisions.specs.Sampled.{IsSampled, sample_line, sample_report}
+use Rattle.hpr_decisions.specs.Sampled.{IsSampled, sample_line}
 use Rattle.hpr_words.specs.Request.{Request, Text, integrate, integrate_many, run, graph, slice, affected, trial, edit, tag, sample, verify}
 use Rattle.hpr_inputs.specs.declared.answer.Kind.TheVariants.{Done, Interference}
 use Rattle.hpr_decisions.specs.declared.status.Status.{Status}
@@ -55,46 +58,25 @@ one_printed : (P : List ℕ → Type 0) → ((x y : List ℕ) → P x → P y �
 one_printed P one r s (x, h, is) (y, k, so) = is ∙ ap (prints Done) (one x y h k) ∙ sym so
 
 -- answers that agree are reported so
-module _ {X : Type 0} (say : List X → List ℕ) (tries : ℕ) where
-  searched : (x : AnswerBy X) (r : Decision) → budget.HasSearched x → r ≡ report_by say tries x → HasSearched r
+module _ {X : Type 0} (show : Tree → List ℕ) (say : List X → List ℕ) (tries : ℕ) where
+  abbrev Report : AnswerBy X → Decision
+  Report x = report_with show say tries x
+
+  searched : (x : AnswerBy X) (r : Decision) → budget.HasSearched x → r ≡ Report x → HasSearched r
   searched (interference cs) r h is = absurd h
-  searched (printed m) r h is = (text m, inl is)
+  searched (printed m) r h is = (show m, inl is)
   searched (no_program n) r h is = (no_program_text n, inr (inl is))
   searched spent r h is = absurd h
 
-  agree_reported : (x y : AnswerBy X) (r s : Decision) → budget.Agree x y → r ≡ report_by say tries x → s ≡ report_by say tries y → AgreeButForBudget r s
-  agree_reported x y r s (inl e) is so = inl (is ∙ ap (report_by say tries) e ∙ sym so)
-  agree_reported x y r s (inr (inl (e, h))) is so = inr (inl ((spent_text tries, is ∙ ap (report_by say tries) e), searched y s h so))
-  agree_reported x y r s (inr (inr (h, e))) is so = inr (inr (searched x r h is, (spent_text tries, so ∙ ap (report_by say tries) e)))
+  agree_reported : (x y : AnswerBy X) (r s : Decision) → budget.Agree x y → r ≡ Report x → s ≡ Report y → AgreeButForBudget r s
+  agree_reported x y r s (inl e) is so = inl (is ∙ ap Report e ∙ sym so)
+  agree_reported x y r s (inr (inl (e, h))) is so = inr (inl ((spent_text tries, is ∙ ap Report e), searched y s h so))
+  agree_reported x y r s (inr (inr (h, e))) is so = inr (inr (searched x r h is, (spent_text tries, so ∙ ap Report e)))
 
-one_reported : (r s : Decision) (p q o : Tree) (tries : ℕ) → IsProgram p → IsProgram q → IsProgram o → IsReported p q o tries r → IsReported p q o tries s → AgreeButForBudget r s
-one_reported r s p q o tries is_p is_q is_o (x, answer, is) (y, answer_too, so) =
-    agree_reported conflicts_text tries x y r s (one_answer p q o is_p is_q is_o tries x y answer answer_too) is so
-
-one_reported_many : (r s : Decision) (p : Tree) (ps : List Tree) (tries : ℕ) → IsProgram p → AllByRecursion IsProgram ps → IsReportedOfMany p ps tries r → IsReportedOfMany p ps tries s
-    → AgreeButForBudget r s
-one_reported_many r s p ps tries is_p all (x, answer, is) (y, answer_too, so) =
-    agree_reported told_text tries x y r s (one_answer_by {X = Told} (λ t. t) p ps is_p all tries x y answer answer_too) is so
-
--- so are they in a sample
-agree_sampled : (seed parts : ℕ) (p q o : Tree) (x y : Answer) (r s : Decision) → budget.Agree x y → r ≡ sample_report seed parts p q o x → s ≡ sample_report seed parts p q o y
-    → AgreeButForBudget r s
-agree_sampled seed parts p q o x y r s agree is so = go x y agree is so
-  where
-    found : (z : Answer) (d : Decision) → budget.HasSearched z → d ≡ sample_report seed parts p q o z → HasSearched d
-    found (interference cs) d h is = absurd h
-    found (printed m) d h is = (sample_line seed parts p q o m, inl is)
-    found (no_program n) d h is = (no_program_text n, inr (inl is))
-    found spent d h is = absurd h
-
-    go : (x y : Answer) → budget.Agree x y → r ≡ sample_report seed parts p q o x → s ≡ sample_report seed parts p q o y → AgreeButForBudget r s
-    go x y (inl e) is so = inl (is ∙ ap (sample_report seed parts p q o) e ∙ sym so)
-    go x y (inr (inl (e, h))) is so = inr (inl ((spent_text DEFAULT_TRIES, is ∙ ap (sample_report seed parts p q o) e), found y s h so))
-    go x y (inr (inr (h, e))) is so = inr (inr (found x r h is, (spent_text DEFAULT_TRIES, so ∙ ap (sample_report seed parts p q o) e)))
-
-one_sampled : (seed parts : ℕ) (r s : Decision) (p q o : Tree) → IsProgram p → IsProgram q → IsProgram o → IsSampled seed parts p q o r → IsSampled seed parts p q o s → AgreeButForBudget r s
-one_sampled seed parts r s p q o is_p is_q is_o (x, answer, is) (y, answer_too, so) =
-    agree_sampled seed parts p q o x y r s (one_answer p q o is_p is_q is_o DEFAULT_TRIES x y answer answer_too) is so
+one_reported : {X : Type 0} (show : Tree → List ℕ) (at : X → ℕ × Vertex × Edge) (say : List X → List ℕ) (r s : Decision) (p : Tree) (ps : List Tree) (tries : ℕ) → IsProgram p → AllByRecursion IsProgram ps
+    → IsReportedWith show at say p ps tries r → IsReportedWith show at say p ps tries s → AgreeButForBudget r s
+one_reported show at say r s p ps tries is_p all (x, answer, is) (y, answer_too, so) =
+    agree_reported show say tries x y r s (one_answer_by at p ps is_p all tries x y answer answer_too) is so
 
 one_verified : (r s : Decision) (p q o m : Tree) → IsVerified p q o m r → IsVerified p q o m s → AgreeButForBudget r s
 one_verified r s p q o m (v, judged, is) (w, judged_too, so) = inl (is ∙ ap report_verdict (one_verdict p q o m v w judged judged_too) ∙ sym so)
@@ -105,21 +87,11 @@ one_on_graph r s file p next also rest (inl (many, _)) (inr (few, _)) = absurd (
 one_on_graph r s file p next also rest (inr (few, _)) (inl (many, _)) = absurd (few many)
 one_on_graph r s file p next also rest (inr (_, h)) (inr (_, k)) = rest h k
 
-one_on_graphs : (r s : Decision) (base : Text) (p : Tree) (a : Text) (q : Tree) (b : Text) (o : Tree) (next also : Type 0) → (next → also → AgreeButForBudget r s)
-    → OnGraphs base p a q b o next r → OnGraphs base p a q b o also s → AgreeButForBudget r s
-one_on_graphs r s base p a q b o next also rest h k =
-    one_on_graph r s base p _ _ (λ h k. one_on_graph r s a q _ _ (λ h k. one_on_graph r s b o next also rest h k) h k) h k
-
 one_on_all_graphs : (r s : Decision) (names : List Text) (ps : List Tree) (next also : Type 0) → (next → also → AgreeButForBudget r s) → OnAllGraphs names ps next r → OnAllGraphs names ps also s
     → AgreeButForBudget r s
 one_on_all_graphs r s [] ps next also rest h k = rest h k
 one_on_all_graphs r s (name ∷ names) [] next also rest h k = rest h k
 one_on_all_graphs r s (name ∷ names) (p ∷ ps) next also rest h k = one_on_graph r s name p _ _ (λ h k. one_on_all_graphs r s names ps next also rest h k) h k
-
-one_integrated : (r s : Decision) (base : Text) (p : Tree) (a : Text) (q : Tree) (b : Text) (o : Tree) (tries : ℕ) → IsProgram p → IsProgram q → IsProgram o
-    → Integrated base p a q b o tries r → Integrated base p a q b o tries s → AgreeButForBudget r s
-one_integrated r s base p a q b o tries is_p is_q is_o h k =
-    one_on_graphs r s base p a q b o (IsReported p q o tries r) (IsReported p q o tries s) (λ h k. one_reported r s p q o tries is_p is_q is_o h k) h k
 
 one_on_points : (r s : Decision) (g : Graph) (words : List Text) (next also : Type 0) → (next → also → AgreeButForBudget r s) → OnPoints g words next r → OnPoints g words also s → AgreeButForBudget r s
 one_on_points r s g words next also rest (inl (x, h, is)) (inl (y, k, so)) =
@@ -168,18 +140,17 @@ module _ (fs : Files) (r s : Decision) where
   one_on_all_files (n ∷ ns) next also rest h k =
       one_on_file n _ _ (λ p hp h k. one_on_all_files ns (λ ps. next (p ∷ ps)) (λ ps. also (p ∷ ps)) (λ ps all h k. rest (p ∷ ps) (hp.program, all) h k) h k) h k
 
-  one_of_many : (base : Text) (names : List Text) (tries : ℕ) → IntegrateManyOutcome fs base names tries r → IntegrateManyOutcome fs base names tries s → AgreeButForBudget r s
-  one_of_many base names tries h k =
-      one_on_file base (λ p. OnAllFiles fs names (λ ps. IntegratedMany base p names ps tries r) r) (λ p. OnAllFiles fs names (λ ps. IntegratedMany base p names ps tries s) s)
-      (λ p hp h k. one_on_all_files names (λ ps. IntegratedMany base p names ps tries r) (λ ps. IntegratedMany base p names ps tries s)
-      (λ ps all h k. one_on_all_graphs r s (base ∷ names) (p ∷ ps) (IsReportedOfMany p ps tries r) (IsReportedOfMany p ps tries s)
-      (λ h k. one_reported_many r s p ps tries hp.program all h k) h k) h k) h k
+  one_of : {X : Type 0} (at : X → ℕ × Vertex × Edge) (say : List X → List ℕ) (base : Text) (names : List Text) (tries : ℕ) → OutcomeBy at say fs base names tries r → OutcomeBy at say fs base names tries s
+      → AgreeButForBudget r s
+  one_of at say base names tries h k =
+      one_on_file base (λ p. OnAllFiles fs names (λ ps. IntegratedBy at say base p names ps tries r) r) (λ p. OnAllFiles fs names (λ ps. IntegratedBy at say base p names ps tries s) s)
+      (λ p hp h k. one_on_all_files names (λ ps. IntegratedBy at say base p names ps tries r) (λ ps. IntegratedBy at say base p names ps tries s)
+      (λ ps all h k. one_on_all_graphs r s (base ∷ names) (p ∷ ps) (IsReportedBy at say p ps tries r) (IsReportedBy at say p ps tries s)
+      (λ h k. one_reported text at say r s p ps tries hp.program all h k) h k) h k) h k
 
   one_outcome : (request : Request) → RequestOutcome request fs r → RequestOutcome request fs s → AgreeButForBudget r s
-  one_outcome (integrate base a b tries) h k =
-      one_on_files base a b (λ p q o. Integrated base p a q b o tries r) (λ p q o. Integrated base p a q b o tries s)
-      (λ p q o is_p is_q is_o h k. one_integrated r s base p a q b o tries is_p is_q is_o h k) h k
-  one_outcome (integrate_many base variants tries) h k = one_of_many base variants tries h k
+  one_outcome (integrate base a b tries) h k = one_of told_as conflicts_text base (a ∷ b ∷ []) tries h k
+  one_outcome (integrate_many base variants tries) h k = one_of {X = Told} (λ t. t) told_text base variants tries h k
   one_outcome (run file words steps trace) h k = one_on_state (states_of words) _ _ (λ state h k. one_on_file file _ _ (λ p hp h k. inl (h ∙ sym k)) h k) h k
   one_outcome (graph file json) h k =
       one_on_file file _ _ (λ p hp h k. one_on_graph r s file p _ _ (λ h k. inl (one_printed (IsShown json (graph_of p)) (one_shown json (graph_of p)) r s h k)) h k) h k
@@ -197,7 +168,7 @@ module _ (fs : Files) (r s : Decision) where
   one_outcome (trial base a b words steps) h k =
       one_on_state (states_of words) (λ state. OnFiles fs base a b (λ p q o. Tried base p a q b o state steps r) r) (λ state. OnFiles fs base a b (λ p q o. Tried base p a q b o state steps s) s)
       (λ state h k. one_on_files base a b (λ p q o. Tried base p a q b o state steps r) (λ p q o. Tried base p a q b o state steps s)
-      (λ p q o is_p is_q is_o h k. one_on_graphs r s base p a q b o (IsTried p q o state steps r) (IsTried p q o state steps s)
+      (λ p q o is_p is_q is_o h k. one_on_all_graphs r s (base ∷ a ∷ b ∷ []) (p ∷ q ∷ o ∷ []) (IsTried p q o state steps r) (IsTried p q o state steps s)
       (λ h k. one_tried p q o state steps r s is_p is_q is_o h k) h k) h k) h k
   one_outcome (edit file script author) h k =
       one_on_file file (λ p. OnScript fs script (λ cs. r ≡ edit_decision script (applied p cs author)) r) (λ p. OnScript fs script (λ cs. s ≡ edit_decision script (applied p cs author)) s)
@@ -208,9 +179,9 @@ module _ (fs : Files) (r s : Decision) where
   one_outcome (sample seed parts) (size, h) (size_too, k) =
       let three = made.sample seed parts in
       let is = is_sample seed parts size in
-      one_on_graphs r s (codes "base") three.base (codes "A") three.a (codes "B") three.b
+      one_on_all_graphs r s (codes "base" ∷ codes "A" ∷ codes "B" ∷ []) (three.base ∷ three.a ∷ three.b ∷ [])
       (IsSampled seed parts three.base three.a three.b r) (IsSampled seed parts three.base three.a three.b s)
-      (λ h k. one_sampled seed parts r s three.base three.a three.b is.base is.a is.b h k) h k
+      (λ h k. one_reported (sample_line seed parts three.base three.a three.b) told_as conflicts_text r s three.base (three.a ∷ three.b ∷ []) DEFAULT_TRIES is.base (is.a, (is.b, tt)) h k) h k
   one_outcome (verify base a b m) h k =
       one_on_files base a b (λ p q o. OnFile fs m (λ t. Judges p q o t r) r) (λ p q o. OnFile fs m (λ t. Judges p q o t s) s)
       (λ p q o is_p is_q is_o h k. one_on_file m (λ t. Judges p q o t r) (λ t. Judges p q o t s)

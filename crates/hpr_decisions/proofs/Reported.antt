@@ -1,5 +1,5 @@
 -- The calls that print no program: what the status tells.
-use Rattle.std.proofs.Common.{◌≡◌, ℕ, Bool, true, false, List, [], ◌∷◌, length, refl, ap, ◌∙◌, subst, inl, inr, ◌⊎◌, Some, Ok, Err, Result, codes}
+use Rattle.std.proofs.Common.{◌≡◌, ◌≤◌, ℕ, Bool, true, false, List, [], ◌∷◌, length, arith, refl, ap, ◌∙◌, subst, inl, inr, ◌⊎◌, Some, Ok, Err, Result, codes}
 use Rattle.std.specs.List.{AllByRecursion}
 use Rattle.hpr_terms.specs.declared.limits.TheConstants.{DEFAULT_TRIES}
 use Rattle.hpr_io.specs.Counts.{Rose}
@@ -18,20 +18,20 @@ use Rattle.hpr_graph.specs.declared.edge.Edge.{Edge}
 use Rattle.hpr_graph.specs.declared.vertex.Vertex.{Vertex}
 use Rattle.hpr_graph.specs.Conflicts.{IsConflictAt, graph_at, graph_on, number_of, told_as}
 use Rattle.hpr_graph.specs.Answer as answers
-use Rattle.hpr_graph.specs.Answer.{Answer, AnswerBy, interference, printed, no_program, spent, IsAnswer, IsAnswerBy, AreWithoutConflict, IsWithoutConflict, graphs_of, merged_of, merged_of_all}
+use Rattle.hpr_graph.specs.Answer.{Answer, AnswerBy, interference, printed, no_program, spent, IsAnswer, IsAnswerBy, AreWithoutConflict, graphs_of, merged_of, merged_of_all}
 use Rattle.hpr_graph.specs.Graphs.{Graph}
 use Rattle.hpr_graph.specs.ProgramGraph.{graph_of}
-use Rattle.hpr_engine.specs.Limit.{AreInLimit, HasTooManyEdges}
-use Rattle.hpr_meaning.proofs.SidesKept.{each_kept, sides_kept}
-use Rattle.hpr_merge.proofs.NoneListed.{none_told, triples_tell}
+use Rattle.hpr_engine.specs.Limit.{AreAllInLimit, HasTooManyEdges}
+use Rattle.hpr_meaning.proofs.SidesKept.{each_kept}
+use Rattle.hpr_merge.proofs.NoneListed.{TellsEach, none_told, sides_tell, triples_tell}
 use Rattle.hpr_report.specs.ConflictsText.{conflicts_text}
 use Rattle.hpr_words.specs.Request.{Request, Text, integrate, integrate_many, run, graph, slice, affected, trial, edit, tag, sample, verify}
 use Rattle.hpr_inputs.specs.Decision.{Decision, Prints, prints, refuses}
 use Rattle.hpr_decisions.specs.Ends.{Change, Ends, Decided, status_of, text_of}
-use Rattle.hpr_decisions.specs.Graphs.{OnGraph}
+use Rattle.hpr_decisions.specs.Graphs.{OnAllGraphs, OnGraph}
 use Rattle.hpr_inputs.specs.Files.{OnFile, OnFiles}
-use Rattle.hpr_decisions.specs.Integrate.{OnGraphs, report, report_by, IsReported, Integrated, no_program_text, spent_text}
-use Rattle.hpr_decisions.specs.IntegrateMany.{IsAnswerOfMany, IsReportedOfMany, Told, report_many, told_text}
+use Rattle.hpr_decisions.specs.Integrate.{report, report_by, report_with, IsReportedBy, IsReportedWith, OutcomeBy, no_program_text, spent_text}
+use Rattle.hpr_decisions.specs.IntegrateMany.{Told, told_text}
 use Rattle.hpr_decisions.specs.Outcome.{RequestOutcome, OutcomeIfTold}
 use Rattle.hpr_inputs.specs.Points.{OnPoints}
 use Rattle.hpr_edit.specs.Applied as made
@@ -42,7 +42,7 @@ use Rattle.hpr_inputs.specs.States.{OnState, RefusedWord, states_of}
 use Rattle.hpr_decisions.specs.RunFile.{kind_of}
 use Rattle.hpr_sample.specs.Sample as made_by
 use Rattle.hpr_sample.proofs.SamplePrograms.{is_sample}
-use Rattle.hpr_decisions.specs.Sampled.{IsSampled, sample_report}
+use Rattle.hpr_decisions.specs.Sampled.{IsSampled, sample_line, sample_report}
 use Rattle.hpr_decisions.specs.TrialFiles.{IsTrialBy, IsTried, ShowsIf, Tried, have_ended, steps_together}
 use Rattle.hpr_inputs.specs.declared.answer.Kind.TheVariants as kind
 use Rattle.hpr_decisions.specs.declared.status.Status.{Status}
@@ -54,24 +54,36 @@ use Rattle.hpr_decisions.specs.Asked.{Took}
 use Rattle.hpr_decisions.specs.VerifyFiles.{IsVerified, certificate_text, report_verdict}
 use Rattle.hpr_decisions.specs.VerifyKeeps.{AreFourFiles, IsRejected}
 use Rattle.hpr_decisions.proofs.Unrefused as unrefused
+use Rattle.hpr_decisions.proofs.Unrefused.{of_all_graphs}
 use Rattle.hpr_decisions.proofs.ManyDecided.{many_decided, of_many}
-use Rattle.hpr_decisions.proofs.Completeness.{settled, of_program_graphs}
+use Rattle.hpr_decisions.proofs.Completeness.{settled}
 use Rattle.hpr_decisions.proofs.Once.{one_interference}
 use Rattle.hpr_inputs.proofs.VersionLemmas.{on_state, of_state}
+use Rattle.hpr_inputs.specs.ReadsAll.{AreAllFilesOf}
 use Rattle.hpr_inputs.proofs.AllFiles.{are_programs}
 use Rattle.hpr_inputs.proofs.SpelledFiles.{of_programs}
+
+-- an answer of base and two variants is reported of a trial
+tried_outcome : (fs : Files) (base a b : Text) (state : Values) (steps : ℕ) (cs : List Conflict) (p : Tree) (ps : List Tree) → IsFileOf (bytes_of fs base) p → AreAllFilesOf fs (a ∷ b ∷ []) ps
+    → AreAllInLimit (p ∷ ps) → IsAnswerBy told_as p ps DEFAULT_TRIES (interference cs)
+    → OnFiles fs base a b (λ p q r. Tried base p a q b r state steps (prints kind.Interference (conflicts_text cs))) (prints kind.Interference (conflicts_text cs))
+tried_outcome fs base a b state steps cs p [] is are few answer = absurd are
+tried_outcome fs base a b state steps cs p (q ∷ []) is are few answer = absurd are.1
+tried_outcome fs base a b state steps cs p (q ∷ r ∷ []) is are few answer =
+    inr (p, is, inr (q, are.0, inr (r, are.1.0, inr (few.0, inr (few.1.0, inr (few.1.1, (interference cs, answer, refl)))))))
+tried_outcome fs base a b state steps cs p (q ∷ r ∷ s ∷ ps) is are few answer = absurd are.1.1
 
 -- an answer of the files is reported
 answer_outcome : (request : Request) (fs : Files) (cs : List (ConflictOf request)) → HasAnswer request fs (interference cs)
     → RequestOutcome request fs (prints kind.Interference (text_of_conflicts request cs))
 answer_outcome (integrate base a b tries) fs cs h =
-    inr (h.p, h.base_is, inr (h.q, h.a_is, inr (h.r, h.b_is, inr (h.within.0, inr (h.within.1.0, inr (h.within.1.1, (interference cs, h.answer, refl)))))))
+    many_decided told_as conflicts_text fs base (a ∷ b ∷ []) tries (prints kind.Interference (conflicts_text cs)) h.p h.ps (interference cs) h.base_is h.variants_are h.within h.answer refl
 answer_outcome (integrate_many base variants tries) fs cs h =
-    many_decided fs base variants tries (prints kind.Interference (told_text cs)) h.p h.ps (interference cs) h.base_is h.variants_are h.within h.answer refl
+    many_decided {X = Told} (λ t. t) told_text fs base variants tries (prints kind.Interference (told_text cs)) h.p h.ps (interference cs) h.base_is h.variants_are h.within h.answer refl
 answer_outcome (trial base a b words steps) fs cs (state, told, h) =
     let d = prints kind.Interference (conflicts_text cs) in
     on_state (states_of words) state told (λ t d. OnFiles fs base a b (λ p q r. Tried base p a q b r t steps d) d) d
-    (inr (h.p, h.base_is, inr (h.q, h.a_is, inr (h.r, h.b_is, inr (h.within.0, inr (h.within.1.0, inr (h.within.1.1, (interference cs, h.answer, refl))))))))
+    (tried_outcome fs base a b state steps cs h.p h.ps h.base_is h.variants_are h.within h.answer)
 answer_outcome (sample seed parts) fs cs h =
     (h.size, inr (h.within.0, inr (h.within.1.0, inr (h.within.1.1, (interference cs, h.answer, refl)))))
 answer_outcome _ fs cs h = absurd h
@@ -147,8 +159,8 @@ module _ (fs : Files) (d : Decision) (is : IsTold (status_of d)) where
       → (p q r : Tree) × IsFileOf (bytes_of fs base) p × IsFileOf (bytes_of fs a) q × IsFileOf (bytes_of fs b) r × next p q r
   past_files = unrefused.past_files fs d no_refusal
 
-  past_graphs : (base : List ℕ) (p : Tree) (a : List ℕ) (q : Tree) (b : List ℕ) (r : Tree) (next : Type 0) → OnGraphs base p a q b r next d → AreInLimit p q r × next
-  past_graphs = unrefused.past_graphs fs d no_refusal
+  past_all_graphs : (names : List Text) (ps : List Tree) (next : Type 0) → length ps ≤ length names → OnAllGraphs names ps next d → AreAllInLimit ps × next
+  past_all_graphs = unrefused.past_all_graphs fs d no_refusal
 
   abbrev Reports : Request → Type 0
   Reports request = (x : AnswerBy (ConflictOf request)) × HasAnswer request fs x × (d ≡ report_of request x)
@@ -166,14 +178,15 @@ module _ (fs : Files) (d : Decision) (is : IsTold (status_of d)) where
   of_verdict base a b m p q r o files (verdict.Edge e h) judged shown =
       (certificate_text (verdict.Edge e h), (verdict.Edge e h, record { p = p; q = q; r = r; o = o; files = files; verdict_is = judged; other = λ e. cc }, refl), shown)
 
+  answered_by : {X : Type 0} (at : X → ℕ × Vertex × Edge) (say : List X → List ℕ) (base : Text) (names : List Text) (tries : ℕ) → OutcomeBy at say fs base names tries d
+      → (x : AnswerBy X) × AnswersFiles at fs base names tries x × (d ≡ report_by say tries x)
+  answered_by at say base names tries o =
+      let (p, ps, base_is, variants_are, few, (x, answer, shown)) = unrefused.past_many fs d no_refusal base names (λ p ps. IsReportedBy at say p ps tries d) o in
+      (x, record { p = p; ps = ps; base_is = base_is; variants_are = variants_are; within = few; answer = answer }, shown)
+
   reports : (request : Request) → RequestOutcome request fs d → Reports request ⊎ Rejects request
-  reports (integrate base a b tries) o =
-      let (p, q, r, base_is, a_is, b_is, on_graphs) = past_files base a b _ o in
-      let (few, (x, answer, shown)) = past_graphs base p a q b r _ on_graphs in
-      inl (x, record { p = p; q = q; r = r; base_is = base_is; a_is = a_is; b_is = b_is; within = few; answer = answer }, shown)
-  reports (integrate_many base variants tries) o =
-      let (p, ps, base_is, variants_are, few, (x, answer, shown)) = unrefused.past_many fs d no_refusal base variants (λ p ps. IsReportedOfMany p ps tries d) o in
-      inl (x, record { p = p; ps = ps; base_is = base_is; variants_are = variants_are; within = few; answer = answer }, shown)
+  reports (integrate base a b tries) o = inl (answered_by told_as conflicts_text base (a ∷ b ∷ []) tries o)
+  reports (integrate_many base variants tries) o = inl (answered_by {X = Told} (λ t. t) told_text base variants tries o)
   reports (run file words steps trace) o =
       let (state, told, on_file) = past_state (states_of words) _ o in
       let (p, file_is, ran) = past_file file _ on_file in
@@ -191,8 +204,8 @@ module _ (fs : Files) (d : Decision) (is : IsTold (status_of d)) where
   reports (trial base a b words steps) o =
       let (state, told, on_files) = past_state (states_of words) _ o in
       let (p, q, r, base_is, a_is, b_is, on_graphs) = past_files base a b _ on_files in
-      let (few, (x, answer, by)) = past_graphs base p a q b r _ on_graphs in
-      inl (x, (state, told, record { p = p; q = q; r = r; base_is = base_is; a_is = a_is; b_is = b_is; within = few; answer = answer }), past_trial p q r state steps x by)
+      let (few, (x, answer, by)) = past_all_graphs (base ∷ a ∷ b ∷ []) (p ∷ q ∷ r ∷ []) (IsTried p q r state steps d) (omega arith) on_graphs in
+      inl (x, (state, told, record { p = p; ps = q ∷ r ∷ []; base_is = base_is; variants_are = (a_is, (b_is, tt)); within = few; answer = answer }), past_trial p q r state steps x by)
   reports (edit file script author) o =
       let (p, file_is, on_script) = past_file file _ o in
       let (cs, script_is, shown) = unrefused.past_read fs d no_refusal (IsRefusedScript script (bytes_of fs script)) (IsScriptOf (bytes_of fs script)) (λ cs. d ≡ edit_decision script (made.applied p cs author)) on_script in
@@ -203,13 +216,14 @@ module _ (fs : Files) (d : Decision) (is : IsTold (status_of d)) where
       absurd (not_done (λ bytes. bytes ≡ text p) (text p, refl, shown))
   reports (sample seed parts) (size, on_graphs) =
       let three = made_by.sample seed parts in
-      let (few, (x, answer, shown)) = past_graphs (codes "base") three.base (codes "A") three.a (codes "B") three.b _ on_graphs in
+      let (few, (x, answer, shown)) =
+      past_all_graphs (codes "base" ∷ codes "A" ∷ codes "B" ∷ []) (three.base ∷ three.a ∷ three.b ∷ []) (IsSampled seed parts three.base three.a three.b d) (omega arith) on_graphs in
       inl (x, record { size = size; within = few; answer = answer }, past_sample seed parts three.base three.a three.b x shown)
   reports (verify base a b m) o =
       let (p, q, r, base_is, a_is, b_is, on_m) = past_files base a b _ o in
       let (t, m_is, on_graphs) = past_file m _ on_m in
       let (few, (v, judged, shown)) =
-      unrefused.past_all_graphs fs d no_refusal (base ∷ a ∷ b ∷ m ∷ []) (p ∷ q ∷ r ∷ t ∷ []) (IsVerified p q r t d) (base_is, (a_is, (b_is, (m_is, tt)))) on_graphs in
+      past_all_graphs (base ∷ a ∷ b ∷ m ∷ []) (p ∷ q ∷ r ∷ t ∷ []) (IsVerified p q r t d) (omega arith) on_graphs in
       inr (of_verdict base a b m p q r t (record { base_is = base_is; a_is = a_is; b_is = b_is; m_is = m_is }) v judged shown)
 
 -- which of the two it is
@@ -279,86 +293,61 @@ module _ (request : Request) (fs : Files) (d : Decision) (o : RequestOutcome req
 leaves_by : {X : Type 0} (at : X → ℕ × Vertex × Edge) (base : Tree) (vs : List Tree) (tries : ℕ) → IsAnswerBy at base vs tries spent → answers.HasSpentLeavesOf base vs tries
 leaves_by at base vs tries (free, (rs, split, (rank, is, (ps, are, longer, none, leaves)))) = (rs, split, (rank, is, leaves))
 
-leaves_of : (p q r : Tree) (tries : ℕ) → IsAnswer p q r tries spent → answers.HasSpentLeaves p q r tries
-leaves_of p q r tries answer = leaves_by told_as p (q ∷ r ∷ []) tries answer
-
-leaves_in : (base a b : List ℕ) (tries : ℕ) → AnswersFiles base a b tries spent → SpentIn base a b tries
-leaves_in base a b tries h =
-    record { p = h.p; q = h.q; r = h.r; base_is = h.base_is; a_is = h.a_is; b_is = h.b_is; spent = leaves_of h.p h.q h.r tries h.answer }
+leaves_in : {X : Type 0} (at : X → ℕ × Vertex × Edge) (fs : Files) (base : Text) (names : List Text) (tries : ℕ) → AnswersFiles at fs base names tries spent → SpentIn fs base names tries
+leaves_in at fs base names tries h =
+    record { p = h.p; ps = h.ps; base_is = h.base_is; variants_are = h.variants_are; spent = leaves_by at h.p h.ps tries h.answer }
 
 spent_leaves : (request : Request) (fs : Files) → HasAnswer request fs spent → HasSpentLeaves request fs
-spent_leaves (integrate base a b tries) fs h = leaves_in (bytes_of fs base) (bytes_of fs a) (bytes_of fs b) tries h
-spent_leaves (integrate_many base variants tries) fs h =
-    record { p = h.p; ps = h.ps; base_is = h.base_is; variants_are = h.variants_are; spent = leaves_by {X = Told} (λ t. t) h.p h.ps tries h.answer }
-spent_leaves (trial base a b words steps) fs (state, told, h) = leaves_in (bytes_of fs base) (bytes_of fs a) (bytes_of fs b) DEFAULT_TRIES h
+spent_leaves (integrate base a b tries) fs h = leaves_in told_as fs base (a ∷ b ∷ []) tries h
+spent_leaves (integrate_many base variants tries) fs h = leaves_in {X = Told} (λ t. t) fs base variants tries h
+spent_leaves (trial base a b words steps) fs (state, told, h) = leaves_in told_as fs base (a ∷ b ∷ []) DEFAULT_TRIES h
 spent_leaves (sample seed parts) fs h =
-    leaves_of (made_by.sample seed parts).base (made_by.sample seed parts).a (made_by.sample seed parts).b DEFAULT_TRIES h.answer
+    let three = made_by.sample seed parts in leaves_by told_as three.base (three.a ∷ three.b ∷ []) DEFAULT_TRIES h.answer
 spent_leaves _ fs h = absurd h
 
 -- where a point is a conflict, the answer is a list of conflicts
-module _ (p q r : Tree) (is_p : IsProgram p) (is_q : IsProgram q) (is_r : IsProgram r) (side : Side) (point : Vertex)
-    (conflict : IsConflictAt (merged_of p q r) (graph_on side (graph_of q) (graph_of r)) (graph_of p) point) where
-  not_free : IsWithoutConflict p q r → ⊥
-  not_free free = conflict.1 (sides_kept p q r is_p is_q is_r free (number_of side) point conflict.0)
+module _ {X : Type 0} (at : X → ℕ × Vertex × Edge) (p : Tree) (ps : List Tree) (tells : TellsEach at (length (graphs_of ps))) (is_p : IsProgram p) (all : AllByRecursion IsProgram ps) (number : ℕ) (point : Vertex)
+    (conflict : IsConflictAt (merged_of_all p ps) (graph_at (graphs_of ps) number) (graph_of p) point) where
+  not_free : AreWithoutConflict at p ps → ⊥
+  not_free free = conflict.1 (each_kept p ps is_p all (none_told at (graph_of p) (graphs_of ps) tells free) number point conflict.0)
 
-  conflicting : (tries : ℕ) (x : Answer) → IsAnswer p q r tries x → (cs : List Conflict) × (x ≡ interference cs)
+  conflicting : (tries : ℕ) (x : AnswerBy X) → IsAnswerBy at p ps tries x → (cs : List X) × (x ≡ interference cs)
   conflicting tries (interference cs) answer = (cs, refl)
   conflicting tries (printed m) answer = absurd (not_free answer.0)
   conflicting tries (no_program n) answer = absurd (not_free answer.0)
   conflicting tries spent answer = absurd (not_free answer.0)
 
-  reported_conflicting : (tries : ℕ) (d : Decision) → IsReported p q r tries d → status_of d ≡ status.Interference
-  reported_conflicting tries d (x, answer, shown) =
+  reported_conflicting : (show : Tree → List ℕ) (say : List X → List ℕ) (tries : ℕ) (d : Decision) → IsReportedWith show at say p ps tries d → status_of d ≡ status.Interference
+  reported_conflicting show say tries d (x, answer, shown) =
       let (cs, e) = conflicting tries x answer in
-      ap status_of shown ∙ ap (λ y. status_of (report tries y)) e
+      ap status_of shown ∙ ap (λ y. status_of (report_with show say tries y)) e
 
-  tried_conflicting : (state : Values) (steps : ℕ) (d : Decision) → IsTried p q r state steps d → status_of d ≡ status.Interference
-  tried_conflicting state steps d (x, answer, by) =
-      let (cs, e) = conflicting DEFAULT_TRIES x answer in
-      let same : d ≡ report DEFAULT_TRIES (interference cs) = subst (λ (y : Answer). IsTrialBy p q r state steps y d) e by in
-      ap status_of same
-
-  sampled_conflicting : (seed parts : ℕ) (d : Decision) → IsSampled seed parts p q r d → status_of d ≡ status.Interference
-  sampled_conflicting seed parts d (x, answer, shown) =
-      let (cs, e) = conflicting DEFAULT_TRIES x answer in
-      ap status_of shown ∙ ap (λ y. status_of (sample_report seed parts p q r y)) e
-
--- so it is of many variants
-module _ (p : Tree) (ps : List Tree) (is_p : IsProgram p) (all : AllByRecursion IsProgram ps) (number : ℕ) (point : Vertex)
-    (conflict : IsConflictAt (merged_of_all p ps) (graph_at (graphs_of ps) number) (graph_of p) point) where
-  none_free : AreWithoutConflict {X = Told} (λ t. t) p ps → ⊥
-  none_free free =
-      conflict.1 (each_kept p ps is_p all (none_told {X = Told} (λ t. t) (graph_of p) (graphs_of ps) (triples_tell (length (graphs_of ps))) free) number point conflict.0)
-
-  told_conflicting : (tries : ℕ) (x : AnswerBy Told) → IsAnswerOfMany p ps tries x → (ts : List Told) × (x ≡ interference ts)
-  told_conflicting tries (interference ts) answer = (ts, refl)
-  told_conflicting tries (printed m) answer = absurd (none_free answer.0)
-  told_conflicting tries (no_program n) answer = absurd (none_free answer.0)
-  told_conflicting tries spent answer = absurd (none_free answer.0)
-
-  many_conflicting : (tries : ℕ) (d : Decision) → IsReportedOfMany p ps tries d → status_of d ≡ status.Interference
-  many_conflicting tries d (x, answer, shown) =
-      let (ts, e) = told_conflicting tries x answer in
-      ap status_of shown ∙ ap (λ y. status_of (report_many tries y)) e
+-- so it is of two variants in a trial
+tried_conflicting : (p q r : Tree) → IsProgram p → IsProgram q → IsProgram r → (side : Side) (point : Vertex) → IsConflictAt (merged_of p q r) (graph_on side (graph_of q) (graph_of r)) (graph_of p) point
+    → (state : Values) (steps : ℕ) (d : Decision) → IsTried p q r state steps d → status_of d ≡ status.Interference
+tried_conflicting p q r is_p is_q is_r side point conflict state steps d (x, answer, by) =
+    let (cs, e) = conflicting told_as p (q ∷ r ∷ []) sides_tell is_p (is_q, (is_r, tt)) (number_of side) point conflict DEFAULT_TRIES x answer in
+    let same : d ≡ report DEFAULT_TRIES (interference cs) = subst (λ (y : Answer). IsTrialBy p q r state steps y d) e by in
+    ap status_of same
 
 conflict_outcome : (request : Request) (fs : Files) (d : Decision) → HasConflict request fs → RequestOutcome request fs d → status_of d ≡ status.Interference
 conflict_outcome (integrate base a b tries) fs d h o =
-    let on_graphs = of_programs fs base a b (λ p q r. Integrated base p a q b r tries d) d h.p h.q h.r o h.base_is h.a_is h.b_is in
-    reported_conflicting h.p h.q h.r h.base_is.program h.a_is.program h.b_is.program h.side h.point h.conflict tries d
-    (of_program_graphs base h.p a h.q b h.r (IsReported h.p h.q h.r tries d) d h.within on_graphs)
+    reported_conflicting told_as h.p (h.q ∷ h.r ∷ []) sides_tell h.base_is.program (h.a_is.program, (h.b_is.program, tt)) (number_of h.side) h.point h.conflict text conflicts_text tries d
+    (of_many told_as conflicts_text fs base (a ∷ b ∷ []) tries d h.p (h.q ∷ h.r ∷ []) o h.base_is (h.a_is, (h.b_is, tt)) h.within)
 conflict_outcome (integrate_many base variants tries) fs d h o =
-    many_conflicting h.p h.ps h.base_is.program (are_programs fs variants h.ps h.variants_are) h.number h.point h.conflict tries d
-    (of_many fs base variants tries d h.p h.ps o h.base_is h.variants_are h.within)
+    reported_conflicting {X = Told} (λ t. t) h.p h.ps (triples_tell (length (graphs_of h.ps))) h.base_is.program (are_programs fs variants h.ps h.variants_are) h.number h.point h.conflict text told_text tries d
+    (of_many {X = Told} (λ t. t) told_text fs base variants tries d h.p h.ps o h.base_is h.variants_are h.within)
 conflict_outcome (trial base a b words steps) fs d (state, told, h) o =
     let on_files = of_state (states_of words) state told (λ t d. OnFiles fs base a b (λ p q r. Tried base p a q b r t steps d) d) d o in
     let on_graphs = of_programs fs base a b (λ p q r. Tried base p a q b r state steps d) d h.p h.q h.r on_files h.base_is h.a_is h.b_is in
     tried_conflicting h.p h.q h.r h.base_is.program h.a_is.program h.b_is.program h.side h.point h.conflict state steps d
-    (of_program_graphs base h.p a h.q b h.r (IsTried h.p h.q h.r state steps d) d h.within on_graphs)
+    (of_all_graphs (base ∷ a ∷ b ∷ []) (h.p ∷ h.q ∷ h.r ∷ []) (IsTried h.p h.q h.r state steps d) d h.within on_graphs)
 conflict_outcome (sample seed parts) fs d h o =
     let three = made_by.sample seed parts in
     let is = is_sample seed parts h.size in
-    sampled_conflicting three.base three.a three.b is.base is.a is.b h.side h.point h.conflict seed parts d
-    (of_program_graphs (codes "base") three.base (codes "A") three.a (codes "B") three.b (IsSampled seed parts three.base three.a three.b d) d h.within o.1)
+    reported_conflicting told_as three.base (three.a ∷ three.b ∷ []) sides_tell is.base (is.a, (is.b, tt)) (number_of h.side) h.point h.conflict (sample_line seed parts three.base three.a three.b)
+    conflicts_text DEFAULT_TRIES d
+    (of_all_graphs (codes "base" ∷ codes "A" ∷ codes "B" ∷ []) (three.base ∷ three.a ∷ three.b ∷ []) (IsSampled seed parts three.base three.a three.b d) d h.within o.1)
 conflict_outcome _ fs d h o = absurd h
 
 module _ (request : Request) (fs : Files) (reads : List ℕ → Type 0) (before now : ℕ) (out err : Change) where

@@ -6,7 +6,11 @@ use Rattle.hpr_io.specs.Files.{Files}
 use Rattle.hpr_syntax.specs.Print.{text}
 use Rattle.hpr_syntax.specs.Shape.{IsProgram}
 use Rattle.hpr_syntax.specs.Tree.{Tree}
-use Rattle.hpr_graph.specs.Answer.{Answer, IsAnswer}
+use Rattle.hpr_graph.specs.declared.edge.Edge.{Edge}
+use Rattle.hpr_graph.specs.declared.vertex.Vertex.{Vertex}
+use Rattle.hpr_graph.specs.Conflicts.{told_as}
+use Rattle.hpr_merge.proofs.SomeConflicts.{IsTellingOnce, told_once}
+use Rattle.hpr_report.specs.ConflictsText.{conflicts_text}
 use Rattle.hpr_edit.specs.Applied.{applied}
 use Rattle.hpr_order.proofs.SomeRank.{some_rank}
 use Rattle.hpr_words.specs.Request.{Request, Text, integrate, integrate_many, run, graph, slice, affected, trial, edit, tag, sample, verify, IsInRange}
@@ -15,8 +19,9 @@ use Rattle.hpr_inputs.specs.Decision.{Decision, prints, usage}
 use Rattle.hpr_decisions.specs.GraphFile.{Graphed}
 use Rattle.hpr_decisions.specs.EditFiles.{OnScript, edit_decision}
 use Rattle.hpr_inputs.specs.Files.{OnFile, OnFiles, OnAllFiles}
-use Rattle.hpr_decisions.specs.Integrate.{IsReported, Integrated, report}
-use Rattle.hpr_decisions.specs.IntegrateMany.{IntegratedMany, IntegrateManyOutcome, IsReportedOfMany, OnAllGraphs, Told, report_many}
+use Rattle.hpr_decisions.specs.Graphs.{OnAllGraphs}
+use Rattle.hpr_decisions.specs.Integrate.{report_with, IntegratedBy, IsReportedBy, IsReportedWith, OutcomeBy}
+use Rattle.hpr_decisions.specs.IntegrateMany.{Told, told_text}
 use Rattle.hpr_decisions.specs.VerifyFiles.{IsVerified, report_verdict}
 use Rattle.hpr_verify.proofs.SomeVerdict.{some_verdict}
 use Rattle.hpr_decisions.specs.Outcome.{RequestOutcome, Outcome}
@@ -27,45 +32,39 @@ use Rattle.hpr_decisions.specs.TrialFiles.{IsTried, Tried}
 use Rattle.hpr_sample.specs.Sample as made
 use Rattle.hpr_sample.specs.Sample.{IsSampleSize}
 use Rattle.hpr_sample.proofs.SamplePrograms.{is_sample}
-use Rattle.hpr_decisions.specs.Sampled.{IsSampled, SampleOutcome, sample_report}
+use Rattle.hpr_decisions.specs.Sampled.{IsSampled, SampleOutcome, sample_line}
 use Rattle.hpr_inputs.specs.declared.answer.Kind.TheVariants.{Done}
 use Rattle.hpr_engine.proofs.SomeAnswer.{some_answer, some_answer_by}
 use Rattle.hpr_decisions.proofs.TotalFiles.{on_script, on_untagged}
-use Rattle.hpr_decisions.proofs.TotalGraphs.{on_all_graphs, on_graphs, graphed, sliced, affected_points}
+use Rattle.hpr_decisions.proofs.TotalGraphs.{on_all_graphs, graphed, sliced, affected_points}
 use Rattle.hpr_decisions.proofs.TotalTables.{tried}
 use Rattle.hpr_inputs.proofs.SomeDecision.{HasOne, on_all_files, on_file, on_files, on_state}
 
-reported : (p q s : Tree) (tries : ℕ) → ¬ (¬ ((x : Answer) × IsAnswer p q s tries x)) → HasOne (IsReported p q s tries)
-reported p q s tries some n = some (λ x. n (report tries x.0, (x.0, x.1, refl)))
-
-sampled : (seed parts : ℕ) (p q s : Tree) → ¬ (¬ ((x : Answer) × IsAnswer p q s DEFAULT_TRIES x)) → HasOne (IsSampled seed parts p q s)
-sampled seed parts p q s some n = some (λ x. n (sample_report seed parts p q s x.0, (x.0, x.1, refl)))
+module _ {X : Type 0} (show : Tree → List ℕ) (at : X → ℕ × Vertex × Edge) (once : IsTellingOnce at) (say : List X → List ℕ) where
+  reported : (p : Tree) (ps : List Tree) (tries : ℕ) → IsProgram p → AllByRecursion IsProgram ps → ps ≢ [] → HasOne (IsReportedWith show at say p ps tries)
+  reported p ps tries is all some n =
+      some_answer_by at once p ps is all (some_rank p ps some) tries (λ x. n (report_with show say tries x.0, (x.0, x.1, refl)))
 
 sample_decided : (seed parts : ℕ) → IsSampleSize parts → HasOne (SampleOutcome seed parts)
 sample_decided seed parts size n =
     let three = made.sample seed parts in
     let is = is_sample seed parts size in
-    on_graphs (codes "base") three.base (codes "A") three.a (codes "B") three.b (IsSampled seed parts three.base three.a three.b)
-    (sampled seed parts three.base three.a three.b (some_answer three.base three.a three.b is.base is.a is.b DEFAULT_TRIES))
+    on_all_graphs (codes "base" ∷ codes "A" ∷ codes "B" ∷ []) (three.base ∷ three.a ∷ three.b ∷ []) (IsSampled seed parts three.base three.a three.b)
+    (reported (sample_line seed parts three.base three.a three.b) told_as told_once conflicts_text three.base (three.a ∷ three.b ∷ []) DEFAULT_TRIES is.base (is.a, (is.b, tt)) (λ e. absurd cc))
     (λ found. n (found.0, (size, found.1)))
 
-reported_many : (p : Tree) (ps : List Tree) (tries : ℕ) → IsProgram p → AllByRecursion IsProgram ps → ps ≢ [] → HasOne (IsReportedOfMany p ps tries)
-reported_many p ps tries is all some n =
-    some_answer_by {X = Told} (λ t. t) (λ x y e. e) p ps is all (some_rank p ps some) tries (λ x. n (report_many tries x.0, (x.0, x.1, refl)))
+module _ {X : Type 0} (at : X → ℕ × Vertex × Edge) (once : IsTellingOnce at) (say : List X → List ℕ) where
+  integrated : (fs : Files) (base : Text) (names : List Text) (tries : ℕ) → 1 ≤ length names → HasOne (OutcomeBy at say fs base names tries)
+  integrated fs base names tries some =
+      on_file fs base (λ p r. OnAllFiles fs names (λ ps. IntegratedBy at say base p names ps tries r) r) (λ p is.
+      on_all_files fs names (λ ps r. IntegratedBy at say base p names ps tries r) (λ ps count all.
+      on_all_graphs (base ∷ names) (p ∷ ps) (IsReportedBy at say p ps tries)
+      (reported text at once say p ps tries is all (λ none. (let e = ap (λ (qs : List Tree). length qs) none in omega (arith, some, count, e))))))
 
 module _ (fs : Files) where
-  many_decided : (base : Text) (names : List Text) (tries : ℕ) → 1 ≤ length names → HasOne (IntegrateManyOutcome fs base names tries)
-  many_decided base names tries some =
-      on_file fs base (λ p r. OnAllFiles fs names (λ ps. IntegratedMany base p names ps tries r) r) (λ p is.
-      on_all_files fs names (λ ps r. IntegratedMany base p names ps tries r) (λ ps count all.
-      on_all_graphs (base ∷ names) (p ∷ ps) (IsReportedOfMany p ps tries)
-      (reported_many p ps tries is all (λ none. (let e = ap (λ (qs : List Tree). length qs) none in omega (arith, some, count, e))))))
-
   request_decided : (request : Request) → IsInRange request → HasOne (RequestOutcome request fs)
-  request_decided (integrate base a b tries) range =
-      on_files fs base a b (λ p q s r. Integrated base p a q b s tries r) (λ p q s is_p is_q is_s.
-      on_graphs base p a q b s (IsReported p q s tries) (reported p q s tries (some_answer p q s is_p is_q is_s tries)))
-  request_decided (integrate_many base variants tries) range = many_decided base variants tries (omega (arith, range.0))
+  request_decided (integrate base a b tries) range = integrated told_as told_once conflicts_text fs base (a ∷ b ∷ []) tries (omega arith)
+  request_decided (integrate_many base variants tries) range = integrated {X = Told} (λ t. t) (λ x y e. e) told_text fs base variants tries (omega (arith, range.0))
   request_decided (run file words steps trace) range =
       on_state (states_of words) (λ state r. OnFile fs file (λ p. Ran p state steps trace r) r) (λ state.
       on_file fs file (λ p r. Ran p state steps trace r) (λ p _ n. n (_, refl)))
@@ -77,7 +76,7 @@ module _ (fs : Files) where
   request_decided (trial base a b words steps) range =
       on_state (states_of words) (λ state r. OnFiles fs base a b (λ p q s. Tried base p a q b s state steps r) r) (λ state.
       on_files fs base a b (λ p q s r. Tried base p a q b s state steps r) (λ p q s is_p is_q is_s.
-      on_graphs base p a q b s (IsTried p q s state steps) (tried p q s state steps (some_answer p q s is_p is_q is_s DEFAULT_TRIES))))
+      on_all_graphs (base ∷ a ∷ b ∷ []) (p ∷ q ∷ s ∷ []) (IsTried p q s state steps) (tried p q s state steps (some_answer p q s is_p is_q is_s DEFAULT_TRIES))))
   request_decided (edit file words author) range =
       on_file fs file (λ p r. OnScript fs words (λ cs. r ≡ edit_decision words (applied p cs author)) r) (λ p _.
       on_script fs words (λ cs r. r ≡ edit_decision words (applied p cs author)) (λ cs n. n (edit_decision words (applied p cs author), refl)))

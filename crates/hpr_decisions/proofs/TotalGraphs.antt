@@ -13,9 +13,7 @@ use Rattle.hpr_words.specs.Request.{Text}
 use Rattle.hpr_decisions.specs.AffectedFiles.{AffectedPoints}
 use Rattle.hpr_inputs.specs.Decision.{Decision, Prints, refuses}
 use Rattle.hpr_decisions.specs.GraphFile.{IsShown, Graphed}
-use Rattle.hpr_decisions.specs.Graphs.{OnGraph, too_many_edges}
-use Rattle.hpr_decisions.specs.Integrate.{OnGraphs}
-use Rattle.hpr_decisions.specs.IntegrateMany.{OnAllGraphs}
+use Rattle.hpr_decisions.specs.Graphs.{OnAllGraphs, OnGraph, too_many_edges}
 use Rattle.hpr_inputs.specs.Points.{IsPoint, OnPoints}
 use Rattle.hpr_decisions.specs.SliceFile.{IsSliceShown, Sliced}
 use Rattle.hpr_prune.proofs.OneProgram.{some_pruned}
@@ -28,13 +26,6 @@ on_graph file p next decides =
     by_both (HasTooManyEdges p) ((r : Decision) × OnGraph file p (next r) r)
     (λ many n. n (refuses (too_many_edges file), inl (many, refl)))
     (λ few n. decides (λ found. n (found.0, inr (few, found.1))))
-
-pub on_graphs : (base : List ℕ) (p : Tree) (a : List ℕ) (q : Tree) (b : List ℕ) (s : Tree) (next : Decision → Type 0) → HasOne next
-    → HasOne (λ r. OnGraphs base p a q b s (next r) r)
-on_graphs base p a q b s next decides =
-    on_graph base p (λ r. OnGraph a q (OnGraph b s (next r) r) r)
-    (on_graph a q (λ r. OnGraph b s (next r) r)
-    (on_graph b s next decides))
 
 pub on_all_graphs : (names : List Text) (ps : List Tree) (next : Decision → Type 0) → HasOne next → HasOne (λ r. OnAllGraphs names ps (next r) r)
 on_all_graphs [] ps next decides = decides

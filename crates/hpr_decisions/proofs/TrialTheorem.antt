@@ -1,5 +1,5 @@
 -- What a finished trial shows.
-use Rattle.std.proofs.Common.{◌≡◌, ℕ, ◌+◌, Bool, true, ◌&&◌, List, ◌++◌, Ok, refl, ap, ap₂, ◌∙◌, subst, inl, inr, Some, map, codes}
+use Rattle.std.proofs.Common.{◌≡◌, ℕ, ◌+◌, Bool, true, ◌&&◌, List, [], ◌∷◌, ◌++◌, Ok, refl, ap, ap₂, ◌∙◌, subst, Some, map, codes, arith}
 use Rattle.hpr_terms.specs.declared.limits.TheConstants.{DEFAULT_TRIES}
 use Rattle.hpr_io.specs.Files.{Files, bytes_of}
 use Rattle.hpr_syntax.specs.Grammar.{tagged}
@@ -18,10 +18,8 @@ use Rattle.hpr_report.proofs.OneTable.{kept_in_rows}
 use Rattle.hpr_words.specs.Request.{Request, Text, trial}
 use Rattle.hpr_inputs.specs.Decision.{Decision, prints, refuses}
 use Rattle.hpr_decisions.specs.Ends as call
-use Rattle.hpr_decisions.specs.Graphs.{OnGraph}
-use Rattle.hpr_inputs.specs.Files.{OnFile, OnFiles}
+use Rattle.hpr_inputs.specs.Files.{OnFiles}
 use Rattle.hpr_decisions.specs.Outcome.{RequestOutcome, OutcomeIfTold}
-use Rattle.hpr_refusals.specs.Refusals.{IsFileOf}
 use Rattle.hpr_inputs.specs.States.{states_of}
 use Rattle.hpr_decisions.specs.TrialFiles.{IsTried, ShowsIf, ShowsTrial, Tried, TrialOutcome, finals_of, has_ended, have_ended, steps_together, three_lines, trial_line}
 use Rattle.hpr_decisions.specs.TrialKeeps.{EndsTrial, IsKeptTrial, KeepsTrial}
@@ -30,6 +28,7 @@ use Rattle.hpr_decisions.specs.declared.status.Status.{Status}
 use Rattle.hpr_decisions.specs.declared.status.Status.TheVariants as status
 use Rattle.hpr_syntax.proofs.ExactSteps.{exact_steps}
 use Rattle.hpr_decisions.proofs.Theorem.{of_spelled}
+use Rattle.hpr_decisions.proofs.Unrefused.{past_all_graphs, past_files}
 use Rattle.hpr_inputs.proofs.VersionLemmas.{of_state}
 
 -- which outcomes are no program's
@@ -124,24 +123,15 @@ module _ (p q r : Tree) (state : Values) (steps : ℕ) where
 
 -- what is decided of three files that are not refused
 module _ (fs : Files) (d : Decision) (taken : (message : List ℕ) → d ≡ refuses message → ⊥) where
-  past_graph : (file : List ℕ) (p : Tree) (next : Type 0) → OnGraph file p next d → next
-  past_graph file p next (inl (many, e)) = absurd (taken _ e)
-  past_graph file p next (inr (few, h)) = h
-
-  past_file : (file : List ℕ) (next : Tree → Type 0) → OnFile fs file next d → (p : Tree) × IsFileOf (bytes_of fs file) p × next p
-  past_file file next (inl (message, refused, e)) = absurd (taken message e)
-  past_file file next (inr h) = h
-
   module _ (base a b : Text) (words : List Text) (steps : ℕ) (state : Values) (told : states_of words ≡ Ok state) (o : TrialOutcome fs base a b words steps d) where
     abbrev Spelled : (Tree → Tree → Tree → Type 0) → Type 0
     Spelled P = (p q r : Tree) → Spells tagged (bytes_of fs base) p → Spells tagged (bytes_of fs a) q → Spells tagged (bytes_of fs b) r → P p q r
 
     of_programs : (P : Tree → Tree → Tree → Type 0) → ((p q r : Tree) → IsProgram p → IsProgram q → IsProgram r → IsTried p q r state steps d → P p q r) → Spelled P
     of_programs P f =
-        let (p, hp, on_a) = past_file base _ (of_state (states_of words) state told (λ t d. OnFiles fs base a b (λ p q r. Tried base p a q b r t steps d) d) d o) in
-        let (q, hq, on_b) = past_file a _ on_a in
-        let (r, hr, on_graphs) = past_file b _ on_b in
-        let tried : IsTried p q r state steps d = past_graph b r _ (past_graph a q _ (past_graph base p _ on_graphs)) in
+        let on_files = of_state (states_of words) state told (λ t d. OnFiles fs base a b (λ p q r. Tried base p a q b r t steps d) d) d o in
+        let (p, q, r, hp, hq, hr, on_graphs) = past_files fs d taken base a b (λ p q r. Tried base p a q b r state steps d) on_files in
+        let (few, tried) = past_all_graphs fs d taken (base ∷ a ∷ b ∷ []) (p ∷ q ∷ r ∷ []) (IsTried p q r state steps d) (omega arith) on_graphs in
         of_spelled (bytes_of fs base) (bytes_of fs a) (bytes_of fs b) p q r hp hq hr P (f p q r hp.program hq.program hr.program tried)
 
 done_is_taken : (bytes message : List ℕ) → prints kind.Done bytes ≡ refuses message → ⊥

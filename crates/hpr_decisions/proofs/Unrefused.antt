@@ -1,16 +1,14 @@
 -- What isn't refused: its files spell programs, and their graphs are within the limit.
-use Rattle.std.proofs.Common.{◌≡◌, ℕ, List, [], ◌∷◌, inl, inr}
+use Rattle.std.proofs.Common.{◌≡◌, ◌≤◌, ℕ, List, [], ◌∷◌, length, inl, inr, arith}
 use Rattle.hpr_io.specs.Files.{Files, bytes_of}
 use Rattle.hpr_syntax.specs.Tree.{Tree}
-use Rattle.hpr_engine.specs.Limit.{AreAllInLimit, AreInLimit, HasTooManyEdges}
+use Rattle.hpr_engine.specs.Limit.{AreAllInLimit, HasTooManyEdges}
 use Rattle.hpr_refusals.specs.Refusals.{IsFileOf, IsRefused}
 use Rattle.hpr_words.specs.Request.{Text}
 use Rattle.hpr_inputs.specs.Decision.{Decision, OnRead, refuses}
 use Rattle.hpr_inputs.specs.Files.{OnFile, OnFiles, OnAllFiles}
 use Rattle.hpr_inputs.specs.ReadsAll.{AreAllFilesOf}
-use Rattle.hpr_decisions.specs.Graphs.{OnGraph}
-use Rattle.hpr_decisions.specs.Integrate.{OnGraphs}
-use Rattle.hpr_decisions.specs.IntegrateMany.{OnAllGraphs}
+use Rattle.hpr_decisions.specs.Graphs.{OnAllGraphs, OnGraph}
 
 pub more_in_limit : (p : Tree) (ps : List Tree) → (HasTooManyEdges p → ⊥) → AreAllInLimit ps → AreAllInLimit (p ∷ ps)
 more_in_limit p [] few rest = few
@@ -23,6 +21,12 @@ first_in_limit p (q ∷ ps) few = few.0
 pub rest_in_limit : (p : Tree) (ps : List Tree) → AreAllInLimit (p ∷ ps) → AreAllInLimit ps
 rest_in_limit p [] few = tt
 rest_in_limit p (q ∷ ps) few = few.1
+
+pub no_more : (fs : Files) (names : List Text) (ps : List Tree) → AreAllFilesOf fs names ps → length ps ≤ length names
+no_more fs [] [] are = omega arith
+no_more fs [] (p ∷ ps) are = absurd are
+no_more fs (n ∷ ns) [] are = absurd are
+no_more fs (n ∷ ns) (p ∷ ps) are = let less = no_more fs ns ps are.1 in omega (arith, less)
 
 module _ (fs : Files) (d : Decision) (unrefused : (message : List ℕ) → d ≡ refuses message → ⊥) where
   pub past_read : {A : Type 0} (refused : List ℕ → Type 0) (is : A → Type 0) (next : A → Type 0) → OnRead refused is next d → (a : A) × is a × next a
@@ -44,13 +48,6 @@ module _ (fs : Files) (d : Decision) (unrefused : (message : List ℕ) → d ≡
       let (r, b_is, h) = past_file b _ on_b in
       (p, q, r, base_is, a_is, b_is, h)
 
-  pub past_graphs : (base : List ℕ) (p : Tree) (a : List ℕ) (q : Tree) (b : List ℕ) (r : Tree) (next : Type 0) → OnGraphs base p a q b r next d → AreInLimit p q r × next
-  past_graphs base p a q b r next o =
-      let (few, on_a) = past_graph base p _ o in
-      let (few_too, on_b) = past_graph a q _ on_a in
-      let (few_three, h) = past_graph b r _ on_b in
-      ((few, (few_too, few_three)), h)
-
   -- the same of any number
   pub past_all_files : (names : List Text) (next : List Tree → Type 0) → OnAllFiles fs names next d → (ps : List Tree) × AreAllFilesOf fs names ps × next ps
   past_all_files [] next o = ([], tt, o)
@@ -59,13 +56,13 @@ module _ (fs : Files) (d : Decision) (unrefused : (message : List ℕ) → d ≡
       let (ps, are, h) = past_all_files ns (λ qs. next (p ∷ qs)) rest in
       (p ∷ ps, (is, are), h)
 
-  pub past_all_graphs : (names : List Text) (ps : List Tree) (next : Type 0) → AreAllFilesOf fs names ps → OnAllGraphs names ps next d → AreAllInLimit ps × next
-  past_all_graphs [] [] next are o = (tt, o)
-  past_all_graphs [] (p ∷ ps) next are o = absurd are
-  past_all_graphs (n ∷ ns) [] next are o = absurd are
-  past_all_graphs (n ∷ ns) (p ∷ ps) next are o =
+  pub past_all_graphs : (names : List Text) (ps : List Tree) (next : Type 0) → length ps ≤ length names → OnAllGraphs names ps next d → AreAllInLimit ps × next
+  past_all_graphs [] [] next all o = (tt, o)
+  past_all_graphs [] (p ∷ ps) next all o = absurd (omega (arith, all))
+  past_all_graphs (n ∷ ns) [] next all o = (tt, o)
+  past_all_graphs (n ∷ ns) (p ∷ ps) next all o =
       let (few, rest) = past_graph n p (OnAllGraphs ns ps next d) o in
-      let (few_too, h) = past_all_graphs ns ps next are.1 rest in
+      let (few_too, h) = past_all_graphs ns ps next (omega (arith, all)) rest in
       (more_in_limit p ps few few_too, h)
 
   -- base's file and the variants'
@@ -75,16 +72,15 @@ module _ (fs : Files) (d : Decision) (unrefused : (message : List ℕ) → d ≡
   past_many base names next o =
       let (p, is, on_variants) = past_file base (λ p. OnAllFiles fs names (λ ps. OnAllGraphs (base ∷ names) (p ∷ ps) (next p ps) d) d) o in
       let (ps, are, on_graphs) = past_all_files names (λ ps. OnAllGraphs (base ∷ names) (p ∷ ps) (next p ps) d) on_variants in
-      let (few, h) = past_all_graphs (base ∷ names) (p ∷ ps) (next p ps) (is, are) on_graphs in
+      let (few, h) = past_all_graphs (base ∷ names) (p ∷ ps) (next p ps) (no_more fs (base ∷ names) (p ∷ ps) (is, are)) on_graphs in
       (p, ps, is, are, few, h)
 
 -- files that spell programs whose graphs are within the limit aren't refused
-pub of_all_graphs : (fs : Files) (names : List Text) (ps : List Tree) (next : Type 0) (d : Decision) → AreAllFilesOf fs names ps → AreAllInLimit ps → OnAllGraphs names ps next d → next
-of_all_graphs fs [] [] next d are few o = o
-of_all_graphs fs [] (p ∷ ps) next d are few o = absurd are
-of_all_graphs fs (n ∷ ns) [] next d are few o = absurd are
-of_all_graphs fs (n ∷ ns) (p ∷ ps) next d are few (inl (many, e)) = absurd (first_in_limit p ps few many)
-of_all_graphs fs (n ∷ ns) (p ∷ ps) next d are few (inr (one, o)) = of_all_graphs fs ns ps next d are.1 (rest_in_limit p ps few) o
+pub of_all_graphs : (names : List Text) (ps : List Tree) (next : Type 0) (d : Decision) → AreAllInLimit ps → OnAllGraphs names ps next d → next
+of_all_graphs [] ps next d few o = o
+of_all_graphs (n ∷ ns) [] next d few o = o
+of_all_graphs (n ∷ ns) (p ∷ ps) next d few (inl (many, e)) = absurd (first_in_limit p ps few many)
+of_all_graphs (n ∷ ns) (p ∷ ps) next d few (inr (one, o)) = of_all_graphs ns ps next d (rest_in_limit p ps few) o
 
 pub within_all : (names : List Text) (ps : List Tree) (next : Type 0) (d : Decision) → AreAllInLimit ps → next → OnAllGraphs names ps next d
 within_all [] ps next d few h = h

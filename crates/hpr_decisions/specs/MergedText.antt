@@ -1,9 +1,7 @@
 -- The graph of the program that is printed.
 --
--- HasMergedGraph base a b bytes   == the bytes base, a and b are accepted files that spell three programs, without a conflict, and the bytes spell a program whose graph
+-- HasMergedGraph files base names bytes == base's file and the variants' are accepted and spell programs, without a conflict, and the bytes spell a program whose graph
 --                                    is their merged graph, in which the parts that are split off are under their new tags
--- HasManyMergedGraph files base names bytes == base's file and the variants' are accepted and spell programs, and the bytes spell a program whose graph is
---                                    so made of theirs
 -- PrintsMerged request files bytes == for `integrate`: the bytes are such a text, of the files that it names
 use Rattle.std.specs.Prelude.{ℕ, List, [], ◌∷◌}
 use Rattle.hpr_io.specs.Files.{Files, bytes_of}
@@ -13,29 +11,14 @@ use Rattle.hpr_syntax.specs.Shape.{IsProgram}
 use Rattle.hpr_syntax.specs.Grammar.{tagged}
 use Rattle.hpr_syntax.specs.Spelling.{Spells}
 use Rattle.hpr_graph.specs.declared.vertex.Vertex.{Vertex}
-use Rattle.hpr_graph.specs.Answer.{Fits, AreSplitOff, IsWithoutConflict, graphs_of, searched_graph_of}
+use Rattle.hpr_graph.specs.Answer.{Fits, AreSplitOff, graphs_of, searched_graph_of}
 use Rattle.hpr_graph.specs.Conflicts.{HasNoConflict}
 use Rattle.hpr_graph.specs.ProgramGraph.{graph_of}
 use Rattle.hpr_refusals.specs.Refusals.{IsFileOf}
 use Rattle.hpr_inputs.specs.ReadsAll.{AreAllFilesOf}
 use Rattle.hpr_words.specs.Request.{Request, Text, integrate, integrate_many}
 
-pub record HasMergedGraph (base a b bytes : List ℕ) : Type 0 where
-  pub base_program : Tree
-  pub a_program : Tree
-  pub b_program : Tree
-  pub base_is : IsFileOf base base_program
-  pub a_is : IsFileOf a a_program
-  pub b_is : IsFileOf b b_program
-  pub printed : Tree
-  pub program : IsProgram printed
-  pub spelled : Spells tagged bytes printed
-  pub free : IsWithoutConflict base_program a_program b_program
-  pub renamed : List (Vertex × Tag)
-  pub split_off : AreSplitOff base_program (a_program ∷ b_program ∷ []) renamed
-  pub fits : Fits (searched_graph_of renamed base_program (a_program ∷ b_program ∷ [])) printed
-
-pub record HasManyMergedGraph (files : Files) (base : Text) (names : List Text) (bytes : List ℕ) : Type 0 where
+pub record HasMergedGraph (files : Files) (base : Text) (names : List Text) (bytes : List ℕ) : Type 0 where
   pub base_program : Tree
   pub variant_programs : List Tree
   pub base_is : IsFileOf (bytes_of files base) base_program
@@ -49,6 +32,6 @@ pub record HasManyMergedGraph (files : Files) (base : Text) (names : List Text) 
   pub fits : Fits (searched_graph_of renamed base_program variant_programs) printed
 
 abbrev pub PrintsMerged : Request → Files → List ℕ → Type 0
-PrintsMerged (integrate base a b tries) files bytes = HasMergedGraph (bytes_of files base) (bytes_of files a) (bytes_of files b) bytes
-PrintsMerged (integrate_many base variants tries) files bytes = HasManyMergedGraph files base variants bytes
+PrintsMerged (integrate base a b tries) files bytes = HasMergedGraph files base (a ∷ b ∷ []) bytes
+PrintsMerged (integrate_many base variants tries) files bytes = HasMergedGraph files base variants bytes
 PrintsMerged _ files bytes = Unit {0}

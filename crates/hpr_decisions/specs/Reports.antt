@@ -3,19 +3,18 @@
 -- tries_of request              == the budget of tries of its integration
 -- ConflictOf request            == what a conflict of its integration is: one of two variants with its side, or else one of many with its variant's number
 -- text_of_conflicts request cs  == the text of the conflicts
--- AnswersFiles base a b tries x == the bytes of three files spell programs whose graphs are within the limit, and x is an answer of their integration
+-- AnswersFiles at files base names tries x == base's file and the variants' spell programs whose graphs are within the limit, and x is an answer of their integration,
+--                                  where `at` tells each conflict's variant, point and edge
 -- AnswersSample seed parts x    == the graphs of the programs of the sample are within the limit, and x is an answer of their integration
--- AnswersMany files base names tries x == base's file and the variants' spell programs whose graphs are within the limit, and x is an answer of their integration
 -- HasAnswer request files x     == for `integrate`, and for `trial` where no state word is refused, or for `sample`: x is such an answer
 -- ConflictsIn base a b          == the bytes of three files spell programs whose graphs are within the limit, and a point of one side is a conflict
 -- ConflictsInSample seed parts   == the same of the programs of the sample
 -- ConflictsInMany files base names == the same of base and the variants in these files, where a point of some variant is a conflict
 -- HasConflict request files     == for `integrate`, and for `trial` where no state word is refused, or for `sample`: there is such a point
--- SpentIn base a b tries        == the bytes of three files spell programs, whose arrangements have more leaves than tries, none of the first of which fits
--- SpentInMany files base names tries == the same of base and the variants in these files
--- HasSpentLeaves request files  == for the same commands: it is so of their three programs
+-- SpentIn files base names tries == base's file and the variants' spell programs, whose arrangements have more leaves than tries, none of the first of which fits
+-- HasSpentLeaves request files  == for the same commands: it is so of their programs
 -- IsInterference request cs old new s == the status is Interference, and `out` took the text of all these conflicts
-use Rattle.std.specs.Prelude.{◌≡◌, ℕ, List, ◌∷◌, Option, Ok}
+use Rattle.std.specs.Prelude.{◌≡◌, ℕ, List, [], ◌∷◌, Option, Ok}
 use Rattle.hpr_terms.specs.declared.limits.TheConstants.{DEFAULT_TRIES}
 use Rattle.hpr_io.specs.Files.{Files, bytes_of}
 use Rattle.hpr_io.specs.Taken.{taken_then}
@@ -23,10 +22,11 @@ use Rattle.hpr_syntax.specs.Tree.{Tree}
 use Rattle.hpr_syntax.specs.Values.{Values}
 use Rattle.hpr_graph.specs.declared.conflict.Conflict.{Conflict}
 use Rattle.hpr_graph.specs.declared.conflict.Side.{Side}
+use Rattle.hpr_graph.specs.declared.edge.Edge.{Edge}
 use Rattle.hpr_graph.specs.declared.vertex.Vertex.{Vertex}
 use Rattle.hpr_graph.specs.Answer as answer
-use Rattle.hpr_graph.specs.Answer.{Answer, AnswerBy, IsAnswer, graphs_of, merged_of, merged_of_all}
-use Rattle.hpr_graph.specs.Conflicts.{IsConflictAt, graph_at, graph_on}
+use Rattle.hpr_graph.specs.Answer.{Answer, AnswerBy, IsAnswer, IsAnswerBy, graphs_of, merged_of, merged_of_all}
+use Rattle.hpr_graph.specs.Conflicts.{IsConflictAt, graph_at, graph_on, told_as}
 use Rattle.hpr_graph.specs.ProgramGraph.{graph_of}
 use Rattle.hpr_engine.specs.Limit.{AreAllInLimit, AreInLimit}
 use Rattle.hpr_report.specs.ConflictsText.{conflicts_text}
@@ -36,7 +36,7 @@ use Rattle.hpr_sample.specs.Sample.{IsSampleSize}
 use Rattle.hpr_refusals.specs.Refusals.{IsFileOf}
 use Rattle.hpr_inputs.specs.ReadsAll.{AreAllFilesOf}
 use Rattle.hpr_inputs.specs.States.{states_of}
-use Rattle.hpr_decisions.specs.IntegrateMany.{IsAnswerOfMany, Told, told_text}
+use Rattle.hpr_decisions.specs.IntegrateMany.{Told, told_text}
 use Rattle.hpr_decisions.specs.declared.status.Status.{Status}
 use Rattle.hpr_decisions.specs.declared.status.Status.TheVariants.{Interference}
 
@@ -53,34 +53,24 @@ abbrev pub text_of_conflicts : (request : Request) → List (ConflictOf request)
 text_of_conflicts (integrate_many base variants tries) cs = told_text cs
 text_of_conflicts _ cs = conflicts_text cs
 
-pub record AnswersFiles (base a b : List ℕ) (tries : ℕ) (x : Answer) : Type 0 where
+pub record AnswersFiles {X : Type 0} (at : X → ℕ × Vertex × Edge) (files : Files) (base : Text) (names : List Text) (tries : ℕ) (x : AnswerBy X) : Type 0 where
   pub p : Tree
-  pub q : Tree
-  pub r : Tree
-  pub base_is : IsFileOf base p
-  pub a_is : IsFileOf a q
-  pub b_is : IsFileOf b r
-  pub within : AreInLimit p q r
-  pub answer : IsAnswer p q r tries x
+  pub ps : List Tree
+  pub base_is : IsFileOf (bytes_of files base) p
+  pub variants_are : AreAllFilesOf files names ps
+  pub within : AreAllInLimit (p ∷ ps)
+  pub answer : IsAnswerBy at p ps tries x
 
 pub record AnswersSample (seed parts : ℕ) (x : Answer) : Type 0 where
   pub size : IsSampleSize parts
   pub within : AreInLimit (made.sample seed parts).base (made.sample seed parts).a (made.sample seed parts).b
   pub answer : IsAnswer (made.sample seed parts).base (made.sample seed parts).a (made.sample seed parts).b DEFAULT_TRIES x
 
-pub record AnswersMany (files : Files) (base : Text) (names : List Text) (tries : ℕ) (x : AnswerBy Told) : Type 0 where
-  pub p : Tree
-  pub ps : List Tree
-  pub base_is : IsFileOf (bytes_of files base) p
-  pub variants_are : AreAllFilesOf files names ps
-  pub within : AreAllInLimit (p ∷ ps)
-  pub answer : IsAnswerOfMany p ps tries x
-
 abbrev pub HasAnswer : (request : Request) → Files → AnswerBy (ConflictOf request) → Type 0
-HasAnswer (integrate base a b tries) files x = AnswersFiles (bytes_of files base) (bytes_of files a) (bytes_of files b) tries x
-HasAnswer (integrate_many base variants tries) files x = AnswersMany files base variants tries x
+HasAnswer (integrate base a b tries) files x = AnswersFiles told_as files base (a ∷ b ∷ []) tries x
+HasAnswer (integrate_many base variants tries) files x = AnswersFiles {X = Told} (λ t. t) files base variants tries x
 HasAnswer (trial base a b states steps) files x =
-    (state : Values) × (states_of states ≡ Ok state) × AnswersFiles (bytes_of files base) (bytes_of files a) (bytes_of files b) DEFAULT_TRIES x
+    (state : Values) × (states_of states ≡ Ok state) × AnswersFiles told_as files base (a ∷ b ∷ []) DEFAULT_TRIES x
 HasAnswer (sample seed parts) files x = AnswersSample seed parts x
 HasAnswer _ files x = ⊥
 
@@ -122,16 +112,7 @@ HasConflict (trial base a b states steps) files =
 HasConflict (sample seed parts) files = ConflictsInSample seed parts
 HasConflict _ files = ⊥
 
-pub record SpentIn (base a b : List ℕ) (tries : ℕ) : Type 0 where
-  pub p : Tree
-  pub q : Tree
-  pub r : Tree
-  pub base_is : IsFileOf base p
-  pub a_is : IsFileOf a q
-  pub b_is : IsFileOf b r
-  pub spent : answer.HasSpentLeaves p q r tries
-
-pub record SpentInMany (files : Files) (base : Text) (names : List Text) (tries : ℕ) : Type 0 where
+pub record SpentIn (files : Files) (base : Text) (names : List Text) (tries : ℕ) : Type 0 where
   pub p : Tree
   pub ps : List Tree
   pub base_is : IsFileOf (bytes_of files base) p
@@ -139,9 +120,9 @@ pub record SpentInMany (files : Files) (base : Text) (names : List Text) (tries 
   pub spent : answer.HasSpentLeavesOf p ps tries
 
 abbrev pub HasSpentLeaves : Request → Files → Type 0
-HasSpentLeaves (integrate base a b tries) files = SpentIn (bytes_of files base) (bytes_of files a) (bytes_of files b) tries
-HasSpentLeaves (integrate_many base variants tries) files = SpentInMany files base variants tries
-HasSpentLeaves (trial base a b states steps) files = SpentIn (bytes_of files base) (bytes_of files a) (bytes_of files b) DEFAULT_TRIES
+HasSpentLeaves (integrate base a b tries) files = SpentIn files base (a ∷ b ∷ []) tries
+HasSpentLeaves (integrate_many base variants tries) files = SpentIn files base variants tries
+HasSpentLeaves (trial base a b states steps) files = SpentIn files base (a ∷ b ∷ []) DEFAULT_TRIES
 HasSpentLeaves (sample seed parts) files =
     answer.HasSpentLeaves (made.sample seed parts).base (made.sample seed parts).a (made.sample seed parts).b DEFAULT_TRIES
 HasSpentLeaves _ files = ⊥

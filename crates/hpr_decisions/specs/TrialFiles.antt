@@ -24,7 +24,8 @@ use Rattle.hpr_report.specs.Texts.{outcome_line}
 use Rattle.hpr_words.specs.Request.{Text}
 use Rattle.hpr_inputs.specs.Decision.{Decision, Prints, prints}
 use Rattle.hpr_inputs.specs.Files.{OnFiles}
-use Rattle.hpr_decisions.specs.Integrate.{OnGraphs, report}
+use Rattle.hpr_decisions.specs.Graphs.{OnGraphs}
+use Rattle.hpr_decisions.specs.Integrate.{report}
 use Rattle.hpr_inputs.specs.States.{OnState, states_of}
 use Rattle.hpr_inputs.specs.declared.answer.Kind.TheVariants.{NotEnded}
 

@@ -22,7 +22,7 @@ use Rattle.hpr_words.specs.Request.{Text}
 use Rattle.hpr_inputs.specs.Decision.{Decision, prints}
 use Rattle.hpr_inputs.specs.Files.{OnFile, OnFiles}
 use Rattle.hpr_inputs.specs.declared.answer.Kind.TheVariants as kind
-use Rattle.hpr_decisions.specs.IntegrateMany.{OnAllGraphs}
+use Rattle.hpr_decisions.specs.Graphs.{OnAllGraphs}
 
 abbrev pub holder_word : Holder → List ℕ
 holder_word Offered = codes "offered"

@@ -6,7 +6,7 @@ use Rattle.std.specs.Prelude.{List, [], ◌∷◌}
 use Rattle.hpr_syntax.specs.Tree.{Tree}
 use Rattle.hpr_words.specs.Request.{Text}
 use Rattle.hpr_inputs.specs.Decision.{Decision}
-use Rattle.hpr_decisions.specs.IntegrateMany.{OnAllGraphs}
+use Rattle.hpr_decisions.specs.Graphs.{OnAllGraphs}
 use Rattle.hpr_decisions.specs.VerifyFiles.{IsVerified}
 
 abbrev pub IsVerifiedOf : List Text → List Tree → Decision → Type 0
