@@ -18,7 +18,6 @@ use Rattle.hpr_meaning.specs.Any.Standard.{standard}
 use Rattle.hpr_meaning.proofs.Standard.{standard_laws, keeps_standard}
 use Rattle.hpr_engine.proofs.AnyPrintedKeeps as any
 pub use Rattle.hpr_merge.proofs.NoneListed.{triples_tell}
-pub use Rattle.hpr_meaning.proofs.SidesKept.{sides_kept}
 
 pub printed_keeps_by : {X : Type 0} (at : X → ℕ × Vertex × Edge) (base : Tree) (vs : List Tree) → TellsEach at (length (graphs_of vs)) → (tries : ℕ) (m : Tree) → IsProgram base → AllByRecursion IsProgram vs
     → IsAnswerBy at base vs tries (printed m) → KeepsAll base vs m

@@ -10,7 +10,7 @@ use Rattle.hpr_closure.proofs.ProgramFinite.{program_finite, programs_finite}
 use Rattle.hpr_closure.proofs.ProgramWhole.{program_whole, programs_whole}
 use Rattle.hpr_merge.proofs.EdgeStands.{kept_without}
 use Rattle.hpr_merge.proofs.NoneListed.{none_told, sides_tell}
-use Rattle.hpr_meaning.specs.UnionLaw.{KeepsEach, KeepsSides}
+use Rattle.hpr_meaning.specs.UnionLaw.{KeepsEach}
 
 pub each_kept : (base : Tree) (vs : List Tree) → IsProgram base → AllByRecursion IsProgram vs → HasNoConflict (graph_of base) (graphs_of vs) → KeepsEach base vs
 each_kept base vs is all free i v =
@@ -18,6 +18,3 @@ each_kept base vs is all free i v =
 
 pub free_of_two : (base a b : Tree) → IsWithoutConflict base a b → HasNoConflict (graph_of base) (graphs_of (a ∷ b ∷ []))
 free_of_two base a b free = none_told told_as (graph_of base) (graphs_of (a ∷ b ∷ [])) sides_tell free
-
-pub sides_kept : (base a b : Tree) → IsProgram base → IsProgram a → IsProgram b → IsWithoutConflict base a b → KeepsSides base a b
-sides_kept base a b is is_a is_b free = each_kept base (a ∷ b ∷ []) is (is_a, (is_b, tt)) (free_of_two base a b free)
