@@ -1,0 +1,4 @@
+pub mod Packed
+pub mod Ends
+pub mod Call
+pub mod Integrate
