@@ -11,7 +11,7 @@ use Rattle.hpr_inputs.specs.Decision.{Decision, prints, refuses, usage}
 use Rattle.hpr_inputs.specs.declared.answer.Kind.{Kind}
 use Rattle.hpr_inputs.specs.declared.answer.Kind.TheVariants as kind
 use Rattle.hpr_decisions.specs.Ends.{Decided, Ends, SaysIfAny, message_of, status_of, status_of_kind, text_of}
-use Rattle.hpr_decisions.specs.MergedText.{HasMergedGraph, PrintsMerged}
+use Rattle.hpr_decisions.specs.MergedText.{PrintsMerged}
 use Rattle.hpr_decisions.specs.Number.{number_of}
 use Rattle.hpr_decisions.specs.Outcome.{Outcome, OutcomeIfTold, RequestOutcome}
 use Rattle.hpr_decisions.specs.Reads.{MayReadIfTaken}
@@ -21,7 +21,7 @@ use Rattle.hpr_decisions.specs.declared.status.Status.{Status}
 use Rattle.hpr_decisions.specs.declared.status.Status.TheVariants as status
 use Rattle.hpr_c.specs.Call.{IsTold, RanOut, Tells, kept}
 use Rattle.hpr_c.specs.Ends.{EndsAsHpr}
-use Rattle.hpr_c.specs.Integrate.{IsInterfering, IsOverBudget, IsRefused, IsWithoutProgram, integrate_words, three}
+use Rattle.hpr_c.specs.Integrate.{HasTheirGraph, IsInterfering, IsOverBudget, IsRefused, IsWithoutProgram, integrate_words, three}
 use Rattle.hpr_c.proofs.TellsLemmas.{all_taken, not_risen, numbered, status_at, took_all}
 
 abbrev pub asked : Request
@@ -58,7 +58,7 @@ module _ (base a b : List ℕ) where
   keeps number out err (inl told) e =
       took_all (KeepsMeaning asked files) out ((of_number told.s number 0 out err told.number_is e told.ends).keeps asked files taken_so refl refl)
 
-  pub merged : (number : ℕ) (out err : List ℕ) → Says number out err → number ≡ 0 → HasMergedGraph base a b out
+  pub merged : (number : ℕ) (out err : List ℕ) → Says number out err → number ≡ 0 → HasTheirGraph base a b out
   merged number out err (inr ran) e = let is = ran.0 in absurd (omega (arith, is, e))
   merged number out err (inl told) e =
       took_all (PrintsMerged asked files) out ((of_number told.s number 0 out err told.number_is e told.ends).merged asked files taken_so refl refl)

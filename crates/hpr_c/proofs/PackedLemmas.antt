@@ -56,14 +56,6 @@ packed_front (t ∷ ts) rest (u ∷ us) are all e =
     let next = packed_front ts rest us are.1 all.1 one.1 in
     (next.0, ap₂ (λ z zs. z ∷ zs) (sym one.0) next.1, next.2)
 
--- one more text
-pub packed_more : (bytes : List ℕ) (ts : List Text) (t : Text) (before rest : List ℕ) → AllByRecursion IsText ts → bytes ≡ packed ts ++ before → IsFirst before t rest
-    → AllByRecursion IsText (ts ++ t ∷ []) × (bytes ≡ packed (ts ++ t ∷ []) ++ rest)
-packed_more bytes [] t before rest _ e first = ((first.0, tt), e ∙ (first.1 ∙ sym (first_packed t [] rest)))
-packed_more bytes (u ∷ ts) t before rest are e first =
-    let next = packed_more (packed ts ++ before) ts t before rest are.1 refl first in
-    ((are.0, next.0), e ∙ (first_packed u ts before ∙ (ap (λ xs. u ++ 0 ∷ xs) next.1 ∙ sym (first_packed u (ts ++ t ∷ []) rest))))
-
 -- where there are bytes left, packed texts have a first one
 pub packed_first : (bytes : List ℕ) (ts : List Text) → (bytes ≡ [] → ⊥) → IsPacked bytes ts → (t : Text) × (rest : List ℕ) × IsFirst bytes t rest
 packed_first bytes [] some is = absurd (some is.1)
@@ -107,10 +99,6 @@ one_filing names lengths bytes fs gs are also =
     (append-nil (lengths_of fs) ∙ (sym are.1 ∙ also.1)) (append-nil (contents_of fs) ∙ (sym are.2 ∙ also.2)) in
     front.1 ∙ no_more_files fs front.0 front.2
 
-contents_more : (fs : Files) (name front : List ℕ) → contents_of (fs ++ (name, front) ∷ []) ≡ contents_of fs ++ front
-contents_more [] name front = append-nil front
-contents_more (f ∷ fs) name front = ap (λ (xs : List ℕ). f.1 ++ xs) (contents_more fs name front) ∙ sym (append_assoc f.1 (contents_of fs) front)
-
 -- one more file follows the first ones
 --
 -- Filed .. == the files are the first of all, and these names, lengths and bytes are left
@@ -119,21 +107,6 @@ pub record Filed (names lengths bytes : List ℕ) (fs : Files) (more_names more_
   pub names_are : names ≡ packed (names_of fs) ++ more_names
   pub lengths_are : lengths ≡ lengths_of fs ++ more_lengths
   pub bytes_are : bytes ≡ contents_of fs ++ rest
-
-pub filed_more : (names lengths bytes : List ℕ) (fs : Files) (before : List ℕ) (n : ℕ) (ns rest : List ℕ) → Filed names lengths bytes fs before (n ∷ ns) rest
-    → (name later front behind : List ℕ) → IsFirst before name later → rest ≡ front ++ behind → length front ≡ n
-    → Filed names lengths bytes (fs ++ (name, front) ∷ []) later ns behind
-filed_more names lengths bytes fs before n ns rest is name later front behind first parts long =
-    let names_so = packed_more names (names_of fs) name before later is.texts is.names_are first in
-    let one : names_of (fs ++ (name, front) ∷ []) ≡ names_of fs ++ name ∷ [] = map-append (λ (f : List ℕ × List ℕ). f.0) fs ((name, front) ∷ []) in
-    record {
-      texts = subst (AllByRecursion IsText) (sym one) names_so.0;
-      names_are = names_so.1 ∙ ap (λ (ts : List Text). packed ts ++ later) (sym one);
-      lengths_are = is.lengths_are ∙ (ap (λ k. lengths_of fs ++ k ∷ ns) (sym long) ∙ (sym (append_assoc (lengths_of fs) (length front ∷ []) ns)
-          ∙ ap (λ (ks : List ℕ). ks ++ ns) (sym (map-append (λ (f : List ℕ × List ℕ). length f.1) fs ((name, front) ∷ [])))));
-      bytes_are = is.bytes_are ∙ (ap (λ (xs : List ℕ). contents_of fs ++ xs) parts ∙ (sym (append_assoc (contents_of fs) front behind)
-          ∙ ap (λ (xs : List ℕ). xs ++ behind) (sym (contents_more fs name front))));
-    }
 
 -- what is left of files behind the first ones
 pub filed_rest : (names lengths bytes : List ℕ) (fs : Files) (more_names more_lengths rest : List ℕ) → Filed names lengths bytes fs more_names more_lengths rest

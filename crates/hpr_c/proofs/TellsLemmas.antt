@@ -32,19 +32,6 @@ numbered status.Memory = refl
 numbered status.NotEnded = refl
 numbered status.Rejected = refl
 
-pub low_number : (s : Status) → number_of s ≤ 10
-low_number status.Done = omega arith
-low_number status.Interference = omega arith
-low_number status.NoProgram = omega arith
-low_number status.Spent = omega arith
-low_number status.Refused = omega arith
-low_number status.ReadFault = omega arith
-low_number status.WriteFault = omega arith
-low_number status.Words = omega arith
-low_number status.Memory = omega arith
-low_number status.NotEnded = omega arith
-low_number status.Rejected = omega arith
-
 -- what an output took that was empty
 pub took_all : (P : List ℕ → Type 0) (new : List ℕ) → Took (Some []) (Some new) P → P new
 took_all P new took = let all : new ≡ took.0 = ap (λ (o : Option (List ℕ)). unwrap_or o []) took.1 in subst P (sym all) took.2
@@ -55,11 +42,6 @@ all_taken text new e = ap (λ (o : Option (List ℕ)). unwrap_or o []) e
 pub not_risen : Rose 0 0 → ⊥
 not_risen (inl less) = omega (arith, less)
 not_risen (inr last) = absurd cc
-
--- no call that is made tells 64
-pub not_form : (texts : List Text) (files : Option Files) (before now number : ℕ) (out err : List ℕ) → Tells texts files before now number out err → number ≡ 64 → ⊥
-not_form texts files before now number out err (inl told) e = let low = low_number told.s in let is = told.number_is in omega (arith, low, is, e)
-not_form texts files before now number out err (inr ran) e = let is = ran.0 in omega (arith, is, e)
 
 abbrev pub change : ℕ → ℕ → List ℕ → List ℕ → Change
 change before now old new = record { before = before; now = now; old = Some old; new = Some new }

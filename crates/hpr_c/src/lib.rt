@@ -12,10 +12,9 @@ mod packed;
 ghost use Rattle.std.specs.Prelude.{◌≡◌, ◌≤◌, ◌⊎◌, ℕ, List, [], Some, length, map, string_bytes, IfOk, IsErrOf};
 ghost use Rattle.hpr_io.specs.Files.{Files, files_in};
 ghost use Rattle.hpr_words.specs.Request.{Text};
-ghost use Rattle.hpr_decisions.specs.MergedText.{HasMergedGraph};
 ghost use Rattle.hpr_decisions.specs.Theorem.{IsMergedText};
 ghost use Rattle.hpr_c.specs.Call.{HandsOut, Puts, Tells, TellsNothing, TellsOver, put_front};
-ghost use Rattle.hpr_c.specs.Integrate.{IsInterfering, IsOverBudget, IsRefused, IsWithoutProgram};
+ghost use Rattle.hpr_c.specs.Integrate.{HasTheirGraph, IsInterfering, IsOverBudget, IsRefused, IsWithoutProgram};
 ghost use Rattle.hpr_c.specs.Integrate.{integrate_words, three};
 ghost use Rattle.hpr_c.specs.Packed.{IsCall, IsNoCall};
 
@@ -100,7 +99,7 @@ pub extern "C" fn hpr_integrate(
     ensures keeps { result ≡ 0 → HandsOut sizes.new out.old out.new err.old err.new
         (λ out _. IsMergedText base.now a.now b.now out) }
     ensures merged { result ≡ 0 → HandsOut sizes.new out.old out.new err.old err.new
-        (λ out _. HasMergedGraph base.now a.now b.now out) }
+        (λ out _. HasTheirGraph base.now a.now b.now out) }
 
     // 1: the variants interfere, and it is the text of all conflicts.
     ensures interferes { result ≡ 1 → HandsOut sizes.new out.old out.new err.old err.new
