@@ -117,7 +117,7 @@ fn insert(
     let content = content.copy(alloc)?;
     let room = room_for(alloc, count)?;
     issued.raise(tag.author, tag.serial)?;
-    // No more memory is asked for from here on.
+    // Nothing fails for want of memory from here on.
     let part = content.into_stmt(tag, empty(alloc), empty(alloc));
     put_part(alloc, body, place, part, room);
     Ok(Inverse::Remove(tag))
@@ -179,7 +179,7 @@ fn relocate(alloc: Global, body: &mut Block, tag: Tag, place: Place) -> Result<I
 {
     let old = place_to_leave(body, tag, place)?;
     let room = room_for(alloc, body.part_count())?;
-    // No more memory is asked for from here on.
+    // Nothing fails for want of memory from here on.
     let part = take_out(body, tag).unwrap();
     match misplaced(body, &part, place) {
         None => {
@@ -265,7 +265,7 @@ fn wrap(
     let content = content.copy(alloc)?;
     let room = room_for(alloc, 0)?;
     issued.raise(new.author, new.serial)?;
-    // No more memory is asked for from here on.
+    // Nothing fails for want of memory from here on.
     put_round(alloc, body, tag, new, content, room);
     Ok(Inverse::Lift(new))
 }

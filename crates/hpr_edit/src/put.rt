@@ -1,4 +1,4 @@
-//! Parts put into a body and round others, where memory was got before, so that nothing here asks for any.
+//! Parts put into a body and round others. Room was got before, so nothing here fails for want of memory.
 ghost use Rattle.std.specs.Prelude.{◌≡◌, ◌≤◌, ◌<◌, ◌+◌, true, [], vec_len, vec_capacity, IfOk};
 ghost use Rattle.std.specs.List.{insert};
 ghost use Rattle.hpr_terms.specs.declared.limits.TheConstants.{MAX_PARTS};
