@@ -3,12 +3,12 @@ use hpr_print::expr_text;
 use hpr_refusals::Refusal;
 use hpr_rows::{
     Out, Row, array_of, name_of, put, put_comparison, put_content, put_count, put_counted,
-    put_made, put_message, put_names, put_tag, truth,
+    put_made, put_message, put_names, put_tag, tag_of, truth,
 };
 use hpr_syntax::{
-    Block, Content, Issued, Program, Row as Place, Stmt, Structure, Value, content_of, defines,
-    expr_of, has_content, has_wrong_name, index_of, is_large, is_large_content, same_content,
-    structure_of, uses,
+    Block, Content, Issued, IssuedDraft, Program, Row as Place, Stmt, Structure, Value, content_of,
+    defines, expr_of, has_content, has_wrong_name, index_of, is_large, is_large_content,
+    same_content, structure_of, uses,
 };
 use hpr_terms::{Binary, Expr, Literal, Name, Operand, Tag};
 use std::alloc::Global;
@@ -28,6 +28,7 @@ pub(crate) fn call(row: Row<'_>, out: &mut Out) -> Option<()> {
         "named" => named(row, out),
         "value" => value(row, out),
         "stored" => stored(row, out),
+        "issued" => drafted(row, out),
         _ => None,
     }
 }
@@ -235,6 +236,35 @@ fn block(alloc: Global, stmt: Stmt) -> Option<Block> {
     let mut stmts = Vec::new(alloc);
     stmts.push(stmt).ok()?;
     Some(Block::new(stmts))
+}
+
+fn raise(draft: &mut IssuedDraft, tag: Tag) -> Option<()> {
+    if tag.serial == 0 {
+        return None;
+    }
+    draft.raise(tag.author, tag.serial).ok()
+}
+
+fn put_issued(out: &mut Out, issued: &Issued) {
+    out.put_piece("issued");
+    for (author, serial) in issued.rows() {
+        put_counted(out, " ", *author as usize);
+        put_counted(out, ":", *serial as usize);
+    }
+    out.put_piece("\n");
+}
+
+// `issued TAG..`: the numbers that raises to these tags come to, one after the other.
+fn drafted(row: Row<'_>, out: &mut Out) -> Option<()> {
+    let mut draft = IssuedDraft::new(row.alloc);
+    for word in row.rest(2) {
+        raise(&mut draft, tag_of(word.as_str())?)?;
+    }
+    match draft.finish() {
+        Ok(issued) => put_issued(out, &issued),
+        Err(_) => out.cut(),
+    }
+    Some(())
 }
 
 fn issued(alloc: Global) -> Option<Issued> {
