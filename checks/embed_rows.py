@@ -18,11 +18,15 @@ def unescaped(text):
     return re.sub(rb"\\([0-9a-f]{2}|.?$)", lambda found: bytes.fromhex(found[1].decode()) if len(found[1]) == 2 else b"", text)
 
 
-class Told:
-    """What the rows print, from the first on."""
+# the row that is to come to something else than it says
+DIFFERING = b"# hpr_rows/sheet: "
 
-    def __init__(self, data):
-        self.data, self.at = data, 0
+
+class Told:
+    """What a call is to come to: the lines behind it."""
+
+    def __init__(self, lines):
+        self.data, self.at = b"".join(line[2:] + b"\n" for line in lines), 0
 
     def line(self):
         end = self.data.index(b"\n", self.at)
@@ -67,21 +71,28 @@ class Files:
             self.has_line = True
 
 
-def rows():
-    """The words, the files, and the status with both texts, of each row."""
-    told, files = Told((FOLDER / "stdout").read_bytes()), Files()
-    for line in (FOLDER / "stdin").read_bytes().splitlines():
+def calls(lines):
+    """Each call with the title and the files of its row, and the lines that it is to come to."""
+    title, files, at = b"", Files(), 0
+    while at < len(lines):
+        line, at = lines[at], at + 1
         if line.startswith(b"# "):
-            files = Files()
-            found = told.line()
-            if found != line:
-                raise SystemExit(f"embed_rows: {found} stands where {line} is to stand")
+            title, files = line, Files()
         elif line.startswith(b"$"):
-            words, answer = [unescaped(word) for word in line[1:].split()], told.answer()
-            if not files.fails and answer[0] != 6:
-                yield words, files.files, answer
+            start = at
+            while at < len(lines) and (lines[at] == b"=" or lines[at].startswith(b"= ")):
+                at += 1
+            yield title, files, [unescaped(word) for word in line[1:].split()], lines[start:at]
         else:
             files.add(line)
+
+
+def rows():
+    """The words, the files, and the status with both texts, of each row."""
+    for title, files, words, lines in calls((FOLDER / "stdin").read_bytes().split(b"\n")[:-1]):
+        status, out, err = Told(lines).answer()
+        if not files.fails and status != 6 and not title.startswith(DIFFERING):
+            yield words, files.files, (status, out, err)
 
 
 def number(value):
