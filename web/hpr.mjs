@@ -1,0 +1,176 @@
+/**
+ * hpr in process: any command of the program over texts in memory, in Node, in browsers and in workers.
+ *
+ *     import { load } from './hpr.mjs';
+ *     const hpr = await load(await readFile('hpr.wasm'));
+ *     const { status, out, err } = hpr.integrate(base, a, b);
+ *
+ * Nothing is fetched and no file is opened: a word names a text that is handed in. No proof covers this file, the
+ * compilation to WebAssembly and the heap of the module; docs/web.md says what is proved.
+ */
+
+/** What each status means, by its number. */
+export const STATUS = Object.freeze({
+  DONE: 0,
+  INTERFERENCE: 1,
+  NO_PROGRAM: 2,
+  SPENT: 3,
+  REFUSED: 4,
+  ABSENT: 5,
+  WORDS: 7,
+  MEMORY: 8,
+  NOT_ENDED: 9,
+  REJECTED: 10,
+});
+
+/** The status that the module answers where what it is handed has not the form that it asks for. */
+const FORM = 64;
+/** Memory never shrinks: an instance that holds more bytes than these is dropped behind a call. */
+const KEPT = 64 * 2 ** 20;
+/** The first room for each of the two texts. Where one is longer, the call is made once more. */
+const ROOM = 64 * 2 ** 10;
+const NO_MEMORY = Object.freeze({ status: STATUS.MEMORY, out: '', err: 'hpr: no memory\n' });
+
+const encoder = new TextEncoder();
+const decoder = new TextDecoder();
+
+const bytesOf = (text) => (typeof text === 'string' ? encoder.encode(text) : text);
+
+/** The bytes of all texts, one after another. */
+function joined(texts) {
+  const all = new Uint8Array(texts.reduce((sum, text) => sum + text.length, 0));
+  let at = 0;
+  for (const text of texts) {
+    all.set(text, at);
+    at += text.length;
+  }
+  return all;
+}
+
+/** Words as the module takes them, each ended by a zero byte. */
+function ended(words) {
+  for (const word of words) {
+    if (word.includes('\0')) {
+      throw new TypeError('a word or a name of a file holds a zero byte');
+    }
+  }
+  return encoder.encode(words.map((word) => `${word}\0`).join(''));
+}
+
+/** What a call hands in: four pieces of memory, and how many things each of them holds. */
+function requestOf(words, files) {
+  const pairs = files instanceof Map ? [...files] : Object.entries(files);
+  const contents = pairs.map(([, text]) => bytesOf(text));
+  const lengths = new BigUint64Array(contents.map((it) => BigInt(it.length)));
+  const texts = [ended(words), ended(pairs.map(([name]) => name)), new Uint8Array(lengths.buffer), joined(contents)];
+  return { texts, counts: [texts[0].length, texts[1].length, lengths.length, texts[3].length] };
+}
+
+/** A module, and the instance of it that answers calls. */
+export class Hpr {
+  #module;
+  #limit;
+  #exports;
+
+  /**
+   * @param {WebAssembly.Module} module
+   * @param {{memory?: number}} options
+   */
+  constructor(module, { memory = 2 ** 30 } = {}) {
+    this.#module = module;
+    this.#limit = memory;
+    this.#renew();
+  }
+
+  #renew() {
+    this.#exports = new WebAssembly.Instance(this.#module, {}).exports;
+    this.#exports.limit(BigInt(this.#limit));
+  }
+
+  /** Bytes of memory that the instance holds. */
+  get memory() {
+    return this.#exports.memory.buffer.byteLength;
+  }
+
+  /**
+   * Makes a call.
+   *
+   * @param {string[]} words the words of a command line, without the name of the program
+   * @param {Record<string, string | Uint8Array> | Map<string, string | Uint8Array>} files what the words may name
+   * @returns {{status: number, out: string, err: string}} its status and what it prints
+   * @throws {WebAssembly.RuntimeError} where the module traps, which no input is known to do; the next call has a fresh instance
+   */
+  call(words, files = {}) {
+    const request = requestOf(words, files);
+    try {
+      const first = this.#made(request, ROOM, ROOM);
+      const isShort = first.sizes !== undefined && (first.sizes.out > ROOM || first.sizes.err > ROOM);
+      const told = isShort ? this.#made(request, first.sizes.out, first.sizes.err) : first;
+      return { status: told.status, out: told.out, err: told.err };
+    } catch (error) {
+      this.#renew();
+      throw error;
+    } finally {
+      if (this.memory > KEPT) {
+        this.#renew();
+      }
+    }
+  }
+
+  /**
+   * Integrates two variants or more with their base; messages name the texts `base` and `a`, `b` and so on.
+   *
+   * @param {string | Uint8Array} base
+   * @param {...(string | Uint8Array)} variants
+   */
+  integrate(base, ...variants) {
+    const names = variants.map((_, number) => String.fromCharCode('a'.charCodeAt(0) + number));
+    const files = new Map([['base', base], ...names.map((name, number) => [name, variants[number]])]);
+    return this.call(['integrate', 'base', ...names], files);
+  }
+
+  /** Makes one call, with so much room for its texts. */
+  #made({ texts, counts }, outRoom, errRoom) {
+    const places = [];
+    try {
+      for (const size of [...texts.map((it) => it.length), outRoom, errRoom, 16]) {
+        const place = this.#exports.malloc(BigInt(Math.max(size, 1)));
+        if (place === 0n) {
+          return NO_MEMORY;
+        }
+        places.push(place);
+      }
+      return this.#told(places, texts, counts, outRoom, errRoom);
+    } finally {
+      places.forEach((place) => this.#exports.free(place));
+    }
+  }
+
+  #told(places, texts, counts, outRoom, errRoom) {
+    // memory that grew has another buffer, so each look takes it anew
+    texts.forEach((text, i) => new Uint8Array(this.#exports.memory.buffer).set(text, Number(places[i])));
+    const [out, err, sizes] = places.slice(texts.length);
+    const given = texts.flatMap((_, i) => [places[i], BigInt(counts[i])]);
+    const status = this.#exports.hpr_call(...given, out, BigInt(outRoom), err, BigInt(errRoom), sizes);
+    if (status === FORM) {
+      throw new TypeError('the module does not take the form of this call');
+    }
+    const view = new DataView(this.#exports.memory.buffer, Number(sizes), 16);
+    const told = { out: Number(view.getBigUint64(0, true)), err: Number(view.getBigUint64(8, true)) };
+    const text = (place, size, room) => decoder.decode(new Uint8Array(this.#exports.memory.buffer, Number(place), Math.min(size, room)));
+    return { status, out: text(out, told.out, outRoom), err: text(err, told.err, errRoom), sizes: told };
+  }
+}
+
+/**
+ * Makes an hpr of the bytes of its module, or of a response that holds them.
+ *
+ * @param {BufferSource | Response | Promise<Response>} source
+ * @param {{memory?: number}} options `memory` is how many bytes the module may take: 1 GiB, if not said
+ * @returns {Promise<Hpr>}
+ */
+export async function load(source, options) {
+  const it = await source;
+  const bytes = typeof Response !== 'undefined' && it instanceof Response ? await it.arrayBuffer() : it;
+  return new Hpr(await WebAssembly.compile(bytes), options);
+}
