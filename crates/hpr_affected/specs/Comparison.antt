@@ -2,8 +2,8 @@
 --
 -- Sides                       == a graph and another
 -- IsComparison g h there back == where g has edges that h lacks, and where h has edges that g lacks
--- MarksAffected g h marks     == there is a mark for each vertex of g: exactly the affected points of g beside h are
---                                marked, and h shares the others
+-- MarksAffected g h marks     == there is a mark for each vertex of g: exactly the affected points of g
+--                                beside h are marked, and h shares the others
 use Rattle.std.specs.Prelude.{◌≡◌, ℕ, Bool, Some, List, slice_get}
 use Rattle.hpr_search.specs.Marks.{IsMarked}
 use Rattle.hpr_graph.specs.declared.vertex.Vertex.{Vertex}

@@ -1,13 +1,13 @@
--- At which vertices a graph has edges that another lacks. An order edge counts at its shared use, each other edge at its target (`counts_at`
--- and `Counts` of hpr_closure).
+-- At which vertices a graph has edges that another lacks. An order edge counts at its shared use, each other
+-- edge at its target (`counts_at` and `Counts` of hpr_closure).
 --
 -- CountsWithout K links to n     == one of these links into the vertex `to` that hasn't K counts at n
 -- CountsLacking g h ns n         == a link of g counts at n that h, by these numbers there, lacks
--- AreDiffering g h ns marks      == there is a mark for each vertex of g, and exactly those are marked at which such a
---                                   link counts
+-- AreDiffering g h ns marks      == there is a mark for each vertex of g, and exactly those are marked at
+--                                   which such a link counts
 -- HasOwn g h v                   == some edge of g that h lacks counts at v
--- IsDiffering g h ns marks       == the numbers in h of the vertices of g; exactly those of these are marked at which an
---                                   edge counts that h lacks
+-- IsDiffering g h ns marks       == the numbers in h of the vertices of g; exactly those of these are marked
+--                                   at which an edge counts that h lacks
 -- IsDirectBy ns differ others at == the vertex has no number there, or it is marked, or its number there is
 use Rattle.std.specs.Prelude.{◌≡◌, ℕ, ◌<◌, ◌⊎◌, ◌↔◌, Bool, Option, Some, None, List, Contains, length}
 use Rattle.hpr_search.specs.Marks.{IsMarked}

@@ -2,8 +2,8 @@
 --
 -- others_of cs              == the graphs beside which these stand
 -- AreOfBase base cs         == the graph of each of these is the base
--- MarksUnshared base gs marks == there is a mark for each vertex of base: what is marked is not shared by all of the graphs, and
---                              what isn't marked is
+-- MarksUnshared base gs marks == there is a mark for each vertex of base: what is marked is not shared by all
+--                                of the graphs, and what isn't marked is
 use Rattle.std.specs.Prelude.{◌≡◌, ℕ, Bool, Some, List, map, slice_get, length}
 use Rattle.std.specs.List.{AllByRecursion}
 use Rattle.hpr_search.specs.Marks.{IsMarked}

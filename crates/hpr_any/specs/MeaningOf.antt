@@ -1,7 +1,8 @@
 -- A meaning of contents over given types of values and faults, as plain functions.
 --
--- MeaningOf V F  == what a part that says a content gives, a value of V or a fault of F, from the values of the names that it uses, in their
---                   order; whether a predicate that gave a value is true; and that two values which can't differ are the same
+-- MeaningOf V F  == what a part that says a content gives, a value of V or a fault of F, from the values of
+--                   the names that it uses, in their order; whether a predicate that gave a value is true;
+--                   and that two values which can't differ are the same
 -- with_name s x v == the state s, where the name x has the value v now
 -- by_reads m     == the meaning over the states that are functions from names to values
 use Rattle.std.specs.Prelude.{◌≡◌, ℕ, Bool, List, map, Result, if◌then◌else◌}

@@ -1,6 +1,7 @@
--- Statements of another language. A tool numbers their texts: one number for one text with all that gives it its meaning, and no number for two.
--- hpr is handed the number and the names that the text uses, in their order, as an expression: the number, and each name behind a `%`, as
--- `7 % x % y`. What hpr's own operators make of it doesn't matter.
+-- Statements of another language. A tool numbers their texts: one number for one text with all that gives it
+-- its meaning, and no number for two. hpr is handed the number and the names that the text uses, in their
+-- order, as an expression: the number, and each name behind a `%`, as `7 % x % y`. What hpr's own operators
+-- make of it doesn't matter.
 --
 -- Form                  == what a statement does: it defines a name, or it decides a conditional or a loop
 -- Statement             == the form, the number of the text, and the names that it uses
@@ -10,7 +11,8 @@
 -- statement_content s   == what the statement's part says
 -- defined_by f          == the name that a statement of this form defines, if it defines one
 -- number_in t           == the number with which the term begins, if it begins with one
--- opaque gives holds stable == the meaning in which a part gives what its text's number gives of the values of the names that it uses
+-- opaque gives holds stable == the meaning in which a part gives what its text's number gives of the values
+--                              of the names that it uses
 use Rattle.std.specs.Prelude.{◌≡◌, ℕ, Bool, List, [], ◌∷◌, Option, Some, None, Result}
 use Rattle.hpr_terms.specs.Term.{Term, num, var, infix'}
 use Rattle.hpr_terms.specs.TermOf.{term_of}

@@ -1,5 +1,5 @@
--- The pages of an array: rows of 256 numbers, the first for the indices 0 to 255. A row without numbers stands for one
--- of zeros, and so do the rows that aren't there.
+-- The pages of an array: rows of 256 numbers, the first for the indices 0 to 255. A row without numbers
+-- stands for one of zeros, and so do the rows that aren't there.
 --
 -- rows_of pages         == the rows as lists
 -- page_of row           == the 256 numbers of a page

@@ -1,13 +1,18 @@
 -- Flow edges from one definition, by number.
 --
--- IsFlowAt spots x d u kind  == some undisturbed path for x from d to u takes no back edge to a loop that encloses both (Independent), or the
---                               one to the loop w, which encloses both (Carried w)
--- CutsTo spots x d c row     == the row marks what an undisturbed path for x goes to from d, with no back edge to one of the first c loops around d
--- AreCuts spots x d n rows places == for each c below n, there is a row at the c-th of these places, and it is so
+-- IsFlowAt spots x d u kind  == some undisturbed path for x from d to u takes no back edge to a loop that
+--                               encloses both (Independent), or the one to the loop w, which encloses both
+--                               (Carried w)
+-- CutsTo spots x d c row     == the row marks what an undisturbed path for x goes to from d, with no back
+--                               edge to one of the first c loops around d
+-- AreCuts spots x d n rows places == for each c below n, there is a row at the c-th of these places, and it
+--                                    is so
 -- IsCarriedBy row w u        == the row, if there is one, marks u, or u is w
--- CarriesTo spots x d w row  == u is carried so exactly where what d defines comes round to the loop w and goes on from there to u
+-- CarriesTo spots x d w row  == u is carried so exactly where what d defines comes round to the loop w and
+--                               goes on from there to u
 -- AreCarries spots x d n rows == for each of the first n loops around d, the row at its place is so
--- IsKindBelow n c loops cuts carries u kind == the rows say that the kind is one of u's: c loops enclose both, of which the first n count for Carried
+-- IsKindBelow n c loops cuts carries u kind == the rows say that the kind is one of u's: c loops enclose
+--                                              both, of which the first n count for Carried
 -- IsFlowBelow n c loops cuts carries u f == f leads to u, and its kind is so
 use Rattle.std.specs.Prelude.{◌≡◌, ℕ, ◌<◌, ◌⊎◌, ◌↔◌, Bool, Option, Some, None, List, [], Contains, slice_index_or, length, take}
 use Rattle.hpr_search.specs.Marks.{IsMarked}

@@ -1,15 +1,21 @@
 -- The graph of a program by numbers: its vertices in their order, and its links.
 --
 -- part_vertex p               == the vertex of a part
--- name_vertex is_final x      == the vertex of a name: that of its value after the program, or that of its value before it
--- vertices_of tree inits      == the vertices in the order of their numbers: Entry, the parts in preorder, the names of `end`, and these names of
---                                initial definitions. So a part has the number of its point, and Entry that of Enter
+-- name_vertex is_final x      == the vertex of a name: that of its value after the program, or that of its
+--                                value before it
+-- vertices_of tree inits      == the vertices in the order of their numbers: Entry, the parts in preorder,
+--                                the names of `end`, and these names of initial definitions. So a part has
+--                                the number of its point, and Entry that of Enter
 -- exit_of tree                == the number of Exit's point, which is that of the first name of `end`
 -- first_init tree             == the number of the first initial definition
--- IsSourceAt tree inits x d v == the vertex with the number v defines x at the point d: a part at its own, an initial definition at Enter
--- IsTargetAt tree x u v       == the vertex with the number v uses x at the point u: a part at its own, a name of `end` at Exit
--- IsFlowOf spots x d u kind   == a flow edge of this kind goes from the point d, which defines x, to the point u
--- IsUnder parent l            == the link comes from the control parent, with its label; for a top part from Entry
+-- IsSourceAt tree inits x d v == the vertex with the number v defines x at the point d: a part at its own, an
+--                                initial definition at Enter
+-- IsTargetAt tree x u v       == the vertex with the number v uses x at the point u: a part at its own, a
+--                                name of `end` at Exit
+-- IsFlowOf spots x d u kind   == a flow edge of this kind goes from the point d, which defines x, to the
+--                                point u
+-- IsUnder parent l            == the link comes from the control parent, with its label; for a top part from
+--                                Entry
 -- IsControlLink tree inits to l == the link into the vertex with the number `to` is a control edge
 -- IsFlowLink tree inits to l  == it is a flow edge
 -- IsOrderLink tree to l       == it is an order edge

@@ -1,14 +1,16 @@
 -- The links of a graph, before they are put into it.
 --
 -- link_kind k               == the kind of a flow edge as that of a link
--- target_of exit at u       == the number of the vertex that uses a name at the point u: that of the part, and at Exit the number `at`
+-- target_of exit at u       == the number of the vertex that uses a name at the point u: that of the part,
+--                              and at Exit the number `at`
 -- new_link to from kind     == the link of this kind from one vertex to another
 -- flow_link exit at source f == the flow edge f from this source
 -- order_link user o         == the order edge between these definitions for the use with this number
 -- parent_of place           == the control parent of the part, if there is one
 -- link_under parent         == the control edge from this parent, with its label; for a top part from Entry
 -- IsInitialAt tree inits x d v == the vertex with the number v is the initial definition of x, at Enter
--- FlowsFrom tree x d v to l == the link into the vertex with the number `to` is a flow edge for x from the source v at the point d
+-- FlowsFrom tree x d v to l == the link into the vertex with the number `to` is a flow edge for x from the
+--                              source v at the point d
 -- FlowsOf tree inits x to l == it is a flow edge for x
 -- OrdersAt tree x u to l    == it is an order edge for the use of x at the point u
 -- OrdersOf tree x to l      == it is an order edge for a use of x

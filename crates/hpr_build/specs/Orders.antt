@@ -1,6 +1,7 @@
 -- The order between definitions, by number.
 --
--- IsBefore places p q == the part p stands to the left of the part q, and no conditional has them in different branches
+-- IsBefore places p q == the part p stands to the left of the part q, and no conditional has them in
+--                        different branches
 use Rattle.std.specs.Prelude.{ℕ, ◌<◌, List}
 use Rattle.hpr_build.specs.Places.{Place, IsParted}
 

@@ -1,13 +1,16 @@
 -- Where the parts of a program stand, by number: 0 is Enter, and the parts follow in preorder.
 --
--- Place                  == a part's tag and what it says, its control parent, and for each conditional that has the part in its first branch, from
---                           the outermost on, the numbers of the parts in the second
--- places_of body n up others == the parts of a block in preorder, of which the first has the number n; this is their parent, and these are the second
---                           branches of the conditionals that have the block in their first
+-- Place                  == a part's tag and what it says, its control parent, and for each conditional that
+--                           has the part in its first branch, from the outermost on, the numbers of the parts
+--                           in the second
+-- places_of body n up others == the parts of a block in preorder, of which the first has the number n; this
+--                               is their parent, and these are the second branches of the conditionals that
+--                               have the block in their first
 -- places tree            == the parts of a program
 -- place_at places p      == the part with the number p, if there is one
 -- others_at places p     == the second branches of the conditionals that have the part p in their first
--- IsParentOf spots up parent == what the place says of the control parent is this part with its branch, or that there is none
+-- IsParentOf spots up parent == what the place says of the control parent is this part with its branch, or
+--                               that there is none
 -- IsAmong spans q        == the number q is in one of these
 -- IsParted places p q    == some conditional has the part p in its first branch and q in its second
 use Rattle.std.specs.Prelude.{◌≡◌, ℕ, Bool, ◌+◌, ◌-◌, ◌<◌, ◌≤◌, true, false, Option, Some, None, List, [], ◌∷◌, ◌++◌, Contains, slice_get}

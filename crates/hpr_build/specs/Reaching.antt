@@ -3,10 +3,11 @@
 -- IsFlowKind kind           == the kind of a flow edge
 -- HasFlowFrom links p       == one of the links is a flow edge from p
 -- HasFlows tree inits g     == the flow edges in the graph are exactly those of the program
--- AreReached spots x points rows == for each of the points there is a row that marks what an undisturbed path for x goes to
+-- AreReached spots x points rows == for each of the points there is a row that marks what an undisturbed path
+--                                   for x goes to
 -- IsSourceBelow n points rows u p == p is one of the first n points, and its row marks u
--- AreReaching spots x definitions users rows == for each of the users there is a row with the definitions from which an
---                              undisturbed path for x goes there, ascending
+-- AreReaching spots x definitions users rows == for each of the users there is a row with the definitions
+--                                               from which an undisturbed path for x goes there, ascending
 use Rattle.std.specs.Prelude.{◌≡◌, ℕ, ◌<◌, ◌↔◌, Bool, Some, List, [], Vec, Contains, length, slice_index_or}
 use Rattle.std.specs.Global.{Global}
 use Rattle.std.specs.List.{slice_get}

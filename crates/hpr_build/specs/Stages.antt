@@ -1,8 +1,10 @@
 -- What holds while the graph of a program is made.
 --
 -- AreTables t          == the tables are those of the program
--- IsVariable tree v    == the points are those that define the name and that use it, and the number of its use at Exit is that of its vertex
--- IsBegun tree inits most g == the graph has the vertices of the program, some of its links, and not more links than this
+-- IsVariable tree v    == the points are those that define the name and that use it, and the number of its
+--                         use at Exit is that of its vertex
+-- IsBegun tree inits most g == the graph has the vertices of the program, some of its links, and not more
+--                              links than this
 use Rattle.std.specs.Prelude.{◌≡◌, ◌+◌, ◌≤◌, ◌↔◌, ℕ, Some, List, Contains, IfSome, length, vec_len, slice_get}
 use Rattle.std.specs.List.Sorted.{IsStrictlySortedBy}
 use Rattle.std.specs.Cmp.Lexicographic.{slice_cmp}

@@ -1,13 +1,17 @@
 -- The uses of names by the vertices of a program.
 --
--- IsEnd exit finals u     == the use is that of a name of `end` by its vertex, of which the first has the number of Exit's point
+-- IsEnd exit finals u     == the use is that of a name of `end` by its vertex, of which the first has the
+--                            number of Exit's point
 -- AreUses tree uses       == they are the uses of names by the vertices of the program
 -- use_of x v              == the use of the name by the vertex with this number
--- point_of exit v         == the point of a vertex that uses a name: a part's is its number, and Exit that of a name of `end`
+-- point_of exit v         == the point of a vertex that uses a name: a part's is its number, and Exit that of
+--                            a name of `end`
 -- IsUsedFrom exit uses x p == the name is used at this point
 -- AreApart exit uses      == no point has two uses of a name
--- AreUsersBy exit uses names rows == for each name there is a row with the points at which it is used, each once
--- AreEndsBy exit uses names numbers == for each name there is a number that isn't below that of Exit's point: that of its vertex of `end`, if it has one
+-- AreUsersBy exit uses names rows == for each name there is a row with the points at which it is used, each
+--                                    once
+-- AreEndsBy exit uses names numbers == for each name there is a number that isn't below that of Exit's point:
+--                                      that of its vertex of `end`, if it has one
 use Rattle.std.specs.Prelude.{◌≡◌, ◌↔◌, ℕ, ◌+◌, ◌≤◌, Some, List, Vec, Contains, slice_get, slice_index_or, nat_lt, if◌then◌else◌}
 use Rattle.std.specs.Global.{Global}
 use Rattle.hpr_syntax.specs.Tree.{Tree}

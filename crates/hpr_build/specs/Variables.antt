@@ -3,8 +3,8 @@
 -- points_at rows i             == the points in the row i; none where there is no such row
 -- AreUsers spots names rows    == for each name there is a row with the points that use it, each once
 -- AreDefinitions spots names rows == for each name there is a row with the points that define it, each once
--- AreFinalNumbers exit finals names numbers == for each name there is a number: exit + k, where it is the k-th name of
---                                 `end`, and else none below exit
+-- AreFinalNumbers exit finals names numbers == for each name there is a number: exit + k, where it is the
+--                                              k-th name of `end`, and else none below exit
 -- IsFreeRow spots row          == the row marks what each name that no point defines reaches from Enter
 use Rattle.std.specs.Prelude.{◌≡◌, ℕ, ◌+◌, ◌≤◌, ◌↔◌, Bool, Option, Some, None, List, [], Vec, Contains, slice_index_or}
 use Rattle.std.specs.Global.{Global}

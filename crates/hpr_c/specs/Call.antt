@@ -1,16 +1,19 @@
 -- What a call over memory hands out.
 --
--- put_front text old == a room in which the first bytes of `old` are replaced by those of the text, as many as it holds
+-- put_front text old == a room in which the first bytes of `old` are replaced by those of the text, as many
+--                       as it holds
 -- Puts text size old new == the text has this size, and the room `old` became `new` by taking its front
--- HandsOut sizes out_old out_new err_old err_new P == two texts that have P were handed out: their sizes, and their
---                           fronts in two rooms
+-- HandsOut sizes out_old out_new err_old err_new P == two texts that have P were handed out: their sizes, and
+--                                                     their fronts in two rooms
 -- kept text              == what a sink became that never failed and took this text
 -- RanOut number out err  == the number is 8, and both texts are empty: there was no memory
--- IsTold texts files before now number out err == the number and the texts are those of a call of hpr_app::hpr with
---                           these words over a shelf that tells these files, and no write of it failed. `before` and
---                           `now` are the shelf's counts of failures
+-- IsTold texts files before now number out err == the number and the texts are those of a call of
+--                                                 hpr_app::hpr with these words over a shelf that tells these
+--                                                 files, and no write of it failed. `before` and `now` are
+--                                                 the shelf's counts of failures
 -- Tells texts files before now number out err == the same, or memory ran out
--- TellsOver texts files number out err == the same of a shelf that holds these files, and had not failed before
+-- TellsOver texts files number out err == the same of a shelf that holds these files, and had not failed
+--                                         before
 -- TellsNothing number out err == the number is 64, or 8 where memory ran out first, and both texts are empty
 use Rattle.std.specs.Prelude.{◌≡◌, ◌⊎◌, ℕ, min, List, [], ◌++◌, length, take, drop, Option, Some}
 use Rattle.hpr_io.specs.Files.{Files}

@@ -1,10 +1,11 @@
 -- How the top call ends: what it ensures, clause by clause, of words as texts.
 --
--- WhereCalled texts told P == P of the request that the texts are taken as and of the files that the shelf tells:
---                             where they are one, and it tells them
--- EndsAsHpr texts told s before now out err == a call of hpr_app::hpr with these words over a shelf that tells these
---                             files may end so: each clause of its contract, under its name. `before` and `now` are
---                             the shelf's counts of failures, and `out` and `err` what the sinks became
+-- WhereCalled texts told P == P of the request that the texts are taken as and of the files that the shelf
+--                             tells: where they are one, and it tells them
+-- EndsAsHpr texts told s before now out err == a call of hpr_app::hpr with these words over a shelf that
+--                                              tells these files may end so: each clause of its contract,
+--                                              under its name. `before` and `now` are the shelf's counts of
+--                                              failures, and `out` and `err` what the sinks became
 use Rattle.std.specs.Prelude.{◌≡◌, ◌≢◌, ◌<◌, ◌⊎◌, ◌↔◌, ℕ, List, Option, Some, None, IfSome}
 use Rattle.hpr_io.specs.Counts.{Rose}
 use Rattle.hpr_io.specs.Files.{Files}

@@ -3,11 +3,13 @@
 -- integrate_words              == the words that integrate two variants with their base
 -- three base a b               == the files that they name
 -- variant_names                == the names of the two variants
--- IsAnswered base a b x        == the three texts spell programs whose graphs are within the limit, and x is an
---                                 answer of their integration
--- HasTheirGraph base a b out   == this text spells a program whose graph is the merged graph, under split tags
+-- IsAnswered base a b x        == the three texts spell programs whose graphs are within the limit, and x is
+--                                 an answer of their integration
+-- HasTheirGraph base a b out   == this text spells a program whose graph is the merged graph, under split
+--                                 tags
 -- IsInterfering base a b out   == the variants interfere, and this is the text of all conflicts
--- IsWithoutProgram base a b out == no program has the merged graph, with its so many parts, and this text says so
+-- IsWithoutProgram base a b out == no program has the merged graph, with its so many parts, and this text
+--                                  says so
 -- IsOverBudget base a b out    == the budget of tries is spent, and this text says so
 -- IsRefused base a b err       == one of the three texts is refused with this message
 use Rattle.std.specs.Prelude.{◌≡◌, ℕ, List, [], ◌∷◌, codes}

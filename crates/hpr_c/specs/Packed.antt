@@ -7,7 +7,8 @@
 -- names_of files, lengths_of files   == the names of files, and how many bytes each has
 -- contents_of files                  == their bytes, one after another
 -- AreFiles names lengths bytes files == the files have these names, packed, these lengths and bytes
--- IsCall words names lengths bytes texts files == what is handed in is a call with these words over these files
+-- IsCall words names lengths bytes texts files == what is handed in is a call with these words over these
+--                                                 files
 -- IsNoCall words names lengths bytes == there are no such words and files
 use Rattle.std.specs.Prelude.{◌≡◌, ℕ, ◌<◌, List, [], ◌∷◌, ◌++◌, length, map}
 use Rattle.std.specs.List.{AllByRecursion, flat_map}

@@ -1,9 +1,11 @@
 -- What is done with texts.
 --
--- IsMerged base a b merged     == the texts base, a and b spell programs, and merged spells one that keeps the meaning of both variants
--- IsMergedForEvery V F base a b merged == so they do, and merged spells one that keeps it whatever the parts mean, with values of V and faults
---                                 of F
--- EndsWith text steps finals   == the text spells a program that ends so from the state in which each name is 0, within so many steps
+-- IsMerged base a b merged     == the texts base, a and b spell programs, and merged spells one that keeps
+--                                 the meaning of both variants
+-- IsMergedForEvery V F base a b merged == so they do, and merged spells one that keeps it whatever the parts
+--                                         mean, with values of V and faults of F
+-- EndsWith text steps finals   == the text spells a program that ends so from the state in which each name is
+--                                 0, within so many steps
 -- MayEndWith text steps finals == that of the final values, if there are some
 use Rattle.std.specs.Prelude.{ℕ, List, Option, Some, None}
 use Rattle.std.specs.FinMap.{empty}

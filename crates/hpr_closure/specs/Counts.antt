@@ -1,7 +1,9 @@
 -- Where an edge counts: at which vertex a change of it is direct.
 --
--- counts_at k to == the vertex at which a link of this kind into the vertex `to` counts: the shared use of an order link, else `to`
--- Counts k to v  == an edge of this kind into `to` counts at v: at its shared use if it is an order edge, else at its target
+-- counts_at k to == the vertex at which a link of this kind into the vertex `to` counts: the shared use of an
+--                   order link, else `to`
+-- Counts k to v  == an edge of this kind into `to` counts at v: at its shared use if it is an order edge,
+--                   else at its target
 use Rattle.std.specs.Prelude.{◌≡◌, ℕ}
 use Rattle.hpr_graph.specs.declared.vertex.Vertex.{Vertex}
 use Rattle.hpr_graph.specs.declared.edge.Kind.{Kind}

@@ -1,7 +1,8 @@
 -- What `affected` decides.
 --
--- AffectedPoints base p a q r    == r prints the affected points of the graph of the program q of the file a, where the program of the file base is p,
---                                   unless one of their graphs has too many edges
+-- AffectedPoints base p a q r    == r prints the affected points of the graph of the program q of the file a,
+--                                   where the program of the file base is p, unless one of their graphs has
+--                                   too many edges
 -- AffectedOutcome files base a r == that, of the programs that two files spell, read in order
 use Rattle.hpr_io.specs.Files.{Files}
 use Rattle.hpr_syntax.specs.Tree.{Tree}

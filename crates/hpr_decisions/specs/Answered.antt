@@ -1,9 +1,12 @@
 -- What the function of a command answers.
 --
--- Answers request files before now result == the result is a decision on the request over these files, and a failed read names one that it may read; before
---                                            and now are the shelf's counts of failures
--- AnswersInKind request result            == a report that is answered is of a kind of the request, whatever the shelf tells
--- AnswersUnread request before now result == where the request reads nothing, no read failed, and the result is a decision on it over whatever files
+-- Answers request files before now result == the result is a decision on the request over these files, and a
+--                                            failed read names one that it may read; before and now are the
+--                                            shelf's counts of failures
+-- AnswersInKind request result            == a report that is answered is of a kind of the request, whatever
+--                                            the shelf tells
+-- AnswersUnread request before now result == where the request reads nothing, no read failed, and the result
+--                                            is a decision on it over whatever files
 use Rattle.std.specs.Prelude.{◌≡◌, ℕ, Option, Some, Result, IfOk}
 use Rattle.hpr_io.specs.Files.{Files}
 use Rattle.hpr_words.specs.Request.{Request}

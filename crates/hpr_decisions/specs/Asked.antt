@@ -1,8 +1,10 @@
 -- What is asked of a call, and what its output took.
 --
 -- asked_by words           == the request that the words are taken as, if they are one
--- WhereAsked words told P  == P of the request that the words are taken as and of the files that the shelf tells: where they are one, and it tells them
--- Took old new P           == from old to new an output took some bytes that have P, where it tells what it took
+-- WhereAsked words told P  == P of the request that the words are taken as and of the files that the shelf
+--                             tells: where they are one, and it tells them
+-- Took old new P           == from old to new an output took some bytes that have P, where it tells what it
+--                             took
 use Rattle.std.specs.Prelude.{◌≡◌, ℕ, List, Option, Some, String, map, string_bytes}
 use Rattle.std.specs.Global.{Global}
 use Rattle.hpr_io.specs.Files.{Files}

@@ -1,22 +1,34 @@
 -- What a call is sure to do where nothing fails.
 --
 -- DonePrinting P old new s          == the status is Done, and `out` took a text that has P in full
--- CompletesBy at say base vs tries old new s == the status and the text report an answer of the integration of base and its variants, where `at` tells each
---                                      conflict's variant, point and edge and `say` gives their text. Where no variants interfere, the first program that fits, of the
---                                      arrangements of what is searched that may be tried, is printed; and the budget is not spent where there are no more arrangements
--- Completes base a b tries old new s, CompletesMany base vs tries old new s == the same of two variants, and of more
--- IsOnlyText base vs only bytes     == the text of the variant `only` with its finals ascending and, for each author, the greatest issued number of all
--- IsOtherText base a b other bytes  == the text of the variant `other` with its finals ascending and, for each author, the greatest issued number of the three
--- Runs p state steps trace old new s == the status is that of how the run went, and `out` took its text in full
--- Tries base a b state steps old new s == the status and the text are those of a decision on the trial of the three programs
+-- CompletesBy at say base vs tries old new s == the status and the text report an answer of the integration
+--                                               of base and its variants, where `at` tells each conflict's
+--                                               variant, point and edge and `say` gives their text. Where no
+--                                               variants interfere, the first program that fits, of the
+--                                               arrangements of what is searched that may be tried, is
+--                                               printed; and the budget is not spent where there are no more
+--                                               arrangements
+-- Completes base a b tries old new s, CompletesMany base vs tries old new s == the same of two variants, and
+--       of more
+-- IsOnlyText base vs only bytes     == the text of the variant `only` with its finals ascending and, for each
+--                                      author, the greatest issued number of all
+-- IsOtherText base a b other bytes  == the text of the variant `other` with its finals ascending and, for
+--                                      each author, the greatest issued number of the three
+-- Runs p state steps trace old new s == the status is that of how the run went, and `out` took its text in
+--                                       full
+-- Tries base a b state steps old new s == the status and the text are those of a decision on the trial of the
+--                                         three programs
 -- Samples seed parts old new s == the status and the text are those of a decision on the sample
 -- Verifies base a b offered old new s == the status and the text report a verdict on the offered program
--- RequestCompletes request files .. == that, where no state word is refused, each file of the request is of an accepted length and spells a program, or a
---                                      script that is one of which no command is refused, no graph that the request needs has too many edges, and each
---                                      point is named
--- PrintsOther request files ..      == where one variant of an integration is the base and no graph has too many edges, the other one is printed so; so is the
---                                      one program that each of many variants is, but those that are the base
--- UnlessFailed shelf_before .. s P    == where no read and no write failed in the call: P, unless memory ran out
+-- RequestCompletes request files .. == that, where no state word is refused, each file of the request is of
+--                                      an accepted length and spells a program, or a script that is one of
+--                                      which no command is refused, no graph that the request needs has too
+--                                      many edges, and each point is named
+-- PrintsOther request files ..      == where one variant of an integration is the base and no graph has too
+--                                      many edges, the other one is printed so; so is the one program that
+--                                      each of many variants is, but those that are the base
+-- UnlessFailed shelf_before .. s P    == where no read and no write failed in the call: P, unless memory ran
+--                                        out
 -- IsRefusedCall message s err       == the status is Refused, and `err` got the message; or memory ran out
 use Rattle.std.specs.Prelude.{◌≡◌, ◌≢◌, ◌≤◌, ◌⊎◌, ℕ, Bool, List, [], ◌∷◌, All, Option, Ok, length, take}
 use Rattle.hpr_io.specs.Counts.{Rose}

@@ -1,10 +1,13 @@
 -- What `edit` and `tag` decide.
 --
--- OnScript files script next r      == r is the refusal of the script; or the file spells a script, and r is what next says of its commands
--- OnUntagged files file author next r == r is the refusal of the file; or it spells a program in the untagged form, and r is what next says of that,
---                                      with this author's tags
--- edit_decision script result       == the program that a script makes is printed; or its first command that is refused is named
--- EditOutcome files file script author r == that, of the program and the script that two files spell, read in order
+-- OnScript files script next r      == r is the refusal of the script; or the file spells a script, and r is
+--                                      what next says of its commands
+-- OnUntagged files file author next r == r is the refusal of the file; or it spells a program in the untagged
+--                                        form, and r is what next says of that, with this author's tags
+-- edit_decision script result       == the program that a script makes is printed; or its first command that
+--                                      is refused is named
+-- EditOutcome files file script author r == that, of the program and the script that two files spell, read in
+--                                           order
 -- TagOutcome files file author r    == r prints the program that the untagged file spells
 use Rattle.std.specs.Prelude.{◌≡◌, ℕ, List}
 use Rattle.hpr_io.specs.Files.{Files, bytes_of}

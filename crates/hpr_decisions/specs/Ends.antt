@@ -1,14 +1,18 @@
 -- How a call ends: one case for each status.
 --
--- Change               == an object before and after a call: how often it had failed, and what it took where it tells
+-- Change               == an object before and after a call: how often it had failed, and what it took where
+--                         it tells
 -- IsUntouched c        == it took nothing and did not fail
 -- status_of r          == the status of a decision
 -- text_of r            == its text for `out`
 -- message_of r         == its message for `err`, if it has one
--- Says message err     == `err` took all of the message where no put failed, and else a prefix of it, not all of it; `either` says so also where the count
---                         stands at its last value, where none can rise
--- Decided s P .. err   == some decision r of P has the status s; no read and no write failed; `out` took the text of r, and `err` the message
--- CutShort P .. err    == a write failed: `out` took a prefix of the text of some decision of P, and not all of it
+-- Says message err     == `err` took all of the message where no put failed, and else a prefix of it, not all
+--                         of it; `either` says so also where the count stands at its last value, where none
+--                         can rise
+-- Decided s P .. err   == some decision r of P has the status s; no read and no write failed; `out` took the
+--                         text of r, and `err` the message
+-- CutShort P .. err    == a write failed: `out` took a prefix of the text of some decision of P, and not all
+--                         of it
 -- ReadFailed reads ..  == a read failed: `out` took nothing, and the message names a file that the call reads
 -- Ends s P reads ..    == the call ends with the status s in the one case that s stands for
 use Rattle.std.specs.Prelude.{◌≡◌, ◌<◌, ◌⊎◌, ℕ, List, [], Option, Some, None, codes}

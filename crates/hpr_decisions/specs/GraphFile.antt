@@ -1,7 +1,9 @@
 -- What `graph` decides.
 --
--- IsShown json g bytes            == the bytes are the text of the graph, or its JSON value where that is asked for
--- Graphed file p json r           == r prints the graph of the program p of a file, unless it has too many edges
+-- IsShown json g bytes            == the bytes are the text of the graph, or its JSON value where that is
+--                                    asked for
+-- Graphed file p json r           == r prints the graph of the program p of a file, unless it has too many
+--                                    edges
 -- GraphOutcome files file json r  == that, of the program that the file spells
 use Rattle.std.specs.Prelude.{ℕ, Bool, true, false, List}
 use Rattle.hpr_io.specs.Files.{Files}

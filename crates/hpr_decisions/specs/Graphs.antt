@@ -1,8 +1,10 @@
 -- The graphs of files.
 --
 -- too_many_edges file        == the message on a file whose program has such a graph
--- OnGraph file p next r      == the graph of the program p of a file has too many edges, and r refuses the file; or it hasn't, and r is what next says
--- OnAllGraphs names ps next r == for the programs ps of files: a graph with too many edges refuses its file, in this order; else r is what next says
+-- OnGraph file p next r      == the graph of the program p of a file has too many edges, and r refuses the
+--                               file; or it hasn't, and r is what next says
+-- OnAllGraphs names ps next r == for the programs ps of files: a graph with too many edges refuses its file,
+--                                in this order; else r is what next says
 -- OnGraphs base p a q b s next r == that of the programs p, q and s of three files
 use Rattle.std.specs.Prelude.{◌≡◌, ◌⊎◌, ℕ, List, [], ◌∷◌, ◌++◌, codes}
 use Rattle.std.specs.Fmt.{decimal}

@@ -1,16 +1,22 @@
 -- What `integrate` decides.
 --
--- no_program_text n                  == what is printed where no program has the merged graph, which has so many parts
+-- no_program_text n                  == what is printed where no program has the merged graph, which has so
+--                                       many parts
 -- spent_text tries                   == what is printed where the budget of tries is spent
--- report_with show say tries x       == what is decided by the answer x, within so many tries: its text is printed, where `show` gives that of a program and `say` that of
+-- report_with show say tries x       == what is decided by the answer x, within so many tries: its text is
+--                                       printed, where `show` gives that of a program and `say` that of
 --                                       conflicts
--- IsReportedWith show at say base vs tries r == r so reports an answer of the integration of a base and these variants, where `at` tells each conflict's variant, point
---                                       and edge
--- report_by say tries x, IsReportedBy at say base vs tries r == these where the canonical text of a program is printed
--- IntegratedBy at say base p names ps tries r == for the programs of base's file and the variants': a graph with too many edges refuses its file, in this order; else r
---                                       reports an answer of their integration
+-- IsReportedWith show at say base vs tries r == r so reports an answer of the integration of a base and these
+--                                               variants, where `at` tells each conflict's variant, point and
+--                                               edge
+-- report_by say tries x, IsReportedBy at say base vs tries r == these where the canonical text of a program
+--       is printed
+-- IntegratedBy at say base p names ps tries r == for the programs of base's file and the variants': a graph
+--                                                with too many edges refuses its file, in this order; else r
+--                                                reports an answer of their integration
 -- OutcomeBy at say files base names tries r == what is so decided of the programs that these files spell
--- report tries x, IsReported base a b tries r, Integrated base p a q b s tries r, IntegrateOutcome files base a b tries r == these of two variants
+-- report tries x, IsReported base a b tries r, Integrated base p a q b s tries r,
+-- IntegrateOutcome files base a b tries r == these of two variants
 use Rattle.std.specs.Prelude.{◌≡◌, ℕ, List, [], ◌∷◌, ◌++◌, codes}
 use Rattle.std.specs.Fmt.{decimal}
 use Rattle.hpr_terms.specs.declared.limits.TheConstants.{MAX_PARTS}

@@ -1,12 +1,14 @@
 -- What `integrate` decides of three variants or more.
 --
--- Told                              == what a conflict tells: the number of its variant, from 0, its point, and the edge that shows it
+-- Told                              == what a conflict tells: the number of its variant, from 0, its point,
+--                                      and the edge that shows it
 -- conflict_of t                     == this conflict, with the number of its variant from 1
 -- told_text ts                      == the text of these conflicts
 -- IsAnswerOfMany base vs tries x    == x is an answer of the integration of a base and these variants
 -- IsReportedOfMany base vs tries r  == r reports an answer of their integration
--- IntegratedMany base p names ps tries r == for the programs of base's file and the variants': a graph with too many edges refuses its file, in this order; else r
---                                      reports an answer of their integration
+-- IntegratedMany base p names ps tries r == for the programs of base's file and the variants': a graph with
+--                                           too many edges refuses its file, in this order; else r reports an
+--                                           answer of their integration
 -- IntegrateManyOutcome files base names tries r == what is so decided of the programs that these files spell
 use Rattle.std.specs.Prelude.{ℕ, ◌+◌, List, map}
 use Rattle.hpr_io.specs.Files.{Files}

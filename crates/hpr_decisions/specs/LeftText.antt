@@ -1,8 +1,10 @@
 -- The program that is printed of a slice.
 --
--- IsLeftOf file points bytes     == the bytes file are an accepted file that spells a program, and the bytes are the canonical text of what the slice of its
---                                   graph at the vertices that the points name leaves of it
--- PrintsLeft request files bytes == for `slice` with a program to print: the bytes are such a text, of the file that it names
+-- IsLeftOf file points bytes     == the bytes file are an accepted file that spells a program, and the bytes
+--                                   are the canonical text of what the slice of its graph at the vertices
+--                                   that the points name leaves of it
+-- PrintsLeft request files bytes == for `slice` with a program to print: the bytes are such a text, of the
+--                                   file that it names
 use Rattle.std.specs.Prelude.{◌≡◌, ℕ, true, List, All}
 use Rattle.hpr_io.specs.Files.{Files, bytes_of}
 use Rattle.hpr_syntax.specs.Print.{text}

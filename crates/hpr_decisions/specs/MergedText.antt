@@ -1,7 +1,9 @@
 -- The graph of the program that is printed.
 --
--- HasMergedGraph files base names bytes == base's file and the variants' are accepted and spell programs, without a conflict, and the bytes spell a program whose graph
---                                    is their merged graph, in which the parts that are split off are under their new tags
+-- HasMergedGraph files base names bytes == base's file and the variants' are accepted and spell programs,
+--                                          without a conflict, and the bytes spell a program whose graph is
+--                                          their merged graph, in which the parts that are split off are
+--                                          under their new tags
 -- PrintsMerged request files bytes == for `integrate`: the bytes are such a text, of the files that it names
 use Rattle.std.specs.Prelude.{ℕ, List, [], ◌∷◌}
 use Rattle.hpr_io.specs.Files.{Files, bytes_of}

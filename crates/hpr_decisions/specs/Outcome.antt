@@ -3,10 +3,14 @@
 -- RequestOutcome request files r == r is the decision on the request, where the shelf holds these files
 -- Outcome request files r        == the same, or the usage text where the words are no call
 -- OutcomeIfTold request files r  == the same, for whatever files the shelf tells
--- IsSpent r, HasSearched r       == r prints that the budget of tries is spent; r prints a program or what it does, or that there is none
--- AgreeButForBudget r s          == they are the same; or one is that the budget is spent, and the other comes of a search that went on
--- OneDecision                    == the words and the files make one decision, but that a search may go on past its budget or not
--- HasDecision                    == it can't be refuted that the words and the files make a decision, where a request is in range
+-- IsSpent r, HasSearched r       == r prints that the budget of tries is spent; r prints a program or what it
+--                                   does, or that there is none
+-- AgreeButForBudget r s          == they are the same; or one is that the budget is spent, and the other
+--                                   comes of a search that went on
+-- OneDecision                    == the words and the files make one decision, but that a search may go on
+--                                   past its budget or not
+-- HasDecision                    == it can't be refuted that the words and the files make a decision, where a
+--                                   request is in range
 use Rattle.std.specs.Prelude.{◌≡◌, ◌⊎◌, ℕ, List, Option, Some, None, IfSome}
 use Rattle.hpr_io.specs.Files.{Files}
 use Rattle.hpr_words.specs.Request.{Request, integrate, integrate_many, run, graph, slice, affected, trial, edit, tag, sample, verify, IsInRange}

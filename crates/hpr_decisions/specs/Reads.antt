@@ -2,9 +2,10 @@
 --
 -- files_of request         == the files that a request names, in the order in which they are read
 -- files_of_taken request   == the same; none where the words are no call
--- MayRead request told file == the request comes to read this file: it names it, each file that it names before spells a program, and none of its state
---                             words is refused
--- ReadsNothing request     == whatever files the shelf tells, the request comes to read none of them: `sample`, a refused state word, or words that are no call
+-- MayRead request told file == the request comes to read this file: it names it, each file that it names
+--                              before spells a program, and none of its state words is refused
+-- ReadsNothing request     == whatever files the shelf tells, the request comes to read none of them:
+--                             `sample`, a refused state word, or words that are no call
 use Rattle.std.specs.Prelude.{◌≡◌, List, [], ◌∷◌, Option, Some, None, IsOk}
 use Rattle.hpr_io.specs.Files.{Files}
 use Rattle.hpr_words.specs.Request.{Request, Text, integrate, integrate_many, run, graph, slice, affected, trial, edit, tag, sample, verify}

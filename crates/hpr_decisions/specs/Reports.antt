@@ -1,19 +1,28 @@
 -- The answers of an integration, as the status and the text tell them.
 --
 -- tries_of request              == the budget of tries of its integration
--- ConflictOf request            == what a conflict of its integration is: one of two variants with its side, or else one of many with its variant's number
+-- ConflictOf request            == what a conflict of its integration is: one of two variants with its side,
+--                                  or else one of many with its variant's number
 -- text_of_conflicts request cs  == the text of the conflicts
--- AnswersFiles at files base names tries x == base's file and the variants' spell programs whose graphs are within the limit, and x is an answer of their integration,
---                                  where `at` tells each conflict's variant, point and edge
--- AnswersSample seed parts x    == the graphs of the programs of the sample are within the limit, and x is an answer of their integration
--- HasAnswer request files x     == for `integrate`, and for `trial` where no state word is refused, or for `sample`: x is such an answer
--- ConflictsIn base a b          == the bytes of three files spell programs whose graphs are within the limit, and a point of one side is a conflict
+-- AnswersFiles at files base names tries x == base's file and the variants' spell programs whose graphs are
+--                                             within the limit, and x is an answer of their integration,
+--                                             where `at` tells each conflict's variant, point and edge
+-- AnswersSample seed parts x    == the graphs of the programs of the sample are within the limit, and x is an
+--                                  answer of their integration
+-- HasAnswer request files x     == for `integrate`, and for `trial` where no state word is refused, or for
+--                                  `sample`: x is such an answer
+-- ConflictsIn base a b          == the bytes of three files spell programs whose graphs are within the limit,
+--                                  and a point of one side is a conflict
 -- ConflictsInSample seed parts   == the same of the programs of the sample
--- ConflictsInMany files base names == the same of base and the variants in these files, where a point of some variant is a conflict
--- HasConflict request files     == for `integrate`, and for `trial` where no state word is refused, or for `sample`: there is such a point
--- SpentIn files base names tries == base's file and the variants' spell programs, whose arrangements have more leaves than tries, none of the first of which fits
+-- ConflictsInMany files base names == the same of base and the variants in these files, where a point of some
+--                                     variant is a conflict
+-- HasConflict request files     == for `integrate`, and for `trial` where no state word is refused, or for
+--                                  `sample`: there is such a point
+-- SpentIn files base names tries == base's file and the variants' spell programs, whose arrangements have
+--                                   more leaves than tries, none of the first of which fits
 -- HasSpentLeaves request files  == for the same commands: it is so of their programs
--- IsInterference request cs old new s == the status is Interference, and `out` took the text of all these conflicts
+-- IsInterference request cs old new s == the status is Interference, and `out` took the text of all these
+--                                        conflicts
 use Rattle.std.specs.Prelude.{◌≡◌, ℕ, List, [], ◌∷◌, Option, Ok}
 use Rattle.hpr_terms.specs.declared.limits.TheConstants.{DEFAULT_TRIES}
 use Rattle.hpr_io.specs.Files.{Files, bytes_of}

@@ -1,8 +1,10 @@
 -- What `run` decides.
 --
 -- kind_of o                            == a run that ends is done; one that faults or is spent is not ended
--- Ran p state steps trace r            == r prints the run of the program p from the state with so many steps to spend, with its trace or without
--- RunOutcome files file words steps trace r == that, of the state that the words tell and the program that the file spells
+-- Ran p state steps trace r            == r prints the run of the program p from the state with so many steps
+--                                         to spend, with its trace or without
+-- RunOutcome files file words steps trace r == that, of the state that the words tell and the program that
+--                                              the file spells
 use Rattle.std.specs.Prelude.{◌≡◌, ℕ, Bool, List}
 use Rattle.hpr_io.specs.Files.{Files}
 use Rattle.hpr_syntax.specs.Run.{Outcome, ends, faults, more, run}

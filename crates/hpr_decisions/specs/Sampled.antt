@@ -1,9 +1,12 @@
 -- What `sample` decides.
 --
--- sample_line seed parts p q s m      == the line on a sample: its seed and size, and how many parts base p, its variants q and s and their merged program m have
--- sample_report seed parts p q s x    == that line is printed where the answer x of their integration is a program; else the answer is reported
+-- sample_line seed parts p q s m      == the line on a sample: its seed and size, and how many parts base p,
+--                                        its variants q and s and their merged program m have
+-- sample_report seed parts p q s x    == that line is printed where the answer x of their integration is a
+--                                        program; else the answer is reported
 -- IsSampled seed parts p q s r        == r reports an answer of the integration of the three so
--- SampleOutcome seed parts r          == that, of the three programs of the sample, whose graphs haven't too many edges; `base`, `A` or `B` names the one that has
+-- SampleOutcome seed parts r          == that, of the three programs of the sample, whose graphs haven't too
+--                                        many edges; `base`, `A` or `B` names the one that has
 use Rattle.std.specs.Prelude.{ℕ, List, [], ◌∷◌, ◌++◌, codes}
 use Rattle.std.specs.Fmt.{decimal}
 use Rattle.hpr_terms.specs.declared.limits.TheConstants.{DEFAULT_TRIES}

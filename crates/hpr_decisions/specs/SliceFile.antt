@@ -1,9 +1,12 @@
 -- What `slice` decides.
 --
--- IsLeftText p part bytes                  == the bytes are the canonical text of what the vertices of the graph part leave of the program p
--- IsSliceShown program p part bytes        == the bytes are that text where the program is asked for, and else the text of the graph part
--- Sliced file p points program r           == r prints the slice of the graph of the program p of a file at the vertices that the points name, as a graph or
---                                             as a program, unless the graph has too many edges or a point names none
+-- IsLeftText p part bytes                  == the bytes are the canonical text of what the vertices of the
+--                                             graph part leave of the program p
+-- IsSliceShown program p part bytes        == the bytes are that text where the program is asked for, and
+--                                             else the text of the graph part
+-- Sliced file p points program r           == r prints the slice of the graph of the program p of a file at
+--                                             the vertices that the points name, as a graph or as a program,
+--                                             unless the graph has too many edges or a point names none
 -- SliceOutcome files file points program r == that, of the program that the file spells
 use Rattle.std.specs.Prelude.{◌≡◌, ℕ, Bool, true, false, List}
 use Rattle.hpr_io.specs.Files.{Files}

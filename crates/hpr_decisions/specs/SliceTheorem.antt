@@ -1,8 +1,11 @@
 -- The theorem on slices as programs.
 --
--- IsSliceProgram file points bytes == the bytes file are an accepted file that spells a program, and the bytes spell one that does its part (hpr_prune):
---                                     its graph is the slice of the whole's graph at the vertices that the points name, and it does what the whole does
--- DoesSlice request files bytes    == for `slice` with a program to print: the bytes are such a text, of the file that it names; its points are one or more
+-- IsSliceProgram file points bytes == the bytes file are an accepted file that spells a program, and the
+--                                     bytes spell one that does its part (hpr_prune): its graph is the slice
+--                                     of the whole's graph at the vertices that the points name, and it does
+--                                     what the whole does
+-- DoesSlice request files bytes    == for `slice` with a program to print: the bytes are such a text, of the
+--                                     file that it names; its points are one or more
 use Rattle.std.specs.Prelude.{ℕ, true, List, ◌∷◌}
 use Rattle.hpr_io.specs.Files.{Files, bytes_of}
 use Rattle.hpr_syntax.specs.Tree.{Tree}

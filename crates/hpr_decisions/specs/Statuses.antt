@@ -4,7 +4,8 @@
 -- DoesRun request       == it tells how programs ran: `run` or `trial`
 -- DoesVerify request    == it is `verify`
 -- IsKindOf request kind == an answer to the request may be of this kind
--- IsStatusOf request s  == a call with the request may end so; by a failed read only where it may come to read a file
+-- IsStatusOf request s  == a call with the request may end so; by a failed read only where it may come to
+--                          read a file
 use Rattle.std.specs.Prelude.{Some}
 use Rattle.hpr_words.specs.Request.{Request, integrate, integrate_many, run, trial, sample, verify}
 use Rattle.hpr_inputs.specs.declared.answer.Kind.{Kind}

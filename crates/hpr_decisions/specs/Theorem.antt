@@ -1,11 +1,14 @@
 -- The integration theorem.
 --
--- IsMergedText base a b bytes      == the bytes base, a and b are accepted files that spell three programs, and the bytes spell a program that keeps the
---                                     meaning of both variants
--- KeepsMeaning request files bytes == for `integrate` of two variants: the bytes are such a text, of the files that it names
--- IsManyMergedText files base names bytes == base's file and the variants' are accepted and spell programs, and the bytes spell a program that keeps the
---                                     meaning of all variants
--- KeepsAllMeaning request files bytes == for `integrate` of three variants or more: the bytes are such a text, of the files that it names
+-- IsMergedText base a b bytes      == the bytes base, a and b are accepted files that spell three programs,
+--                                     and the bytes spell a program that keeps the meaning of both variants
+-- KeepsMeaning request files bytes == for `integrate` of two variants: the bytes are such a text, of the
+--                                     files that it names
+-- IsManyMergedText files base names bytes == base's file and the variants' are accepted and spell programs,
+--                                            and the bytes spell a program that keeps the meaning of all
+--                                            variants
+-- KeepsAllMeaning request files bytes == for `integrate` of three variants or more: the bytes are such a
+--                                        text, of the files that it names
 use Rattle.std.specs.Prelude.{ℕ, List}
 use Rattle.hpr_io.specs.Files.{Files, bytes_of}
 use Rattle.hpr_syntax.specs.Tree.{Tree}

@@ -1,10 +1,12 @@
 -- The text of a trace: a line an instance, then how the run went.
 --
 -- turns_text turns      == the turns, a comma between each two
--- step_line tag turns v == the line of a step: the tag of the part, its turns in brackets, and the number that shows it
+-- step_line tag turns v == the line of a step: the tag of the part, its turns in brackets, and the number
+--                          that shows it
 -- instance_line i       == the line of an instance
 -- trace_text is         == the lines of instances
--- run_text p state steps trace == what is printed of a run: the lines of its instances, if its trace is asked for, and then how it went
+-- run_text p state steps trace == what is printed of a run: the lines of its instances, if its trace is asked
+--                                 for, and then how it went
 use Rattle.std.specs.Prelude.{ℕ, ℤ, Bool, List, [], ◌∷◌, ◌++◌, flat_map, codes, if◌then◌else◌}
 use Rattle.std.specs.Fmt.{decimal, signed_decimal}
 use Rattle.hpr_terms.specs.declared.tag.Tag.{Tag}

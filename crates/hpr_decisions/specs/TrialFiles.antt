@@ -1,17 +1,22 @@
 -- What `trial` decides.
 --
--- steps_of o, finals_of o          == the steps that a run took; its final values, and none where it doesn't end
+-- steps_of o, finals_of o          == the steps that a run took; its final values, and none where it doesn't
+--                                     end
 -- has_ended o, have_ended o o1 o2  == the run ends; all three do
--- trial_line word o                == how a run went, without its values, behind the word for its program: a line
+-- trial_line word o                == how a run went, without its values, behind the word for its program: a
+--                                     line
 -- three_lines o o1 o2              == the lines of base, A and B
--- IsTrialText o o1 o2 om text      == the text has these three, the line of the merged program and the table of the final values
+-- IsTrialText o o1 o2 om text      == the text has these three, the line of the merged program and the table
+--                                     of the final values
 -- ShowsTrial o o1 o2 om r          == r prints that where base, A and B end; and else only their lines
--- IsTrialOf p q s m state steps r  == r shows the runs of base, A and B from the state, each with so many steps to spend, and that of the merged program m
---                                     with as many as the three took together
+-- IsTrialOf p q s m state steps r  == r shows the runs of base, A and B from the state, each with so many
+--                                     steps to spend, and that of the merged program m with as many as the
+--                                     three took together
 -- IsTrialBy p q s state steps x r  == where the answer is a program, r is so of it; else r reports the answer
 -- IsTried p q s state steps r      == that is so of an answer of the integration of the three programs
--- TrialOutcome files base a b words steps r == that, of the state that the words tell and the programs that three files spell, read in order, whose graphs
---                                     haven't too many edges
+-- TrialOutcome files base a b words steps r == that, of the state that the words tell and the programs that
+--                                              three files spell, read in order, whose graphs haven't too
+--                                              many edges
 use Rattle.std.specs.Prelude.{◌≡◌, ℕ, ◌+◌, Bool, true, false, ◌&&◌, List, [], ◌++◌, codes}
 use Rattle.hpr_terms.specs.declared.limits.TheConstants.{DEFAULT_TRIES}
 use Rattle.hpr_io.specs.Files.{Files}

@@ -1,10 +1,13 @@
 -- What a finished trial shows.
 --
--- IsKeptTrial p q s state steps bytes == the bytes are the text of a trial of base p, its variants q and s and their merged program m, where all four end,
---                                        m within as many steps as the three took together, and each row has what a variant changed and what all three
---                                        agree on
--- KeepsTrial request files bytes      == for `trial`: the bytes are such a text, of the state that the words tell and the programs that the files spell
--- EndsTrial request files s           == for `trial`: where these three programs end, the status isn't NotEnded
+-- IsKeptTrial p q s state steps bytes == the bytes are the text of a trial of base p, its variants q and s
+--                                        and their merged program m, where all four end, m within as many
+--                                        steps as the three took together, and each row has what a variant
+--                                        changed and what all three agree on
+-- KeepsTrial request files bytes      == for `trial`: the bytes are such a text, of the state that the words
+--                                        tell and the programs that the files spell
+-- EndsTrial request files s           == for `trial`: where these three programs end, the status isn't
+--                                        NotEnded
 use Rattle.std.specs.Prelude.{◌≡◌, ◌≢◌, ℕ, ◌+◌, List, ◌++◌, All, Ok, map, codes}
 use Rattle.hpr_terms.specs.declared.limits.TheConstants.{DEFAULT_TRIES}
 use Rattle.hpr_io.specs.Files.{Files, bytes_of}

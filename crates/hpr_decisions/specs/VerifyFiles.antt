@@ -1,11 +1,14 @@
 -- What `verify` decides.
 --
--- holder_word h                == the word for a graph: that of the program that is offered, or the merged one
--- certificate_data v           == what shows that an offered program isn't the merged one, as JSON; members stand in ascending order of their keys
+-- holder_word h                == the word for a graph: that of the program that is offered, or the merged
+--                                 one
+-- certificate_data v           == what shows that an offered program isn't the merged one, as JSON; members
+--                                 stand in ascending order of their keys
 -- certificate_text v           == its compact text and a newline
 -- report_verdict v             == what is decided by the verdict v: its text is printed
 -- IsVerified base a b offered r == r reports a verdict on an offered program, by base and two variants
--- VerifyOutcome files base a b m r == that, of the programs that four files spell, read in order, whose graphs haven't too many edges
+-- VerifyOutcome files base a b m r == that, of the programs that four files spell, read in order, whose
+--                                     graphs haven't too many edges
 use Rattle.std.specs.Prelude.{◌≡◌, ℕ, List, [], ◌∷◌, ◌++◌, codes}
 use Rattle.serde_json.specs.Data.{Data, string, object, member, no_members}
 use Rattle.serde_json.specs.Written.{compact_text}

@@ -1,11 +1,14 @@
 -- What a verdict on an offered program tells.
 --
 -- AreFourFiles base a b m p q r o == the bytes of four files are accepted, and they spell these programs
--- IsVerifiedFile base a b m       == the bytes of four files spell programs; the graph of the last one's is the merged graph of the others', in which the parts
---                                    that are split off are under their new tags, and it keeps the meaning of both variants
+-- IsVerifiedFile base a b m       == the bytes of four files spell programs; the graph of the last one's is
+--                                    the merged graph of the others', in which the parts that are split off
+--                                    are under their new tags, and it keeps the meaning of both variants
 -- HasVerified request files       == for `verify`: it is so of the files that it names
--- IsRejectedFile base a b m v     == the bytes of four files spell programs, and v is the verdict on the last one's; it isn't that they are the same
--- IsRejected request files bytes  == for `verify` alone: the bytes are the text of such a verdict on the files that it names
+-- IsRejectedFile base a b m v     == the bytes of four files spell programs, and v is the verdict on the last
+--                                    one's; it isn't that they are the same
+-- IsRejected request files bytes  == for `verify` alone: the bytes are the text of such a verdict on the
+--                                    files that it names
 use Rattle.std.specs.Prelude.{◌≡◌, ◌≢◌, ℕ, List}
 use Rattle.hpr_io.specs.Files.{Files, bytes_of}
 use Rattle.hpr_syntax.specs.Meaning.{Keeps}

@@ -1,8 +1,11 @@
 -- What a script makes of a program.
 --
--- Applied                     == the program that it becomes; or the number of the first command that is refused, and why
--- then_on k next e            == what is next of the program that the command number k makes; or the command is refused
--- applied_from k p cs author  == what the commands make of p one after the other, the first of which has the number k; new parts are this author's
+-- Applied                     == the program that it becomes; or the number of the first command that is
+--                                refused, and why
+-- then_on k next e            == what is next of the program that the command number k makes; or the command
+--                                is refused
+-- applied_from k p cs author  == what the commands make of p one after the other, the first of which has the
+--                                number k; new parts are this author's
 -- applied p cs author         == the same, counted from 1
 use Rattle.std.specs.Prelude.{ℕ, ◌+◌, List, [], ◌∷◌}
 use Rattle.hpr_syntax.specs.Tree.{Tree}

@@ -1,6 +1,7 @@
 -- Changes of a body at a part or at a place, and what can stand there.
 --
--- at_part t f body       == `f part rest` stands in place of the part with this tag and of the rest of its block
+-- at_part t f body       == `f part rest` stands in place of the part with this tag and of the rest of its
+--                           block
 -- from n f block         == `f rest` stands in place of the rest of a block from its place n on
 -- with_block w f part    == the part with one of its blocks changed by f
 -- at_place place f body  == `f rest` stands in place of what stands in a body from this place on
@@ -14,7 +15,8 @@
 -- unwrapped              == the part's first block, and then its second
 -- In place of the rest of a block can stand:
 -- before part            == the part, and then the rest
--- rewrapped t c n m      == a part that says this, with the next n parts as its first block and the m behind them as its second
+-- rewrapped t c n m      == a part that says this, with the next n parts as its first block and the m behind
+--                           them as its second
 use Rattle.std.specs.Prelude.{ℕ, zero, suc, Bool, if◌then◌else◌, Some, None}
 use Rattle.hpr_terms.specs.declared.tag.Tag.{Tag}
 use Rattle.hpr_syntax.specs.declared.tree.Stmt.{Stmt}

@@ -2,7 +2,8 @@
 --
 -- Edited                  == the program with the inverse of the command, or the refusal
 -- refuse why test next    == the refusal where the test holds, and else what is next
--- named t body next       == what is next of the part with this tag and of its place; refused where no part has the tag
+-- named t body next       == what is next of the part with this tag and of its place; refused where no part
+--                            has the tag
 -- settled tree inverse    == this tree and inverse; refused where the tree is no program
 -- stands_in parent part   == a place with this parent is in the part
 -- is_action c             == the content is neither a conditional's nor a loop's

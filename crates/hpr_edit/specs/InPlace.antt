@@ -1,22 +1,26 @@
 -- Steps of the code, which changes a body in its place.
 --
 -- times t body           == how many parts have this tag
--- enclosing round        == what is put in place of the rest of a block where a part is put round its first parts
+-- enclosing round        == what is put in place of the rest of a block where a part is put round its first
+--                           parts
 -- done_by change         == what the change puts in place of a part and of the rest of its block
 -- on_first f block       == `f part rest` stands in place of a block's first part and of the rest
--- placing hand           == in place of a part and of the rest of its block: the part in the hand, if there is one, and the rest
+-- placing hand           == in place of a part and of the rest of its block: the part in the hand, if there
+--                           is one, and the rest
 -- found_within t part    == the part with this tag in the blocks of a part
 -- in_part t f part       == the part with the change f made at the part with this tag in it
 -- with_content c part    == the part, saying this
 -- is_whole change        == where memory runs out, the block that is changed stays as it was
 -- tree_of i body names   == the tree of these three
 -- Settles tree result    == the result is this tree where it is a program, and else its refusal; memory aside
--- Located t body found   == what is found is the part with this tag and its place; nothing, where no part has the tag
--- Leaves t parent old b  == the part with this tag stands at this old place, and a place with this parent isn't in it
+-- Located t body found   == what is found is the part with this tag and its place; nothing, where no part has
+--                           the tag
+-- Leaves t parent old b  == the part with this tag stands at this old place, and a place with this parent
+--                           isn't in it
 -- Refused edited why     == why the command is refused; memory aside
 -- Makes edited tree r    == the command makes this tree, and the result is its inverse; or it is refused
--- Allows edited tree i r == the result is the tag of a new part, with which the command makes the tree and has the inverse i;
---                           or it is refused
+-- Allows edited tree i r == the result is the tag of a new part, with which the command makes the tree and
+--                           has the inverse i; or it is refused
 -- IsProperCommand c      == the names in a command are variables, and its numbers in range
 use Rattle.std.specs.Prelude.{◌≡◌, ℕ, ◌+◌, Bool, true, false, Option, Some, None, Result, List, All}
 use Rattle.std.specs.Option.{option_or}

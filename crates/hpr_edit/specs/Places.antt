@@ -2,7 +2,8 @@
 --
 -- width block            == how many parts a block has, without those that stand in them
 -- joined block next      == the parts of one block, and then those of the other
--- block_in w part        == a part's block: true is a loop's body or a conditional's first, false a conditional's second
+-- block_in w part        == a part's block: true is a loop's body or a conditional's first, false a
+--                           conditional's second
 -- block_at parent body   == the block that a place names
 -- is_place place body    == the place's block is there, and it is no shorter than the place says
 -- place_of t body        == where the part with this tag stands
@@ -49,7 +50,8 @@ is_within n (Some block) = nat_le n (width block)
 abbrev pub is_place : Place → Body → Bool
 is_place place body = is_within place.at (block_at place.parent body)
 
--- where the first part with this tag stands, in a block under this parent, of which the first part stands at the place i
+-- where the first part with this tag stands, in a block under this parent, of which the first part stands at
+-- the place i
 abbrev pub place_from : Tag → Parent → ℕ → Body → Option Place
 place_from t p i done = None
 place_from t p i (action u d rest) = if same_tag u t then Some (record { parent = p; at = i }) else place_from t p (i + 1) rest

@@ -4,9 +4,11 @@
 -- finals_back inverse finals == the names of `end` before the command
 -- reverted inverse p         == the program with these; its issued numbers stay
 -- put_back inverse           == the tags of the parts that stand only before the command
--- Undoes old inverse p       == the inverse is that of a command that made of old a program with p's body and finals
+-- Undoes old inverse p       == the inverse is that of a command that made of old a program with p's body and
+--                               finals
 -- IsPutBackIssued inverse p  == each tag that the inverse puts back was issued in p
--- Restores before inverse p  == what the inverse makes of p has the body and finals of before, and p's issued numbers
+-- Restores before inverse p  == what the inverse makes of p has the body and finals of before, and p's issued
+--                               numbers
 use Rattle.std.specs.Prelude.{◌≡◌, ℕ, ◌≤◌, Option, Some, None, List, [], ◌∷◌}
 use Rattle.std.specs.List.{AllByRecursion}
 use Rattle.hpr_terms.specs.declared.tag.Tag.{Tag}

@@ -2,8 +2,8 @@
 --
 -- told body                 == tag and content of each part in preorder
 -- others ts body            == the same of the parts with other tags than these
--- touched p command author  == the tags of the parts that a command names, puts in or takes out; a part that is deleted or moved
---                              goes with all that stands in it
+-- touched p command author  == the tags of the parts that a command names, puts in or takes out; a part that
+--                              is deleted or moved goes with all that stands in it
 use Rattle.std.specs.Prelude.{ℕ, Bool, not, Option, Some, None, List, [], ◌∷◌, map, filter}
 use Rattle.std.specs.List.{list_any}
 use Rattle.hpr_terms.specs.declared.tag.Tag.{Tag}

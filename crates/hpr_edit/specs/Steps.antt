@@ -1,10 +1,11 @@
 -- Lists of commands and reverts, and the tags that they give to new parts.
 --
 -- new_tags author issued c == the tag that the command gives to a new part, if it makes one
--- Steps author p ts r      == an editor of this author comes from p to r by commands and reverts, and ts are the tags of the new
---                             parts, the first first
+-- Steps author p ts r      == an editor of this author comes from p to r by commands and reverts, and ts are
+--                             the tags of the new parts, the first first
 -- Apart ts                 == no two of the tags are the same
--- Fresh p ts               == none of the tags is a part's in p, none was issued before, and no two are the same
+-- Fresh p ts               == none of the tags is a part's in p, none was issued before, and no two are the
+--                             same
 use Rattle.std.specs.Prelude.{◌≡◌, ◌≢◌, ℕ, ◌<◌, None, List, [], ◌∷◌, ◌++◌}
 use Rattle.std.specs.List.{AllByRecursion}
 use Rattle.hpr_terms.specs.declared.tag.Tag.{Tag}

@@ -1,11 +1,12 @@
 -- The tests of a program that an edited one can fail.
 --
--- left_at t n body          == how many of n levels are left where the part with this tag stands, itself included
+-- left_at t n body          == how many of n levels are left where the part with this tag stands, itself
+--                              included
 -- room_at parent body       == how many levels are left for what stands in the block that a place names
 -- none_left n t             == where no level is left, the tag
 -- said_refusal t c          == why no part with this tag says this, if none does
--- new_refusal deep t c n    == why n parts, of which a new one with this tag says this and `deep` stands too deep, make no
---                              program
+-- new_refusal deep t c n    == why n parts, of which a new one with this tag says this and `deep` stands too
+--                              deep, make no program
 -- deep_refusal deep         == why a body is that of no program in which this part stands too deep
 -- misplaced place s left    == why the part s isn't put at this place of what is left without it, if it isn't
 -- names_alone names         == the tree of no parts with these names of `end`

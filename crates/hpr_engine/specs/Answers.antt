@@ -1,7 +1,8 @@
 -- What a merge of programs answers.
 --
 -- number_of which                == the place of that program among base, A and B
--- IsFirstTooLarge base a b which == this is the first of the three programs, in this order, whose graph has too many edges
+-- IsFirstTooLarge base a b which == this is the first of the three programs, in this order, whose graph has
+--                                   too many edges
 -- IfTooManyEdges result P        == P of the program that is named, where its graph has too many edges
 -- IfInterference result P        == P of the list of conflicts, where the variants interfere
 -- IfNoProgram result P           == P of the number of parts, where no program has the merged graph

@@ -1,10 +1,12 @@
--- The budget of tries: where answers may differ, and which arrangements are tried. The 1989 paper has no budget.
+-- The budget of tries: where answers may differ, and which arrangements are tried. The 1989 paper has no
+-- budget.
 --
--- AreTriedOf rs base vs ps == the list has the arrangements of what is searched where these parts are split off, each once, in the order of
---                             the rank
+-- AreTriedOf rs base vs ps == the list has the arrangements of what is searched where these parts are split
+--                             off, each once, in the order of the rank
 -- AreTried rs base a b ps  == the same of two variants
 -- HasSearched r            == the answer is a program, or that no program has the graph that is searched
--- Agree r s                == the answers are the same; or one is that the budget is spent, and the other comes of a search that went on
+-- Agree r s                == the answers are the same; or one is that the budget is spent, and the other
+--                             comes of a search that went on
 use Rattle.std.specs.Prelude.{◌≡◌, ◌⊎◌, List, [], ◌∷◌}
 use Rattle.hpr_terms.specs.declared.tag.Tag.{Tag}
 use Rattle.hpr_syntax.specs.Tree.{Tree}

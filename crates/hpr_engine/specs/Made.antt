@@ -1,7 +1,8 @@
 -- The graphs of a base and its variants, made and merged.
 --
 -- IsGraphOf t g          == t is a program, and g is its graph by numbers
--- AreGraphsOf ts gs      == so is each graph of the list of the program at the same place, and there are as many
+-- AreGraphsOf ts gs      == so is each graph of the list of the program at the same place, and there are as
+--                           many
 -- IsMergeOf base a b g   == g is the merged graph by numbers, and there is no conflict
 use Rattle.std.specs.Prelude.{List, [], ◌∷◌}
 use Rattle.hpr_syntax.specs.Shape.{IsProgram}

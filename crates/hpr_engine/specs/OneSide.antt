@@ -1,7 +1,7 @@
 -- A change that is the only one.
 --
--- IsOnlyChange base vs v == each of the variants is base or v, and one of them is v: so it is where each but one is base, and where all
---                           that were changed became the same program
+-- IsOnlyChange base vs v == each of the variants is base or v, and one of them is v: so it is where each but
+--                           one is base, and where all that were changed became the same program
 use Rattle.std.specs.Prelude.{◌≡◌, ◌⊎◌, List, Contains}
 use Rattle.std.specs.List.{AllByRecursion}
 use Rattle.hpr_syntax.specs.Tree.{Tree}

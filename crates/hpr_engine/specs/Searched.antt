@@ -1,8 +1,9 @@
 -- What the search for a program is given.
 --
--- IsSplitFrom m P s     == s is m with new tags for the parts of its graph that have P; s is m where the serials don't suffice
--- IsSearchedOf base vs s == s is what is searched for a base and its variants: the merged graph, the rank and the issued numbers, with the
---                          parts that are split off under their new tags
+-- IsSplitFrom m P s     == s is m with new tags for the parts of its graph that have P; s is m where the
+--                          serials don't suffice
+-- IsSearchedOf base vs s == s is what is searched for a base and its variants: the merged graph, the rank and
+--                           the issued numbers, with the parts that are split off under their new tags
 -- IsSearched base a b s == the same of two variants
 use Rattle.std.specs.Prelude.{◌≡◌, List, [], ◌∷◌, length}
 use Rattle.hpr_terms.specs.declared.tag.Tag.{Tag}

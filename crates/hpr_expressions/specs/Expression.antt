@@ -1,21 +1,26 @@
 -- How the tokens of an expression are read.
 --
--- A context is what stands before an operand: the open brackets, the innermost first, with what waits outside of each; what waits within it; and the count
--- of operators.
+-- A context is what stands before an operand: the open brackets, the innermost first, with what waits outside
+-- of each; what waits within it; and the count of operators.
 --
 -- Before context         == an operand must stand next
 -- Named context name     == the operand name was read
 -- After context value    == another operand, value, was read
--- start_after k          == nothing was read, and k operators before the expression count together with its own
+-- start_after k          == nothing was read, and k operators before the expression count together with its
+--                           own
 -- start                  == nothing was read, and no operators stand before
 -- counted_in reading     == the count of operators
--- counted c p            == the reading before an operand behind one more operator, with p waiting, where there may be one more
--- compare_next o c op e  == the reading behind the comparison op and its left operand e, where no comparison o waits yet
+-- counted c p            == the reading before an operand behind one more operator, with p waiting, where
+--                           there may be one more
+-- compare_next o c op e  == the reading behind the comparison op and its left operand e, where no comparison
+--                           o waits yet
 -- close_next os p n e    == the reading behind `)`, where the innermost of the brackets os is a round one
--- index_closed os p n e  == the reading behind `]`, where the innermost of the brackets os is the one around an index
+-- index_closed os p n e  == the reading behind `]`, where the innermost of the brackets os is the one around
+--                           an index
 -- opened c               == the context behind `(`
 -- open_next c            == the reading behind it, where one more bracket may be open
--- may_index c x          == an index may follow: x is a plain name, and there may be one more open bracket and one more operator, which an element is
+-- may_index c x          == an index may follow: x is a plain name, and there may be one more open bracket
+--                           and one more operator, which an element is
 -- indexed c x            == the context behind the name x and `[`
 -- index_next c x         == the reading behind them, where an index may follow
 -- operand_next c t       == the reading after the token, where an operand must stand next

@@ -1,10 +1,14 @@
 -- The law of readings: they read what the grammar spells.
 --
 -- IsRead ts e          == the tokens lead from the start to a reading that can end, with the expression e
--- ReadAsSpelled        == what the grammar spells as an expression is read as that expression, and nothing else is read
--- SpellsAfter k ts e   == the tokens spell the expression e, within the limits, where k operators before it count together with its own
--- IsReadAfter k ts e   == the tokens lead from the start behind k operators to a reading that can end, with the expression e
--- ReadAsSpelledAfter   == the same law of expressions behind operators; and the count in a reading that can end is that of them and of its expression's
+-- ReadAsSpelled        == what the grammar spells as an expression is read as that expression, and nothing
+--                         else is read
+-- SpellsAfter k ts e   == the tokens spell the expression e, within the limits, where k operators before it
+--                         count together with its own
+-- IsReadAfter k ts e   == the tokens lead from the start behind k operators to a reading that can end, with
+--                         the expression e
+-- ReadAsSpelledAfter   == the same law of expressions behind operators; and the count in a reading that can
+--                         end is that of them and of its expression's
 use Rattle.std.specs.Prelude.{◌≡◌, ℕ, ◌+◌, ◌≤◌, List, Some}
 use Rattle.hpr_terms.specs.declared.limits.TheConstants.{MAX_BRACKETS, MAX_OPERATORS}
 use Rattle.hpr_terms.specs.declared.expr.Expr.{Expr}

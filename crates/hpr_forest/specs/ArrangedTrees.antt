@@ -1,6 +1,7 @@
 -- Arranged trees: each item once, in its own slot, in an order that respects what is asked.
 --
--- IsArrangedTree n slot E t  == t has each of the items below n exactly once, each in its slot, and its preorder respects E
+-- IsArrangedTree n slot E t  == t has each of the items below n exactly once, each in its slot, and its
+--                               preorder respects E
 -- AndBlocks slot E s t       == E s t, or s stands in the first and t in the second block of one item
 -- Earlier s t                == the preorder of s comes before that of t
 use Rattle.std.specs.Prelude.{◌≡◌, ℕ, ◌<◌, true, false, Some, None, length, Contains, ◌⊎◌}

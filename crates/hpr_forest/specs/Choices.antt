@@ -1,8 +1,10 @@
 -- Lists of numbers that are built front to back. `can q c` says whether c may stand next behind q.
 --
--- Follows can placed rest  == each number of the rest may stand next behind the placed ones and those of the rest before it
+-- Follows can placed rest  == each number of the rest may stand next behind the placed ones and those of the
+--                             rest before it
 -- IsWhole can n l          == l has n numbers, each of which may stand next behind those before it
--- IsBacktrackFree can n    == no front is a dead end, where there is a whole list at all; what may stand next is below n and isn't placed yet
+-- IsBacktrackFree can n    == no front is a dead end, where there is a whole list at all; what may stand next
+--                             is below n and isn't placed yet
 use Rattle.std.specs.Prelude.{◌≡◌, ℕ, ◌<◌, Bool, true, false, List, [], ◌∷◌, ◌++◌, length}
 use Rattle.hpr_forest.specs.Marks.{is_in}
 

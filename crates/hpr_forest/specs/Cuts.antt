@@ -1,5 +1,6 @@
--- Lists cut behind their first number that clashes with those before it: the leaves of a search that goes on behind no number that clashes
--- (pruning, as in Knuth's backtracking); and what a search for the first whole list that fits says of them.
+-- Lists cut behind their first number that clashes with those before it: the leaves of a search that goes on
+-- behind no number that clashes (pruning, as in Knuth's backtracking); and what a search for the first whole
+-- list that fits says of them.
 --
 -- cut clash placed rest      == the rest behind the placed numbers, up to its first number that clashes
 -- IsLeaf can clash n x       == x is a whole list, cut so
@@ -13,7 +14,8 @@
 -- AllFail can fits n xs      == each of them
 -- IsFirstFit can fits n clash x == the leaf x fits, and none before it
 -- AreSpent can fits n clash tries == there are more leaves than tries, and none of the first `tries` fits
--- FindsFirst, FindsNone, FindsSpent == by each test within `clash`: x is the first leaf that fits; no leaf fits; the tries are spent on leaves
+-- FindsFirst, FindsNone, FindsSpent == by each test within `clash`: x is the first leaf that fits; no leaf
+--                                      fits; the tries are spent on leaves
 -- IsAmongFirst can n clash tries x == x is one of the first `tries` leaves
 -- AreAtMost can n clash tries == there are no more leaves than tries
 use Rattle.std.specs.Prelude.{◌≡◌, ℕ, zero, suc, ◌<◌, ◌≤◌, Bool, true, false, List, [], ◌∷◌, ◌++◌, length, Contains, take}

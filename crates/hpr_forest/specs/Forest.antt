@@ -1,14 +1,18 @@
 -- Forests of numbered items, and the test of which item may be placed next.
 --
--- Forest                    == how many items there are; what each stands under, if anything; what stands under it; which siblings must come before it
+-- Forest                    == how many items there are; what each stands under, if anything; what stands
+--                              under it; which siblings must come before it
 -- IsDistinct xs             == nothing stands twice in the list
--- IsForest f                == the children of x are exactly the items that stand under x, all below the count; what must come before x are siblings of x
+-- IsForest f                == the children of x are exactly the items that stand under x, all below the
+--                              count; what must come before x are siblings of x
 -- all_in placed ys          == whether each of ys is placed
 -- behind p placed           == what was placed behind the first p
 -- all_full f placed xs      == whether all that stands under one of xs is placed
 -- full_behind f placed xs   == the same, where there is such a list
--- is_under f placed parent  == whether nothing is left to be placed under the items behind the parent; for a top item: under any item
--- can f placed c            == whether c may be placed next: an item not yet placed, to be placed under its parent, after all that must come before it
+-- is_under f placed parent  == whether nothing is left to be placed under the items behind the parent; for a
+--                              top item: under any item
+-- can f placed c            == whether c may be placed next: an item not yet placed, to be placed under its
+--                              parent, after all that must come before it
 -- bare f                    == the same forest, where no sibling must come before another
 use Rattle.std.specs.Prelude.{◌≡◌, ℕ, ◌<◌, Bool, true, false, cond, eqb, ltb, Option, Some, None, List, [], ◌∷◌, Contains}
 pub use Rattle.hpr_forest.specs.Marks.{is_in}

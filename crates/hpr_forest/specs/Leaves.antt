@@ -1,10 +1,13 @@
--- The tree of all choices. A front is a list of numbers each of which may stand next behind those before it; a leaf is a whole list.
+-- The tree of all choices. A front is a list of numbers each of which may stand next behind those before it;
+-- a leaf is a whole list.
 --
 -- when test xs              == xs where the test holds, else nothing
--- branch below may from k   == what is below the children from, from + 1, .. that may stand next, k of them looked at
+-- branch below may from k   == what is below the children from, from + 1, .. that may stand next, k of them
+--                              looked at
 -- leaves can n k q          == the lists of k more numbers that begin with the front q, in order
 -- level can n q from        == the leaves that begin with q and whose next number is at least `from`
--- later can n pre rest      == the leaves that begin with pre, after all those that begin with pre and the rest
+-- later can n pre rest      == the leaves that begin with pre, after all those that begin with pre and the
+--                              rest
 -- below can n q             == the leaves that begin with q
 -- after can n q             == the leaves that come after all those that begin with q
 -- from_here can n q         == the leaves from the first that begins with q on

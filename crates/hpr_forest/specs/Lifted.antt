@@ -1,9 +1,12 @@
 -- An order asked of items anywhere in a forest, and the order of siblings that follows from it.
 --
 -- IsLeft l s t    == s stands somewhere before t in the list
--- Leads f a via x == from a down to x through these items, each under the one before; the last is x, or x is a
--- IsLifted f E    == what must come before each item is exactly what E asks of siblings or of items under them, and E asks nothing that no order gives
--- Respects E l    == where E asks s before t, s stands before t in the list (a linear extension of E, where the list is one of all items)
+-- Leads f a via x == from a down to x through these items, each under the one before; the last is x, or x is
+--                    a
+-- IsLifted f E    == what must come before each item is exactly what E asks of siblings or of items under
+--                    them, and E asks nothing that no order gives
+-- Respects E l    == where E asks s before t, s stands before t in the list (a linear extension of E, where
+--                    the list is one of all items)
 use Rattle.std.specs.Prelude.{◌≡◌, ℕ, Some, List, [], ◌∷◌, ◌++◌, ◌⊎◌, Contains}
 use Rattle.hpr_forest.specs.Forest.{Forest}
 

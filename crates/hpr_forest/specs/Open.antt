@@ -3,7 +3,8 @@
 -- same_parent a b           == whether both are the same item, or both the top
 -- or_this full x found      == the item found, else x unless it is full
 -- open_in f placed xs       == the last of xs under which something is left to be placed
--- can_under f placed open c == whether c may be placed next, where `open` is the last placed item under which something is left, or the top
+-- can_under f placed open c == whether c may be placed next, where `open` is the last placed item under which
+--                              something is left, or the top
 use Rattle.std.specs.Prelude.{ℕ, Bool, true, false, cond, eqb, ltb, Option, Some, None, List, [], ◌∷◌}
 use Rattle.hpr_forest.specs.Forest.{Forest, is_in, all_in}
 

@@ -1,8 +1,9 @@
 -- What the placed items of a forest leave to be placed.
 --
 -- AreOpen rows placed row == each number that isn't placed, all of whose row is, has a mark
--- IsPending b placed p    == for each item how many of those that must come before it aren't placed, and how many of
---                            those under it; and marks at the items that may come next as far as those before them go
+-- IsPending b placed p    == for each item how many of those that must come before it aren't placed, and how
+--                            many of those under it; and marks at the items that may come next as far as
+--                            those before them go
 use Rattle.std.specs.Prelude.{◌≡◌, ℕ, ◌<◌, Bool, true, false, List, length, get_or}
 use Rattle.hpr_forest.specs.Forest.{all_in}
 use Rattle.hpr_forest.specs.Marks.{is_in}

@@ -1,12 +1,15 @@
 -- Trees of items that have two blocks each, and their preorders.
 --
--- Tree                == a block: empty, or an item with its first block, its second block, and what stands behind it in the block
+-- Tree                == a block: empty, or an item with its first block, its second block, and what stands
+--                        behind it in the block
 -- preorder t          == the items from front to back, each before those of its blocks
--- Slot                == where an item stands: at the top, or in the first (true) or the second (false) block of an item
+-- Slot                == where an item stands: at the top, or in the first (true) or the second (false) block
+--                        of an item
 -- same_slot u v       == whether both are the same slot
 -- above v             == the item that has the slot
 -- StandsIn slot v t   == t is a block in the slot v, where each item stands in its own slot
--- HasSlots f slot     == each item stands under the item of its slot, and those of a first block must come before those of the second
+-- HasSlots f slot     == each item stands under the item of its slot, and those of a first block must come
+--                        before those of the second
 use Rattle.std.specs.Prelude.{◌≡◌, ℕ, Bool, true, false, eqb, Option, Some, None, List, [], ◌∷◌, ◌++◌, Contains}
 use Rattle.hpr_forest.specs.Forest.{Forest}
 

@@ -1,29 +1,34 @@
--- The answer of an integration of any number of variants, and of two (Horwitz, Prins and Reps 1989, of two, who have no budget of tries).
+-- The answer of an integration of any number of variants, and of two (Horwitz, Prins and Reps 1989, of two,
+-- who have no budget of tries).
 --
--- AnswerBy X            == all conflicts, each told by an X; a program; no program has the merged graph, which has so many parts; or the
---                          budget is spent
+-- AnswerBy X            == all conflicts, each told by an X; a program; no program has the merged graph,
+--                          which has so many parts; or the budget is spent
 -- Answer                == the same, where conflicts tell a side of two
 -- NoneFits g ps         == no program of the list fits
 -- IsFirstFit g ps m     == m fits, and none before it in the list does
 -- HasNoProgram g        == no program fits
 -- HasParts g n          == g has exactly n parts
--- IsFound g rank issued tries r == the first arrangement that fits; or no program, only where none fits; or spent, only where there are more
---                          arrangements than tries and none of the first `tries` fits, and where it is so of their leaves too
+-- IsFound g rank issued tries r == the first arrangement that fits; or no program, only where none fits; or
+--                                  spent, only where there are more arrangements than tries and none of the
+--                                  first `tries` fits, and where it is so of their leaves too
 -- graphs_of ts          == the graphs of these programs
 -- merged_of_all base vs == the merged graph of a base and its variants
 -- issued_all base is    == each author has the greatest of these issued numbers
 -- issued_of_all base vs == each author has the greatest of the issued numbers of a base and its variants
--- AreSplitOff base vs rs == rs are the parts that are split off the merged graph, each with its new tag, behind the issued serials; none
---                          where the serials don't suffice
+-- AreSplitOff base vs rs == rs are the parts that are split off the merged graph, each with its new tag,
+--                           behind the issued serials; none where the serials don't suffice
 -- searched_graph_of rs base vs == what is searched: the merged graph, with these parts under their new tags
--- IsSearchedRankOf rs base vs r == the rank by which its arrangements are tried, with the same parts under the same tags
+-- IsSearchedRankOf rs base vs r == the rank by which its arrangements are tried, with the same parts under
+--                                  the same tags
 -- searched_issued_of rs base vs == the issued numbers that a program gets, the new tags among them
--- HasSpentLeavesOf base vs tries == by a rank of what is searched, its arrangements have more leaves than tries, and none of the first
---                          `tries` fits
--- AreWithoutConflict at base vs == the list of conflicts is empty, where `at` tells their variant, point and edge
+-- HasSpentLeavesOf base vs tries == by a rank of what is searched, its arrangements have more leaves than
+--                                   tries, and none of the first `tries` fits
+-- AreWithoutConflict at base vs == the list of conflicts is empty, where `at` tells their variant, point and
+--                                  edge
 -- IsFoundFor base vs tries r == what is found for what is searched
 -- IsAnswerBy at base vs tries r == all conflicts where there is one; else what is found for what is searched
--- merged_of base a b, issued_of base a b, HasSpentLeaves base a b tries, IsWithoutConflict base a b, IsAnswer base a b tries r
+-- merged_of base a b, issued_of base a b, HasSpentLeaves base a b tries, IsWithoutConflict base a b, IsAnswer
+-- base a b tries r
 --                       == these of two variants
 use Rattle.std.specs.Prelude.{◌≡◌, ℕ, ◌<◌, ◌↔◌, List, [], ◌∷◌, ◌++◌, map, Contains, length, take}
 use Rattle.hpr_terms.specs.declared.tag.Tag.{Tag}

@@ -1,14 +1,18 @@
 -- The arrangements of a graph: the programs that its parts and control edges allow. The 1989 paper orders the
 -- parts of a block by another method.
 --
--- Directs kind             == an edge of this kind between two parts has its source to the left: an independent flow edge or an order edge
+-- Directs kind             == an edge of this kind between two parts has its source to the left: an
+--                             independent flow edge or an order edge
 -- edge_into v w k          == the edge from v into w of this kind
 -- IsOuter v                == v is an Init or a Final vertex
--- IsArrangement g issued p == p is a program with these issued numbers; its parts and the control edges into them are those of g, its finals
---                             the names of g's Final vertices in ascending order; into each Init and each Final vertex of g goes exactly
---                             the control edge from Entry, labelled true; no edge of g that directs goes from right to left
--- IsEarlier rank p q       == at the first place where their preorders differ, p's part stands before q's in the rank
--- AreArrangements g rank issued ps == the list has exactly the arrangements, the earlier before the later, each once
+-- IsArrangement g issued p == p is a program with these issued numbers; its parts and the control edges into
+--                             them are those of g, its finals the names of g's Final vertices in ascending
+--                             order; into each Init and each Final vertex of g goes exactly the control edge
+--                             from Entry, labelled true; no edge of g that directs goes from right to left
+-- IsEarlier rank p q       == at the first place where their preorders differ, p's part stands before q's in
+--                             the rank
+-- AreArrangements g rank issued ps == the list has exactly the arrangements, the earlier before the later,
+--                                     each once
 use Rattle.std.specs.Prelude.{◌≡◌, ℕ, Bool, true, ◌<◌, ◌↔◌, Some, List, ◌∷◌, ◌++◌, Contains, slice_get}
 use Rattle.hpr_terms.specs.declared.tag.Tag.{Tag}
 use Rattle.hpr_syntax.specs.declared.rows.Content.{Content}

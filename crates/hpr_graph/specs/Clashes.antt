@@ -1,9 +1,12 @@
--- What rules a part out as the next one of an arrangement, by the parts that are placed before it. The 1989 paper has no such search.
+-- What rules a part out as the next one of an arrangement, by the parts that are placed before it. The 1989
+-- paper has no such search.
 --
 -- StandInOneBlock g v w == the control edges into both come from one source and have one label
 -- UsesName v x          == the part v uses the name x
--- IsWrongReach g placed c == a name that c uses is defined in its block last, among all that is placed, by a part without such an edge to c
--- IsKill g placed c     == c defines a name that another part of its block, not yet placed, still needs of a placed part of that block
+-- IsWrongReach g placed c == a name that c uses is defined in its block last, among all that is placed, by a
+--                            part without such an edge to c
+-- IsKill g placed c     == c defines a name that another part of its block, not yet placed, still needs of a
+--                          placed part of that block
 -- Clashes g placed c    == c is reached wrongly, or kills
 use Rattle.std.specs.Prelude.{◌≡◌, ℕ, Bool, ◌⊎◌, Some, List, ◌∷◌, ◌++◌, Contains}
 use Rattle.hpr_syntax.specs.Contents.{UsesIn}

@@ -1,17 +1,21 @@
--- Conflicts: of any number of variants, and of two (Horwitz, Prins and Reps 1989, who name no edge for a conflict).
+-- Conflicts: of any number of variants, and of two (Horwitz, Prins and Reps 1989, who name no edge for a
+-- conflict).
 --
 -- number_of side            == the number of that side's variant: A is the first, 0, and B the next, 1
 -- graph_at gs i             == the graph of the variant with the number i; nothing where there is none
 -- graph_on side a b         == the graph of that side
--- IsAdded m g v e           == e lies in v's slice in m, not in v's slice in g, and ends in a vertex of the latter
+-- IsAdded m g v e           == e lies in v's slice in m, not in v's slice in g, and ends in a vertex of the
+--                              latter
 -- IsLeast P e               == e has P, and no edge before it has
--- IsConflictAt m g base v   == v is an affected point of the variant's graph g, and its slice in m differs from that in g
--- IsConflictOf base gs i v e == the point v of the variant i is a conflict in the merged graph, and e is the least edge
---                              added there
+-- IsConflictAt m g base v   == v is an affected point of the variant's graph g, and its slice in m differs
+--                              from that in g
+-- IsConflictOf base gs i v e == the point v of the variant i is a conflict in the merged graph, and e is the
+--                               least edge added there
 -- HasNoConflict base gs     == nothing is one
--- ComesFirst i v j w        == a lesser variant's conflicts come first, and those of one variant by their points
--- AreConflictsBy at base gs xs == the list has exactly the conflicts, in this order, each once, where `at` tells the
---                              variant, the point and the edge
+-- ComesFirst i v j w        == a lesser variant's conflicts come first, and those of one variant by their
+--                              points
+-- AreConflictsBy at base gs xs == the list has exactly the conflicts, in this order, each once, where `at`
+--                                 tells the variant, the point and the edge
 -- told_as c                 == the number of the conflict's side, its point and its edge
 -- told_many c               == the number of the conflict's variant, here from 0, its point and its edge
 -- ComesBefore c d           == A's conflicts come first, and on one side the order is that of the points

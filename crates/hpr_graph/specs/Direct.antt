@@ -1,10 +1,12 @@
--- Directly affected points: where a variant's graph differs from base's at the vertex itself. The 1989 paper compares slices.
+-- Directly affected points: where a variant's graph differs from base's at the vertex itself. The 1989 paper
+-- compares slices.
 --
 -- AreAlikeInto g h v          == both graphs have the same control and flow edges into v
 -- AreAlikeFor g h v           == both have the same order edges whose shared use is v
 -- IsAlike g h v               == h has the vertex v too, and they are alike into it and for it
--- IsDirectlyAffected g base v == v is a vertex of the variant's graph g that base's graph lacks, or into which it has other control or flow
---                                edges, or for which it has other order edges
+-- IsDirectlyAffected g base v == v is a vertex of the variant's graph g that base's graph lacks, or into
+--                                which it has other control or flow edges, or for which it has other order
+--                                edges
 use Rattle.std.specs.Prelude.{◌≡◌, ◌↔◌}
 use Rattle.hpr_graph.specs.declared.vertex.Vertex.{Vertex}
 use Rattle.hpr_graph.specs.declared.edge.Kind.TheVariants.{Order}

@@ -3,7 +3,8 @@
 -- Graph             == a set of vertices and a set of edges
 -- IsWithin g h      == h has all vertices and all edges of g
 -- Same g h          == g and h have the same vertices and the same edges
--- name_of v         == the name that a vertex defines: that of an Init vertex, or the one that the part defines
+-- name_of v         == the name that a vertex defines: that of an Init vertex, or the one that the part
+--                      defines
 -- OnThird P k       == the loop of a carried edge has P, and so has the shared use of an order edge
 -- HasVertices P e   == all vertices of the edge have P: its target, its source, and its loop or shared use
 -- union_of g h      == what g has or h has

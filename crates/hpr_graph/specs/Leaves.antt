@@ -1,11 +1,14 @@
--- The leaves of arrangements: a leaf is the preorder of one, cut behind its first part that clashes with those before it. So many
--- arrangements share a leaf that fits none of them, and a search gives all of them up with one try.
+-- The leaves of arrangements: a leaf is the preorder of one, cut behind its first part that clashes with
+-- those before it. So many arrangements share a leaf that fits none of them, and a search gives all of them
+-- up with one try.
 --
--- IsCut g placed rest x == x is the rest up to its first part that clashes with those before it, this part included; the whole rest where none does
+-- IsCut g placed rest x == x is the rest up to its first part that clashes with those before it, this part
+--                          included; the whole rest where none does
 -- IsLeaf g p x          == x is p's preorder, cut so
 -- AreLeaves g ps xs     == the leaves of these programs in their order, each once
 -- LeafFits g ps x       == x is the whole preorder of one of them whose graph is g
--- AreLeavesSpent g rank issued tries == there are more leaves of the arrangements than tries, and none of the first `tries` fits
+-- AreLeavesSpent g rank issued tries == there are more leaves of the arrangements than tries, and none of the
+--                                       first `tries` fits
 use Rattle.std.specs.Prelude.{◌≡◌, ℕ, ◌<◌, ◌⊎◌, ◌↔◌, Some, List, [], ◌∷◌, ◌++◌, Contains, slice_get, length, take}
 use Rattle.hpr_syntax.specs.Issued.{Issued}
 use Rattle.hpr_syntax.specs.Tree.{Tree}

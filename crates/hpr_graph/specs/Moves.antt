@@ -6,7 +6,8 @@
 -- moved ns l               == the link by the numbers there, none where one is lacking
 -- IsMoved ns l             == all of the link's numbers have numbers there
 -- ArePlaced vs ns us       == each number leads from a vertex of vs to the same vertex of us
--- MovesLink g ns at l e    == the link l into the vertex `at` is the edge e, and all its vertices have numbers there
+-- MovesLink g ns at l e    == the link l into the vertex `at` is the edge e, and all its vertices have
+--                             numbers there
 -- MovesEdge g ns e         == some link of g is so
 -- MovesEdgeBelow g ns n e  == some link of the first n rows is so
 -- MovesEdgeIn g ns at ls e == some link into the vertex `at` among these is so

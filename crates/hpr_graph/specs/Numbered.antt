@@ -9,7 +9,8 @@
 -- HasEdge g e        == some link is the edge e
 -- graph_in g         == the set of the vertices and the set of the edges
 -- graphs_in gs       == the graphs by these numbers
--- IsLink g to l      == the link is an edge: its numbers are vertices, and the source of a flow edge defines a name
+-- IsLink g to l      == the link is an edge: its numbers are vertices, and the source of a flow edge defines
+--                       a name
 -- IsNumbered g       == no vertex stands twice, each has its links, none twice, and each link is an edge
 -- link_count g       == how many links there are
 -- IsCounted g n      == the same, and there are n links

@@ -2,10 +2,11 @@
 --
 -- name_cmp x y    == by bytes, the shorter first where it begins the longer
 -- tag_cmp s t     == by author, then by serial
--- expr_cmp e f    == by the numbers that the expressions are in preorder: literals, names, operators by the declared order and their operands, then
---                    elements by their array's name and their index
+-- expr_cmp e f    == by the numbers that the expressions are in preorder: literals, names, operators by the
+--                    declared order and their operands, then elements by their array's name and their index
 -- content_rank c  == Assign, If, While, Write, Store
--- content_cmp c d == by variant; then assignments and writes by name and expression, predicates by expression, stores by array, index and number
+-- content_cmp c d == by variant; then assignments and writes by name and expression, predicates by
+--                    expression, stores by array, index and number
 -- vertex_rank v   == Entry, Init, Part, Final
 -- vertex_cmp v w  == by variant; then Init and Final by name, Part by tag and content
 -- kind_rank k     == Control, Independent, Carried, Order

@@ -1,16 +1,19 @@
--- What variants changed, what base and all of them share, and the merged graph: of any number of variants, and of two
--- (Horwitz, Prins and Reps 1989, of two).
+-- What variants changed, what base and all of them share, and the merged graph: of any number of variants,
+-- and of two (Horwitz, Prins and Reps 1989, of two).
 --
 -- IsShared g h v          == h has the vertex v too, with the same slice
--- IsAffected g base v     == v is a vertex of the variant's graph g that base's graph lacks or has with another slice
+-- IsAffected g base v     == v is a vertex of the variant's graph g that base's graph lacks or has with
+--                            another slice
 -- IsInit v                == v is an Init vertex
 -- AllShare base gs v      == each of the variants' graphs has the vertex v of base too, with the same slice
--- IsPreservedBy base gs v == v is a vertex of base's graph and of all variants', with equal slices; an Init vertex is
---                            none here
+-- IsPreservedBy base gs v == v is a vertex of base's graph and of all variants', with equal slices; an Init
+--                            vertex is none here
 -- changed base gs         == what the variants changed: the union of the slices of their affected points
 -- merged_all base gs      == what the variants changed and what all share: the union of these slices
--- IsPreserved base a b v  == v is a vertex of all three graphs, with three equal slices; an Init vertex is none here
--- merged base a b         == what the two variants changed and what all three share: the union of the three slices
+-- IsPreserved base a b v  == v is a vertex of all three graphs, with three equal slices; an Init vertex is
+--                            none here
+-- merged base a b         == what the two variants changed and what all three share: the union of the three
+--                            slices
 use Rattle.std.specs.Prelude.{◌≡◌, ℕ, List, [], ◌∷◌}
 use Rattle.hpr_graph.specs.declared.vertex.Vertex.{Vertex}
 use Rattle.hpr_graph.specs.declared.vertex.Vertex.TheVariants.{Init}

@@ -1,18 +1,21 @@
--- The dependence graph of a program (Horwitz, Prins and Reps 1989). A loop encloses its own predicate, and a while predicate has no control
--- edge to itself, which some definitions give it.
+-- The dependence graph of a program (Horwitz, Prins and Reps 1989). A loop encloses its own predicate, and a
+-- while predicate has no control edge to itself, which some definitions give it.
 --
--- Defines tree x v a         == the vertex v defines x at the point a: Init(x) at Enter, a part where it stands
+-- Defines tree x v a         == the vertex v defines x at the point a: Init(x) at Enter, a part where it
+--                               stands
 -- Reads tree x v a           == the vertex v uses x at the point a: a part where it stands, Final(x) at Exit
--- IsFlowPath tree x from to a z marks == an undisturbed path for x goes from `from`, which defines x, at a to `to`, which uses x, at z
+-- IsFlowPath tree x from to a z marks == an undisturbed path for x goes from `from`, which defines x, at a to
+--                                        `to`, which uses x, at z
 -- AvoidsCommon tree a z marks == no mark is of the back edge to a loop that encloses both points
 -- IsIndependent tree x from to == some such path takes no back edge to a loop that encloses both ends
 -- IsCarried tree x w from to == some such path takes the back edge to the loop w, which encloses both ends
 -- HasFlow tree x from to     == a flow edge for x goes from one to the other
--- IsOrder tree u from to     == both define one variable and have a flow edge to u, no conditional has them in different branches, and
---                               `from` stands to the left
+-- IsOrder tree u from to     == both define one variable and have a flow edge to u, no conditional has them
+--                               in different branches, and `from` stands to the left
 -- IsTop tree v               == Entry controls v: a top part, an Init or a Final vertex
 -- IsControl tree label from to == a control edge with this label goes from one to the other
--- IsVertexOf tree v          == Entry; Init(x) for an initial definition; each part with what it says; Final(x) for a name of `end`
+-- IsVertexOf tree v          == Entry; Init(x) for an initial definition; each part with what it says;
+--                               Final(x) for a name of `end`
 -- IsEdgeOf tree e            == e is a control, flow or order edge of the program
 -- graph_of tree              == the graph of the program
 use Rattle.std.specs.Prelude.{◌≡◌, ℕ, Bool, true, ◌⊎◌, Option, Some, None, List, Contains}

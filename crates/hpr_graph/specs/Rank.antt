@@ -1,13 +1,15 @@
--- The rank of the parts of programs, a base and any number of variants: the order in which arrangements are tried. The 1989 paper
--- leaves it open.
+-- The rank of the parts of programs, a base and any number of variants: the order in which arrangements are
+-- tried. The 1989 paper leaves it open.
 --
 -- parts_of tree      == the parts of a program as vertices, in preorder
--- IsPutIn v next xs ys == ys is xs with v immediately before `next`, or at the end where there is no next; a vertex that is listed stays
---                       where it is
--- IsJoined vs xs ys  == ys is xs with each of vs put in, from the last to the first, before the one that follows it in vs
+-- IsPutIn v next xs ys == ys is xs with v immediately before `next`, or at the end where there is no next; a
+--                         vertex that is listed stays where it is
+-- IsJoined vs xs ys  == ys is xs with each of vs put in, from the last to the first, before the one that
+--                       follows it in vs
 -- AreJoined ls xs ys == ys is xs with the vertices of each of the lists put in so, one list after the other
 -- IsFirstChanged base vs v == v is the first of the variants that isn't base; the last where each is
--- IsRankOf base vs r == the parts of the first variant that isn't base in preorder, with those of each variant and then of base put in
+-- IsRankOf base vs r == the parts of the first variant that isn't base in preorder, with those of each
+--                       variant and then of base put in
 -- IsRank a b base r  == the same of two variants
 -- StandsBefore r v w == v stands before w in the list
 use Rattle.std.specs.Prelude.{◌≡◌, ℕ, ◌<◌, ◌⊎◌, Option, Some, None, List, [], ◌∷◌, ◌++◌, map, Contains, slice_get}

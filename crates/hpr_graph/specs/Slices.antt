@@ -1,9 +1,11 @@
 -- Slices of a graph (Reps and Yang 1988).
 --
 -- Leads kind         == a slice follows edges of this kind: control and flow edges
--- LeadsTo g a es b   == the edges, in order, are control and flow edges of g that lead from a to b; with no edges a is b
+-- LeadsTo g a es b   == the edges, in order, are control and flow edges of g that lead from a to b; with no
+--                       edges a is b
 -- ReachesOne g S v   == control and flow edges lead from v to a vertex of S
--- slice_of g S       == the vertices of g from which a vertex of S is reached, and the edges all of whose vertices are among them
+-- slice_of g S       == the vertices of g from which a vertex of S is reached, and the edges all of whose
+--                       vertices are among them
 -- slice_at g v       == the slice of the one vertex v
 -- IsReached g S v    == control and flow edges lead from a vertex of S to v
 use Rattle.std.specs.Prelude.{◌≡◌, List, [], ◌∷◌}

@@ -1,7 +1,8 @@
 -- A graph split: some of its parts get new tags of author 0, wherever they stand. The 1989 paper has no tags.
 --
 -- HasTag g t v           == v is a part of g with the tag t
--- KeepsTag hs g t v      == v is the part with the tag t of the first of the graphs hs that has a part of g with that tag
+-- KeepsTag hs g t v      == v is the part with the tag t of the first of the graphs hs that has a part of g
+--                           with that tag
 -- IsSplitOff hs g v      == v is a part of g, another part of g has its tag, and v doesn't keep it
 -- max_serial             == the greatest serial
 -- new_tag n              == the tag 0.n
@@ -9,7 +10,8 @@
 -- AreSplitParts g P vs   == vs are the parts of g that have P, in the order of vertices
 -- AreRenamed g P z rs    == these, each with its new tag
 -- PassSerials g P z      == they are so many that their serials would pass the greatest
--- AreRenamedWithin g P z rs == these, each with its new tag, where the serials don't pass the greatest; else none
+-- AreRenamedWithin g P z rs == these, each with its new tag, where the serials don't pass the greatest; else
+--                              none
 -- with_tag t v           == the part v under the tag t
 -- renamed rs v           == the vertex v under its new tag, where the list has one for it; else v
 -- renamed_kind rs k, renamed_edge rs e == the same of each vertex of an edge
@@ -18,7 +20,8 @@
 -- split_rank rs rank     == the same of each vertex of the rank
 -- split_issued n issued  == author 0's number is greater by n; every other author's is as it was
 -- HasOneContent P        == no two parts that have P differ in their content alone
--- AreIssuedAmong P issued == the serial of each part that has P is at least 1 and at most its author's issued number
+-- AreIssuedAmong P issued == the serial of each part that has P is at least 1 and at most its author's issued
+--                            number
 use Rattle.std.specs.Prelude.{◌≡◌, ℕ, ◌+◌, ◌<◌, ◌≤◌, ◌==◌, ◌↔◌, ◌⊎◌, if◌then◌else◌, List, [], ◌∷◌, map, length, Contains}
 use Rattle.std.specs.Ordering.{is_eq}
 use Rattle.hpr_terms.specs.declared.limits.TheConstants.{MAX_TAG_NUMBER}

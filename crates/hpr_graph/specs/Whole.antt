@@ -4,7 +4,8 @@
 -- LeadsRight g v w == a control or flow edge goes from v to w
 -- HasUses g        == both ends of each order edge have a control or flow edge to its shared use
 -- HasEnds g        == all vertices of its edges are vertices of the graph
--- IsWhole g        == all three: so a slice has with a vertex all edges into it, and with a use all order edges for it
+-- IsWhole g        == all three: so a slice has with a vertex all edges into it, and with a use all order
+--                     edges for it
 -- AreAll P gs      == each of the graphs has P
 -- IsListed g       == some list has exactly the edges of the graph
 -- IsFinite g       == so has some list the vertices

@@ -1,9 +1,11 @@
 -- What a command came to.
 --
--- StopIs P reads before now stop    == a decided stop is a decision of P; a failed read says so by the shelf's count and names a file that the call
---                                      reads; the count is else as before, but for want of memory
+-- StopIs P reads before now stop    == a decided stop is a decision of P; a failed read says so by the
+--                                      shelf's count and names a file that the call reads; the count is else
+--                                      as before, but for want of memory
 -- Decides P reads before now result == the same of a result: its text is a decision of P
--- Merges P result                   == a result over what is in memory: a decision of P, unless memory runs out
+-- Merges P result                   == a result over what is in memory: a decision of P, unless memory runs
+--                                      out
 use Rattle.std.specs.Prelude.{◌≡◌, ℕ, ◌≤◌, List, Result, Ok, Err, string_bytes}
 use Rattle.hpr_io.specs.Counts.{Rose}
 use Rattle.hpr_inputs.specs.Decision.{Decision, prints, refuses}

@@ -1,8 +1,10 @@
 -- What a call decides.
 --
--- Decision               == a text for `out` with the kind of its status; or something is refused, with a message for `err`; or the words are no call
+-- Decision               == a text for `out` with the kind of its status; or something is refused, with a
+--                           message for `err`; or the words are no call
 -- Prints P r             == the command did what it is for, and r prints a text that has P
--- OnRead refused is next r == r refuses what is read, with a message that is so; or what is read is this, and r is what next says of it
+-- OnRead refused is next r == r refuses what is read, with a message that is so; or what is read is this, and
+--                             r is what next says of it
 use Rattle.std.specs.Prelude.{◌≡◌, ◌⊎◌, ℕ, List}
 use Rattle.hpr_inputs.specs.declared.answer.Kind.{Kind}
 use Rattle.hpr_inputs.specs.declared.answer.Kind.TheVariants.{Done}

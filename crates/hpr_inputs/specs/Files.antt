@@ -1,9 +1,11 @@
 -- What is decided of the files that are read.
 --
 -- cannot_read file                   == the message on a file that can't be read
--- OnFile files file next r           == r is the refusal of the file; or the file spells a program, and r is what next says of it
+-- OnFile files file next r           == r is the refusal of the file; or the file spells a program, and r is
+--                                       what next says of it
 -- OnFiles files base a b next r      == that of three files, read in order; next says it of their programs
--- OnAllFiles files named next r      == that of all these files, read in order; next says it of the list of their programs
+-- OnAllFiles files named next r      == that of all these files, read in order; next says it of the list of
+--                                       their programs
 use Rattle.std.specs.Prelude.{ℕ, List, [], ◌∷◌, ◌++◌, codes}
 use Rattle.hpr_io.specs.Files.{Files, bytes_of}
 use Rattle.hpr_syntax.specs.Tree.{Tree}

@@ -1,11 +1,13 @@
 -- The vertices that words name.
 --
--- point_text v                 == the word for a vertex: `entry`, `init:x`, `final:x` (of an array `init:a[]`), and for a part its tag
+-- point_text v                 == the word for a vertex: `entry`, `init:x`, `final:x` (of an array
+--                                 `init:a[]`), and for a part its tag
 -- IsNamed g word               == the word is that for a vertex of g
 -- IsPoint words v              == the word for v is one of these
 -- IsFirstStranger P words word == of these words it is the first of which P doesn't hold
 -- no_such_point word           == the message on a word that is that for no vertex
--- OnPoints g words next r      == r refuses the first word that is that for no vertex of g; or there is none, and r is what next says
+-- OnPoints g words next r      == r refuses the first word that is that for no vertex of g; or there is none,
+--                                 and r is what next says
 use Rattle.std.specs.Prelude.{◌≡◌, ◌⊎◌, List, [], ◌∷◌, ◌++◌, Contains, All, codes}
 use Rattle.hpr_terms.specs.Texts.{tag_text}
 use Rattle.hpr_graph.specs.declared.vertex.Vertex.{Vertex}

@@ -1,8 +1,11 @@
 -- What reading the files of a list of programs comes to.
 --
--- AreAllFilesOf files named ps            == each of the files spells the program that stands in its place, and there are no more programs
--- IsRefusedByAll files named r            == r is the refusal of the first of the files that spells no program
--- ReadsAll files named before now result  == the programs that they spell; or a file is refused; or a read failed, or memory ran out
+-- AreAllFilesOf files named ps            == each of the files spells the program that stands in its place,
+--                                            and there are no more programs
+-- IsRefusedByAll files named r            == r is the refusal of the first of the files that spells no
+--                                            program
+-- ReadsAll files named before now result  == the programs that they spell; or a file is refused; or a read
+--                                            failed, or memory ran out
 use Rattle.std.specs.Prelude.{◌≡◌, ℕ, List, [], ◌∷◌, Option, Vec, Result, Ok, Err}
 use Rattle.std.specs.Global.{Global}
 use Rattle.hpr_io.specs.Files.{Files, bytes_of}

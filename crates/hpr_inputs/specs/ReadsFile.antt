@@ -1,14 +1,19 @@
 -- What reading a file comes to.
 --
--- FailsBy refused files file before now stop  == the file is refused so; or the read failed, and the message names the file; or memory ran out
+-- FailsBy refused files file before now stop  == the file is refused so; or the read failed, and the message
+--                                                names the file; or memory ran out
 -- ReadsBy refused is files file before now result == what is so of the file's bytes; or as above
--- IsTooLong file bytes message                == a file with this name and these bytes is refused with this message, for its length
--- Fetches files file before now result        == the whole file, of an accepted length; or as above, for its length
+-- IsTooLong file bytes message                == a file with this name and these bytes is refused with this
+--                                                message, for its length
+-- Fetches files file before now result        == the whole file, of an accepted length; or as above, for its
+--                                                length
 -- ReadsIn form files file before now result   == the program that the file spells in this form; or as above
 -- Fails files file before now stop            == the file spells no program, and is refused so; or as above
--- ReadsProgram files file before now result   == the program that it spells, with the tag of each part; or as above
+-- ReadsProgram files file before now result   == the program that it spells, with the tag of each part; or as
+--                                                above
 -- ReadsScript files file before now result    == the commands of the script that it spells; or as above
--- Refuses file why stop                       == the file is refused with the message for this reason; or memory ran out
+-- Refuses file why stop                       == the file is refused with the message for this reason; or
+--                                                memory ran out
 -- StopsBy refused bytes stop                  == a file with these bytes is refused so; or memory ran out
 -- Judges refused is bytes result              == what is so of these bytes; or as above
 use Rattle.std.specs.Prelude.{◌≡◌, ℕ, ◌≤◌, ◌<◌, List, length, Option, Result, Ok, Err, Vec, string_bytes}

@@ -1,8 +1,10 @@
 -- What reading the files of a base and its two variants comes to.
 --
 -- AreFilesOf files base a b v            == the three files spell these programs
--- IsRefusedByFiles files base a b r      == r is the refusal of the first of the three files that spells no program
--- ReadsFiles files base a b before now result == the programs that they spell; or a file is refused; or a read failed, or memory ran out
+-- IsRefusedByFiles files base a b r      == r is the refusal of the first of the three files that spells no
+--                                           program
+-- ReadsFiles files base a b before now result == the programs that they spell; or a file is refused; or a
+--                                                read failed, or memory ran out
 use Rattle.std.specs.Prelude.{◌≡◌, ℕ, List, [], ◌∷◌, Option, Result, Ok, Err}
 use Rattle.hpr_io.specs.Files.{Files, bytes_of}
 use Rattle.hpr_inputs.specs.Answer.{StopIs}

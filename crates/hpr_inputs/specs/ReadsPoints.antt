@@ -1,11 +1,13 @@
 -- What reading the words for points comes to.
 --
--- RefusesPoint P words stop        == the first of the words of which P doesn't hold is named in the message; or memory ran out
+-- RefusesPoint P words stop        == the first of the words of which P doesn't hold is named in the message;
+--                                     or memory ran out
 -- JudgesPoints P words result      == P holds of each word; or as above
 -- AreNumbersIn texts words numbers == the places of exactly those texts that are among the words
 -- HasTexts set texts               == the set has exactly these texts
 -- AddsText old new text            == the new set has the text too, and nothing else that the old one hasn't
--- AreNumbersFor g words numbers    == the numbers of exactly those vertices of g for which one of the words is
+-- AreNumbersFor g words numbers    == the numbers of exactly those vertices of g for which one of the words
+--                                     is
 -- ReadsPoints g words result       == these numbers, where each word is that for a vertex of g; or as above
 use Rattle.std.specs.Prelude.{◌≡◌, ◌⊎◌, ◌↔◌, ◌<◌, ℕ, Some, List, Contains, All, IsTrue, slice_get, length, Vec, Result, Ok, Err, String, string_bytes}
 use Rattle.std.specs.BTreeSet.{BTreeSet, contains}

@@ -1,8 +1,10 @@
 -- What reading the state words comes to.
 --
--- ReadsState words result        == the state that the words tell; or the first word that is refused is named in the message; or memory ran out
--- TakesWord old word new result  == a word behind those that tell the state `old`: the state `new` lists one name more, with the word's number; or
---                                   the word is refused with its message; or memory ran out
+-- ReadsState words result        == the state that the words tell; or the first word that is refused is named
+--                                   in the message; or memory ran out
+-- TakesWord old word new result  == a word behind those that tell the state `old`: the state `new` lists one
+--                                   name more, with the word's number; or the word is refused with its
+--                                   message; or memory ran out
 use Rattle.std.specs.Prelude.{◌≡◌, ℤ, List, Result, Ok, Err, Some, false, string_bytes}
 use Rattle.std.specs.FinMap.{contains_key, insert}
 use Rattle.hpr_syntax.specs.declared.value.Value.TheVariants.{Number}

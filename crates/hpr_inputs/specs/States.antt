@@ -1,13 +1,16 @@
 -- The state that words tell.
 --
--- value_of text         == the number that an optional `-` and at least one digit spell, where it lies within i64
+-- value_of text         == the number that an optional `-` and at least one digit spell, where it lies within
+--                          i64
 -- assignment word       == the plain name and the number that the word `name=value` gives it
 -- entry word            == the same, the number as a value
 -- told words            == the state in which each name has the number that a word gives it
 -- RefusedWord           == a word that is refused, and why
--- refusal state word    == why a word is refused, where the words before it tell this state: it is no `name=value`, or the state lists its name
+-- refusal state word    == why a word is refused, where the words before it tell this state: it is no
+--                          `name=value`, or the state lists its name
 -- first_refused before words == the first of the words that is refused, where these stand before them
--- states_of words       == the state that the words tell, where none is refused, and else the first one that is
+-- states_of words       == the state that the words tell, where none is refused, and else the first one that
+--                          is
 -- refused_word_text r   == the message on a word that is refused
 -- OnState told next r   == r is the refusal of a state word; or r is what next says of the state
 use Rattle.std.specs.Prelude.{◌≡◌, ℕ, ℤ, ◌==◌, ◌&&◌, nat_le, List, [], ◌∷◌, ◌++◌, length, Option, Some, None, option_map, Result, Ok, Err, if◌then◌else◌, codes}

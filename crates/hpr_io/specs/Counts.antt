@@ -2,7 +2,8 @@
 --
 -- one_more n                     == n + 1, and n where it is the last value of a u64
 -- Rose before now                == the count is greater now than before, or stands at its last value
--- Counted before now has_failed  == over a call the count never fell; where the call failed it rose, and otherwise it stayed
+-- Counted before now has_failed  == over a call the count never fell; where the call failed it rose, and
+--                                   otherwise it stayed
 use Rattle.std.specs.Prelude.{◌≡◌, ℕ, ◌+◌, ◌-◌, ◌^◌, ◌<◌, ◌≤◌, ◌⊎◌, min}
 
 abbrev pub one_more : ℕ → ℕ

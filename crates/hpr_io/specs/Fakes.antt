@@ -2,19 +2,23 @@
 --
 -- stands_in n numbers             == whether n is one of the numbers
 --
--- ShelfState                      == a shelf: its files, the numbers of the calls that are to fail, how many calls it
---                                    had and how many of them failed
+-- ShelfState                      == a shelf: its files, the numbers of the calls that are to fail, how many
+--                                    calls it had and how many of them failed
 -- shelf_at_start files failing    == a shelf that had no call
 -- fetch_fails shelf name          == whether the next fetch fails: it is to fail, or no file has the name
--- after_fetch shelf name          == the shelf after the next fetch: one call more, and one failure more where it fails
+-- after_fetch shelf name          == the shelf after the next fetch: one call more, and one failure more
+--                                    where it fails
 --
--- SinkState                       == a sink: the bytes taken, the most of one call, the most in all, the numbers of the
---                                    calls that are to fail, how many calls it had and how many of them failed
+-- SinkState                       == a sink: the bytes taken, the most of one call, the most in all, the
+--                                    numbers of the calls that are to fail, how many calls it had and how
+--                                    many of them failed
 -- sink_at_start step room failing == a sink that had no call
 -- room_left sink                  == how many more bytes it has room for
--- put_fails sink piece            == whether the next put fails: it is to fail, or there are bytes and room for none
+-- put_fails sink piece            == whether the next put fails: it is to fail, or there are bytes and room
+--                                    for none
 -- put_count sink piece            == how many bytes the next put takes where it does not fail
--- after_put sink piece            == the sink after the next put: one call more, and the bytes taken or one failure more
+-- after_put sink piece            == the sink after the next put: one call more, and the bytes taken or one
+--                                    failure more
 use Rattle.std.specs.Prelude.{ℕ, ◌-◌, min, Bool, ◌||◌, ◌&&◌, ◌==◌, nat_lt, if◌then◌else◌, List, [], ◌++◌, length, take, is_none}
 use Rattle.std.specs.List.{list_any}
 use Rattle.hpr_io.specs.Counts.{one_more}

@@ -1,12 +1,13 @@
 -- What an integration of many variants answers.
 --
--- IfManyTooManyEdges result P == P of the number of the program, 0 of base and from 1 of a variant, that is named, where its graph has too
---                               many edges
+-- IfManyTooManyEdges result P == P of the number of the program, 0 of base and from 1 of a variant, that is
+--                                named, where its graph has too many edges
 -- IfManyInterference result P == P of the list of conflicts, where the variants interfere
 -- IfManyNoProgram result P  == P of the number of parts, where no program has the merged graph
 -- IfManyJudged result P     == P, where no graph has too many edges and memory was found
 -- IsManyUnsearched stop     == it isn't the search for a program that stopped
--- IsFirstTooLargeVariant vs n == the variant with the number n, from 1, is the first of these whose graph has too many edges
+-- IsFirstTooLargeVariant vs n == the variant with the number n, from 1, is the first of these whose graph has
+--                                too many edges
 use Rattle.std.specs.Prelude.{◌≡◌, ℕ, suc, List, Result, Ok, Err}
 use Rattle.hpr_syntax.specs.Tree.{Tree}
 use Rattle.hpr_graph.specs.declared.conflict.ManyConflict.{ManyConflict}

@@ -1,6 +1,7 @@
 -- The conflicts of many variants.
 --
--- conflict_of n p == the conflict of the variant with the number n, from 1, at the pair's point, with its edge
+-- conflict_of n p == the conflict of the variant with the number n, from 1, at the pair's point, with its
+--                    edge
 use Rattle.std.specs.Prelude.{ℕ}
 use Rattle.hpr_graph.specs.declared.edge.Edge.{Edge}
 use Rattle.hpr_graph.specs.declared.vertex.Vertex.{Vertex}

@@ -1,9 +1,10 @@
--- The instances of a run by hpr's own meaning: its finished steps in their order (Reps and Yang 1988), as Any/Instances has them by `standard`.
+-- The instances of a run by hpr's own meaning: its finished steps in their order (Reps and Yang 1988), as
+-- Any/Instances has them by `standard`.
 --
--- Read              == a name that a step reads, the value, and the step that last defined the name: its place and what it says; none
---                      where the value is the initial one
--- Did               == what was done at a place: the content, the reads, what it gave, and the number that the step assigned, stored,
---                      wrote or decided by
+-- Read              == a name that a step reads, the value, and the step that last defined the name: its
+--                      place and what it says; none where the value is the initial one
+-- Did               == what was done at a place: the content, the reads, what it gave, and the number that
+--                      the step assigned, stored, wrote or decided by
 -- Instance          == a place, and what was done there
 -- truth d           == whether what was given is true
 -- state_after s log == the state from s on after the log
@@ -11,9 +12,10 @@
 -- put_name x names  == the name among these, which ascend, each once
 -- put_names names   == these names, ascending, each once
 -- names_of c        == the names that a part uses that says c, ascending, each once
--- Course            == where a run is after some statements: it goes on with a log and some steps left, or it stopped at a place, for a
---                      fault or for want of steps
--- after_of s course == what a run from s sees of it: the state, the steps left, and the part and the fault of a stop
+-- Course            == where a run is after some statements: it goes on with a log and some steps left, or it
+--                      stopped at a place, for a fault or for want of steps
+-- after_of s course == what a run from s sees of it: the state, the steps left, and the part and the fault of
+--                      a stop
 -- course_of p s n   == the whole run of the program p from the state s with n steps to spend
 -- instances p s n   == its finished steps, in their order
 -- IsStopOf p s n a  == the run stops at the place a, for a fault or for want of steps

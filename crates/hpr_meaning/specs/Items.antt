@@ -1,10 +1,13 @@
 -- The items of a trace: the instances of a run, with numbers in place of the steps that last defined names.
 --
--- Item              == a tag, the turns, the reads and the number that was assigned, stored, written or decided by
+-- Item              == a tag, the turns, the reads and the number that was assigned, stored, written or
+--                      decided by
 -- item_in i         == an item of the code as this
 -- origin_in x log   == the number of the step of the log, newest first, that last defined the name x
--- IsOriginOf is o d == the origin o is Initial where d is none, and else the number, among the instances, of the step d
--- reading_of v      == a value as a read shows it: a number, how many numbers were written, or how many elements of an array aren't 0
+-- IsOriginOf is o d == the origin o is Initial where d is none, and else the number, among the instances, of
+--                      the step d
+-- reading_of v      == a value as a read shows it: a number, how many numbers were written, or how many
+--                      elements of an array aren't 0
 -- read_after log r  == a read after the log
 -- item_after log i  == an instance after the log
 -- items_after log is == instances after the log

@@ -1,5 +1,5 @@
--- The law of kept meaning: what a program keeps of a base and any number of variants (Reps and Yang 1988; Horwitz, Prins
--- and Reps 1989, of two). Of two variants it gives `Keeps`.
+-- The law of kept meaning: what a program keeps of a base and any number of variants (Reps and Yang 1988;
+-- Horwitz, Prins and Reps 1989, of two). Of two variants it gives `Keeps`.
 --
 -- Finished           == a program with a number of steps and final values
 -- DoesFinish s r     == the program ends normally from the state s within the steps, with the final values
@@ -7,10 +7,11 @@
 -- steps_in rs        == the steps of all of them together
 -- HasChanged f0 f r  == f has each final value of r that f0 hasn't
 -- HasValue x v r     == r has the final value v for x
--- IsKeptOf f0 rs f   == f has each final value that one of rs changed, and each that base and all of rs agree on
--- KeepsAll base vs m == from every state from which base and all variants end normally, m ends normally within as many
---                       steps as they took together, with the variant's value for each final variable that a variant
---                       changed, and the common value where all agree
+-- IsKeptOf f0 rs f   == f has each final value that one of rs changed, and each that base and all of rs agree
+--                       on
+-- KeepsAll base vs m == from every state from which base and all variants end normally, m ends normally
+--                       within as many steps as they took together, with the variant's value for each final
+--                       variable that a variant changed, and the common value where all agree
 use Rattle.std.specs.Prelude.{◌≡◌, ℕ, ◌+◌, List, [], ◌∷◌, Contains}
 use Rattle.std.specs.List.{AllByRecursion}
 use Rattle.hpr_syntax.specs.Meaning.{Ends}

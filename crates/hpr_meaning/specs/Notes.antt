@@ -7,7 +7,8 @@
 -- item_at a c z s m   == the item of a step at the place a of a part that says c, shown by the number z, in s
 -- noted turns t c z s m == with that item of the part t, under these turns
 -- defined x m         == where the last item defined the name x
--- tracing             == the observer that keeps this, with the turns of the loops around a part, the outermost loop first
+-- tracing             == the observer that keeps this, with the turns of the loops around a part, the
+--                        outermost loop first
 use Rattle.std.specs.Prelude.{ℕ, ℤ, ◌-◌, List, [], ◌∷◌, ◌++◌, map, length, Option, Some, None}
 use Rattle.std.specs.FinMap.{empty, get, insert}
 use Rattle.hpr_terms.specs.declared.tag.Tag.{Tag}

@@ -1,13 +1,16 @@
 -- The law of order by edges: the edges of a program's graph tell which of two steps is first.
 --
 -- vertex_of i            == the vertex of an instance: its part, with what it says
--- common_loops v w       == how many loops enclose both of two parts: how far their nests agree from the outermost on
--- IsOrderedByFlow p x i j common == a flow edge for x goes from the part of i to the part of j, and so many loops enclose both: where i has
---                           less turns on these loops, it is before j; where it has greater ones, it isn't; where they are the same, it is
---                           exactly where the pair has an independent edge for x
--- IsOrdered p s n        == the law, for the run of the program p from the state s with n steps to spend: that; and of two instances whose
---                           parts have a flow edge for one variable to one use u, with the same turns on the loops that enclose both, the
---                           first is before the second exactly where an edge Order(u) goes from the one part to the other
+-- common_loops v w       == how many loops enclose both of two parts: how far their nests agree from the
+--                           outermost on
+-- IsOrderedByFlow p x i j common == a flow edge for x goes from the part of i to the part of j, and so many
+--                                   loops enclose both: where i has less turns on these loops, it is before
+--                                   j; where it has greater ones, it isn't; where they are the same, it is
+--                                   exactly where the pair has an independent edge for x
+-- IsOrdered p s n        == the law, for the run of the program p from the state s with n steps to spend:
+--                           that; and of two instances whose parts have a flow edge for one variable to one
+--                           use u, with the same turns on the loops that enclose both, the first is before
+--                           the second exactly where an edge Order(u) goes from the one part to the other
 use Rattle.std.specs.Prelude.{ℕ, zero, suc, ◌↔◌, if◌then◌else◌, List, [], ◌∷◌, Contains}
 use Rattle.hpr_terms.specs.declared.tag.Tag.{Tag}
 use Rattle.hpr_syntax.specs.Parts.{same_tag}

@@ -1,10 +1,11 @@
 -- The law of shared slices: what two programs with one slice have in common, whatever else they do.
 --
 -- HasInSlice p S v         == v is a vertex of the slice of the program p by S
--- SharesSlice p q S s n m  == the law, for two programs with one slice by S of which p ends, from the state s with n and m steps to spend:
---                             each instance of the slice in q's run stands in p's, with the same turns, number and reads; q faults at
---                             no part of the slice; and where q ends too, each instance of the slice in p's run stands in q's, and each
---                             name whose Final vertex is in the slice has the same final value
+-- SharesSlice p q S s n m  == the law, for two programs with one slice by S of which p ends, from the state s
+--                             with n and m steps to spend: each instance of the slice in q's run stands in
+--                             p's, with the same turns, number and reads; q faults at no part of the slice;
+--                             and where q ends too, each instance of the slice in p's run stands in q's, and
+--                             each name whose Final vertex is in the slice has the same final value
 use Rattle.std.specs.Prelude.{◌≡◌, ◌↔◌, ℕ, List, Contains}
 use Rattle.hpr_terms.specs.declared.tag.Tag.{Tag}
 use Rattle.hpr_syntax.specs.declared.rows.Content.{Content}

@@ -1,15 +1,17 @@
--- The law of the union: what the merged graph of a base and its variants keeps (Horwitz, Prins and Reps 1989, of two).
+-- The law of the union: what the merged graph of a base and its variants keeps (Horwitz, Prins and Reps 1989,
+-- of two).
 --
 -- variant_at vs i        == the graph of the variant with the number i
 -- affected_of i base vs  == the affected points of that variant
 -- KeepsIn m base gs      == each affected point of each variant's graph has the slice in m that it has there
 -- KeepsEach base vs      == so it is in the merged graph: so it is where there is no conflict
--- KeepsSides base a b    == the same of two variants: at each side each affected point has the slice in the merged
---                           graph that it has in its side's graph
+-- KeepsSides base a b    == the same of two variants: at each side each affected point has the slice in the
+--                           merged graph that it has in its side's graph
 -- LiesInOne base vs v    == v is a vertex of one of the slices whose union the merged graph is
--- IsUnionKept base vs    == the law: each preserved point has the slice that it has in base's graph; where each affected
---                           point keeps its slice, so do a variant's taken together (`AreKept`); so they do where there
---                           is no conflict; each vertex lies in one of the slices
+-- IsUnionKept base vs    == the law: each preserved point has the slice that it has in base's graph; where
+--                           each affected point keeps its slice, so do a variant's taken together
+--                           (`AreKept`); so they do where there is no conflict; each vertex lies in one of
+--                           the slices
 -- AreKept i base vs      == the slice of the variant's affected points, taken together, is that of its graph
 use Rattle.std.specs.Prelude.{◌⊎◌, ℕ, List, [], ◌∷◌}
 use Rattle.hpr_syntax.specs.Tree.{Tree}

@@ -1,14 +1,17 @@
 -- The least link that a slice got.
 --
 -- IsFirst P ls o               == o is the first of the links that have P, none where none has
--- IsMore grown own ls l        == l is inside the marks `grown`, and isn't one of the links ls inside the marks `own`
+-- IsMore grown own ls l        == l is inside the marks `grown`, and isn't one of the links ls inside the
+--                                 marks `own`
 -- MoreEach grown own ls i      == that, by the marks that the bits i of the words are
--- IsAddedLink k grown own to l == l goes into a vertex that both mark and is inside `grown`, and isn't a link of k
---                                 inside `own`
+-- IsAddedLink k grown own to l == l goes into a vertex that both mark and is inside `grown`, and isn't a link
+--                                 of k inside `own`
 -- AddedEach k grown own to i   == that, by the marks that the bits i of the words are
--- IsFirstAdded m k grown own o == o is the first such link of m by target and place in the row, if there is one
--- ArePast P ls to waiting left old new i == the slice i, if its bit is set in `waiting`, either has it left, and none of
---                                 the links has P, or got the first that has, into `to`; others stay as they are
+-- IsFirstAdded m k grown own o == o is the first such link of m by target and place in the row, if there is
+--                                 one
+-- ArePast P ls to waiting left old new i == the slice i, if its bit is set in `waiting`, either has it left,
+--                                           and none of the links has P, or got the first that has, into
+--                                           `to`; others stay as they are
 use Rattle.std.specs.Prelude.{◌≡◌, ℕ, Bool, ◌<◌, Option, Some, None, List, Contains, slice_get}
 use Rattle.hpr_search.specs.Marks.{IsMarked}
 use Rattle.hpr_graph.specs.declared.link.Link.{Link}

@@ -5,7 +5,8 @@
 -- IsBeside cmp m k w n  == the same, where w and n are the steps of the two graphs
 -- IsLeastAdded m k v o  == o is the least edge added at v to k's slice, none where none is added
 -- IsLeastLink m k v o   == o is the link of that edge with its target's number, none where no edge is added
--- AreLeastLinks p ns os == at each place the link is that of the least edge added at the vertex with the number there
+-- AreLeastLinks p ns os == at each place the link is that of the least edge added at the vertex with the
+--                          number there
 use Rattle.std.specs.Prelude.{◌≡◌, ℕ, Option, Some, None, List, length, slice_get}
 use Rattle.std.specs.declared.cmp.Ordering.{Ordering}
 use Rattle.hpr_graph.specs.declared.vertex.Vertex.{Vertex}

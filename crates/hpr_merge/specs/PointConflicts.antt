@@ -1,8 +1,10 @@
 -- The conflicts of one variant.
 --
--- IsPointConflict m g P p    == the pair's point has P, and its edge is the least one that m adds there to g's slice
+-- IsPointConflict m g P p    == the pair's point has P, and its edge is the least one that m adds there to
+--                               g's slice
 -- ArePointConflicts m g P ps == the list has exactly these, in the order of their points
--- IsEdgeOfPoint m g P v o    == o is the least edge added at v, if v has P; none where v hasn't P, or none is added
+-- IsEdgeOfPoint m g P v o    == o is the least edge added at v, if v has P; none where v hasn't P, or none is
+--                               added
 -- with_edge v o ps           == the list with the point v and its edge behind the others, if there is an edge
 -- conflict_on side p         == the conflict of this side at the pair's point, with its edge
 use Rattle.std.specs.Prelude.{◌≡◌, ℕ, ◌<◌, ◌↔◌, Option, Some, None, List, [], ◌∷◌, ◌++◌, Contains, slice_get}

@@ -1,7 +1,7 @@
 -- The points of three graphs.
 --
--- ArePointsOf base a b points_a points_b points_base == the numbers of a's affected points, of b's, and of base's
---                                                       preserved points
+-- ArePointsOf base a b points_a points_b points_base == the numbers of a's affected points, of b's, and of
+--                                                       base's preserved points
 use Rattle.std.specs.Prelude.{ℕ, List}
 use Rattle.hpr_graph.specs.Numbered.{Numbered, graph_in}
 use Rattle.hpr_graph.specs.Points.{IsAffected, IsPreserved}

@@ -2,10 +2,11 @@
 --
 -- HasBit w i               == the bit i of the word is set
 -- column ws i              == the marks that the bits i of the words are
--- IsSpread steps old new   == each bit of old is in new, and from each vertex that has it in new the steps lead to one
---                             that has it in old
+-- IsSpread steps old new   == each bit of old is in new, and from each vertex that has it in new the steps
+--                             lead to one that has it in old
 -- IsClosed steps ws        == each step's first vertex has the bits of its second
--- MarkEach steps points ws == a vertex has the bit i exactly where the steps lead from it to the point number i
+-- MarkEach steps points ws == a vertex has the bit i exactly where the steps lead from it to the point number
+--                             i
 use Rattle.std.specs.Prelude.{◌≡◌, ℕ, ◌↔◌, ◌==◌, Bool, Some, List, Contains, map, length, slice_get, slice_index}
 use Rattle.std.specs.Int.{bit_at}
 use Rattle.hpr_slice.specs.Steps.{Chain}

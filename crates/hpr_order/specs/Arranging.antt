@@ -8,7 +8,8 @@
 -- orders_in orders       == the orders that are still to come
 -- coming next orders     == the next order, if there is one, and those behind it
 -- programs_of items issued finals orders == their programs
--- IsProgramOrder items issued finals order == the order has nothing twice and items alone, and its program is a program
+-- IsProgramOrder items issued finals order == the order has nothing twice and items alone, and its program is
+--                                             a program
 -- ArePrograms items issued finals orders == each order is so
 -- IsSearching items issued finals orders == the same, and each slot is at the top or of an item
 use Rattle.std.specs.Prelude.{◌≡◌, ℕ, ◌<◌, ◌≤◌, All, Option, Some, None, List, [], ◌∷◌, map, Contains, length, slice_get, Vec}

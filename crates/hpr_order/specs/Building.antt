@@ -1,6 +1,7 @@
 -- Blocks that are built from the last part to the first.
 --
--- Branches, Pending       == what stands so far in the two blocks of an item, and at the top with the blocks of all items; the last part first
+-- Branches, Pending       == what stands so far in the two blocks of an item, and at the top with the blocks
+--                            of all items; the last part first
 -- row_in both first       == the statements of the first (true) or the second block of an item
 -- row_at p v              == the statements that stand so far in a slot, the last first
 -- body_at p v             == the block that they are

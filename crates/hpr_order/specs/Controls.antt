@@ -1,11 +1,15 @@
 -- Control edges by the numbers of their vertices.
 --
 -- label_of kind        == the label of a control edge; none for another kind
--- IsOnlyControl row from label == the row has the control edge with this label from the vertex with this number, and no other control edge
+-- IsOnlyControl row from label == the row has the control edge with this label from the vertex with this
+--                                 number, and no other control edge
 -- HasControl row from  == the row has a control edge from the vertex with this number
--- AreControlled g rows == for each vertex a row of exactly the vertices into which a control edge goes from it
--- IsPushedBy old links n new == the rows with the number n more in the row of each vertex from which one of these links is a control edge
--- AreReached g marks   == there is a mark for each vertex, and exactly those are marked to which control edges lead from Entry
+-- AreControlled g rows == for each vertex a row of exactly the vertices into which a control edge goes from
+--                         it
+-- IsPushedBy old links n new == the rows with the number n more in the row of each vertex from which one of
+--                               these links is a control edge
+-- AreReached g marks   == there is a mark for each vertex, and exactly those are marked to which control
+--                         edges lead from Entry
 use Rattle.std.specs.Prelude.{◌≡◌, ℕ, Bool, ◌↔◌, ◌⊎◌, Option, Some, None, List, Contains, length, slice_get}
 use Rattle.hpr_search.specs.Marks.{IsMarked}
 use Rattle.hpr_search.specs.Rows.{numbers_at}

@@ -1,14 +1,18 @@
 -- The parts of a graph as items, numbered in some order, and the programs that orders of items are.
 --
 -- slot_in item              == where this item stands
--- slot_at items k           == where the item k stands: at the top, or in the first (true) or the second block of another item
+-- slot_at items k           == where the item k stands: at the top, or in the first (true) or the second
+--                              block of another item
 -- IsItem items k t c        == the item k is the part t, which says c
--- IsSource items v from label == the control edge into a part of the slot v comes so: from Entry, labelled true, at the top; else from the item's part
--- AreItems g items          == each part of g is one item; the control edge into it comes from its slot, which its item may have
+-- IsSource items v from label == the control edge into a part of the slot v comes so: from Entry, labelled
+--                                true, at the top; else from the item's part
+-- AreItems g items          == each part of g is one item; the control edge into it comes from its slot,
+--                              which its item may have
 -- AreSlots items            == each slot is at the top or of one of the items
 -- Asks g items s t          == an edge of g that directs goes from the item s to the item t
 -- said t c first second rest == the block that begins with the part t, which says c
--- with_part item c blocks v == the block in the slot v, where this item, which has the number c, stands before these blocks
+-- with_part item c blocks v == the block in the slot v, where this item, which has the number c, stands
+--                              before these blocks
 -- block_at items order v    == the block in the slot v, where the items stand in this order
 -- program_of items issued finals order == the program of the items in this order
 use Rattle.std.specs.Prelude.{◌≡◌, ℕ, ◌<◌, ◌↔◌, Bool, true, false, if◌then◌else◌, Option, Some, None, List, [], ◌∷◌, length, slice_get}

@@ -3,9 +3,10 @@
 -- runs_of rows        == the runs in the rows, each of which is kept from its end on
 -- run_at runs at      == the run for this place; none where there is no such place
 -- with_first runs at v == the runs, where v stands first in the run for this place
--- IsTaken xs v at runs next new == where v is listed, next is its place and the runs stay; else v stands first in the run for
---                        the same place
--- woven runs xs       == each run of the list right before the vertex at its place, and the last run at the end
+-- IsTaken xs v at runs next new == where v is listed, next is its place and the runs stay; else v stands
+--                                  first in the run for the same place
+-- woven runs xs       == each run of the list right before the vertex at its place, and the last run at the
+--                        end
 use Rattle.std.specs.Prelude.{◌≡◌, ℕ, ◌⊎◌, List, [], ◌∷◌, ◌++◌, Some, Vec, Contains, map, reverse, set, slice_get, slice_index_or}
 use Rattle.std.specs.Global.{Global}
 use Rattle.hpr_graph.specs.declared.vertex.Vertex.{Vertex}

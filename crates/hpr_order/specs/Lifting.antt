@@ -1,11 +1,14 @@
 -- What the order that is asked of two items says of the siblings under which they stand.
 --
 -- parent_in items k         == the item under which the item k stands, if there is one
--- LeadsTo items a via k     == from a down to k through these items, each under the one before; the last is k, or k is a
+-- LeadsTo items a via k     == from a down to k through these items, each under the one before; the last is
+--                              k, or k is a
 -- IsUnder items a k         == the item k is a or stands under it
 -- IsBelow items a k         == the item k stands under a
--- IsPairOver items a b s t  == two different siblings of which s is or stands under the first, t under the second
--- IsLift items s t lift     == where s must stand to the left of t: it always does, it never does, or the siblings over them must stand so
+-- IsPairOver items a b s t  == two different siblings of which s is or stands under the first, t under the
+--                              second
+-- IsLift items s t lift     == where s must stand to the left of t: it always does, it never does, or the
+--                              siblings over them must stand so
 -- level_of levels k         == how many items stand around the item k
 -- LevelUnder levels n parent == n is none at the top, else one more than around the parent
 -- AreLevels items levels    == how many items stand around each item

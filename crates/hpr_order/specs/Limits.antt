@@ -2,9 +2,12 @@
 --
 -- one_more n               == the number above, if there is one
 -- level_in slot n v        == how many parts stand around the slot, if there are at most n
--- is_unfit c               == what no part of a program says: expressions with more than MAX_OPERATORS operators together, or a wrong name
--- IsWithinLimits items     == at most MAX_PARTS parts, none says what is unfit, none stands below more than MAX_LEVELS levels
--- IsAllowedTree g items t  == t has each item once, in its slot, in an order that is asked; and the items are within the limits
+-- is_unfit c               == what no part of a program says: expressions with more than MAX_OPERATORS
+--                             operators together, or a wrong name
+-- IsWithinLimits items     == at most MAX_PARTS parts, none says what is unfit, none stands below more than
+--                             MAX_LEVELS levels
+-- IsAllowedTree g items t  == t has each item once, in its slot, in an order that is asked; and the items are
+--                             within the limits
 -- AreOrdersOf g items orders == the orders are the preorders of exactly these trees, in lexicographic order
 use Rattle.std.specs.Prelude.{◌≡◌, ℕ, zero, suc, ◌+◌, ◌-◌, ◌<◌, ◌≤◌, Bool, false, ◌||◌, Option, Some, None, List, map, length, IsSome}
 use Rattle.hpr_terms.specs.declared.limits.TheConstants.{MAX_LEVELS, MAX_PARTS}

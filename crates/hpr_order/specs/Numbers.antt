@@ -5,14 +5,17 @@
 -- AreRanked g rank numbers == of two of them the earlier one's part stands before the other's in the rank
 -- slot_from place label  == the slot of the item at this place, at the top where there is none
 -- ArePlaces numbers places == the place of a number among these, for each number
--- slot_by places r       == where a vertex stands, by the places of the numbers: at the top, where its control edge comes from no part
+-- slot_by places r       == where a vertex stands, by the places of the numbers: at the top, where its
+--                           control edge comes from no part
 -- IsItemAt g rs places n i == i is the part with the number n, with its slot
 -- AreItemsAt g numbers items == the k-th item is the part with the k-th number
--- AreItemsOf g numbers list == the same, with their slots; each is an item of the graph with proper names and numbers
+-- AreItemsOf g numbers list == the same, with their slots; each is an item of the graph with proper names and
+--                              numbers
 -- AreFinals g xs         == the names are those of the Final vertices, in ascending order, and variables
 -- DirectsBy kind         == a link of this kind is an edge that directs
 -- IsAskedBy places links s == one of these links directs and comes from the item s
--- AreAsked g items pairs == the pairs are those of items of which an edge that directs goes from the one to the other
+-- AreAsked g items pairs == the pairs are those of items of which an edge that directs goes from the one to
+--                           the other
 use Rattle.std.specs.Prelude.{◌≡◌, ℕ, ◌<◌, ◌↔◌, Bool, Option, Some, None, List, All, Contains, length, slice_get}
 use Rattle.hpr_terms.specs.Names.{IsVariable}
 use Rattle.hpr_terms.specs.declared.tag.Tag.{Tag}

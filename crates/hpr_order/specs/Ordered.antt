@@ -1,10 +1,14 @@
 -- The parts of a graph as items, with their orders.
 --
--- AreChoices g items choices == the whole lists by these tables are the preorders of arrangements; where there are no tables, there is no arrangement
--- AreRankedParts g rank o == o has all parts in the order of the rank, by their numbers and as items, and such tables
--- IsOrdered g numbers o == o has the parts with these numbers as items, and as orders those that are preorders of arrangements
+-- AreChoices g items choices == the whole lists by these tables are the preorders of arrangements; where
+--                               there are no tables, there is no arrangement
+-- AreRankedParts g rank o == o has all parts in the order of the rank, by their numbers and as items, and
+--                            such tables
+-- IsOrdered g numbers o == o has the parts with these numbers as items, and as orders those that are
+--                          preorders of arrangements
 -- AreAskedSiblings g items asked == the rows have what the edges of g that direct say of siblings
--- IsListedProgram g items issued p == p is the program of the items as they are listed, with the names of the Final vertices of g
+-- IsListedProgram g items issued p == p is the program of the items as they are listed, with the names of the
+--                                     Final vertices of g
 use Rattle.std.specs.Prelude.{◌≡◌, ℕ, Option, Some, None, List, [], length, vec_len}
 use Rattle.hpr_syntax.specs.Issued.{Issued}
 use Rattle.hpr_syntax.specs.Tree.{Tree}

@@ -1,21 +1,28 @@
--- Where the vertices of a graph stand: the control edge into each (Horwitz, Prins and Reps 1989), and what graphs have none.
+-- Where the vertices of a graph stand: the control edge into each (Horwitz, Prins and Reps 1989), and what
+-- graphs have none.
 --
 -- HasBranch s label     == a part of this structure has a branch with this label
--- Allows from label to  == a control edge may go so: from Entry, labelled true, to a part, an Init or a Final vertex; from a loop, labelled true,
---                          to a part; from a conditional, with either label, to a part
+-- Allows from label to  == a control edge may go so: from Entry, labelled true, to a part, an Init or a Final
+--                          vertex; from a loop, labelled true, to a part; from a conditional, with either
+--                          label, to a part
 -- Controls g from label v == a control edge of g with this label goes from one to the other
 -- HasOneControl g v     == exactly one control edge of g goes into v
--- LeadsDown g a es b    == the edges, in order, are control edges of g that lead from a to b; with no edges a is b
+-- LeadsDown g a es b    == the edges, in order, are control edges of g that lead from a to b; with no edges a
+--                          is b
 -- IsUnderEntry g v      == control edges lead from Entry to v
--- IsPossible g v        == exactly one control edge goes into v, it may go so, and control edges lead from Entry to v
+-- IsPossible g v        == exactly one control edge goes into v, it may go so, and control edges lead from
+--                          Entry to v
 -- IsImpossible g v      == v is a vertex other than Entry that isn't possible
 -- AllPossible g         == each vertex other than Entry is possible
 -- HasTwoContents g t    == two vertices of g are the part t, with two contents
 -- IsLeastOf cmp P x     == x has P, and nothing that comes before x in this order has it
--- IsRefusal g e         == the least tag that has two contents; where there is none, the least impossible vertex
+-- IsRefusal g e         == the least tag that has two contents; where there is none, the least impossible
+--                          vertex
 -- control_link from label == the control edge with this label from the vertex with this number
--- IsRegionAt g at v r   == r is None at Entry, else the number and the label of the control edge into v, which has the number `at`
--- AreRegionsOf g rs     == no tag of g has two contents, no vertex is impossible, and rs has where each vertex stands
+-- IsRegionAt g at v r   == r is None at Entry, else the number and the label of the control edge into v,
+--                          which has the number `at`
+-- AreRegionsOf g rs     == no tag of g has two contents, no vertex is impossible, and rs has where each
+--                          vertex stands
 use Rattle.std.specs.Prelude.{◌≡◌, ◌≢◌, ℕ, Bool, true, Option, Some, None, List, [], ◌∷◌, slice_get, length}
 use Rattle.std.specs.declared.cmp.Ordering.{Ordering}
 use Rattle.std.specs.declared.cmp.Ordering.TheVariants.{Less}

@@ -2,13 +2,16 @@
 --
 -- IsAskedAt asked x d       == d stands in the row of x: the sibling d must come before x
 -- AreSiblingRows items asked == rows for all items, with siblings alone in them
--- AreLifted items pairs asked == the rows have what the pairs say of siblings, and each pair is one that can be
+-- AreLifted items pairs asked == the rows have what the pairs say of siblings, and each pair is one that can
+--                                be
 -- AreLatest asked latest    == an entry for each item: none, or a row in which the item stands
 -- AreListed rows lists      == the lists have the numbers of the rows
 -- AreChildRows items rows   == for each item those that stand under it
 -- IsFirstOf u v             == the slots are the first and the second block of one item
--- MustPrecede items asked d x == d stands in the row of x, or in the first block of an item in whose second x stands
--- AreWithFirst items n old new == the rows of the first n items have the items of the first block more, where the item is of a second
+-- MustPrecede items asked d x == d stands in the row of x, or in the first block of an item in whose second x
+--                                stands
+-- AreWithFirst items n old new == the rows of the first n items have the items of the first block more, where
+--                                 the item is of a second
 -- AreTablesOf items asked b == the tables say under what each item stands, and what must come before it
 use Rattle.std.specs.Prelude.{◌≡◌, ℕ, ◌<◌, ◌⊎◌, ◌↔◌, true, false, Option, Some, List, Contains, Vec, length, vec_len, slice_get}
 use Rattle.std.specs.Global.{Global}

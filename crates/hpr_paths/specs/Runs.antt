@@ -1,11 +1,12 @@
--- Runs over a skeleton alone: which parts a run does, and at which turns. What a part gives is any relation, so nothing here speaks of
--- expressions, and there is no budget: a run may stop at each step.
+-- Runs over a skeleton alone: which parts a run does, and at which turns. What a part gives is any relation,
+-- so nothing here speaks of expressions, and there is no budget: a run may stop at each step.
 --
 -- Ascending R xs     == each element of the list stands in R to all that come after it
 -- Log Value          == what was done: the places with what each gave, the newest first
--- Execution Value truth gives sk k around log steps over log' == a run does the block sk, of which a loop at the head begins with the turn k,
---                       under these turns of the loops around the block. The steps are the places in the order in which the run comes to
---                       them, the place where it stops last; over says that it came to the end of the block; the log grows from log to log'
+-- Execution Value truth gives sk k around log steps over log' == a run does the block sk, of which a loop at
+--       the head begins with the turn k, under these turns of the loops around the block. The steps are the
+--       places in the order in which the run comes to them, the place where it stops last; over says that it
+--       came to the end of the block; the log grows from log to log'
 use Rattle.std.specs.Prelude.{◌≡◌, ℕ, suc, Bool, true, false, List, [], ◌∷◌, ◌++◌}
 use Rattle.std.specs.List.{AllByRecursion}
 use Rattle.hpr_terms.specs.declared.tag.Tag.{Tag}

@@ -1,7 +1,9 @@
 -- What is known of the points of a program, in their order.
 --
--- Role              == what stands at a point: Enter, a part with its tag and what it says, or Exit with the names of `end`
--- Spot              == a point: the steps from it, the loops that enclose it from the outermost on, and its role
+-- Role              == what stands at a point: Enter, a part with its tag and what it says, or Exit with the
+--                      names of `end`
+-- Spot              == a point: the steps from it, the loops that enclose it from the outermost on, and its
+--                      role
 -- point_of role     == the point by its tag
 -- tag_of role       == the part's tag; none at Enter and at Exit
 -- names_of role     == the names that the part uses; at Exit the names of `end`
@@ -11,13 +13,14 @@
 -- steps_of spot     == the steps from the point, if there is one
 -- loops_of spot     == the loops that enclose the point, if there is one
 -- next_at spots p   == the steps from the point p
--- nest_at spots p   == the loops that enclose the point p, from the outermost on; a loop's predicate has its own loop as the last
+-- nest_at spots p   == the loops that enclose the point p, from the outermost on; a loop's predicate has its
+--                      own loop as the last
 -- role_at spots p   == the role of the point p, if there are so many points
 -- tag_at spots p    == the tag of the part p
 -- defined_at spots p == the name that the point p defines
 -- UsesAt spots p x  == the point p uses x
--- used_at spots p   == the names that the point p uses, from left to right, each as often as it stands there, and behind them a write's stream or
---                      a store's array
+-- used_at spots p   == the names that the point p uses, from left to right, each as often as it stands there,
+--                      and behind them a write's stream or a store's array
 -- IsLoopAt spots p  == the point p is the predicate of a loop
 use Rattle.std.specs.Prelude.{◌≡◌, ℕ, Option, Some, None, List, [], Contains}
 use Rattle.std.specs.List.{slice_get}

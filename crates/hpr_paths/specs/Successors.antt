@@ -1,12 +1,16 @@
 -- The points of a program with their steps and loops.
 --
 -- step_to n                       == the step to the point n, by no back edge
--- first_step body first follow    == the step into a block whose first part has this number: to that part, or what follows the block where it is empty
+-- first_step body first follow    == the step into a block whose first part has this number: to that part, or
+--                                    what follows the block where it is empty
 -- spot_of next nest role          == the point with these steps and loops, and this role
--- spots_of body first follow nest == the parts of a block in preorder, the first of which has this number; this step follows the block, and these loops enclose it
--- spots tree                      == the points of a program: 0 is Enter, then the parts in preorder, the last is Exit
--- AreSpots spots                  == what holds of them: the first and the last are no parts, all others are; steps lead to points; nests are of loops, and
---                                    the loops of a nest up to one of them are that one's own nest
+-- spots_of body first follow nest == the parts of a block in preorder, the first of which has this number;
+--                                    this step follows the block, and these loops enclose it
+-- spots tree                      == the points of a program: 0 is Enter, then the parts in preorder, the
+--                                    last is Exit
+-- AreSpots spots                  == what holds of them: the first and the last are no parts, all others are;
+--                                    steps lead to points; nests are of loops, and the loops of a nest up to
+--                                    one of them are that one's own nest
 use Rattle.std.specs.Prelude.{◌≡◌, ℕ, ◌+◌, ◌<◌, ◌≤◌, ◌⊎◌, ◌↔◌, true, false, Some, None, List, [], ◌∷◌, ◌++◌, length, take, All}
 use Rattle.std.specs.List.{slice_get}
 use Rattle.hpr_syntax.specs.declared.rows.Content.TheVariants.{If, While}

@@ -1,13 +1,17 @@
 -- Places of a run, and which of two comes first (Reps and Yang 1988).
 --
--- Place                  == a part, and a turn for each loop that encloses it, the outermost first; a loop encloses its own predicate
+-- Place                  == a part, and a turn for each loop that encloses it, the outermost first; a loop
+--                           encloses its own predicate
 -- turn_at d turns        == the turn on the loop that d loops are around; 0 where there is none
--- InLoop t b i           == the place i is one of the loop t with the body b: of its predicate, or of a part in its body
--- ComesBefore sk d i j   == i comes before j in a block that d loops are around. At the first block where they stand in different
---                           statements, the left one is first. In one loop the lower turn is first, and in one turn the predicate is
---                           before the body. A predicate is before its branches, and two branches aren't compared
+-- InLoop t b i           == the place i is one of the loop t with the body b: of its predicate, or of a part
+--                           in its body
+-- ComesBefore sk d i j   == i comes before j in a block that d loops are around. At the first block where
+--                           they stand in different statements, the left one is first. In one loop the lower
+--                           turn is first, and in one turn the predicate is before the body. A predicate is
+--                           before its branches, and two branches aren't compared
 -- IsBefore body i j      == i comes before j in a program
--- HaveLessTurns c d a b  == on the c loops that d loops are around, the turns a are less than the turns b, the outermost loop first
+-- HaveLessTurns c d a b  == on the c loops that d loops are around, the turns a are less than the turns b,
+--                           the outermost loop first
 -- HaveSameTurns c d a b  == on these loops the turns are the same
 use Rattle.std.specs.Prelude.{◌≡◌, ℕ, zero, suc, ◌<◌, ◌⊎◌, List, [], ◌∷◌}
 use Rattle.hpr_terms.specs.declared.tag.Tag.{Tag}

@@ -2,11 +2,11 @@
 --
 -- IsSliceOf p g      == g is the slice of p's graph at some of its vertices, of which there is at least one
 -- names_in f         == the names of the final values f, in their order
--- IsKeptBy p q s n f == from the state s, from which p ends within n steps with the final values f, q ends within n steps; its final
---                       values are of the names of its `end`, each with p's value; and its steps are those of p that its parts do: with
---                       the same turns, value and reads
--- DoesItsPart p q g  == q is a program whose graph is g without the Init vertices that nothing in it uses, and from every state on which p
---                       ends, q does so
+-- IsKeptBy p q s n f == from the state s, from which p ends within n steps with the final values f, q ends
+--                       within n steps; its final values are of the names of its `end`, each with p's value;
+--                       and its steps are those of p that its parts do: with the same turns, value and reads
+-- DoesItsPart p q g  == q is a program whose graph is g without the Init vertices that nothing in it uses,
+--                       and from every state on which p ends, q does so
 use Rattle.std.specs.Prelude.{◌≡◌, ◌↔◌, ℕ, List, ◌∷◌, map, Contains}
 use Rattle.hpr_syntax.specs.Nests.{Says}
 use Rattle.hpr_syntax.specs.Tree.{Tree}

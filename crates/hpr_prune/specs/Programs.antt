@@ -1,10 +1,13 @@
 -- Pruned programs: a program without what a set of vertices lacks.
 --
--- BlockLeft V body rest == rest is the block without each part whose vertex isn't in V, with all that stands in it
+-- BlockLeft V body rest == rest is the block without each part whose vertex isn't in V, with all that stands
+--                          in it
 -- NamesLeft V xs ys     == ys are those of the names xs whose Final vertex is in V, in their order
--- IsPruned V p q        == q is the program p without those parts and without those names; issued numbers stay
+-- IsPruned V p q        == q is the program p without those parts and without those names; issued numbers
+--                          stay
 -- IsDrawn g v           == v is no Init vertex, or a flow edge of g goes from it
--- without_idle g        == g without each Init vertex, and its control edge, from which no flow edge of g goes
+-- without_idle g        == g without each Init vertex, and its control edge, from which no flow edge of g
+--                          goes
 use Rattle.std.specs.Prelude.{◌≡◌, ℕ, List, [], ◌∷◌}
 use Rattle.hpr_terms.specs.declared.tag.Tag.{Tag}
 use Rattle.hpr_terms.specs.declared.expr.Expr.{Expr}

@@ -1,6 +1,7 @@
 -- What is left of a block where parts are taken out, each with all that stands in it.
 --
--- Pruned Keeps sk rest == rest is the skeleton sk without the parts that aren't kept; in a part that isn't kept nothing is kept
+-- Pruned Keeps sk rest == rest is the skeleton sk without the parts that aren't kept; in a part that isn't
+--                         kept nothing is kept
 -- IsKept Keeps p       == the point p is left: Enter, Exit, or a part that is kept
 -- Pairs sk a z mark    == z follows a in the program whose skeleton is sk
 use Rattle.std.specs.Prelude.{◌≡◌, ◌⊎◌, Option, None}

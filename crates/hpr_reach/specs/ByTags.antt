@@ -1,6 +1,7 @@
 -- Reach in a program, by the tags of its parts.
 --
--- NestOf body a loops       == these loops enclose the point a, from the outermost on; none encloses Enter and Exit
+-- NestOf body a loops       == these loops enclose the point a, from the outermost on; none encloses Enter
+--                              and Exit
 -- AvoidsTags loops marks    == none of the marks is of a back edge to one of these loops
 -- AvoidsShared loops others marks == none of the marks is of a back edge to a loop of both lists
 use Rattle.std.specs.Prelude.{◌≡◌, Option, Some, List, [], Contains}

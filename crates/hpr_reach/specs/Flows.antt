@@ -1,6 +1,7 @@
 -- Flows through the back edges of loops.
 --
--- Leaves spots x d p         == what d defines comes to the end of p: p is d, or an undisturbed path for x goes from d to p and p doesn't define x
+-- Leaves spots x d p         == what d defines comes to the end of p: p is d, or an undisturbed path for x
+--                               goes from d to p and p doesn't define x
 -- ComesRound spots x w d     == what d defines comes to the end of the body of the loop w
 -- GoesOn spots x w u         == what comes to the predicate of the loop w comes to u
 -- PartsAt a b c              == the two lists agree in their first c elements, and no further

@@ -1,11 +1,13 @@
 -- The steps that a search takes.
 --
--- is_at name defined           == a point that defines this defines the name; none does where there is no name
+-- is_at name defined           == a point that defines this defines the name; none does where there is no
+--                                 name
 -- is_back_to loops s           == the step is a back edge to one of the loops
 -- targets loops steps          == where those of the steps lead that are no back edge to one of the loops
 -- open_steps spots name loops p == where a path goes on to from p: nowhere where p defines the name
 -- Stops spots name p           == the point p defines the name; none does where there is no name
--- ReachesPast spots Stops loops p q == a path goes from p to q that no point strictly in between stops, with no back edge to one of the loops
+-- ReachesPast spots Stops loops p q == a path goes from p to q that no point strictly in between stops, with
+--                                      no back edge to one of the loops
 use Rattle.std.specs.Prelude.{◌≡◌, ℕ, Bool, false, ◌&&◌, ◌==◌, if◌then◌else◌, Option, Some, None, List, [], ◌∷◌}
 use Rattle.std.specs.List.{list_any}
 use Rattle.std.specs.Str.{bytes_eq}

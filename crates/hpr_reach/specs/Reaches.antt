@@ -2,7 +2,8 @@
 --
 -- back_to w                 == the back edge to the loop w
 -- AvoidsLoops loops steps   == none of the steps is the back edge to one of these loops
--- Reaches spots x loops p q == an undisturbed path for x goes from p to q, with no back edge to one of these loops
+-- Reaches spots x loops p q == an undisturbed path for x goes from p to q, with no back edge to one of these
+--                              loops
 use Rattle.std.specs.Prelude.{ℕ, true, List, Contains}
 use Rattle.hpr_paths.specs.declared.spot.Step.{Step}
 use Rattle.hpr_paths.specs.Spots.{Spot}

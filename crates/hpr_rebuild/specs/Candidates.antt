@@ -1,8 +1,10 @@
--- What is searched: the orders of a graph's parts, as items of a plan, and the arrangements that have them as preorders.
+-- What is searched: the orders of a graph's parts, as items of a plan, and the arrangements that have them as
+-- preorders.
 --
 -- FitsInOrder g issued plan order == an arrangement with these items in this order has the graph
--- AreCandidates g regions issued plan == the plan is that of the graph by some rank; the regions are the graph's; the issued numbers are proper, and
---                                        allow all tags of the graph
+-- AreCandidates g regions issued plan == the plan is that of the graph by some rank; the regions are the
+--                                        graph's; the issued numbers are proper, and allow all tags of the
+--                                        graph
 use Rattle.std.specs.Prelude.{◌≡◌, ℕ, Bool, Option, List}
 use Rattle.std.proofs.Common.{subst}
 use Rattle.hpr_syntax.specs.Issued.{Issued}

@@ -1,7 +1,8 @@
 -- The parts among vertices.
 --
 -- is_part v             == whether v is a part
--- IsIssuedPart issued v == where v is a part, its serial is at least 1 and at most the number issued to its author
+-- IsIssuedPart issued v == where v is a part, its serial is at least 1 and at most the number issued to its
+--                          author
 use Rattle.std.specs.Prelude.{◌≡◌, ◌≤◌, Bool, true, false}
 use Rattle.hpr_terms.specs.declared.tag.Tag.{Tag}
 use Rattle.hpr_syntax.specs.declared.rows.Content.{Content}

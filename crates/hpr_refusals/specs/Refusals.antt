@@ -1,14 +1,18 @@
 -- Which files are refused.
 --
--- IsFileIn form bytes p               == the bytes are of an accepted length and spell the program p in this form
+-- IsFileIn form bytes p               == the bytes are of an accepted length and spell the program p in this
+--                                        form
 -- IsFileOf bytes p                    == the same, with the tag of each part
--- IsScriptOf bytes cs                 == the bytes are of an accepted length and spell the script of these commands
--- IsCauseFor L misshapen bytes why    == the bytes are too many; or they are not, and are no text of L, with this place; or they are misshapen, and so
--- IsCauseIn form bytes why            == the same of programs in this form: the bytes spell no tree; or a tree that is no program, and this is the first
---                                        test that it fails
+-- IsScriptOf bytes cs                 == the bytes are of an accepted length and spell the script of these
+--                                        commands
+-- IsCauseFor L misshapen bytes why    == the bytes are too many; or they are not, and are no text of L, with
+--                                        this place; or they are misshapen, and so
+-- IsCauseIn form bytes why            == the same of programs in this form: the bytes spell no tree; or a
+--                                        tree that is no program, and this is the first test that it fails
 -- IsScriptCause bytes why             == the same of scripts: the bytes spell none
 -- IsRefusedFor cause file message     == a file with this name is refused with this message, for such a cause
--- IsRefusedIn form file bytes message == a file with this name and these bytes is refused so, where it is to spell a program in this form
+-- IsRefusedIn form file bytes message == a file with this name and these bytes is refused so, where it is to
+--                                        spell a program in this form
 -- IsRefused file bytes message        == the same, with the tag of each part
 -- IsRefusedScript file bytes message  == the same, where it is to spell a script
 -- IsOne refused is                    == what is read is one thing or refused with one message, and not both

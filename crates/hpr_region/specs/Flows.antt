@@ -8,11 +8,13 @@
 -- same_variable u v     == whether both are the same variable
 -- is_among v xs         == whether v is one of these variables
 -- defined_in t v items  == whether one of these items defines the variable
--- reaches_wrongly t d back c == whether c, placed next, is reached by d without such an edge, where `back` is what is placed behind d
+-- reaches_wrongly t d back c == whether c, placed next, is reached by d without such an edge, where `back` is
+--                               what is placed behind d
 -- reached_wrongly t placed c == whether one of the placed items reaches c so
 -- is_left t placed c u  == whether u is another item of the block of c that is not yet placed
 -- some_left t placed c us == whether one of these is
--- kills_of t placed c d == whether c, placed next, kills what d defines: another item of the block, not yet placed, still needs it
+-- kills_of t placed c d == whether c, placed next, kills what d defines: another item of the block, not yet
+--                          placed, still needs it
 -- kills_one t placed items c == whether c kills what one of these items defines
 -- clash t placed c      == whether c is reached wrongly, or kills
 use Rattle.std.specs.Prelude.{ℕ, Bool, true, false, cond, eqb, Option, Some, None, List, [], ◌∷◌, get_or, slice_get}

@@ -3,7 +3,8 @@
 -- Items are the parts of the graph by their places in the order of the rank.
 --
 -- size_of plan             == how many items there are
--- can_by choices placed k  == whether the item k may stand next behind the placed ones, by the tables; nothing may where there are none
+-- can_by choices placed k  == whether the item k may stand next behind the placed ones, by the tables;
+--                             nothing may where there are none
 -- may_follow plan          == the same test by the plan's tables
 -- clash_in plan placed k   == whether the item k clashes with the placed ones
 -- vertex_by g n            == the vertex with this number, Entry where there is none
@@ -11,9 +12,11 @@
 -- vertices_at g plan items == the vertices of these items
 -- number_at plan k         == the number of the vertex of the item k
 -- numbers_at plan items    == the numbers of the vertices of these items
--- AreListed g rank issued plan == the whole lists of items, in lexicographic order, are the preorders of the arrangements, in the order of the rank
+-- AreListed g rank issued plan == the whole lists of items, in lexicographic order, are the preorders of the
+--                                 arrangements, in the order of the rank
 -- SomeStands g plan        == there are a whole list, and issued numbers that the tags of all parts allow
--- IsPlanOf g rank plan     == the plan is that of the graph and the rank: what its tests and its numbers say of arrangements and clashes
+-- IsPlanOf g rank plan     == the plan is that of the graph and the rank: what its tests and its numbers say
+--                             of arrangements and clashes
 -- State                    == the plan, and the items placed so far
 -- placed_in s              == the numbers of the vertices placed so far
 -- IsReady s n              == n is the number of the vertex of an item that may stand next

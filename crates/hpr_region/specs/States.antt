@@ -1,9 +1,11 @@
 -- What a search keeps.
 --
--- IsPendingBy choices items pending == the counts of what is left are those of the items, where there are tables
--- IsState plan places items placed marks summary rivals needs pending == the items may stand so, one behind the other, and have marks; `placed` has the numbers of their
---                                           vertices; `places` has the item of each number; there is room for all items; the
---                                           summary and the counts of needs and of what is left are those of the items
+-- IsPendingBy choices items pending == the counts of what is left are those of the items, where there are
+--                                      tables
+-- IsState plan places items placed marks summary rivals needs pending == the items may stand so, one behind
+--       the other, and have marks; `placed` has the numbers of their vertices; `places` has the item of each
+--       number; there is room for all items; the summary and the counts of needs and of what is left are
+--       those of the items
 use Rattle.std.specs.Prelude.{◌≡◌, ℕ, ◌≤◌, Bool, Option, Some, None, List, [], Vec, vec_len, vec_capacity}
 use Rattle.std.specs.Global.{Global}
 use Rattle.hpr_forest.specs.declared.blocks.Blocks.{Blocks}

@@ -5,7 +5,8 @@
 -- AreUsed names row c    == the numbers in the row are those of the names, among these, that c uses
 -- IsReadBy g v w         == an independent flow edge goes from v to w
 -- AreReaders g numbers rows == for each item those into which an independent flow edge goes from it
--- AreFlowsBy g numbers names t == the tables say of the parts with these numbers where they stand, what they define and use, and what reads it
+-- AreFlowsBy g numbers names t == the tables say of the parts with these numbers where they stand, what they
+--                                 define and use, and what reads it
 -- AreFlowsOf g numbers t == the same, by the numbers of some names
 use Rattle.std.specs.Prelude.{◌≡◌, ℕ, ◌↔◌, Option, Some, None, true, List, Contains, length, vec_len, slice_get}
 use Rattle.hpr_terms.specs.declared.tag.Tag.{Tag}

@@ -1,5 +1,5 @@
--- The JSON of a graph: an edge names its vertices by their places among the vertices, and members stand in ascending order of
--- their keys.
+-- The JSON of a graph: an edge names its vertices by their places among the vertices, and members stand in
+-- ascending order of their keys.
 --
 -- number_data n          == a number
 -- control_data b from to == a control edge with this label, as an object
@@ -10,7 +10,8 @@
 -- kind_data vs k from to == an edge of this kind between these places
 -- edge_data vs e         == an edge, with the places of its vertices
 -- graph_data vs es       == these vertices and these edges
--- IsGraphJson g text     == the text is the compact text of the graph's JSON, whose vertices and edges stand in their order, and a newline
+-- IsGraphJson g text     == the text is the compact text of the graph's JSON, whose vertices and edges stand
+--                           in their order, and a newline
 use Rattle.std.specs.Prelude.{◌≡◌, ℕ, ◌+◌, Bool, List, [], ◌∷◌, ◌++◌, map, codes}
 use Rattle.std.specs.Ordering.{match_ordering}
 use Rattle.serde_json.specs.Data.{Data, boolean, number, unsigned, string, array, object, member, no_members}

@@ -3,14 +3,17 @@
 -- names_in values              == the names that stand in the list
 -- IsSingleValued values        == no name has two values in the list
 -- Row                          == a name, and its value in each of the four lists
--- IsValueIn values x cell      == the cell is the value of the name x in the list, and empty where the list lacks the name
--- IsColumn names values cells  == there is a cell for each of the names, and it is the name's value in the list
+-- IsValueIn values x cell      == the cell is the value of the name x in the list, and empty where the list
+--                                 lacks the name
+-- IsColumn names values cells  == there is a cell for each of the names, and it is the name's value in the
+--                                 list
 -- IsRow base a b merged row    == each cell of the row is the value of the row's name in the cell's list
 -- AreRows base a b merged rows == there is a row for each name that stands in a list, and the names ascend
 -- cell_text cell               == a value, or `-` where there is none
 -- table_line row               == the name and the four cells
 -- IsTableText base a b merged text == the text is that of these rows, a line for each
--- IsKeptIn row                 == the last cell has the value of each variant that changed it, and the one that all three agree on
+-- IsKeptIn row                 == the last cell has the value of each variant that changed it, and the one
+--                                 that all three agree on
 use Rattle.std.specs.Prelude.{◌≡◌, ℕ, ◌↔◌, List, ◌++◌, Option, Some, None, All, Contains, map, length, slice_get, codes}
 use Rattle.hpr_syntax.specs.declared.value.Value.{Value}
 use Rattle.hpr_syntax.specs.Run.{FinalValues}

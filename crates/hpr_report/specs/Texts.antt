@@ -6,8 +6,8 @@
 -- element_text e    == the index of an element, a colon and the element
 -- comma_element e   == the same behind a comma
 -- elements_text es  == the elements with their indices, a comma between each two
--- value_text v      == a number as it is; a list in brackets, a comma between each two of its numbers; an array in braces, of which the elements
---                      that aren't 0 stand there, ascending
+-- value_text v      == a number as it is; a list in brackets, a comma between each two of its numbers; an
+--                      array in braces, of which the elements that aren't 0 stand there, ascending
 -- value_line x      == the line of a name and its value
 -- outcome_line o    == how a run went, without its values: a line
 -- outcome_text o    == that line, and where the run ended a line for each name of `end`, in its order

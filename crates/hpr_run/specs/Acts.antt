@@ -1,9 +1,10 @@
 -- What a part gives, by the number of its expression.
 --
--- given c s z     == what the part that says c, and is no store, gives in the state s, where its expression is worth z: a write all that is
---                    written then, any other the number
+-- given c s z     == what the part that says c, and is no store, gives in the state s, where its expression
+--                    is worth z: a write all that is written then, any other the number
 -- given_of c s r  == the same, or the fault, of what the code answers
--- stored_of es r  == what a store gives where its array has the elements es, or the fault, of the index and the number that the code answers
+-- stored_of es r  == what a store gives where its array has the elements es, or the fault, of the index and
+--                    the number that the code answers
 use Rattle.std.specs.Prelude.{ℕ, ℤ, [], ◌∷◌, ◌++◌, Result, Ok, Err}
 use Rattle.hpr_arrays.specs.Elements.{Elements, with_element}
 use Rattle.hpr_syntax.specs.declared.rows.Content.{Content}

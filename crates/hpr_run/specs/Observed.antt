@@ -1,15 +1,18 @@
 -- A run that is observed, and what its observer knows of it.
 --
--- Observing O A       == what an observer does that knows values O, and counts turns as A: the turns in a turn of a loop; what it knows after a
---                        step, of which it is told what the part says and the number that shows it; and after the last step defined a name
+-- Observing O A       == what an observer does that knows values O, and counts turns as A: the turns in a
+--                        turn of a loop; what it knows after a step, of which it is told what the part says
+--                        and the number that shows it; and after the last step defined a name
 -- observing f g h     == these three
--- Way O               == where a run is after some statements: it goes on from a state with some steps left, a part stopped it with a fault, or it
---                        is spent; and what the observer knows
+-- Way O               == where a run is after some statements: it goes on from a state with some steps left,
+--                        a part stopped it with a fault, or it is spent; and what the observer knows
 -- step_way t a o left go == one step of the part t that gives a, if a step is left; go says what follows
 -- then_way way go     == what follows, where the run goes on
--- walk_turns w k n t e body a == at most n turns of the loop t with the predicate e, from the turn k on, under the turns a
+-- walk_turns w k n t e body a == at most n turns of the loop t with the predicate e, from the turn k on,
+--                                under the turns a
 -- after_action w n o  == what it knows after an action that defined the name n, if there is one
--- walk w body a o s left == a block under the turns a, from the state s with so many steps left, where the observer knows o
+-- walk w body a o s left == a block under the turns a, from the state s with so many steps left, where the
+--                           observer knows o
 -- known_in way        == what the observer knows
 -- after_in way        == where the run is, without its observer
 use Rattle.std.specs.Prelude.{ℕ, ℤ, zero, suc, ◌+◌, if◌then◌else◌, List, Option, Some, None, Ok, Err}

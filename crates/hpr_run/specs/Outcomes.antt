@@ -1,11 +1,12 @@
 -- Outcomes of the code as those of the definitions, and what the parts of the interpreter answer.
 --
 -- outcome_of o             == the outcome
--- Stepped r t a gives told o n o' left == r is the number of the expression of the part t, which gave a in one step of n to spend, where the
---                             observer knew o; left of them are left, and o' is known then; gives says what the part gives by that number, and
---                             told is what is known where the step is done
--- Did r way o s left       == r is what statements gave that go this way, with what the observer knows, the state and the steps that they left;
---                             want of memory may come anywhere
+-- Stepped r t a gives told o n o' left == r is the number of the expression of the part t, which gave a in
+--                                         one step of n to spend, where the observer knew o; left of them are
+--                                         left, and o' is known then; gives says what the part gives by that
+--                                         number, and told is what is known where the step is done
+-- Did r way o s left       == r is what statements gave that go this way, with what the observer knows, the
+--                             state and the steps that they left; want of memory may come anywhere
 use Rattle.std.specs.Prelude.{◌≡◌, ℕ, ℤ, suc, Result, Ok, Err}
 use Rattle.hpr_terms.specs.declared.tag.Tag.{Tag}
 use Rattle.hpr_syntax.specs.declared.value.Value.{Value}

@@ -2,20 +2,25 @@
 --
 -- tag author serial           == the tag of the author's part of this serial
 -- assign t x e                == a block of the one part `x := e`
--- assignment serial words     == `V := V + K;`, drawn from left to right, with K below 100; its part has this serial
--- conditional serial words    == `if V < K then W := V + 1; else W := L; fi`, the predicate's variable twice and W twice
+-- assignment serial words     == `V := V + K;`, drawn from left to right, with K below 100; its part has this
+--                                serial
+-- conditional serial words    == `if V < K then W := V + 1; else W := L; fi`, the predicate's variable twice
+--                                and W twice
 -- turn serial w v             == `W := W + V; c := c + 1;`, a turn of the loop
--- repetition serial words     == `c := 0; while c < K do W := W + V; c := c + 1; od`, with K below 10 and W three times
+-- repetition serial words     == `c := 0; while c < K do W := W + V; c := c + 1; od`, with K below 10 and W
+--                                three times
 -- followed_by group rest      == the group, and then the rest, which is drawn behind it
 -- by_kind k x y z             == x for the kind 0, y for 1 and z for 2
 -- assignments n serial words  == n assignments
--- groups left serial words    == a top block of `left` parts: groups of a kind that is drawn while four parts or more are left, and then assignments; the
---                                first part has this serial
+-- groups left serial words    == a top block of `left` parts: groups of a kind that is drawn while four parts
+--                                or more are left, and then assignments; the first part has this serial
 -- variable_names              == `v0` to `v7`
 -- base_of parts body          == the base of this body, of so many parts
--- with_part author x op base words == the base, and in its top block at a place that is drawn the author's part `x := V op V;`; `end` names x first
+-- with_part author x op base words == the base, and in its top block at a place that is drawn the author's
+--                                     part `x := V op V;`; `end` names x first
 -- Sample                      == a base and its variants A and B
--- sample seed parts           == the base of so many parts, A with a part `a := V + V;` more and B with `b := V * V;` more, drawn in this order
+-- sample seed parts           == the base of so many parts, A with a part `a := V + V;` more and B with `b :=
+--                                V * V;` more, drawn in this order
 -- IsSampleSize parts          == there is a part, and a program may have two parts more
 use Rattle.std.specs.Prelude.{◌≤◌, ℕ, zero, suc, ◌+◌, List, [], ◌∷◌, map, codes}
 use Rattle.hpr_terms.specs.declared.limits.TheConstants.{MAX_PARTS}

@@ -1,8 +1,10 @@
--- What a machine of tokens keeps, so that a reader of bytes can tell early which words and signs may stand next.
+-- What a machine of tokens keeps, so that a reader of bytes can tell early which words and signs may stand
+-- next.
 --
--- IsTokenMachine next == names are alike to it; with a number it takes every smaller one from 1 on, and none from 2 ^ 64 on;
---                        no sign that it takes can be read on as the front of a longer one
--- HasText t           == the token has a text: a name is a name, and a number is below 2 ^ 64; keywords and signs always have one
+-- IsTokenMachine next == names are alike to it; with a number it takes every smaller one from 1 on, and none
+--                        from 2 ^ 64 on; no sign that it takes can be read on as the front of a longer one
+-- HasText t           == the token has a text: a name is a name, and a number is below 2 ^ 64; keywords and
+--                        signs always have one
 -- Live next may_end s == some tokens with texts lead from s to a machine at which a text may end
 -- EndsAtOnce t        == the token is a sign that no byte makes a longer one: with its last byte it has ended
 use Rattle.std.specs.Prelude.{◌≡◌, ℕ, ◌≤◌, ◌<◌, ◌^◌, Bool, true, List, Option, Some, None, is_some}

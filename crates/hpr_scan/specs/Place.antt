@@ -1,9 +1,11 @@
 -- The place of a refusal: how far the bytes are the front of a text.
 --
 -- IsViable L bytes              == some more bytes complete these to a text of L
--- IsPlace L bytes n             == the bytes are no text of L, and their longest front that can be completed to one has n bytes
+-- IsPlace L bytes n             == the bytes are no text of L, and their longest front that can be completed
+--                                  to one has n bytes
 -- BeginsWith L bytes            == some front of the bytes is a text of L
--- Accepts next may_end s bytes  == the bytes are the text of tokens that lead from s to a machine at which a text may end
+-- Accepts next may_end s bytes  == the bytes are the text of tokens that lead from s to a machine at which a
+--                                  text may end
 -- IfStuck result P              == P of the place, where the answer is one
 use Rattle.std.specs.Prelude.{◌≡◌, ℕ, ◌≤◌, Bool, true, false, List, ◌++◌, length, take, Option, Some, Result, Ok, Err}
 use Rattle.hpr_terms.specs.declared.token.Token.{Token}

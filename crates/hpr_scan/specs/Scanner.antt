@@ -1,15 +1,16 @@
 -- The machine that finds the tokens in bytes, one byte at a time.
 --
--- A place in a text is what has begun there (`Lex`) and the machine of tokens before it.
--- A comment goes on to the next newline. A word goes on only as the front of a word that can stand next. A sign that may be the front of a longer one waits
--- for the next byte, and begins only where it or a longer one can stand next.
+-- A place in a text is what has begun there (`Lex`) and the machine of tokens before it. A comment goes on to
+-- the next newline. A word goes on only as the front of a word that can stand next. A sign that may be the
+-- front of a longer one waits for the next byte, and begins only where it or a longer one can stand next.
 --
 -- at lex s                == the place where lex has begun before s takes a token
 -- sign_of b               == the sign of the one byte b, if there is one
 -- longer sign b           == the sign of two bytes: the sign and b, if there is one
 -- after_sign o            == the place after a sign that led to o
 -- waiting s sign can      == the place behind the first byte of a sign, if it or a longer one can stand there
--- feed_sign next s sign   == the place behind the byte that is the sign, or its front, where nothing has begun
+-- feed_sign next s sign   == the place behind the byte that is the sign, or its front, where nothing has
+--                            begun
 -- grown next s w          == the place behind the front w of a word, if s takes a word that begins with it
 -- feed_gap next s b       == the place after the byte b where nothing has begun, if b can stand there
 -- feed_half next o sign s b == the place after the byte b behind the sign; o is the longer sign with b
@@ -19,10 +20,13 @@
 -- feeds next lex s bytes  == the place after the bytes, if they can stand here
 -- goes_on_comment b       == a comment that goes on with the byte b has not ended: b is no newline
 -- Waits next l s bytes    == each front of the bytes leads from l to a place at which the machine is still s
--- refusal_at n f          == what the fault f behind the first n bytes means: that they are all that can stand, or that memory ran out
--- FeedsAt o n result      == the answer is o's place, or that n bytes is all that can stand, where o is none; memory may run out
+-- refusal_at n f          == what the fault f behind the first n bytes means: that they are all that can
+--                            stand, or that memory ran out
+-- FeedsAt o n result      == the answer is o's place, or that n bytes is all that can stand, where o is none;
+--                            memory may run out
 -- IsStuck next s bytes n  == the first n bytes lead from s to a place at which the next byte cannot stand
--- Scans next s bytes r    == r is the place after the bytes, or the number of bytes before the first that cannot stand; memory may run out
+-- Scans next s bytes r    == r is the place after the bytes, or the number of bytes before the first that
+--                            cannot stand; memory may run out
 use Rattle.std.specs.Prelude.{◌≡◌, ℕ, ◌<◌, Bool, not, ◌||◌, nat_eq, List, [], ◌∷◌, ◌++◌, length, take, slice_index, Option, Some, None, is_some, Result, Ok, Err, if◌then◌else◌}
 use Rattle.hpr_terms.specs.declared.token.Sign.{Sign}
 use Rattle.hpr_terms.specs.declared.token.Sign.TheVariants.{Colon, Becomes, Dot, Comma, Semicolon, Open, Close, OpenSquare, CloseSquare, Plus, Minus, Star, Slash, Percent, Equal, Differ, Less, LessEqual, Greater, GreaterEqual}

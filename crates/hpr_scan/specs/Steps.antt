@@ -1,9 +1,11 @@
 -- Where tokens and bytes lead a machine.
 --
 -- Steps o result           == the step's answer is o: a machine, or a refusal; memory may run out
--- Moves o s result         == a step in place left s, and s is what o is; or it was refused, and o is none; memory may run out
+-- Moves o s result         == a step in place left s, and s is what o is; or it was refused, and o is none;
+--                             memory may run out
 -- runs next s tokens       == where the tokens lead from s
--- IsReading next s bytes m == the bytes are the text of tokens that lead from s to m, and of no tokens that lead elsewhere
+-- IsReading next s bytes m == the bytes are the text of tokens that lead from s to m, and of no tokens that
+--                             lead elsewhere
 use Rattle.std.specs.Prelude.{◌≡◌, ℕ, false, List, [], ◌∷◌, Option, Some, None, Result, Ok, Err}
 use Rattle.hpr_terms.specs.declared.token.Token.{Token}
 use Rattle.hpr_terms.specs.Tokens.{Text}

@@ -8,12 +8,14 @@
 -- keyword_or k w            == the keyword k, or else the name or the number whose text w is
 -- word_token w              == the token whose text the word w is, if there is one
 -- IsNoToken o               == o is no token, or a number that no machine takes
--- ReadsWord o r             == r is the token o, or a refusal where there is none that a machine takes; memory may run out
+-- ReadsWord o r             == r is the token o, or a refusal where there is none that a machine takes;
+--                              memory may run out
 -- begins_name next s w      == s takes a name, and w is the front of one
 -- begins_number next s w    == w is a number that s takes
 -- begins_keyword next s w k == s takes the keyword k, and w is a front of its text
 -- begins next s w           == w is the front of a word that s takes
--- IsFirstWord next s bytes w n == w is the first n bytes, all bytes of words, and the front of a word that s takes
+-- IsFirstWord next s bytes w n == w is the first n bytes, all bytes of words, and the front of a word that s
+--                                 takes
 use Rattle.std.specs.Prelude.{◌≡◌, ℕ, ◌+◌, ◌*◌, ◌-◌, ◌^◌, ◌≤◌, Bool, false, ◌||◌, ◌&&◌, nat_eq, nat_lt, true, List, [], ◌∷◌, length, take, Option, Some, None, is_some, Result, Ok, Err, if◌then◌else◌}
 use Rattle.std.specs.Char.{is_ascii_digit}
 use Rattle.std.specs.List.{list_all, list_any, starts_with}

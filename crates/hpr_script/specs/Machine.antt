@@ -1,7 +1,8 @@
 -- The machine that reads the tokens of a script.
 --
--- State            == what was read, and what was read last: a token of a command's head, or a token of a content; `lost` is behind a name where one of
---                     the words of scripts stands, and nothing leads on from it
+-- State            == what was read, and what was read last: a token of a command's head, or a token of a
+--                     content; `lost` is behind a name where one of the words of scripts stands, and nothing
+--                     leads on from it
 -- with_command c f == one more command was read
 -- with_finals f    == a command `finals` with the names was read
 -- with_plain p f   == a command without a content was read
@@ -9,7 +10,8 @@
 -- with_last x f    == the last variable of `finals` is x
 -- with_variable o f == one more variable of `finals` has ended, if o is one
 -- with_last_ended f == a sign that ends the last variable of `finals` was read
--- with_array f     == the last variable of `finals` is the array of the name that it was, if that was a plain name
+-- with_array f     == the last variable of `finals` is the array of the name that it was, if that was a plain
+--                     name
 -- with_array_of o f == the same, by the name o
 -- filled h c       == the command with the content c
 -- turned f turn    == at what comes next
@@ -20,10 +22,12 @@
 -- word_turn        == the same behind a word of scripts
 -- variable_turn f s x q == the same, the place q, behind the variable x, which may be any
 -- name_turn f s x  == what comes next behind the name x, if it can stand there
--- keyword_turn f s k == what comes next behind the keyword k, if it can stand there: where a variable can, the stream's word
+-- keyword_turn f s k == what comes next behind the keyword k, if it can stand there: where a variable can,
+--                       the stream's word
 -- number_after f s n == what comes next behind the number n, if it can stand there
 -- last_ended f s   == at the place s behind the last variable of `finals`
--- dot_stage, close_square_stage, comma_after, close_after, opened, square_opened, ended == where one sign leads, if it can stand there
+-- dot_stage, close_square_stage, comma_after, close_after, opened, square_opened, ended == where one sign
+--       leads, if it can stand there
 -- sign_after f sign s == the place of the head behind the sign, if it can stand there
 -- or_lost o        == lost, where no place is next
 -- name_next wants o == the state behind a name: where a word of scripts is wanted, it may be lost

@@ -6,8 +6,9 @@
 --           | "finals" "(" names ")"
 --   place   = "at" "top" at | "at" tag "true" at | "at" tag "false" at
 --
--- Tags, names of `end`, contents and expressions are those of programs, within their limits of brackets and operators. The words of scripts are names to the
--- reader of tokens: each is known by its place, and a name may be any of them.
+-- Tags, names of `end`, contents and expressions are those of programs, within their limits of brackets and
+-- operators. The words of scripts are names to the reader of tokens: each is known by its place, and a name
+-- may be any of them.
 --
 -- word k                == the token of a word of scripts
 -- tag_then t ts         == the tokens of the tag, and then these

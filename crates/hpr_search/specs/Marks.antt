@@ -2,8 +2,10 @@
 --
 -- IsMarked marks p               == the row marks p
 -- mark_count marks               == how many points are marked
--- IsRowOf marks order            == the marked points are exactly those of the list, which has each of them once
--- Visited old points n marks order == the row of n marks and its list, after the list `old` got those of the points that it hadn't
+-- IsRowOf marks order            == the marked points are exactly those of the list, which has each of them
+--                                   once
+-- Visited old points n marks order == the row of n marks and its list, after the list `old` got those of the
+--                                     points that it hadn't
 use Rattle.std.specs.Prelude.{◌≡◌, ℕ, suc, Bool, true, false, ◌⊎◌, List, [], ◌∷◌, ◌++◌, length, slice_get, slice_index_or, Some, Contains, if◌then◌else◌}
 
 abbrev pub IsMarked : List Bool → ℕ → Type 0

@@ -1,6 +1,7 @@
 -- Walks in a directed graph, whose edges are given by the steps from each point.
 --
--- Walk steps a via b         == from a through the points via, in order, to the last of them, which is b, or to a itself; each is a step of the one before
+-- Walk steps a via b         == from a through the points via, in order, to the last of them, which is b, or
+--                               to a itself; each is a step of the one before
 -- IsReached steps starts p   == a walk leads from one of the starts to p
 use Rattle.std.specs.Prelude.{◌≡◌, ℕ, List, [], ◌∷◌, Contains}
 

@@ -5,8 +5,10 @@
 -- HasSource links from  == one of these links that a slice follows is from the vertex with this number
 -- sources_of links      == the sources of those of the links that a slice follows, in their order
 -- sources_at g to       == the vertices from which control and flow edges lead to the vertex with this number
--- AreTargets g rows     == for each vertex a row of exactly the vertices to which a control or flow edge leads from it
--- IsPushedFrom old links n new == the rows with the number n more in the row of each vertex from which one of these links is that a slice follows
+-- AreTargets g rows     == for each vertex a row of exactly the vertices to which a control or flow edge
+--                          leads from it
+-- IsPushedFrom old links n new == the rows with the number n more in the row of each vertex from which one of
+--                                 these links is that a slice follows
 use Rattle.std.specs.Prelude.{◌≡◌, ℕ, ◌↔◌, ◌⊎◌, Bool, true, false, if◌then◌else◌, List, [], ◌∷◌, Contains, length}
 use Rattle.hpr_search.specs.Rows.{numbers_at}
 use Rattle.hpr_graph.specs.declared.link.LinkKind.{LinkKind}

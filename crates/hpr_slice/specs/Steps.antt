@@ -1,11 +1,13 @@
 -- The control and flow edges of a graph as pairs of numbers.
 --
--- steps_into to links    == the pairs of the source and `to` of those of the links that a slice follows, in their order
--- AreSteps g steps       == exactly the pairs of vertices with a control or flow edge from the first to the second
+-- steps_into to links    == the pairs of the source and `to` of those of the links that a slice follows, in
+--                           their order
+-- AreSteps g steps       == exactly the pairs of vertices with a control or flow edge from the first to the
+--                           second
 -- AreStepsInto g done steps == those of these into the marked vertices
 -- AreStepsWithin n steps == both numbers of each pair are less than n
--- Chain steps x via y    == the steps lead from x through the points via, in order, to the last of them, which is y, or
---                           to x itself
+-- Chain steps x via y    == the steps lead from x through the points via, in order, to the last of them,
+--                           which is y, or to x itself
 use Rattle.std.specs.Prelude.{◌≡◌, ℕ, ◌<◌, ◌↔◌, if◌then◌else◌, Bool, List, [], ◌∷◌, Contains}
 use Rattle.hpr_search.specs.Marks.{IsMarked}
 use Rattle.hpr_graph.specs.declared.link.Link.{Link}

@@ -1,15 +1,21 @@
--- What a part does in a state, and which names it uses. The laws see what a part says through these alone, and through the
--- name that it defines.
+-- What a part does in a state, and which names it uses. The laws see what a part says through these alone,
+-- and through the name that it defines.
 --
--- UsesIn c x       == the part that says c uses the name x: its expressions do, or it is the stream that it writes or the array into which it stores
--- used_names c     == these names: those of its expressions from left to right, and then the stream or the array
+-- UsesIn c x       == the part that says c uses the name x: its expressions do, or it is the stream that it
+--                     writes or the array into which it stores
+-- used_names c     == these names: those of its expressions from left to right, and then the stream or the
+--                     array
 -- Given            == what a part gives, or its fault
--- appended a l     == the numbers l and the number a behind them, where there is room for it, else output_full
--- stored i a es    == the elements es with the number a at the index i: the fault of i, else that of a, else index_range
--- answer_of c s    == what the part that says c gives in the state s: its number, of a write all that is written then, of a store its array then
+-- appended a l     == the numbers l and the number a behind them, where there is room for it, else
+--                     output_full
+-- stored i a es    == the elements es with the number a at the index i: the fault of i, else that of a, else
+--                     index_range
+-- answer_of c s    == what the part that says c gives in the state s: its number, of a write all that is
+--                     written then, of a store its array then
 -- next_state c v s == the state behind the part that says c, where it gave v in the state s
 -- holds v          == what a predicate gave is true
--- shown_of c s     == the number by which a step in the state s is shown: the one that it assigned, wrote, stored or decided by
+-- shown_of c s     == the number by which a step in the state s is shown: the one that it assigned, wrote,
+--                     stored or decided by
 use Rattle.std.specs.Prelude.{ℕ, ℤ, pos, ◌⊎◌, ◌≡◌, Bool, nat_lt, if◌then◌else◌, List, [], ◌∷◌, ◌++◌, length, Result, Ok, Err}
 use Rattle.hpr_arrays.specs.Elements.{Elements, with_element}
 use Rattle.hpr_terms.specs.TermOf.{term_of}

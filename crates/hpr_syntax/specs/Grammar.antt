@@ -21,27 +21,34 @@
 --   prefix  = atom | "-" prefix | "not" prefix
 --   atom    = literal | name | name "[" expr "]" | "(" expr ")"
 --
--- The untagged form is the same without header and without `tag ":"`. Its parts get the serials 1, 2, .. of one author in preorder.
+-- The untagged form is the same without header and without `tag ":"`. Its parts get the serials 1, 2, .. of
+-- one author in preorder.
 --
 -- Form                          == tagged, or untagged with the author of the parts
 -- IsAuthor n                    == n is below TAG_NUMBERS
 -- IsSerial n                    == n is at least 1, and below TAG_NUMBERS
 -- IsLiteral n                   == n is at most 9223372036854775807
 -- On r s                        == what the rule s derives, the rule r derives too
--- Joins r t op                  == the token t stands for the sign op between operands of the rule r, grouped to the left
+-- Joins r t op                  == the token t stands for the sign op between operands of the rule r, grouped
+--                                  to the left
 -- Compares t op                 == the token t stands for the comparison op
 -- Prefixes t op                 == the token t stands for the prefix op
--- SpellsTerm rule d ts e        == by this rule the tokens spell the expression, with at most d brackets one in another, of both kinds
--- SpellsExpr ts e               == the tokens spell a whole expression of a part, within the limits of brackets and operators
+-- SpellsTerm rule d ts e        == by this rule the tokens spell the expression, with at most d brackets one
+--                                  in another, of both kinds
+-- SpellsExpr ts e               == the tokens spell a whole expression of a part, within the limits of
+--                                  brackets and operators
 -- SpellsStore index value i e   == the same of the two expressions of a store, whose operators count together
--- Labels form n ts t            == the tokens are the tag t and its colon; in the untagged form there are none, and t is the tag after n parts
--- SpellsParts form l n m ts body == the tokens spell the parts of a block, with at most l levels of parts one in another; before it n parts
---                                  had their tags, after it m
+-- Labels form n ts t            == the tokens are the tag t and its colon; in the untagged form there are
+--                                  none, and t is the tag after n parts
+-- SpellsParts form l n m ts body == the tokens spell the parts of a block, with at most l levels of parts one
+--                                   in another; before it n parts had their tags, after it m
 -- SpellsPairs ts pairs          == the tokens are one or more pairs, with commas between them
 -- SpellsHeader form ts header   == the tokens are a header with these pairs, or nothing
--- SpellsFinal ts x              == the tokens are the variable x: a name, the stream's word, or a name and `[` `]`
+-- SpellsFinal ts x              == the tokens are the variable x: a name, the stream's word, or a name and
+--                                  `[` `]`
 -- SpellsNames ts names          == the tokens are variables, with commas between them
--- issued_of header body         == the greatest number that the header gives each author, or without a header the greatest of its tags
+-- issued_of header body         == the greatest number that the header gives each author, or without a header
+--                                  the greatest of its tags
 -- SpellsProgram form ts tree    == the tokens spell the tree
 use Rattle.std.specs.Prelude.{◌≡◌, ℕ, suc, ◌+◌, ◌≤◌, ◌<◌, ◌^◌, List, [], ◌∷◌, ◌++◌, map, Option, Some, None}
 use Rattle.hpr_terms.specs.declared.limits.TheConstants.{MAX_BRACKETS, MAX_LEVELS, MAX_OPERATORS, TAG_NUMBERS}

@@ -3,7 +3,8 @@
 -- Issued                == a list of pairs of an author and a number
 -- IsIssued issued       == the authors ascend, and each number is at least 1
 -- issued_to a issued    == the number of author a, 0 where it has none
--- raised a n issued     == author a's number is the greater of its own and n; every other author's is as it was
+-- raised a n issued     == author a's number is the greater of its own and n; every other author's is as it
+--                          was
 -- raised_by pairs issued == raised by each of the pairs in turn
 -- place_of a issued     == the place of the first pair whose author is not below a
 use Rattle.std.specs.Prelude.{ℕ, ◌+◌, ◌≤◌, ◌==◌, nat_lt, nat_le, max, if◌then◌else◌, List, [], ◌∷◌}

@@ -1,8 +1,10 @@
 -- What a part says, and what stands around it.
 --
--- Standing                        == a part's content, the loops that enclose it from the outermost on (a loop's own is the last), and its
---                                    control parent: the part right around it with the branch, true for a loop's body
--- StandsAs loops parent body t s  == the part t of a block inside these loops, right under this parent, stands so
+-- Standing                        == a part's content, the loops that enclose it from the outermost on (a
+--                                    loop's own is the last), and its control parent: the part right around
+--                                    it with the branch, true for a loop's body
+-- StandsAs loops parent body t s  == the part t of a block inside these loops, right under this parent,
+--                                    stands so
 -- StandsAsIn body t s             == the part t of a program stands so
 -- Says body t c                   == the part t says the content c
 use Rattle.std.specs.Prelude.{◌≡◌, true, false, ◌⊎◌, List, [], ◌∷◌, ◌++◌, Some, None}

@@ -2,7 +2,8 @@
 --
 -- Next                 == a point, and the loop to which the way there is the back edge, if it is one
 -- first_of sk next     == the first part of a block, or what follows the block where it is empty
--- FollowsIn sk next a z mark == z follows the part a of a block that next follows; the mark is the loop whose back edge this is, if it is one
+-- FollowsIn sk next a z mark == z follows the part a of a block that next follows; the mark is the loop whose
+--                               back edge this is, if it is one
 -- IsPair body a z mark == z follows a in the program, from Enter to Exit
 use Rattle.std.specs.Prelude.{◌≡◌, ◌⊎◌, Option, Some, None}
 use Rattle.hpr_terms.specs.declared.tag.Tag.{Tag}

@@ -1,9 +1,11 @@
 -- Paths of a program, and the undisturbed ones.
 --
--- Path R Stops a z marks         == a list of at least one step of R from a to z, with the marks of its steps; no point strictly between stops it
+-- Path R Stops a z marks         == a list of at least one step of R from a to z, with the marks of its
+--                                   steps; no point strictly between stops it
 -- IsPath body a z marks          == a path of the program: each two neighbours are a pair
 -- DefinesAt body x p             == the point p is a part that defines x
--- IsUndisturbed body x a z marks == a path of the program on which no point strictly between a and z defines x
+-- IsUndisturbed body x a z marks == a path of the program on which no point strictly between a and z defines
+--                                   x
 use Rattle.std.specs.Prelude.{◌≡◌, ℕ, List, [], ◌∷◌, Option, Some}
 use Rattle.hpr_terms.specs.declared.tag.Tag.{Tag}
 use Rattle.hpr_syntax.specs.declared.rows.Content.{Content}

@@ -2,7 +2,8 @@
 --
 -- StandsLeft sk d u     == the part d stands before the part u in preorder
 -- Parted sk d u         == some conditional has d and u in different branches
--- EnclosesBoth sk d u w == the loop w has d and u in its body, or is one of them: a loop encloses its own predicate
+-- EnclosesBoth sk d u w == the loop w has d and u in its body, or is one of them: a loop encloses its own
+--                          predicate
 use Rattle.std.specs.Prelude.{◌≡◌, ◌⊎◌}
 use Rattle.hpr_terms.specs.declared.tag.Tag.{Tag}
 use Rattle.hpr_syntax.specs.Skeleton.{Skeleton, nil, act, fork, round, Point, at, StandsIn}

@@ -1,7 +1,9 @@
 -- The canonical text.
 --
--- level_of term          == how tightly the term's outermost sign binds: `or` 1, `and` 2, comparisons 3, `+ -` 4, `* / %` 5, prefixes 6, else 7
--- element_text x index   == an element of the array x: the array's name without its `[]`, and the index between `[` and `]`
+-- level_of term          == how tightly the term's outermost sign binds: `or` 1, `and` 2, comparisons 3, `+
+--                           -` 4, `* / %` 5, prefixes 6, else 7
+-- element_text x index   == an element of the array x: the array's name without its `[]`, and the index
+--                           between `[` and `]`
 -- term_text term         == the text of an expression, with the brackets that its tree needs and no others
 -- expr_text e            == the text of an expression as the program holds it
 -- content_text c         == what a part says, without its tag and without the parts that stand in it

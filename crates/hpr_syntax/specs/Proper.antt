@@ -1,12 +1,16 @@
 -- What the names and the numbers of a tree have to be.
 --
--- IsProperTerm x     == each literal of the expression is at most 9223372036854775807, and each name and each array in it is a variable
+-- IsProperTerm x     == each literal of the expression is at most 9223372036854775807, and each name and each
+--                       array in it is a variable
 -- IsProperTag t      == author and serial are below TAG_NUMBERS
--- IsProperContent c  == the same of the expressions of what a part says, and the name that it defines is a variable
--- IsProperBody body  == the same of all tags and expressions of a block, and each name that a part defines is a variable
+-- IsProperContent c  == the same of the expressions of what a part says, and the name that it defines is a
+--                       variable
+-- IsProperBody body  == the same of all tags and expressions of a block, and each name that a part defines is
+--                       a variable
 -- IsProperPair p     == author and number are below TAG_NUMBERS
 -- IsProperIssued ps  == the pairs are issued numbers, and each author and each number is in range
--- IsProper tree      == the same of all that stands in the tree; the authors of its issued numbers ascend, and the numbers are at least 1
+-- IsProper tree      == the same of all that stands in the tree; the authors of its issued numbers ascend,
+--                       and the numbers are at least 1
 use Rattle.std.specs.Prelude.{ℕ, ◌<◌, ◌^◌, All}
 use Rattle.hpr_terms.specs.declared.limits.TheConstants.{TAG_NUMBERS}
 use Rattle.hpr_terms.specs.declared.tag.Tag.{Tag}

@@ -8,7 +8,8 @@
 -- structure_of c   == which blocks a part that says this has
 -- is_simple s      == a part of this structure has no blocks
 -- same_structure a b == the two structures are one
--- assigned content == the name that the part defines: an assignment its variable, a write the stream, a store its array, a predicate none
+-- assigned content == the name that the part defines: an assignment its variable, a write the stream, a store
+--                     its array, a predicate none
 -- expr_in content  == the expression that is assigned, written, stored or tested
 -- index_in content == the expression of a store that gives the index; other parts have none
 -- made t c a b     == the part with this tag that says this, with these blocks, as far as it has blocks

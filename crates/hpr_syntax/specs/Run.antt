@@ -1,14 +1,15 @@
 -- What a program does, with so many steps to spend. A step is an assignment, a write, a store or an
 -- evaluation of a predicate.
 --
--- After             == where a run is after some statements: it goes on from a state with some steps left, a part stopped it
---                      with a fault, or it is spent and has a further step to do
+-- After             == where a run is after some statements: it goes on from a state with some steps left, a
+--                      part stopped it with a fault, or it is spent and has a further step to do
 -- step t a left go  == one step of the part t that gives a, if a step is left; go says what follows
 -- then_go after go  == what follows, where the run goes on
 -- turns n t e body  == at most n turns of the loop t with the predicate e
 -- run_body body s left == a block, from the state s with so many steps left
--- Outcome           == ends, with the final values and the steps taken; faults, with the tag, the fault and the steps taken, the
---                      faulting one counted; more, where all steps are taken and there is a further one to do
+-- Outcome           == ends, with the final values and the steps taken; faults, with the tag, the fault and
+--                      the steps taken, the faulting one counted; more, where all steps are taken and there
+--                      is a further one to do
 -- run p s n         == the run of the program p from the state s with n steps to spend
 use Rattle.std.specs.Prelude.{ℕ, zero, suc, ◌+◌, ◌-◌, if◌then◌else◌, List, map, Ok, Err}
 use Rattle.hpr_terms.specs.declared.tag.Tag.{Tag}

@@ -1,16 +1,20 @@
 -- The tests that a tree must pass to be a program.
 --
--- first_repeated same earlier xs == the first of xs that is the same as one before it, there or among the earlier
+-- first_repeated same earlier xs == the first of xs that is the same as one before it, there or among the
+--                                   earlier
 -- first_repeated_tag body     == the first part's tag, in preorder, that stands earlier
 -- first_unissued issued body  == the first part's tag whose serial is 0 or above its author's issued number
 -- first_deep n body           == the first part's tag that stands more than n levels deep
--- first_where test body       == the first part's tag, in preorder, that says something of which the test is true
+-- first_where test body       == the first part's tag, in preorder, that says something of which the test is
+--                                true
 -- is_large e                  == the expression has more than MAX_OPERATORS operators
--- operators_in c              == how many operators the expressions of a part have: of a store, its index and its number together
+-- operators_in c              == how many operators the expressions of a part have: of a store, its index and
+--                                its number together
 -- says_large c                == these are more than MAX_OPERATORS
--- names_wrong e               == the expression has a wrong name: a variable that is no plain name, or an element of what is no array
--- is_wrong c                  == the part has a wrong name: an expression has, it assigns to what is no plain name, writes to what isn't the stream,
---                                or stores into what is no array
+-- names_wrong e               == the expression has a wrong name: a variable that is no plain name, or an
+--                                element of what is no array
+-- is_wrong c                  == the part has a wrong name: an expression has, it assigns to what is no plain
+--                                name, writes to what isn't the stream, or stores into what is no array
 -- left_after most k           == what is left of most after k are taken, if there are as many
 -- shape tree                  == the first refusal, in the order of the tests, or none
 -- IsProgram tree              == its names are variables, its numbers in range, and the tree has no refusal

@@ -1,7 +1,8 @@
--- The skeleton of a block: its parts by their tags, and which of them are acts, conditionals and loops. What stands where, and the paths of
--- a program, are said over the skeleton alone.
+-- The skeleton of a block: its parts by their tags, and which of them are acts, conditionals and loops. What
+-- stands where, and the paths of a program, are said over the skeleton alone.
 --
--- Skeleton          == nil, or a part and what follows it in its block: an act; a fork with its two branches; a round with its body
+-- Skeleton          == nil, or a part and what follows it in its block: an act; a fork with its two branches;
+--                      a round with its body
 -- Point             == Enter, a part, or Exit
 -- skeleton body     == the skeleton of a block
 -- StandsIn sk p     == the point p is a part of the skeleton

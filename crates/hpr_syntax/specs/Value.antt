@@ -1,7 +1,8 @@
 -- What an expression is worth in a state.
 --
--- Fault              == overflow, where a result leaves the range of i64; zero_divide, where a right operand of `/` or `%` is 0; output_full,
---                       where as many numbers were written as may be; index_range, where an index isn't 0 to 65535
+-- Fault              == overflow, where a result leaves the range of i64; zero_divide, where a right operand
+--                       of `/` or `%` is 0; output_full, where as many numbers were written as may be;
+--                       index_range, where an index isn't 0 to 65535
 -- Answer             == a number or a fault
 -- exact z            == the number z where it lies within i64, else overflow
 -- is_true z          == a number is true where it is not 0
@@ -9,7 +10,8 @@
 -- apply_binary op x y == what the sign makes of two numbers
 -- as_index z         == the index that the number z is, if it is 0 to 65535
 -- element_at z es    == the number of the elements es at the index z, else index_range
--- term_value e s     == the value of a term: both operands always, the left one first; an element after its index
+-- term_value e s     == the value of a term: both operands always, the left one first; an element after its
+--                       index
 -- value e s          == the value of an expression
 use Rattle.std.specs.Prelude.{◌^◌, ℤ, pos, negsuc, ◌+ℤ◌, ◌-ℤ◌, ◌*ℤ◌, neg_ℤ, int_div, int_rem, int_lt, int_le, Bool, not, ◌&&◌, ◌||◌, if◌then◌else◌, nat_lt, ℕ, Option, Some, None, Result, Ok, Err}
 use Rattle.std.specs.Ordering.{int_eq}

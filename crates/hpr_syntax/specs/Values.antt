@@ -3,7 +3,8 @@
 -- number_in v  == the number that a value is; 0 of another value
 -- written_in v == the numbers that were written; none of another value
 -- elements_in v == the elements of an array that aren't 0; none of another value
--- blank x      == what the name x is worth where nothing was put under it: 0, of the stream the empty list, of an array no element but 0
+-- blank x      == what the name x is worth where nothing was put under it: 0, of the stream the empty list,
+--                 of an array no element but 0
 -- Values       == a state: a finite map from names to values
 -- value_at s x == the value of the name x in the state s
 -- put s x v    == the state s, where the name x has the value v now

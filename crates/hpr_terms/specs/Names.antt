@@ -4,7 +4,8 @@
 -- is_name_like w == w has 1 to MAX_NAME such bytes and doesn't begin with a digit: a name, or a keyword
 -- is_name w      == w is like a name, and no keyword
 -- IsName w       == w is a name; IsArray w and IsVariable w likewise
--- stream         == the name of the stream that a program writes: the keyword `out`, so no name is the stream's
+-- stream         == the name of the stream that a program writes: the keyword `out`, so no name is the
+--                   stream's
 -- is_stream w    == w is that name
 -- array_of x     == the name of the array whose elements are written x[..]: the name x and `[]`
 -- is_array w     == w is an array's name: a name and `[]`

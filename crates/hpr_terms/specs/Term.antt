@@ -1,6 +1,7 @@
 -- Expressions as plain trees.
 --
--- Term         == a literal, a name, an operator and its operands, or an element: the name of its array, and its index
+-- Term         == a literal, a name, an operator and its operands, or an element: the name of its array, and
+--                 its index
 -- levels t     == how many levels the term has
 -- operators t  == how many operators and elements stand in the term
 use Rattle.std.specs.Prelude.{ℕ, ◌+◌, List, max}

@@ -2,7 +2,8 @@
 --
 -- sign_text s          == the sign as it stands in a text
 -- IsToken text token   == the bytes spell this token by themselves
--- is_word token        == the token is a keyword, a name or a number: it ends, and begins, with a letter, a digit or `_`
+-- is_word token        == the token is a keyword, a name or a number: it ends, and begins, with a letter, a
+--                         digit or `_`
 -- is_blank b           == b is a space, a tab, a carriage return or a newline
 -- HasNoNewline bytes   == none of the bytes is a newline
 -- Blanks bytes         == the bytes are blanks and comments, each comment with the newline that ends it

@@ -2,7 +2,8 @@
 --
 -- TermUses t x == the name x stands in the term, or an element of the array x
 -- Uses e x     == the same of an expression
--- names_in t   == the names in the term, from left to right, each as often as it stands there; an array's before those of its index
+-- names_in t   == the names in the term, from left to right, each as often as it stands there; an array's
+--                 before those of its index
 use Rattle.std.specs.Prelude.{◌≡◌, ℕ, List, [], ◌∷◌, ◌++◌, ◌⊎◌}
 use Rattle.hpr_terms.specs.declared.expr.Expr.{Expr}
 use Rattle.hpr_terms.specs.Term.{Term, num, var, prefix, infix', element}

@@ -4,7 +4,8 @@
 -- IsMisshapen form bytes e == they spell a tree whose shape is the refusal e
 -- IfSyntax result P        == P of the place, where the answer is a place
 -- IfShape result P         == P of the refusal, where the answer is a refusal of a tree's shape
--- ComesFromText e          == e is none of the refusals that no tree of a text has: too deep, too large, a wrong name, and want of memory
+-- ComesFromText e          == e is none of the refusals that no tree of a text has: too deep, too large, a
+--                             wrong name, and want of memory
 use Rattle.std.specs.Prelude.{◌≡◌, ℕ, List, Some, Result, Ok, Err}
 use Rattle.hpr_syntax.specs.declared.shape.ShapeError.{ShapeError}
 use Rattle.hpr_syntax.specs.declared.shape.ShapeError.TheVariants as shape_error

@@ -4,7 +4,8 @@
 -- content_ends aim o           == the content ends with this expression, if there is one
 -- content_goes_on state o      == an expression goes on, in the state that its reading tells
 -- content_index_begins x       == the index of a store into the array of the name x begins
--- content_index_ends array k o == the index of a store ends with this expression, if there is one, which has k operators
+-- content_index_ends array k o == the index of a store ends with this expression, if there is one, which has
+--                                 k operators
 -- NAME_next t                  == the state after the token t at that place, if the token can stand there
 -- content_next s t             == the state after the token, if the token can stand next
 -- content_may_end s            == the content and its `;` were read

@@ -6,7 +6,8 @@
 -- IsContentText bytes c       == the bytes are the text of the content and of a `;` behind it
 -- HasContent bytes            == the bytes are such a text of some content
 -- OneContent                  == bytes are the text of at most one content
--- IsPlaceFrom start L bytes n == n is the place of a refusal in the bytes from start on, counted from the start of all bytes
+-- IsPlaceFrom start L bytes n == n is the place of a refusal in the bytes from start on, counted from the
+--                                start of all bytes
 use Rattle.std.specs.Prelude.{◌≡◌, ℕ, ◌+◌, false, List, [], ◌∷◌, ◌++◌, drop}
 use Rattle.hpr_terms.specs.declared.expr.Expr.{Expr}
 use Rattle.hpr_terms.specs.declared.keyword.Keyword.TheVariants as keyword

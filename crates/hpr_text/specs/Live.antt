@@ -2,7 +2,8 @@
 --
 -- x_text    == the name `x`
 -- x_is_name == it is a name
--- live      == an open expression, or an index and its number, is brought to an end, open blocks are closed, and then the program ends
+-- live      == an open expression, or an index and its number, is brought to an end, open blocks are closed,
+--              and then the program ends
 use Rattle.std.proofs.Common.{◌≡◌, ℕ, true, List, [], ◌∷◌, Option, Some, None, is_some, refl, ap, ◌∙◌, lit<}
 use Rattle.hpr_terms.specs.declared.keyword.Keyword.{Keyword}
 use Rattle.hpr_terms.specs.declared.keyword.Keyword.TheVariants as keyword

@@ -1,12 +1,15 @@
 -- The machine that reads the tokens of a program, by one definition for each place of the grammar.
 --
--- In an untagged text a part gets its tag from the machine when it begins. Such a text may have more parts than a program may: they are all counted, and
--- the machine may be told how many of them to keep. Where more have begun it keeps no further part, and its count ends at 2 ^ 64 - 1.
+-- In an untagged text a part gets its tag from the machine when it begins. Such a text may have more parts
+-- than a program may: they are all counted, and the machine may be told how many of them to keep. Where more
+-- have begun it keeps no further part, and its count ends at 2 ^ 64 - 1.
 --
--- Found               == what was read so far: the mode, how many parts got their tags from the machine, whether there is a header, the issued numbers,
---                        the open blocks, the parts of the innermost one, the names of `end`
+-- Found               == what was read so far: the mode, how many parts got their tags from the machine,
+--                        whether there is a header, the issued numbers, the open blocks, the parts of the
+--                        innermost one, the names of `end`
 -- limit               == how many parts the reader keeps
--- keeps l n           == a part that ends is kept where n parts have begun; l is how many may be kept, or none, where each part is
+-- keeps l n           == a part that ends is kept where n parts have begun; l is how many may be kept, or
+--                        none, where each part is
 -- counted l n         == how many parts have begun with one more than n
 -- serial_given l n    == the serial of part n; of those past the last that is kept, the serial of that one
 -- tag_given l a n     == the tag of part n
@@ -24,7 +27,8 @@
 -- od_found l f        == a loop ends, if it can end here
 -- with_name x f       == one more variable of `end`
 -- index_begins f t x  == the index of a store into the array of the name x begins, if x is a plain name
--- index_ends f t a k o == the index of a store into a ends with the expression o, if there is one, which has k operators
+-- index_ends f t a k o == the index of a store into a ends with the expression o, if there is one, which has
+--                         k operators
 -- ends_here l f p o   == the expression o, if there is one, ends, which was read for p
 -- goes_on f place o   == an expression goes on, at the place that its reading o tells, if there is one
 -- array_begins f x    == the brackets of the array of the name x begin, if x is a plain name

@@ -2,7 +2,8 @@
 --
 -- tags_from a n k    == the tags of author a with the serials n, n + 1, .. : k of them
 -- last_issued a k    == author a with the number k, or none where k is 0
--- IsInOrder a t      == the tree's parts have the tags of author a from 1 on, in preorder, and its issued numbers are the last of them, if there is one
+-- IsInOrder a t      == the tree's parts have the tags of author a from 1 on, in preorder, and its issued
+--                       numbers are the last of them, if there is one
 -- OneTree            == bytes spell at most one tree in one form
 -- TagsInOrder        == what an untagged text spells is in the order of its author's tags
 use Rattle.std.specs.Prelude.{◌≡◌, ℕ, zero, suc, ◌+◌, List, [], ◌∷◌}

@@ -1,10 +1,14 @@
--- How two graphs differ, one that is offered and one that was merged. Horwitz, Prins and Reps 1989 have no such thing.
+-- How two graphs differ, one that is offered and one that was merged. Horwitz, Prins and Reps 1989 have no
+-- such thing.
 --
--- IsHeldBy h P Q x         == this holder alone has x, where the offered one has what has P, and the merged one what has Q
+-- IsHeldBy h P Q x         == this holder alone has x, where the offered one has what has P, and the merged
+--                             one what has Q
 -- IsLeastHeld cmp P Q x h  == the same, and nothing that one of the two alone has comes before x
--- IsLeastApart cmp P Q o   == o is the least that one of the two alone has, with its holder; none where both have the same
--- IsDifference g m v       == v tells how g, which is offered, differs from m: the least vertex that one of them alone has; where they
---                             have the same vertices, the least edge; or that they are the same
+-- IsLeastApart cmp P Q o   == o is the least that one of the two alone has, with its holder; none where both
+--                             have the same
+-- IsDifference g m v       == v tells how g, which is offered, differs from m: the least vertex that one of
+--                             them alone has; where they have the same vertices, the least edge; or that they
+--                             are the same
 use Rattle.std.specs.Prelude.{◌≡◌, ◌↔◌, Option, Some, None}
 use Rattle.std.specs.declared.cmp.Ordering.{Ordering}
 use Rattle.std.specs.declared.cmp.Ordering.TheVariants.{Less}

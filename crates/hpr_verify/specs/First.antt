@@ -1,10 +1,11 @@
 -- The first difference of two rows, and of two graphs by the rows of their links.
 --
 -- row_by h xs ys             == the row of this holder, where xs is offered and ys was merged
--- IsFirstApart cmp xs ys o   == o is the place of the least item that one of the rows alone has, with its holder; none where both have
---                               the same
--- IsFirstLinkApart cmp g m o == o is the least link that one of the graphs alone has into the first vertex into which they have other
---                               links, with that vertex and its holder; none where both have the same
+-- IsFirstApart cmp xs ys o   == o is the place of the least item that one of the rows alone has, with its
+--                               holder; none where both have the same
+-- IsFirstLinkApart cmp g m o == o is the least link that one of the graphs alone has into the first vertex
+--                               into which they have other links, with that vertex and its holder; none where
+--                               both have the same
 use Rattle.std.specs.Prelude.{◌≡◌, ◌↔◌, ℕ, ◌<◌, Option, Some, None, List, Contains, slice_get}
 use Rattle.std.specs.declared.cmp.Ordering.{Ordering}
 use Rattle.hpr_graph.specs.declared.link.Link.{Link}

@@ -1,9 +1,10 @@
 -- The judgement on a merged program that was made elsewhere. Horwitz, Prins and Reps 1989 have no such thing.
 --
--- IsJudged base a b offered v  == v tells how the graph of the offered program differs from what is searched: the merged graph, with the
---                                 parts that are split off under their new tags
+-- IsJudged base a b offered v  == v tells how the graph of the offered program differs from what is searched:
+--                                 the merged graph, with the parts that are split off under their new tags
 -- HasSearchedGraph base a b m  == there is no conflict, and the graph of m is what is searched
--- IsVerdict base a b offered v == v is the first conflict, where there is one; else it tells how the offered program's graph differs
+-- IsVerdict base a b offered v == v is the first conflict, where there is one; else it tells how the offered
+--                                 program's graph differs
 use Rattle.std.specs.Prelude.{List, [], ◌∷◌}
 use Rattle.hpr_terms.specs.declared.tag.Tag.{Tag}
 use Rattle.hpr_syntax.specs.Tree.{Tree}

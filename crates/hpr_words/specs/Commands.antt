@@ -1,9 +1,11 @@
 -- The commands as data, each without subcommands: what it takes, and what it asks for.
 --
--- NumberOption            == the option `--id`: a number from 1 to most; where it isn't given, `default`; where there is no default, it must be given
--- Form                    == a command: its name; its positionals of one word, which must be given, and whether they are numbers; behind them a list of words, if it has one, and whether
---                            a word of it must be given; its options; its flags; and what it asks for, by the words, the list, the numbers and whether
---                            each flag is given
+-- NumberOption            == the option `--id`: a number from 1 to most; where it isn't given, `default`;
+--                            where there is no default, it must be given
+-- Form                    == a command: its name; its positionals of one word, which must be given, and
+--                            whether they are numbers; behind them a list of words, if it has one, and
+--                            whether a word of it must be given; its options; its flags; and what it asks
+--                            for, by the words, the list, the numbers and whether each flag is given
 -- tries, steps, author    == the options
 -- integrate_of ws l ns fs == the request of a base, its variants, two or more up to their limit, and a number
 -- run_of ws l ns fs       == the request of a file, states, a number and a flag
@@ -31,7 +33,8 @@
 -- asked_with form ws l ns fs == what the command asks for, where it is given all of these
 -- word_rule id            == a positional of one word, which must be given, as `clap` has it
 -- list_rule list          == a positional of any number of words, or of one word or more
--- number_rule id most needed == the option `--id`, whose value is a number from 1 to most, and which must be given or not
+-- number_rule id most needed == the option `--id`, whose value is a number from 1 to most, and which must be
+--                               given or not
 -- flag_rule id            == the flag `--id`
 -- form_rules form         == what the command takes, as `clap` has it
 -- form_app form           == the command, as `clap` has it

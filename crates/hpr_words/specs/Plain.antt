@@ -4,7 +4,8 @@
 -- is_among word words           == the word is one of these
 -- Piece                         == a name, a value that an option is given, or a flag
 -- begun piece rest              == the rest with this piece before it, if there is a rest
--- pieces options flags words    == the words behind the command cut into names, option words, each with the value behind it, and flags, if they are such
+-- pieces options flags words    == the words behind the command cut into names, option words, each with the
+--                                  value behind it, and flags, if they are such
 -- names ps                      == the names, in order
 -- values option ps              == the values that the option is given, in order
 -- uses f ps                     == how often the flag stands there
@@ -14,15 +15,18 @@
 -- is_unbroken ps                == nothing stands between two names
 -- is_numeral word               == decimal digits without leading zeros
 -- number most word              == the number that they spell, if it is from 1 to most
--- plain_number option words     == the number of the one word; where there is none, the option's default, if it has one
+-- plain_number option words     == the number of the one word; where there is none, the option's default, if
+--                                  it has one
 -- is_used n                     == whether a flag stands there that stands there n times, if not twice
 -- dashed id                     == the word of the option or flag of this name
 -- options_of form               == the words of the command's options
 -- flags_of form                 == the words of its flags
 -- first_names ids ns            == the first names, one for each of these positionals, if there are so many
 -- names_left ids ns             == the names behind them
--- fits_list list ws             == the command has such a list: words only if it has a list, and one at least where that must be given
--- fits_words form ns            == where the command's positionals are numbers, each of these names is decimal digits without leading zeros
+-- fits_list list ws             == the command has such a list: words only if it has a list, and one at least
+--                                  where that must be given
+-- fits_words form ns            == where the command's positionals are numbers, each of these names is
+--                                  decimal digits without leading zeros
 -- number_at ps option           == the number that the pieces give the option
 -- flag_at ps id                 == whether they give the flag
 -- plainly_asked form ps         == what the pieces ask of the command, the list unbroken

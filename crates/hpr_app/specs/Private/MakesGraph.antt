@@ -2,7 +2,8 @@
 --
 -- RefusesGraph file stop     == the file is refused for a graph with too many edges; or memory ran out
 -- FailsGraph file p stop     == the same, where the graph of the program p is such a graph
--- MakesGraph file p result   == the graph of the program p, which hasn't too many edges; or it has, and the file is refused; or memory ran out
+-- MakesGraph file p result   == the graph of the program p, which hasn't too many edges; or it has, and the
+--                               file is refused; or memory ran out
 use Rattle.std.specs.Prelude.{◌≡◌, ℕ, List, Result, Ok, Err, string_bytes}
 use Rattle.hpr_syntax.specs.Tree.{Tree}
 use Rattle.hpr_graph.specs.Graphs.{Same}

@@ -1,6 +1,7 @@
 -- What is decided of an integration of many variants that stops.
 --
--- IsManyStopped base names tries stop r == r is what is decided of an integration that stops so: the refusal of a file, or the report of an answer
+-- IsManyStopped base names tries stop r == r is what is decided of an integration that stops so: the refusal
+--                                          of a file, or the report of an answer
 use Rattle.std.specs.Prelude.{◌≡◌, ℕ, List, ◌∷◌, get_or}
 use Rattle.hpr_report.specs.ConflictsText.{many_conflicts_text}
 use Rattle.hpr_many.specs.declared.stop.ManyStop.{ManyStop}

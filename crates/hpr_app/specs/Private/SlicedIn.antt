@@ -1,7 +1,7 @@
 -- What slicing a graph comes to.
 --
--- SlicedIn p g points program r == r prints the slice of the graph g at the vertices that the points name, or what it leaves of the program p, unless a
---                                  point names none
+-- SlicedIn p g points program r == r prints the slice of the graph g at the vertices that the points name, or
+--                                  what it leaves of the program p, unless a point names none
 use Rattle.std.specs.Prelude.{Bool, List}
 use Rattle.hpr_syntax.specs.Tree.{Tree}
 use Rattle.hpr_graph.specs.Numbered.{Numbered, graph_in}

@@ -1,7 +1,8 @@
 -- What is decided of an integration that stops.
 --
 -- file_of which base a b             == the name of the file of this program
--- IsStopped base a b tries stop r    == r is what is decided of an integration that stops so: the refusal of a file, or the report of an answer
+-- IsStopped base a b tries stop r    == r is what is decided of an integration that stops so: the refusal of
+--                                       a file, or the report of an answer
 use Rattle.std.specs.Prelude.{◌≡◌, ℕ, List}
 use Rattle.hpr_graph.specs.Answer.{interference, no_program, spent}
 use Rattle.hpr_engine.specs.declared.stop.Stop.{Stop}

@@ -1,7 +1,7 @@
 -- What is decided of an offered program, by the programs of four files.
 --
--- IsVerifiedOf names ps r == for the programs ps of four files: a graph with too many edges refuses its file, in this order; else r reports a verdict on the
---                            last one
+-- IsVerifiedOf names ps r == for the programs ps of four files: a graph with too many edges refuses its file,
+--                            in this order; else r reports a verdict on the last one
 use Rattle.std.specs.Prelude.{List, [], ◌∷◌}
 use Rattle.hpr_syntax.specs.Tree.{Tree}
 use Rattle.hpr_words.specs.Request.{Text}

@@ -1,7 +1,9 @@
 -- What a token that is taken in place leaves.
 --
--- reading_of c last   == the reading in the context c, where last was read: an operand, or none, and one must stand next
--- Leads o c result    == the answer goes with the context c, and they are the reading o, or its refusal; memory may run out
+-- reading_of c last   == the reading in the context c, where last was read: an operand, or none, and one must
+--                        stand next
+-- Leads o c result    == the answer goes with the context c, and they are the reading o, or its refusal;
+--                        memory may run out
 use Rattle.std.specs.Prelude.{◌≡◌, Option, Some, None, Result, Ok, Err}
 use Rattle.hpr_scan.specs.declared.machine.Fault.{Fault}
 use Rattle.hpr_scan.specs.declared.machine.Fault.TheVariants.{Refused, Memory}

@@ -1,5 +1,6 @@
--- The law of covered programs, whatever the contents mean: of a program each of whose parts lies in a slice that it has from one of some
--- programs that end. The versions, and when they cover a program, are those of hpr_meaning/specs/CoverLaw.antt.
+-- The law of covered programs, whatever the contents mean: of a program each of whose parts lies in a slice
+-- that it has from one of some programs that end. The versions, and when they cover a program, are those of
+-- hpr_meaning/specs/CoverLaw.antt.
 --
 -- DoesEnd s i == the version is a program that ends from the state s within its steps
 use Rattle.hpr_meaning.specs.Any.Meaning.{Meaning}

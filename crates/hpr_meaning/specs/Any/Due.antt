@@ -1,8 +1,8 @@
--- Which places a run has to come to, once some steps are listed, whatever the contents mean. When a step calls for a place is said in
--- hpr_meaning/specs/Due.antt, of the step's place and of the truth that it gave.
+-- Which places a run has to come to, once some steps are listed, whatever the contents mean. When a step
+-- calls for a place is said in hpr_meaning/specs/Due.antt, of the step's place and of the truth that it gave.
 --
--- IsDue body is a == the place a is due, the steps `is` being listed: a first place of a top part always, each other place exactly where a
---                    listed step calls for it
+-- IsDue body is a == the place a is due, the steps `is` being listed: a first place of a top part always,
+--                    each other place exactly where a listed step calls for it
 -- IsListed is a   == one of the steps is at the place a
 use Rattle.hpr_meaning.specs.Any.Meaning.{Meaning}
 use Rattle.std.specs.Prelude.{◌≡◌, ◌⊎◌, List, [], None, Contains}

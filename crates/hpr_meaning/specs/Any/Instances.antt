@@ -1,9 +1,10 @@
--- The instances of a run, whatever the contents mean: its finished steps in their order (Reps and Yang 1988). What a run did is kept in a log,
--- its newest step first; the state is what the log makes of the first state.
+-- The instances of a run, whatever the contents mean: its finished steps in their order (Reps and Yang 1988).
+-- What a run did is kept in a log, its newest step first; the state is what the log makes of the first state.
 --
--- Read                  == a name that a step reads, the value, and the step that last defined the name: its place and what it says; none
---                          where the value is the initial one
--- Did                   == what was done at a place: the content, the reads, what it gave, and what the step shows
+-- Read                  == a name that a step reads, the value, and the step that last defined the name: its
+--                          place and what it says; none where the value is the initial one
+-- Did                   == what was done at a place: the content, the reads, what it gave, and what the step
+--                          shows
 -- Instance              == a place, and what was done there
 -- truth d               == whether what was given is true
 -- state_after s log     == the state from s on after the log
@@ -14,15 +15,17 @@
 -- read_of s log x       == the read of x after the log
 -- reads_of c s log      == the reads of a part that says c, ascending by name
 -- logged a c v s log    == the log with a step at the place a, where the content c gave v
--- Course                == where a run is after some statements: it goes on with a log and some steps left, or it stopped at a place, for a
---                          fault or for want of steps
+-- Course                == where a run is after some statements: it goes on with a log and some steps left,
+--                          or it stopped at a place, for a fault or for want of steps
 -- step_at a answer log left go == one step at the place a, if a step is left; go says what follows
 -- then_go course go     == what follows, where the run goes on
--- turns_from k n t e body s around log left == at most n turns of the loop t with the predicate e, from the turn k on, under the turns `around`
+-- turns_from k n t e body s around log left == at most n turns of the loop t with the predicate e, from the
+--                                              turn k on, under the turns `around`
 -- trace s body around log left == a block, under the turns `around`, after the log, with so many steps left
 -- log_of course         == the log
 -- stop_of course        == the place where the run stopped
--- after_of s course     == what a run from s sees of it: the state, the steps left, and the part and the fault of a stop
+-- after_of s course     == what a run from s sees of it: the state, the steps left, and the part and the
+--                          fault of a stop
 -- course_of p s n       == the whole run of the program p from the state s with n steps to spend
 -- instances p s n       == its finished steps, in their order
 -- IsStopOf p s n a      == the run stops at the place a, for a fault or for want of steps

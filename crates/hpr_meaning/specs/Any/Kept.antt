@@ -1,10 +1,11 @@
 -- What it means to keep the meaning of two variants of a base, whatever the contents mean.
 --
--- Ends p s n f       == from the state s, p ends normally within n steps, with the final values f: exactly the names of its `end`
+-- Ends p s n f       == from the state s, p ends normally within n steps, with the final values f: exactly
+--                       the names of its `end`
 -- IsKept f0 f1 f2 f  == f has each final value that a variant changed, and each that all three agree on
--- Keeps base a b m   == from every state from which base and both variants end normally, m ends normally within as many steps as
---                       the three took together, with the variant's value for each final variable that a variant changed, and
---                       the common value where all three agree
+-- Keeps base a b m   == from every state from which base and both variants end normally, m ends normally
+--                       within as many steps as the three took together, with the variant's value for each
+--                       final variable that a variant changed, and the common value where all three agree
 use Rattle.hpr_meaning.specs.Any.Meaning.{Meaning}
 use Rattle.std.specs.Prelude.{◌≡◌, ℕ, ◌+◌, List, Contains}
 use Rattle.hpr_syntax.specs.Tree.{Tree}

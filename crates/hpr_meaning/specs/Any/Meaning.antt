@@ -1,12 +1,15 @@
 -- A meaning of contents: what each part gives, whatever language its text is of.
 --
--- Meaning   == values, faults and states; what a state has under a name; a state where a name has a value now; what a part that says c gives
---              in a state, a value or a fault; whether a predicate that gave a value is true; and what a step of the part shows in a state
+-- Meaning   == values, faults and states; what a state has under a name; a state where a name has a value
+--              now; what a part that says c gives in a state, a value or a fault; whether a predicate that
+--              gave a value is true; and what a step of the part shows in a state
 -- Given M   == what a part gives, or its fault
 -- put_in M name v s == the state s, where the name, if there is one, has the value v now
--- next M c v s == the state behind the part that says c, where it gave v in the state s: the name that the part defines has the value v
--- HasLaws M == what a part gives, and what a step of it shows, depends on what the state has under the names that it uses alone; a name has
---              the value that was put under it last; and two values that can't differ are the same
+-- next M c v s == the state behind the part that says c, where it gave v in the state s: the name that the
+--                 part defines has the value v
+-- HasLaws M == what a part gives, and what a step of it shows, depends on what the state has under the names
+--              that it uses alone; a name has the value that was put under it last; and two values that can't
+--              differ are the same
 use Rattle.std.specs.Prelude.{◌≡◌, ℕ, Bool, List, Option, Some, None, Result}
 use Rattle.hpr_syntax.specs.declared.rows.Content.{Content}
 use Rattle.hpr_syntax.specs.Rows.{assigned}

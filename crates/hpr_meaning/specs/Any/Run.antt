@@ -1,16 +1,17 @@
--- What a program does, whatever its contents mean, with so many steps to spend. A step is a part without blocks or an evaluation of a
--- predicate.
+-- What a program does, whatever its contents mean, with so many steps to spend. A step is a part without
+-- blocks or an evaluation of a predicate.
 --
--- After             == where a run is after some statements: it goes on from a state with some steps left, a part stopped it
---                      with a fault, or it is spent and has a further step to do
+-- After             == where a run is after some statements: it goes on from a state with some steps left, a
+--                      part stopped it with a fault, or it is spent and has a further step to do
 -- step t a left go  == one step of the part t that gives a, if a step is left; go says what follows
 -- then_go after go  == what follows, where the run goes on
 -- turns n t e body  == at most n turns of the loop t with the predicate e
 -- run_body body s left == a block, from the state s with so many steps left
 -- FinalValues       == names with their values
 -- final_values names s == these names with what the state s has under them
--- Outcome           == ends, with the final values and the steps taken; faults, with the tag, the fault and the steps taken, the
---                      faulting one counted; more, where all steps are taken and there is a further one to do
+-- Outcome           == ends, with the final values and the steps taken; faults, with the tag, the fault and
+--                      the steps taken, the faulting one counted; more, where all steps are taken and there
+--                      is a further one to do
 -- outcome names most after == how a run went that had so many steps to spend
 -- run p s n         == the run of the program p from the state s with n steps to spend
 use Rattle.hpr_meaning.specs.Any.Meaning.{Meaning, Given, next}

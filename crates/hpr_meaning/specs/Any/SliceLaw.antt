@@ -1,9 +1,10 @@
 -- The law of shared slices, whatever the contents mean: what two programs with one slice have in common.
 --
--- SharesSlice p q S s n m == the law, for two programs with one slice by S of which p ends, from the state s with n and m steps to spend:
---                            each instance of the slice in q's run stands in p's, with the same turns, reads and number; q faults at
---                            no part of the slice; and where q ends too, each instance of the slice in p's run stands in q's, and each
---                            name whose Final vertex is in the slice has the same final value
+-- SharesSlice p q S s n m == the law, for two programs with one slice by S of which p ends, from the state s
+--                            with n and m steps to spend: each instance of the slice in q's run stands in
+--                            p's, with the same turns, reads and number; q faults at no part of the slice;
+--                            and where q ends too, each instance of the slice in p's run stands in q's, and
+--                            each name whose Final vertex is in the slice has the same final value
 use Rattle.hpr_meaning.specs.Any.Meaning.{Meaning}
 use Rattle.std.specs.Prelude.{◌≡◌, ◌↔◌, ℕ, List, Contains}
 use Rattle.hpr_terms.specs.declared.tag.Tag.{Tag}

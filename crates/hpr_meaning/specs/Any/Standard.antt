@@ -1,6 +1,7 @@
 -- hpr's own meaning of contents, as one of all.
 --
--- standard      == numbers, lists and arrays, with hpr's faults and states, and what its operators give; a step shows a number
+-- standard      == numbers, lists and arrays, with hpr's faults and states, and what its operators give; a
+--                  step shows a number
 -- own_outcome o == how a run by this meaning went, in the words of hpr's own runs
 use Rattle.std.specs.Prelude.{ℤ}
 use Rattle.hpr_syntax.specs.declared.value.Value.{Value}

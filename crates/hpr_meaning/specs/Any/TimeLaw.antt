@@ -1,8 +1,9 @@
--- The law of time, whatever the contents mean: the steps of a run stand in time order, and they are those that are due.
+-- The law of time, whatever the contents mean: the steps of a run stand in time order, and they are those
+-- that are due.
 --
 -- IsAscending R is    == each instance's place is R to the place of each later one
--- IsNext body is a    == the place a is next behind these steps: it is due and not listed, each of them is before it, and each due place that
---                        is before it is listed
+-- IsNext body is a    == the place a is next behind these steps: it is due and not listed, each of them is
+--                        before it, and each due place that is before it is listed
 -- IsTimely p s n      == the law, for the run of the program p from the state s with n steps to spend
 use Rattle.hpr_meaning.specs.Any.Meaning.{Meaning}
 use Rattle.std.specs.Prelude.{◌≡◌, ◌≢◌, ℕ, List, [], ◌∷◌, Contains}

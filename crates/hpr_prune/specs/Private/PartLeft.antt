@@ -1,6 +1,7 @@
 -- What is left of a part that stands.
 --
--- IsPartLeft V s r == with r in place of the part s that begins it, and with what is left behind it, a block is what is left of it
+-- IsPartLeft V s r == with r in place of the part s that begins it, and with what is left behind it, a block
+--                     is what is left of it
 use Rattle.hpr_syntax.specs.declared.tree.Stmt.{Stmt}
 use Rattle.hpr_syntax.specs.Body.{Body}
 use Rattle.hpr_syntax.specs.BodyOf.{before}

@@ -1,11 +1,13 @@
--- How often what is placed is still needed: a count for each group of items that define one variable in one block.
+-- How often what is placed is still needed: a count for each group of items that define one variable in one
+-- block.
 --
 -- one_if b              == 1 where b is true, and else 0
 -- total f xs            == the sum of f over the list
 -- occurrences xs x      == how often x stands in the list
 -- is_rival t a b        == whether both stand in one block and define one variable
 -- group_of r k          == the number of the group of the item k, none where it defines no variable
--- sources_of r k        == the items from which an independent flow edge goes into k, each as often as k is among its readers
+-- sources_of r k        == the items from which an independent flow edge goes into k, each as often as k is
+--                          among its readers
 -- AreRivals t r         == groups and sources are those of the items
 -- left_over t placed c  == how many readers of c in its block are neither c nor placed
 -- is_open t placed d u  == whether u is an item of the block of d that is not placed

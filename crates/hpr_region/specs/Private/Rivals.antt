@@ -2,10 +2,13 @@
 --
 -- AreDefiners t rows  == there is a row for each variable, with the items that define it
 -- first_in t ks a     == the first of these items that stands in the block of a
--- first_of t rows v a == the first item that defines the variable v in the block of a, none where there is no variable
--- group_by t rows a   == the first item that defines the variable of a in its block, by the rows of its definers
+-- first_of t rows v a == the first item that defines the variable v in the block of a, none where there is no
+--                        variable
+-- group_by t rows a   == the first item that defines the variable of a in its block, by the rows of its
+--                        definers
 -- AreGroupsBy t rows groups == each item has its group so
--- AreTurned t n rows  == the readers of the first n items turned round: d stands in the row of u as often as u among the readers of d
+-- AreTurned t n rows  == the readers of the first n items turned round: d stands in the row of u as often as
+--                        u among the readers of d
 use Rattle.std.specs.Prelude.{◌≡◌, ℕ, ◌<◌, ◌≤◌, ◌↔◌, cond, Option, Some, None, List, [], ◌∷◌, Vec, Contains, get_or, length}
 use Rattle.std.specs.Global.{Global}
 use Rattle.hpr_search.specs.Rows.{numbers_at, numbers_of}

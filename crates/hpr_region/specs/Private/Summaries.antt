@@ -2,10 +2,13 @@
 --
 -- or_else o p           == o, and p where that is none
 -- last_of t v items     == the last of these items that defines the variable v
--- is_reached_by t o c   == whether the item o, the last placed one that defines a variable which c uses, reaches c without an independent flow edge
--- some_reach t last c vs == whether c is so reached by the last definition of one of these variables; `last` has that of each
+-- is_reached_by t o c   == whether the item o, the last placed one that defines a variable which c uses,
+--                          reaches c without an independent flow edge
+-- some_reach t last c vs == whether c is so reached by the last definition of one of these variables; `last`
+--                           has that of each
 -- IsSized t s           == there is a place for each variable, and one for each item
--- IsSummary t placed s  == `last` has the last placed definition of each variable, and `earlier`, for each placed definition, the one before it
+-- IsSummary t placed s  == `last` has the last placed definition of each variable, and `earlier`, for each
+--                          placed definition, the one before it
 use Rattle.std.specs.Prelude.{◌≡◌, ℕ, Bool, true, false, cond, Option, Some, None, List, [], ◌∷◌, ◌++◌, vec_len, get_or}
 use Rattle.hpr_forest.specs.Marks.{is_in}
 use Rattle.hpr_region.specs.declared.flows.Flows.{Flows}

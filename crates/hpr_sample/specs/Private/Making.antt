@@ -2,7 +2,8 @@
 --
 -- after stmts rest       == these statements, and then what is drawn behind them
 -- step kind left serial words == a group of this kind, and then the groups of what is left
--- CanHave base author x  == the base can have a part more, the first of this author, which assigns x and is named first by `end`
+-- CanHave base author x  == the base can have a part more, the first of this author, which assigns x and is
+--                           named first by `end`
 use Rattle.std.specs.Prelude.{◌≡◌, ℕ, ◌+◌, ◌-◌, ◌<◌, ◌≤◌, ◌^◌, List, [], ◌∷◌, None}
 use Rattle.std.specs.Str.{bytes_eq}
 use Rattle.hpr_terms.specs.declared.limits.TheConstants.{MAX_PARTS}

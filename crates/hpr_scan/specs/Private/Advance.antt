@@ -1,11 +1,15 @@
 -- How a scanner goes on over bytes.
 --
 -- keyword_or_number k w     == the keyword k, or else the number whose text w is
--- IsNextWord next s bytes w == w is all bytes of words at the front of these, and begins a word that s takes; another byte follows
+-- IsNextWord next s bytes w == w is all bytes of words at the front of these, and begins a word that s takes;
+--                              another byte follows
 -- Passes next a bytes n b   == the first n bytes lead from a to b, and the machine waits; n is at least 1
--- Takes next a bytes n P    == the first n bytes lead from a to where its machine still waits, and P of where the next byte leads
--- advanced n result         == how a scanner went on that passed over n bytes, and has this answer of the next one
--- Advances next a bytes b r == r says how a scanner went on from a to b over bytes: it passed over some, took one, or failed at one
+-- Takes next a bytes n P    == the first n bytes lead from a to where its machine still waits, and P of where
+--                              the next byte leads
+-- advanced n result         == how a scanner went on that passed over n bytes, and has this answer of the
+--                              next one
+-- Advances next a bytes b r == r says how a scanner went on from a to b over bytes: it passed over some, took
+--                              one, or failed at one
 use Rattle.std.specs.Prelude.{◌≡◌, ℕ, ◌≤◌, ◌<◌, false, List, length, take, slice_index, Option, Some, None, Result, Ok, Err}
 use Rattle.hpr_terms.specs.declared.keyword.Keyword.{Keyword}
 use Rattle.hpr_terms.specs.declared.token.Token.{Token}

@@ -3,7 +3,8 @@
 -- rule_of_argument argument == the argument as `clap` has it
 -- app_with name arguments   == the command of this name and these arguments
 -- form_of command           == what the command takes and asks for
--- Reads asked result        == a result of what is asked for: that request, or refused where there is none, or want of memory
+-- Reads asked result        == a result of what is asked for: that request, or refused where there is none,
+--                              or want of memory
 use Rattle.std.specs.Prelude.{◌≡◌, List, Option, Some, None, Result, MatchResult}
 use Rattle.std.specs.List.{fold}
 use Rattle.clap.specs.Words.{App, Rule, Text, new_app, with_rule}
