@@ -1,3 +1,4 @@
 pub mod PackedLemmas
 pub mod TellsLemmas
+pub mod EndsLemmas
 pub mod IntegrateLemmas

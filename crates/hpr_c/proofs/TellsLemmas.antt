@@ -1,16 +1,14 @@
 -- What was told, by its number.
-use Rattle.std.proofs.Common.{◌≡◌, ◌∙◌, ◌++◌, ◌<◌, ◌≤◌, ◌⊎◌, ℕ, List, [], Some, Option, ap, arith, inl, inr, refl, subst, sym}
+use Rattle.std.proofs.Common.{◌≡◌, ◌≤◌, ℕ, List, [], Some, Option, ap, arith, inl, inr, refl, subst, sym}
 use Rattle.std.specs.Prelude.{cond, unwrap_or, ◌==◌}
 use Rattle.hpr_io.specs.Counts.{Rose}
-use Rattle.hpr_io.specs.Files.{Files}
 use Rattle.hpr_io.specs.Taken.{taken_then}
-use Rattle.hpr_words.specs.Request.{Text}
 use Rattle.hpr_decisions.specs.Asked.{Took}
 use Rattle.hpr_decisions.specs.Ends.{Change}
 use Rattle.hpr_decisions.specs.Number.{number_of}
 use Rattle.hpr_decisions.specs.declared.status.Status.{Status}
 use Rattle.hpr_decisions.specs.declared.status.Status.TheVariants as status
-use Rattle.hpr_c.specs.Call.{IsTold, RanOut, Tells, kept}
+use Rattle.hpr_c.specs.Call.{kept}
 
 -- the status with a number
 abbrev pub status_at : ℕ → Status
@@ -46,6 +44,9 @@ not_risen (inr last) = absurd cc
 abbrev pub change : ℕ → ℕ → List ℕ → List ℕ → Change
 change before now old new = record { before = before; now = now; old = Some old; new = Some new }
 
+none_above : (n : ℕ) → n ≤ 0 → n ≡ 0
+none_above n low = omega (arith, low)
+
 -- a sink that took nothing before and never failed
-pub kept_so : (before now : ℕ) (old new : List ℕ) → before ≡ 0 → now ≡ 0 → old ≡ [] → change before now old new ≡ kept new
-kept_so before now old new first last empty = rw (first, last, empty) refl
+pub kept_so : (before now : ℕ) (old new : List ℕ) → before ≡ 0 → now ≤ 0 → old ≡ [] → change before now old new ≡ kept new
+kept_so before now old new first low empty = let last : now ≡ 0 = none_above now low in rw (first, last, empty) refl
