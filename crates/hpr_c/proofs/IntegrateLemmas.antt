@@ -1,5 +1,5 @@
 -- What the call that integrates three texts tells, by its number.
-use Rattle.std.proofs.Common.{◌≡◌, ◌∙◌, ◌++◌, ◌≤◌, ◌⊎◌, ℕ, List, [], Some, Option, ap, arith, inl, inr, refl, subst, sym, codes}
+use Rattle.std.proofs.Common.{◌≡◌, ◌∙◌, ◌≤◌, ◌⊎◌, ℕ, List, [], Some, Option, ap, arith, inl, inr, refl, subst, sym, codes}
 use Rattle.std.specs.Prelude.{IfSome}
 use Rattle.hpr_terms.specs.declared.limits.TheConstants.{DEFAULT_TRIES}
 use Rattle.hpr_io.specs.Files.{Files}
@@ -10,16 +10,15 @@ use Rattle.hpr_words.proofs.PlainLemmas.{plain_taken}
 use Rattle.hpr_inputs.specs.Decision.{Decision, prints, refuses, usage}
 use Rattle.hpr_inputs.specs.declared.answer.Kind.{Kind}
 use Rattle.hpr_inputs.specs.declared.answer.Kind.TheVariants as kind
-use Rattle.hpr_decisions.specs.Ends.{Decided, Ends, SaysIfAny, message_of, status_of, status_of_kind, text_of}
+use Rattle.hpr_decisions.specs.Ends.{Decided, SaysIfAny, message_of, status_of, status_of_kind, text_of}
 use Rattle.hpr_decisions.specs.MergedText.{PrintsMerged}
 use Rattle.hpr_decisions.specs.Number.{number_of}
 use Rattle.hpr_decisions.specs.Outcome.{Outcome, OutcomeIfTold, RequestOutcome}
-use Rattle.hpr_decisions.specs.Reads.{MayReadIfTaken}
 use Rattle.hpr_decisions.specs.Statuses.{IsStatusOf}
 use Rattle.hpr_decisions.specs.Theorem.{IsMergedText, KeepsMeaning}
 use Rattle.hpr_decisions.specs.declared.status.Status.{Status}
 use Rattle.hpr_decisions.specs.declared.status.Status.TheVariants as status
-use Rattle.hpr_c.specs.Call.{IsTold, RanOut, Tells, kept}
+use Rattle.hpr_c.specs.Call.{Tells, kept}
 use Rattle.hpr_c.specs.Ends.{EndsAsHpr}
 use Rattle.hpr_c.specs.Integrate.{HasTheirGraph, IsInterfering, IsOverBudget, IsRefused, IsWithoutProgram, integrate_words, three}
 use Rattle.hpr_c.proofs.TellsLemmas.{all_taken, not_risen, numbered, status_at, took_all}

@@ -1,10 +1,10 @@
 -- Packed texts, and files that stand one after another, are read in one way.
-use Rattle.std.proofs.Common.{◌≡◌, ◌∙◌, ◌++◌, ◌+◌, ◌<◌, ◌≤◌, ℕ, suc, Bool, true, false, List, [], ◌∷◌, Option, Some, None, add-one, ap, ap₂, append_assoc, arith, length, length-append, map, refl, subst, sym, take, drop}
+use Rattle.std.proofs.Common.{◌≡◌, ◌∙◌, ◌++◌, ◌+◌, ◌<◌, ◌≤◌, ℕ, suc, Bool, true, false, List, [], ◌∷◌, Some, None, add-one, ap, ap₂, append_assoc, arith, length, length-append, refl, subst, sym, take, drop}
 use Rattle.std.proofs.lemmas.Bool.{eqb-true, eqb-false, lt-ltb, ltb-true, ne_eqb}
-use Rattle.std.proofs.lemmas.List.{append-nil, map-append, take_at}
+use Rattle.std.proofs.lemmas.List.{append-nil, take_at}
 use Rattle.std.proofs.lemmas.Option.{cond_some}
 use Rattle.std.specs.Prelude.{cond, not, nat_lt, ◌==◌}
-use Rattle.std.specs.List.{AllByRecursion, flat_map, position, position_or_len}
+use Rattle.std.specs.List.{AllByRecursion, position, position_or_len}
 use Rattle.std.specs.Str.{IsUtf8}
 use Rattle.hpr_io.specs.Files.{Files}
 use Rattle.hpr_words.specs.Request.{Text}

@@ -1,4 +1,4 @@
-use Rattle.std.proofs.Common.{List, String, ap, map, string_bytes, subst, sym}
+use Rattle.std.proofs.Common.{List, String, map, string_bytes, subst, sym}
 use Rattle.std.specs.Global.{Global}
 use Rattle.hpr_io.specs.Files.{Files, files_in}
 use Rattle.hpr_words.specs.Request.{Text}

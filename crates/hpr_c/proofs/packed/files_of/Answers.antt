@@ -1,8 +1,7 @@
-use Rattle.std.proofs.Common.{◌≡◌, ◌∙◌, ◌<◌, add-one, ap, arith, drop, drop-cons, get_or, length, refl, sym}
+use Rattle.std.proofs.Common.{arith, drop, drop-cons, get_or}
 use Rattle.std.proofs.lemmas.List.{drop_all}
-use Rattle.hpr_io.specs.Files.{Files, files_in}
-use Rattle.hpr_c.specs.Packed.{AreFiles}
-use Rattle.hpr_c.proofs.PackedLemmas.{Filed, filed_rest, left_file, nothing_left, some_left}
+use Rattle.hpr_io.specs.Files.{files_in}
+use Rattle.hpr_c.proofs.PackedLemmas.{filed_rest, left_file, nothing_left, some_left}
 use Rattle.hpr_c.proofs.packed.files_of.Goals as goal
 use Rattle.hpr_c.proofs.packed.files_of.Goals.{else-is_empty-via-then-is_empty+else-is_empty-2, else-is_empty-via-else-is_empty}
 

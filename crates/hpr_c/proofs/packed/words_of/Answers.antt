@@ -1,4 +1,4 @@
-use Rattle.std.proofs.Common.{◌≡◌, ◌∙◌, map, string_bytes, sym}
+use Rattle.std.proofs.Common.{◌∙◌, map, string_bytes, sym}
 use Rattle.hpr_c.proofs.PackedLemmas.{packed_first, packed_front, some_left}
 use Rattle.hpr_c.proofs.packed.words_of.Goals as goal
 
