@@ -156,8 +156,9 @@ async function asked() {
   const begun = performance.now();
   const files = new Map(programs().map((it) => [it.name, it.text]));
   state.told = await calls.call(['integrate', ...programs().map((it) => it.name)], files);
-  $('cost').textContent = `integrate took ${(performance.now() - begun).toFixed(1)} ms.`;
+  const spent = performance.now() - begun;
   answer();
+  $('cost').textContent = `integrate took ${spent.toFixed(1)} ms.`;
   if (!isStale) {
     await tellContents();
     conflicts();
