@@ -64,8 +64,9 @@ class Files:
             self.files[-1][1].extend(unescaped(rest))
         elif sign == b"*":
             first, last, text = rest.split(b" ", 2)
+            piece = unescaped(text)
             for number in range(int(first), int(last) + 1):
-                self.files[-1][1].extend(unescaped(text).replace(b"$", b"%d" % number))
+                self.files[-1][1].extend(piece.replace(b"$", b"%d" % number))
         elif self.files:
             self.files[-1][1].extend((b"\n" if self.has_line else b"") + unescaped(line))
             self.has_line = True
