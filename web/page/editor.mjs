@@ -98,8 +98,9 @@ export class Editor {
   show(marks, letters = new Map()) {
     const text = this.text;
     this.paint.innerHTML = `${text.length > MOST_MARKED ? escaped(text) : painted(text, marks)}\n`;
-    const last = Math.max(0, ...letters.keys());
-    this.gutter.textContent = Array.from({ length: last }, (_, i) => letters.get(i + 1) ?? ' ').join('\n');
+    // as many lines as the text has, so that both scroll alike
+    const lines = letters.size === 0 ? 0 : text.split('\n').length + 1;
+    this.gutter.textContent = Array.from({ length: lines }, (_, i) => letters.get(i + 1) ?? ' ').join('\n');
     this.#scrolled();
   }
 

@@ -13,6 +13,7 @@ const LEAST_VARIANTS = 2;
 const MOST_VARIANTS = 16;
 const HUES = 4;
 const PATIENCE = 400;
+const LEAST_ZOOM = 0.5;
 const TABS = ['graph', 'slice', 'affected', 'runs'];
 const $ = (id) => document.getElementById(id);
 
@@ -30,6 +31,8 @@ const state = {
   /** the program whose graph is drawn, where one picked it */
   of: null,
   hidden: new Set(['entry']),
+  /** how large a graph is drawn, 1 is its own size; null, as large as there is room */
+  zoom: null,
   /** the program and the vertex at the cursor, and the slice there */
   at: null,
   slice: null,
@@ -378,7 +381,21 @@ async function lookAtGraph(isOld) {
   const drawn = await views.graphView(drawing, { graph: whole, slice, hidden: state.hidden, classesOf });
   if (!isOld()) {
     view(drawn);
+    zoomed();
   }
+}
+
+/** Draws the graph as large as was picked, or as there is room, but no smaller than can be read. */
+function zoomed() {
+  const svg = $('view').querySelector('svg');
+  if (svg === null) {
+    return;
+  }
+  const { width, height } = svg.viewBox.baseVal;
+  const zoom = state.zoom ?? Math.min(1, Math.max(LEAST_ZOOM, $('view').clientWidth / width));
+  svg.setAttribute('width', width * zoom);
+  svg.setAttribute('height', height * zoom);
+  $('zoom').value = String(Math.round(zoom * 100));
 }
 
 async function lookAtSlice(isOld) {
@@ -458,6 +475,9 @@ function pickTab(tab) {
 
 function picked(event) {
   const { target } = event;
+  if (target.id === 'zoom') {
+    return;
+  }
   const program = shown().find((it) => it.key === target.value) ?? null;
   if (target.id === 'of') {
     state.of = program;
@@ -536,6 +556,12 @@ function wire() {
     looks.stop();
   };
   $('controls').addEventListener('change', picked);
+  $('controls').addEventListener('input', ({ target }) => {
+    if (target.id === 'zoom') {
+      state.zoom = Number(target.value) / 100;
+      zoomed();
+    }
+  });
   $('view').tabIndex = 0;
   $('view').addEventListener('click', (event) => {
     const box = event.target.closest('.vertex');

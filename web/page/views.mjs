@@ -32,7 +32,8 @@ export function graphControls(programs, chosen, hidden) {
   const kinds = [...KINDS, 'entry'].map(
     (it) => `<label><input type="checkbox" data-kind="${it}"${hidden.has(it) ? '' : ' checked'}>${it === 'entry' ? '' : ` <i class="swatch ${it}"></i>`} ${it}</label>`,
   );
-  return `<label>Program <select id="of">${options.join('')}</select></label>${kinds.join('')}`;
+  const zoom = '<label>Zoom <input id="zoom" type="range" min="20" max="200" step="10"></label>';
+  return `<label>Program <select id="of">${options.join('')}</select></label>${kinds.join('')}${zoom}`;
 }
 
 /** What is drawn of a graph: all of it where it is small, else the slice of what one looks at. */
