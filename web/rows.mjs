@@ -1,5 +1,5 @@
 /**
- * Makes the calls of a file of rows, as `checks/embed_rows FILE` writes them, through the module, and compares.
+ * Makes the calls of a file of rows, as `checks/embed_rows.py FILE` writes them, through the module, and compares.
  *
  *     node web/rows.mjs HPR.WASM ROWS
  *

@@ -113,9 +113,21 @@ let isBusy = false;
 let isStale = false;
 let looking = 0;
 
-/** Tells a reader of the screen, and whoever waits, whether an answer is still to come. */
+let patience = null;
+
+/** Tells a reader of the screen whether an answer is still to come; what takes long, an answer or a look, can be stopped. */
 function showBusy() {
-  $('answer').setAttribute('aria-busy', String(isBusy || looking > 0));
+  const isWaiting = isBusy || looking > 0;
+  $('answer').setAttribute('aria-busy', String(isWaiting));
+  if (!isWaiting) {
+    clearTimeout(patience);
+    patience = null;
+    $('stop').hidden = true;
+  } else if (patience === null) {
+    patience = setTimeout(() => {
+      $('stop').hidden = false;
+    }, PATIENCE);
+  }
 }
 
 /** Asks hpr anew; while a call is under way, once more behind it. */
@@ -126,9 +138,6 @@ async function refresh() {
   }
   isBusy = true;
   showBusy();
-  const patience = setTimeout(() => {
-    $('stop').hidden = false;
-  }, PATIENCE);
   try {
     while (isStale) {
       isStale = false;
@@ -137,8 +146,6 @@ async function refresh() {
   } catch (error) {
     failed(error);
   } finally {
-    clearTimeout(patience);
-    $('stop').hidden = true;
     isBusy = false;
   }
   await looked();
@@ -327,7 +334,11 @@ async function looked() {
       paint();
     }
   } catch (error) {
-    failed(error);
+    if (error instanceof Stopped) {
+      view({ told: 'Stopped. With fewer steps a run ends sooner.', html: '' });
+    } else {
+      failed(error);
+    }
   } finally {
     looking--;
     showBusy();
