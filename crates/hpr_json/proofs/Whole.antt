@@ -1,0 +1,65 @@
+-- No number of an answer is a float.
+use Rattle.std.proofs.Common.{◌≡◌, ℕ, ℤ, pos, negsuc, Bool, false, ◌||◌, List, [], ◌∷◌, map, refl, ap₂}
+use Rattle.std.specs.FinMap.{entries}
+use Rattle.serde_json.specs.Data.{Data}
+use Rattle.serde_json.specs.View.{items_of}
+use Rattle.serde_json.specs.Written.{has_float, items_have_float}
+use Rattle.hpr_syntax.specs.declared.value.Value.{Value}
+use Rattle.hpr_syntax.specs.declared.value.Value.TheVariants as value
+use Rattle.hpr_syntax.specs.Run.{Outcome, ends, faults, more}
+use Rattle.hpr_graph.specs.declared.vertex.Vertex.{Vertex}
+use Rattle.hpr_graph.specs.declared.vertex.Vertex.TheVariants.{Entry, Init, Part, Final}
+use Rattle.hpr_graph.specs.declared.edge.Kind.{Kind}
+use Rattle.hpr_graph.specs.declared.edge.Kind.TheVariants.{Control, Independent, Carried, Order}
+use Rattle.hpr_graph.specs.declared.conflict.ManyConflict.{ManyConflict}
+use Rattle.hpr_json.specs.Vertices.{vertex_data, kind_data, many_conflict_data}
+use Rattle.hpr_json.specs.Answers.{conflicts_data, points_data}
+use Rattle.hpr_json.specs.Outcomes.{integer_data, element_data, value_data, final_data, outcome_data}
+
+either : (a b : Bool) → a ≡ false → b ≡ false → (a || b) ≡ false
+either a b e f = ap₂ (λ (a b : Bool). a || b) e f
+
+items : {X : Type 0} (f : X → Data) → ((x : X) → has_float (f x) ≡ false) → (xs : List X) → items_have_float (items_of (map f xs)) ≡ false
+items f whole [] = refl
+items f whole (x ∷ xs) = either _ _ (whole x) (items f whole xs)
+
+vertex : (v : Vertex) → has_float (vertex_data v) ≡ false
+vertex Entry = refl
+vertex (Init x) = refl
+vertex (Part t c) = refl
+vertex (Final x) = refl
+
+kind : (k : Kind) (from to : Data) → has_float from ≡ false → has_float to ≡ false → has_float (kind_data k from to) ≡ false
+kind (Control label) from to f t = either _ _ f (either _ _ t refl)
+kind (Independent x) from to f t = either _ _ f (either _ _ t refl)
+kind (Carried x w) from to f t = either _ _ f (either _ _ (vertex w) (either _ _ t refl))
+kind (Order u) from to f t = either _ _ (vertex u) (either _ _ f (either _ _ t refl))
+
+conflict : (c : ManyConflict) → has_float (many_conflict_data c) ≡ false
+conflict c = either _ _ (kind c.edge.kind _ _ (vertex c.edge.from) (vertex c.edge.to)) (either _ _ (vertex c.point) refl)
+
+pub conflicts_whole : (cs : List ManyConflict) → has_float (conflicts_data cs) ≡ false
+conflicts_whole cs = either _ _ (items many_conflict_data conflict cs) refl
+
+pub points_whole : (vs : List Vertex) → has_float (points_data vs) ≡ false
+points_whole vs = either _ _ (items vertex_data vertex vs) refl
+
+integer : (z : ℤ) → has_float (integer_data z) ≡ false
+integer (pos n) = refl
+integer (negsuc n) = refl
+
+element : (e : ℕ × ℤ) → has_float (element_data e) ≡ false
+element (n, z) = either _ _ (integer z) refl
+
+worth : (v : Value) → has_float (value_data v) ≡ false
+worth (value.Number z) = integer z
+worth (value.List zs) = items integer_data integer zs
+worth (value.Array es) = either _ _ (items element_data element (entries es)) refl
+
+final : (x : List ℕ × Value) → has_float (final_data x) ≡ false
+final (x, v) = either _ _ (worth v) refl
+
+pub outcome_whole : (o : Outcome) → has_float (outcome_data o) ≡ false
+outcome_whole (ends finals steps) = either _ _ (items final_data final finals) refl
+outcome_whole (faults tag fault steps) = refl
+outcome_whole (more steps) = refl

@@ -1,0 +1,4 @@
+pub mod Vertices
+pub mod Answers
+pub mod Outcomes
+pub mod Refusals

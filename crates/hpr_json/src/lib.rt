@@ -1,0 +1,16 @@
+//! What hpr answers, as JSON.
+#![tactic(auto)]
+
+mod answers;
+mod line;
+mod members;
+mod outcomes;
+mod points;
+mod refusals;
+mod vertices;
+
+pub use answers::{conflicts_value, no_program_value, program_value, spent_value};
+pub use line::json_line;
+pub use outcomes::outcome_value;
+pub use points::points_value;
+pub use refusals::{absent_value, edges_value, refusal_value, state_value, words_value};
