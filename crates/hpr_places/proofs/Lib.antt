@@ -1,0 +1,9 @@
+pub mod Bytes
+pub mod Content
+pub mod Cut
+pub mod Found
+pub mod Walks
+pub mod Header
+pub mod Whole
+pub mod Steps
+pub mod Stand
