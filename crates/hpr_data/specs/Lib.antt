@@ -1,0 +1,4 @@
+pub mod Findings
+pub mod Told
+pub mod Printed
+pub mod Private

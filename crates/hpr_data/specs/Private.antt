@@ -1,0 +1,3 @@
+-- What the contracts of private functions say: no public clause cites it.
+pub mod Comes
+pub mod ToldAs
