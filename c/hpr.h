@@ -1,4 +1,4 @@
-/* hpr in process: words and files go in as bytes, and two texts come out into rooms of the caller.
+/* hpr in process: words and files go in as bytes, and texts or data come out into rooms of the caller.
  *
  * c/build makes libhpr.a, libhpr.so and hpr.pc. The code is for Linux on x86-64, for processors of level x86-64-v2 and above. No
  * call opens a file, a stream or a thread, and none keeps anything behind it: any number of threads may call at once.
@@ -7,8 +7,8 @@
  *
  *  - a pointer names as many bytes (of `lengths`, as many numbers) as the length behind it says, or is null where that is 0;
  *    a length is below 2^63;
- *  - `sizes` is not null; `out`, `err` and `sizes` overlap neither each other nor anything that is handed in; no other thread
- *    changes meanwhile what a call was handed, or touches its rooms;
+ *  - `sizes` and `size` are not null; `out`, `err`, `sizes` and `size` overlap neither each other nor anything that is handed in;
+ *    no other thread changes meanwhile what a call was handed, or touches its rooms;
  *  - malloc, realloc and free are one allocator, and give blocks that are aligned as C says;
  *  - the thread has HPR_STACK bytes of stack left: where there is too little, the process dies by a fault of the stack;
  *  - no call is made from a signal handler, nor from the forked child of a process that had several threads.
@@ -42,7 +42,7 @@ enum hpr_status {
     HPR_MEMORY = 8,       /* there was no memory: `out` is empty */
     HPR_NOT_ENDED = 9,    /* a run did not end normally */
     HPR_REJECTED = 10,    /* an offered program hasn't the merged graph */
-    HPR_FORM = 64         /* what was handed in hasn't the form that hpr_call asks for: both texts are empty */
+    HPR_FORM = 64         /* what was handed in hasn't the form that hpr_call asks for: no text is told */
 };
 
 /* How many bytes the two texts have, also where a room had space for less. */
@@ -67,6 +67,21 @@ uint32_t hpr_integrate(const uint8_t *base, size_t base_len, const uint8_t *a, s
 uint32_t hpr_call(const uint8_t *words, size_t words_len, const uint8_t *names, size_t names_len,
                   const size_t *lengths, size_t lengths_len, const uint8_t *bytes, size_t bytes_len,
                   uint8_t *out, size_t out_room, uint8_t *err, size_t err_room, hpr_sizes *sizes);
+
+/* The answer of integrate, affected or run as data: an object of JSON and a newline, whose members docs/calling.md names. What is
+ * handed in, and the status, are those of hpr_call; other commands are HPR_WORDS. Where the status is HPR_FORM or HPR_MEMORY the
+ * text is empty.
+ *
+ * The room takes the first bytes of the text, as above, and *size is how many it has. */
+uint32_t hpr_data(const uint8_t *words, size_t words_len, const uint8_t *names, size_t names_len,
+                  const size_t *lengths, size_t lengths_len, const uint8_t *bytes, size_t bytes_len,
+                  uint8_t *out, size_t out_room, size_t *size);
+
+/* Where the parts of a program stand in its text, each from the first byte of its tag to the last byte of its `;`, `fi` or `od`: an
+ * array of JSON, in the order in which they begin, of objects {"byte":FIRST,"length":BYTES,"tag":"1.2"}, and a newline. The first
+ * byte of a text is 0. HPR_REFUSED: the text spells no program, and `out` is the object of hpr_data for a refused file, with the
+ * name `text`. HPR_MEMORY: there was no memory, and the text is empty. Room and size are as for hpr_data. */
+uint32_t hpr_places(const uint8_t *text, size_t len, uint8_t *out, size_t out_room, size_t *size);
 
 #ifdef __cplusplus
 }

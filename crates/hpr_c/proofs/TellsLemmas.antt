@@ -4,11 +4,10 @@ use Rattle.std.specs.Prelude.{cond, unwrap_or, ◌==◌}
 use Rattle.hpr_io.specs.Counts.{Rose}
 use Rattle.hpr_io.specs.Taken.{taken_then}
 use Rattle.hpr_decisions.specs.Asked.{Took}
-use Rattle.hpr_decisions.specs.Ends.{Change}
 use Rattle.hpr_decisions.specs.Number.{number_of}
 use Rattle.hpr_decisions.specs.declared.status.Status.{Status}
 use Rattle.hpr_decisions.specs.declared.status.Status.TheVariants as status
-use Rattle.hpr_c.specs.Call.{kept}
+use Rattle.hpr_c.specs.Call.{change, kept}
 
 -- the status with a number
 abbrev pub status_at : ℕ → Status
@@ -40,9 +39,6 @@ all_taken text new e = ap (λ (o : Option (List ℕ)). unwrap_or o []) e
 pub not_risen : Rose 0 0 → ⊥
 not_risen (inl less) = omega (arith, less)
 not_risen (inr last) = absurd cc
-
-abbrev pub change : ℕ → ℕ → List ℕ → List ℕ → Change
-change before now old new = record { before = before; now = now; old = Some old; new = Some new }
 
 none_above : (n : ℕ) → n ≤ 0 → n ≡ 0
 none_above n low = omega (arith, low)

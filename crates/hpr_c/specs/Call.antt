@@ -5,6 +5,8 @@
 -- Puts text size old new == the text has this size, and the room `old` became `new` by taking its front
 -- HandsOut sizes out_old out_new err_old err_new P == two texts that have P were handed out: their sizes, and
 --                                                     their fronts in two rooms
+-- change before now old new == what a sink became whose failures were and are so many, and whose text was and
+--                              is this
 -- kept text              == what a sink became that never failed and took this text
 -- RanOut number out err  == the number is 8, and both texts are empty: there was no memory
 -- IsTold texts files before now number out err == the number and the texts are those of a call of
@@ -34,8 +36,11 @@ abbrev pub HandsOut : HprSizes → (out_old out_new err_old err_new : List ℕ) 
 HandsOut sizes out_old out_new err_old err_new P =
     (out err : List ℕ) × Puts out sizes.out out_old out_new × Puts err sizes.err err_old err_new × P out err
 
+abbrev pub change : (before now : ℕ) → (old new : List ℕ) → Change
+change before now old new = record { before = before; now = now; old = Some old; new = Some new }
+
 abbrev pub kept : List ℕ → Change
-kept text = record { before = 0; now = 0; old = Some []; new = Some text }
+kept text = change 0 0 [] text
 
 abbrev pub RanOut : ℕ → List ℕ → List ℕ → Type 0
 RanOut number out err = (number ≡ 8) × (out ≡ []) × (err ≡ [])

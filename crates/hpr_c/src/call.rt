@@ -2,10 +2,11 @@
 ghost use Rattle.std.specs.Prelude.{◌≡◌, [], All, IsTrue, map, string_bytes};
 ghost use Rattle.hpr_decisions.specs.Asked.{asked_by};
 ghost use Rattle.hpr_decisions.specs.Reads.{files_of_taken};
-ghost use Rattle.hpr_c.specs.Call.{Tells};
+ghost use Rattle.hpr_c.specs.Call.{Tells, change};
+ghost use Rattle.hpr_c.specs.Ends.{EndsAsHpr};
 
 use crate::kept_sink::KeptSink;
-use hpr_app::hpr;
+use hpr_app::{Status, hpr};
 use hpr_io::Shelf;
 use std::alloc::Global;
 
@@ -43,7 +44,7 @@ pub(crate) fn tell<S: Shelf>(alloc: Global, words: &[String], shelf: &mut S) -> 
 {
     let mut out = KeptSink::new(alloc);
     let mut err = KeptSink::new(alloc);
-    let status = hpr(alloc, words, shelf, &mut out, &mut err);
+    let status = call_hpr(alloc, words, shelf, &mut out, &mut err);
     if out.faults > 0 || err.faults > 0 {
         return Told::without_text(alloc, MEMORY);
     }
@@ -52,4 +53,21 @@ pub(crate) fn tell<S: Shelf>(alloc: Global, words: &[String], shelf: &mut S) -> 
         out: out.taken,
         err: err.taken,
     }
+}
+
+/// Makes the call with these words over a shelf, into two sinks.
+fn call_hpr<S: Shelf>(
+    alloc: Global,
+    words: &[String],
+    shelf: &mut S,
+    out: &mut KeptSink,
+    err: &mut KeptSink,
+) -> Status
+    requires { All (λ name. IsTrue (S.serves shelf.old name)) (files_of_taken (asked_by words.now)) }
+    ensures { EndsAsHpr (map string_bytes words.now) (S.files shelf.old) result
+        (S.faults shelf.old) (S.faults shelf.new)
+        (change out.old.faults out.new.faults out.old.taken.items out.new.taken.items)
+        (change err.old.faults err.new.faults err.old.taken.items err.new.taken.items) }
+{
+    hpr(alloc, words, shelf, out, err)
 }

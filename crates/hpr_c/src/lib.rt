@@ -1,5 +1,6 @@
-//! The top call for callers in C and in languages that call C: words and files are handed in as bytes, and
-//! the texts go into rooms of the caller. No file, no stream and no state of the process is touched.
+//! The top call for callers in C and in languages that call C, and what tells its answers as data: words and
+//! files are handed in as bytes, and the texts go into rooms of the caller. No file, no stream and no state of
+//! the process is touched.
 //!
 //! Nothing is asked of the bytes, lengths and names. What a caller owes beside that, of pointers and of
 //! memory, stands in c/hpr.h.
@@ -7,19 +8,29 @@
 
 mod call;
 mod kept_sink;
+mod line;
 mod packed;
+mod parts;
 
 ghost use Rattle.std.specs.Prelude.{◌≡◌, ◌≤◌, ◌⊎◌, ℕ, List, [], Some, length, map, string_bytes, IfOk, IsErrOf};
 ghost use Rattle.hpr_io.specs.Files.{Files, files_in};
-ghost use Rattle.hpr_words.specs.Request.{Text};
+ghost use Rattle.hpr_words.specs.Request.{Request, Text};
+ghost use Rattle.hpr_words.specs.Taken.{taken};
+ghost use Rattle.hpr_decisions.specs.Statuses.{DoesIntegrate};
 ghost use Rattle.hpr_decisions.specs.Theorem.{IsMergedText};
+ghost use Rattle.hpr_data.specs.Told.{TellsKept};
 ghost use Rattle.hpr_c.specs.Call.{HandsOut, Puts, Tells, TellsNothing, TellsOver, put_front};
+ghost use Rattle.hpr_c.specs.Data.{HandsOne, TellsData, TellsNoData};
 ghost use Rattle.hpr_c.specs.Integrate.{HasTheirGraph, IsInterfering, IsOverBudget, IsRefused, IsWithoutProgram};
 ghost use Rattle.hpr_c.specs.Integrate.{integrate_words, three};
 ghost use Rattle.hpr_c.specs.Packed.{IsCall, IsNoCall};
+ghost use Rattle.hpr_c.specs.Places.{TellsPlaces, TellsRefusal};
 
 use crate::call::{MEMORY, Told, tell};
+use crate::line::Line;
 use crate::packed::{File, GivenError, files_of, three_files, three_words, words_of};
+use crate::parts::tell_places;
+use hpr_data::data;
 use hpr_io::{MemoryShelf, SteadyShelf};
 use std::alloc::Global;
 
@@ -120,6 +131,60 @@ pub extern "C" fn hpr_integrate(
     hand_out(&told, out, err, sizes)
 }
 
+/// Tells what `integrate`, `affected` or `run` comes to as data: an object of JSON in compact text, and a newline.
+/// Words and files are handed in as to `hpr_call`. The number is that of the status of the call, and 7 for
+/// another command.
+///
+/// The room takes the first bytes of the text, as many as it holds, and its other bytes stay; `size` tells how
+/// long the text is. It is empty where the number is 64, for what is no such form, or 8, where memory ran out.
+#[unsafe(no_mangle)]
+pub extern "C" fn hpr_data(
+    alloc: Global,
+    words: &[u8],
+    names: &[u8],
+    lengths: &[usize],
+    bytes: &[u8],
+    out: &mut [u8],
+    size: &mut usize,
+) -> u32
+    // With whatever words over whatever files it is a call, it tells what comes of these.
+    ensures does { (texts : List Text) (files : Files)
+        → IsCall words.now names.now lengths.now bytes.now texts files
+        → HandsOne size.new out.old out.new (TellsData texts files result) }
+
+    // A program that it tells keeps the meaning of all variants.
+    ensures keeps { (texts : List Text) (files : Files) (request : Request)
+        → IsCall words.now names.now lengths.now bytes.now texts files
+        → taken texts ≡ Some request → DoesIntegrate request → result ≡ 0
+        → HandsOne size.new out.old out.new (TellsKept request files) }
+
+    // 64 comes only where there are no such words and files; then nothing is told.
+    ensures form { result ≡ 64 → IsNoCall words.now names.now lengths.now bytes.now }
+    ensures no_call { IsNoCall words.now names.now lengths.now bytes.now
+        → HandsOne size.new out.old out.new (TellsNoData result) }
+{
+    let line = data_given(alloc, words, names, lengths, bytes);
+    hand_line(&line, out, size)
+}
+
+/// Tells where the parts of a program stand in its text: an array of JSON in compact text, with an object for
+/// each part, in preorder, and a newline. `byte` is the place of its first byte, from 0, `length` how many
+/// bytes it has, and `tag` its tag. Room and size are as those of `hpr_data`.
+#[unsafe(no_mangle)]
+pub extern "C" fn hpr_places(alloc: Global, text: &[u8], out: &mut [u8], size: &mut usize) -> u32
+    ensures status { (result ≡ 0) ⊎ (result ≡ 4) ⊎ (result ≡ 8) }
+
+    // 0: the text that `out` took the front of tells where the parts stand.
+    ensures places { result ≡ 0 → HandsOne size.new out.old out.new (TellsPlaces text.now) }
+
+    // 4: it tells why the text is refused. 8: there was no memory.
+    ensures refused { result ≡ 4 → HandsOne size.new out.old out.new (TellsRefusal text.now) }
+    ensures memory { result ≡ 8 → HandsOne size.new out.old out.new (λ told. told ≡ []) }
+{
+    let line = tell_places(alloc, text);
+    hand_line(&line, out, size)
+}
+
 fn call_of(
     alloc: Global,
     words: &[u8],
@@ -157,6 +222,41 @@ fn tell_over(alloc: Global, words: &[String], files: Vec<File>) -> Told
 {
     let mut shelf = MemoryShelf::new(files, Vec::new(alloc));
     tell(alloc, words, &mut shelf)
+}
+
+fn data_given(alloc: Global, words: &[u8], names: &[u8], lengths: &[usize], bytes: &[u8]) -> Line
+    ensures does { (texts : List Text) (files : Files)
+        → IsCall words.now names.now lengths.now bytes.now texts files
+        → TellsData texts files result.number result.text.items }
+    ensures keeps { (texts : List Text) (files : Files) (request : Request)
+        → IsCall words.now names.now lengths.now bytes.now texts files
+        → taken texts ≡ Some request → DoesIntegrate request → result.number ≡ 0
+        → TellsKept request files result.text.items }
+    ensures form { result.number ≡ 64 → IsNoCall words.now names.now lengths.now bytes.now }
+    ensures no_call { IsNoCall words.now names.now lengths.now bytes.now
+        → TellsNoData result.number result.text.items }
+{
+    match call_of(alloc, words, names, lengths, bytes) {
+        Ok((words, files)) => data_over(alloc, words.as_slice(), files.as_slice()),
+        Err(GivenError::Form) => Line::empty(alloc, FORM),
+        Err(GivenError::Memory) => Line::empty(alloc, MEMORY),
+    }
+}
+
+fn data_over(alloc: Global, words: &[String], files: &[File]) -> Line
+    ensures does { TellsData (map string_bytes words.now) (files_in files.now)
+        result.number result.text.items }
+    ensures keeps { (request : Request) → taken (map string_bytes words.now) ≡ Some request
+        → DoesIntegrate request → result.number ≡ 0
+        → TellsKept request (files_in files.now) result.text.items }
+{
+    match data(alloc, words, files) {
+        Ok(reply) => Line {
+            number: u32::from(reply.status.number()),
+            text: reply.text,
+        },
+        Err(_) => Line::empty(alloc, MEMORY),
+    }
 }
 
 fn three_of(
@@ -207,4 +307,14 @@ fn hand_out(told: &Told, out: &mut [u8], err: &mut [u8], sizes: &mut HprSizes) -
         err: told.err.len(),
     };
     told.number
+}
+
+/// Puts a text into its room, and tells its size.
+fn hand_line(line: &Line, out: &mut [u8], size: &mut usize) -> u32
+    ensures number { result ≡ line.now.number }
+    ensures out { Puts line.now.text.items size.new out.old out.new }
+{
+    put_front(line.text.as_slice(), out);
+    *size = line.text.len();
+    line.number
 }
