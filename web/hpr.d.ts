@@ -5,6 +5,12 @@ export interface Told {
   err: string;
 }
 
+/** What a call told as data: its status, and JSON, whose members docs/calling.md names; it is empty where there was no memory. */
+export interface Data {
+  status: number;
+  json: string;
+}
+
 /** A text is a string, or its bytes. */
 export type Text = string | Uint8Array;
 
@@ -33,6 +39,10 @@ export class Hpr {
   readonly memory: number;
   /** Makes a call: the words of a command line, and the files that they may name. */
   call(words: string[], files?: Record<string, Text> | Map<string, Text>): Told;
+  /** The answer of `integrate`, `affected` or `run` as data. Numbers have up to 64 bits, of which JSON.parse keeps 53. */
+  data(words: string[], files?: Record<string, Text> | Map<string, Text>): Data;
+  /** Where the parts of a program stand in its text, in bytes of UTF-8: `{"byte":FIRST,"length":BYTES,"tag":"1.2"}` for each. */
+  places(text: Text): Data;
   /** Integrates two variants or more with their base. */
   integrate(base: Text, ...variants: Text[]): Told;
 }

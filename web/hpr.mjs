@@ -4,6 +4,7 @@
  *     import { load } from './hpr.mjs';
  *     const hpr = await load(await readFile('hpr.wasm'));
  *     const { status, out, err } = hpr.integrate(base, a, b);
+ *     const { conflicts } = JSON.parse(hpr.data(['integrate', 'base', 'a', 'b'], { base, a, b }).json);
  *
  * Nothing is fetched and no file is opened: a word names a text that is handed in. No proof covers this file, the
  * compilation to WebAssembly and the heap of the module; docs/web.md says what is proved.
@@ -27,9 +28,10 @@ export const STATUS = Object.freeze({
 const FORM = 64;
 /** Memory never shrinks: an instance that holds more bytes than these is dropped behind a call. */
 const KEPT = 64 * 2 ** 20;
-/** The first room for each of the two texts. Where one is longer, the call is made once more. */
+/** The first room for each text. Where one is longer, the call is made once more. */
 const ROOM = 64 * 2 ** 10;
-const NO_MEMORY = Object.freeze({ status: STATUS.MEMORY, out: '', err: 'hpr: no memory\n' });
+/** What a call that told nothing says. */
+const NO_MEMORY = 'hpr: no memory\n';
 
 const encoder = new TextEncoder();
 const decoder = new TextDecoder();
@@ -101,20 +103,33 @@ export class Hpr {
    * @throws {WebAssembly.RuntimeError} where the module traps, which no input is known to do; the next call has a fresh instance
    */
   call(words, files = {}) {
-    const request = requestOf(words, files);
-    try {
-      const first = this.#made(request, ROOM, ROOM);
-      const isShort = first.sizes !== undefined && (first.sizes.out > ROOM || first.sizes.err > ROOM);
-      const told = isShort ? this.#made(request, first.sizes.out, first.sizes.err) : first;
-      return { status: told.status, out: told.out, err: told.err };
-    } catch (error) {
-      this.#renew();
-      throw error;
-    } finally {
-      if (this.memory > KEPT) {
-        this.#renew();
-      }
-    }
+    const { status, texts } = this.#whole('hpr_call', requestOf(words, files), 2);
+    const [out, err] = texts ?? ['', NO_MEMORY];
+    return { status, out, err };
+  }
+
+  /**
+   * The answer of `integrate`, `affected` or `run` as data; other commands have the status of words that are no call.
+   *
+   * @param {string[]} words
+   * @param {Record<string, string | Uint8Array> | Map<string, string | Uint8Array>} files
+   * @returns {{status: number, json: string}} its status, and JSON, empty where there was no memory
+   */
+  data(words, files = {}) {
+    const { status, texts } = this.#whole('hpr_data', requestOf(words, files), 1);
+    return { status, json: texts?.[0] ?? '' };
+  }
+
+  /**
+   * Where the parts of a program stand in its text.
+   *
+   * @param {string | Uint8Array} text
+   * @returns {{status: number, json: string}} places count bytes of UTF-8
+   */
+  places(text) {
+    const bytes = bytesOf(text);
+    const { status, texts } = this.#whole('hpr_places', { texts: [bytes], counts: [bytes.length] }, 1);
+    return { status, json: texts?.[0] ?? '' };
   }
 
   /**
@@ -129,36 +144,54 @@ export class Hpr {
     return this.call(['integrate', 'base', ...names], files);
   }
 
+  /** Makes a call that answers so many texts, and once more where a room was too short. */
+  #whole(name, request, count) {
+    try {
+      const rooms = Array(count).fill(ROOM);
+      const first = this.#made(name, request, rooms);
+      const isShort = first.sizes?.some((size) => size > ROOM);
+      return isShort ? this.#made(name, request, first.sizes) : first;
+    } catch (error) {
+      this.#renew();
+      throw error;
+    } finally {
+      if (this.memory > KEPT) {
+        this.#renew();
+      }
+    }
+  }
+
   /** Makes one call, with so much room for its texts. */
-  #made({ texts, counts }, outRoom, errRoom) {
+  #made(name, { texts, counts }, rooms) {
     const places = [];
     try {
-      for (const size of [...texts.map((it) => it.length), outRoom, errRoom, 16]) {
+      for (const size of [...texts.map((it) => it.length), ...rooms, 8 * rooms.length]) {
         const place = this.#exports.malloc(BigInt(Math.max(size, 1)));
         if (place === 0n) {
-          return NO_MEMORY;
+          return { status: STATUS.MEMORY };
         }
         places.push(place);
       }
-      return this.#told(places, texts, counts, outRoom, errRoom);
+      return this.#told(name, places, texts, counts, rooms);
     } finally {
       places.forEach((place) => this.#exports.free(place));
     }
   }
 
-  #told(places, texts, counts, outRoom, errRoom) {
+  #told(name, places, texts, counts, rooms) {
     // memory that grew has another buffer, so each look takes it anew
     texts.forEach((text, i) => new Uint8Array(this.#exports.memory.buffer).set(text, Number(places[i])));
-    const [out, err, sizes] = places.slice(texts.length);
     const given = texts.flatMap((_, i) => [places[i], BigInt(counts[i])]);
-    const status = this.#exports.hpr_call(...given, out, BigInt(outRoom), err, BigInt(errRoom), sizes);
+    const ends = places.slice(texts.length, -1);
+    const sizesAt = places.at(-1);
+    const status = this.#exports[name](...given, ...ends.flatMap((end, i) => [end, BigInt(rooms[i])]), sizesAt);
     if (status === FORM) {
       throw new TypeError('the module does not take the form of this call');
     }
-    const view = new DataView(this.#exports.memory.buffer, Number(sizes), 16);
-    const told = { out: Number(view.getBigUint64(0, true)), err: Number(view.getBigUint64(8, true)) };
-    const text = (place, size, room) => decoder.decode(new Uint8Array(this.#exports.memory.buffer, Number(place), Math.min(size, room)));
-    return { status, out: text(out, told.out, outRoom), err: text(err, told.err, errRoom), sizes: told };
+    const view = new DataView(this.#exports.memory.buffer, Number(sizesAt), 8 * rooms.length);
+    const sizes = rooms.map((_, i) => Number(view.getBigUint64(8 * i, true)));
+    const text = (end, i) => decoder.decode(new Uint8Array(this.#exports.memory.buffer, Number(end), Math.min(sizes[i], rooms[i])));
+    return { status, texts: ends.map(text), sizes };
   }
 }
 

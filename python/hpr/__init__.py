@@ -9,6 +9,17 @@
     >>> print(merged.out.decode().splitlines()[-1])
     end(x, y)
 
+The same as data, where two variants interfere:
+
+    >>> b = base.replace(b":= 1", b":= 2")
+    >>> told = hpr.data(["integrate", "base", "b", "c"], {"base": base, "b": b, "c": base.replace(b":= 1", b":= 3")})
+    >>> told.status
+    <Status.INTERFERENCE: 1>
+    >>> [(conflict["variant"], conflict["point"]) for conflict in told.json["conflicts"]]
+    [(1, {'kind': 'final', 'name': 'x'}), (2, {'kind': 'final', 'name': 'x'})]
+    >>> hpr.places(base).places
+    [Place(byte=19, length=12, tag='1.1')]
+
 What each call promises is proved of the library below; `Answer` tells what it says. Calls keep nothing behind them, so any number of
 threads may make them at once, each with STACK bytes of stack; Python's other threads go on meanwhile.
 
@@ -17,11 +28,12 @@ The library is the file that HPR_LIBRARY names, or the one in this package, or t
 import ctypes
 import ctypes.util
 import enum
+import json
 import os
 import pathlib
-from typing import Callable, Iterable, Mapping, NamedTuple, Sequence, Tuple
+from typing import Any, Callable, Dict, Iterable, List, Mapping, NamedTuple, Optional, Sequence, Tuple
 
-__all__ = ["STACK", "Answer", "Status", "call", "integrate", "version"]
+__all__ = ["STACK", "Answer", "Data", "Place", "Places", "Status", "call", "data", "integrate", "places", "version"]
 
 #: How many bytes of stack a call asks for.
 STACK = 256 * 1024
@@ -41,7 +53,7 @@ class Status(enum.IntEnum):
     REFUSED = 4
     #: a word names a file that was not handed in
     ABSENT = 5
-    #: the words are no call
+    #: the words are no call, or one that is not told as data
     WORDS = 7
     #: there was no memory
     MEMORY = 8
@@ -61,6 +73,31 @@ class Answer(NamedTuple):
     err: bytes
 
 
+class Data(NamedTuple):
+    """An answer as data: its status, and an object whose members docs/calling.md names; it has none where the status is FORM or MEMORY."""
+
+    status: Status
+    json: Dict[str, Any]
+
+
+class Place(NamedTuple):
+    """Where a part stands: the number of its first byte, from 0, how many bytes it has, and its tag."""
+
+    byte: int
+    length: int
+    tag: str
+
+
+class Places(NamedTuple):
+    """Where the parts of a program stand in its text, in the order in which they begin: each from the first byte of its tag to the last one
+    of its ``;``, ``fi`` or ``od``. Where the status is REFUSED there are none, and the refusal is the object of `data` for a refused file,
+    with the name text."""
+
+    status: Status
+    places: List[Place]
+    refusal: Dict[str, Any]
+
+
 class _Sizes(ctypes.Structure):
     _fields_ = [("out", ctypes.c_size_t), ("err", ctypes.c_size_t)]
 
@@ -72,11 +109,14 @@ def _load() -> ctypes.CDLL:
         raise ImportError("libhpr.so.1 is not found: c/build makes it, and HPR_LIBRARY names it")
     library = ctypes.CDLL(named)
     text = [ctypes.c_char_p, ctypes.c_size_t]
-    rooms = [ctypes.c_void_p, ctypes.c_size_t] * 2 + [ctypes.POINTER(_Sizes)]
+    given = text * 2 + [ctypes.POINTER(ctypes.c_size_t), ctypes.c_size_t] + text
+    room = [ctypes.c_void_p, ctypes.c_size_t]
     library.hpr_version.argtypes = []
-    library.hpr_integrate.argtypes = text * 3 + rooms
-    library.hpr_call.argtypes = text * 2 + [ctypes.POINTER(ctypes.c_size_t), ctypes.c_size_t] + text + rooms
-    for name in ("hpr_version", "hpr_integrate", "hpr_call"):
+    library.hpr_integrate.argtypes = text * 3 + room * 2 + [ctypes.POINTER(_Sizes)]
+    library.hpr_call.argtypes = given + room * 2 + [ctypes.POINTER(_Sizes)]
+    library.hpr_data.argtypes = given + room + [ctypes.POINTER(ctypes.c_size_t)]
+    library.hpr_places.argtypes = text + room + [ctypes.POINTER(ctypes.c_size_t)]
+    for name in ("hpr_version", "hpr_integrate", "hpr_call", "hpr_data", "hpr_places"):
         getattr(library, name).restype = ctypes.c_uint32
     return library
 
@@ -93,6 +133,17 @@ def _answer(function: Callable[..., int], given: Sequence[object], likely: int) 
         if sizes.out <= rooms[0] and sizes.err <= rooms[1]:
             return Answer(Status(number), out.raw[: sizes.out], err.raw[: sizes.err])
         rooms = (max(rooms[0], sizes.out), max(rooms[1], sizes.err))
+
+
+def _told(function: Callable[..., int], given: Sequence[object], likely: int) -> Tuple[Status, Any]:
+    """The same for a call that tells data: its status, and the data; None where it has none."""
+    size, room = ctypes.c_size_t(), 2 * likely + 1024
+    while True:
+        out = ctypes.create_string_buffer(room)
+        number = function(*given, out, room, ctypes.byref(size))
+        if size.value <= room:
+            return Status(number), json.loads(out.raw[: size.value]) if size.value else None
+        room = size.value
 
 
 def _packed(texts: Iterable[str]) -> bytes:
@@ -115,11 +166,33 @@ def integrate(base: bytes, a: bytes, b: bytes) -> Answer:
     return _answer(_library.hpr_integrate, given, len(base) + len(a) + len(b))
 
 
+def _given(words: Sequence[str], files: Mapping[str, bytes]) -> Optional[List[Any]]:
+    """Words and files as the library takes them, if no zero byte stands in a word or a name."""
+    if any("\0" in text for text in (*words, *files)):
+        return None
+    line, names, contents = _packed(words), _packed(files), b"".join(files.values())
+    lengths = (ctypes.c_size_t * len(files))(*map(len, files.values()))
+    return [line, len(line), names, len(names), lengths, len(files), contents, len(contents)]
+
+
 def call(words: Sequence[str], files: Mapping[str, bytes] = {}) -> Answer:
     """Makes the call of the program with these words, over these files by name."""
-    if any("\0" in text for text in (*words, *files)):
-        return Answer(Status.FORM, b"", b"")
-    line, names, data = _packed(words), _packed(files), b"".join(files.values())
-    lengths = (ctypes.c_size_t * len(files))(*map(len, files.values()))
-    given = [line, len(line), names, len(names), lengths, len(files), data, len(data)]
-    return _answer(_library.hpr_call, given, len(data))
+    given = _given(words, files)
+    return Answer(Status.FORM, b"", b"") if given is None else _answer(_library.hpr_call, given, given[-1])
+
+
+def data(words: Sequence[str], files: Mapping[str, bytes] = {}) -> Data:
+    """The answer of integrate, affected or run as data: words and files are those of `call`, and so is the status. Other commands are WORDS."""
+    given = _given(words, files)
+    if given is None:
+        return Data(Status.FORM, {})
+    status, told = _told(_library.hpr_data, given, given[-1])
+    return Data(status, told or {})
+
+
+def places(text: bytes) -> Places:
+    """Where the parts of a program stand in its text."""
+    status, told = _told(_library.hpr_places, [text, len(text)], len(text))
+    if status is not Status.DONE:
+        return Places(status, [], told or {})
+    return Places(status, [Place(one["byte"], one["length"], one["tag"]) for one in told], {})

@@ -1,10 +1,12 @@
 //! call WORD..: makes a call of the program in process, over the files that its words name.
+//! call --data WORD..: prints the same call's answer as data.
 //! call --threads THREADS CALLS BASE A B: makes one integration as often from each of some threads; all answers are the same.
 
 use std::io::Write;
 use std::{env, fs, io, process, thread};
 
-fn call(words: &[String]) -> io::Result<hpr::Answer> {
+// Hands a call the words and the files that they name.
+fn with_files<A>(words: &[String], call: impl Fn(&[&str], &[(&str, &[u8])]) -> A) -> A {
     let files: Vec<(&str, Vec<u8>)> = words
         .iter()
         .skip(1)
@@ -15,7 +17,7 @@ fn call(words: &[String]) -> io::Result<hpr::Answer> {
         .map(|file| (file.0, file.1.as_slice()))
         .collect();
     let words: Vec<&str> = words.iter().map(String::as_str).collect();
-    Ok(hpr::call(&words, &files))
+    call(&words, &files)
 }
 
 fn call_at_once(threads: usize, calls: usize, names: &[String]) -> io::Result<()> {
@@ -49,7 +51,12 @@ fn main() -> io::Result<()> {
             );
         }
     }
-    let answer = call(&words)?;
+    if words.first().is_some_and(|word| word == "--data") {
+        let told = with_files(&words[1..], hpr::data);
+        io::stdout().write_all(told.json.as_bytes())?;
+        process::exit(told.status.number() as i32);
+    }
+    let answer = with_files(&words, hpr::call);
     io::stdout().write_all(&answer.out)?;
     io::stderr().write_all(&answer.err)?;
     process::exit(answer.status.number() as i32);

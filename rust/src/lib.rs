@@ -32,7 +32,7 @@ pub enum Status {
     Refused,
     /// A word names a file that was not handed in.
     Absent,
-    /// The words are no call.
+    /// The words are no call, or one that is not told as data.
     Words,
     /// There was no memory.
     Memory,
@@ -88,6 +88,15 @@ pub struct Answer {
     pub err: Vec<u8>,
 }
 
+/// An answer as data.
+#[derive(Clone, Debug, PartialEq, Eq)]
+#[must_use]
+pub struct Data {
+    pub status: Status,
+    /// JSON and a newline, whose members `docs/calling.md` names; empty where the status is `Form` or `Memory`.
+    pub json: String,
+}
+
 /// The version of the library: 10,000 for 1.0.0.
 #[must_use]
 pub fn version() -> u32 {
@@ -105,19 +114,63 @@ pub fn integrate(base: &[u8], a: &[u8], b: &[u8]) -> Answer {
 
 /// Makes the call of the program with these words, over these files by name. Of two files with one name the first counts.
 pub fn call(words: &[&str], files: &[(&str, &[u8])]) -> Answer {
-    let names: Vec<&str> = files.iter().map(|file| file.0).collect();
-    if words.iter().chain(&names).any(|text| text.contains('\0')) {
+    let Some(given) = given(words, files) else {
         return Answer {
             status: Status::Form,
             out: Vec::new(),
             err: Vec::new(),
         };
+    };
+    answer(given.bytes.len(), |out, err| raw::call(&given, out, err))
+}
+
+/// The answer of `integrate`, `affected` or `run` as data: words and files are those of [`call`], and so is the status. Other
+/// commands are `Words`.
+///
+/// ```
+/// let base = b"program issued 1:1 1.1: x := 1; end(x)";
+/// let a = b"program issued 1:1 1.1: x := 2; end(x)";
+/// let b = b"program issued 1:1 1.1: x := 3; end(x)";
+/// let told = hpr::data(
+///     &["integrate", "base", "a", "b"],
+///     &[("base", base), ("a", a), ("b", b)],
+/// );
+/// assert_eq!(told.status, hpr::Status::Interference);
+/// assert!(told.json.contains(r#""point":{"kind":"final","name":"x"},"variant":1"#));
+/// ```
+pub fn data(words: &[&str], files: &[(&str, &[u8])]) -> Data {
+    match given(words, files) {
+        Some(given) => told(given.bytes.len(), |out| raw::data(&given, out)),
+        None => Data {
+            status: Status::Form,
+            json: String::new(),
+        },
     }
-    let (words, names) = (packed(words), packed(&names));
-    let lengths: Vec<usize> = files.iter().map(|file| file.1.len()).collect();
-    let bytes = files.iter().map(|file| file.1).collect::<Vec<_>>().concat();
-    answer(bytes.len(), |out, err| {
-        raw::call(&words, &names, &lengths, &bytes, out, err)
+}
+
+/// Where the parts of a program stand in its text, each from the first byte of its tag to the last byte of its `;`, `fi` or `od`:
+/// an array of `{"byte":FIRST,"length":BYTES,"tag":"1.2"}`, in the order in which they begin. `Refused`: the text spells no
+/// program, and the JSON is the object of [`data`] for a refused file, with the name `text`.
+///
+/// ```
+/// let places = hpr::places(b"program 1.1: x := 1; end(x)");
+/// assert_eq!(places.json, "[{\"byte\":8,\"length\":12,\"tag\":\"1.1\"}]\n");
+/// ```
+pub fn places(text: &[u8]) -> Data {
+    told(text.len(), |out| raw::places(text, out))
+}
+
+// Words and files as the library takes them, which no zero byte stands in.
+fn given(words: &[&str], files: &[(&str, &[u8])]) -> Option<raw::Given> {
+    let names: Vec<&str> = files.iter().map(|file| file.0).collect();
+    if words.iter().chain(&names).any(|text| text.contains('\0')) {
+        return None;
+    }
+    Some(raw::Given {
+        words: packed(words),
+        names: packed(&names),
+        lengths: files.iter().map(|file| file.1.len()).collect(),
+        bytes: files.iter().map(|file| file.1).collect::<Vec<_>>().concat(),
     })
 }
 
@@ -145,5 +198,20 @@ fn answer(likely: usize, call: impl Fn(&mut [u8], &mut [u8]) -> (u32, raw::Sizes
         status: Status::of(number),
         out,
         err,
+    }
+}
+
+// The same for a call that tells data, which is longer than what it is of.
+fn told(likely: usize, call: impl Fn(&mut [u8]) -> (u32, usize)) -> Data {
+    let mut out = vec![0; 2 * likely + 1024];
+    let (mut number, mut size) = call(&mut out);
+    if size > out.len() {
+        out.resize(size, 0);
+        (number, size) = call(&mut out);
+    }
+    out.truncate(size);
+    Data {
+        status: Status::of(number),
+        json: String::from_utf8_lossy(&out).into_owned(),
     }
 }

@@ -8,6 +8,14 @@ pub(crate) struct Sizes {
     pub(crate) err: usize,
 }
 
+/// Words, names of files, how many bytes each file has, and these bytes, packed as hpr.h says.
+pub(crate) struct Given {
+    pub(crate) words: Vec<u8>,
+    pub(crate) names: Vec<u8>,
+    pub(crate) lengths: Vec<usize>,
+    pub(crate) bytes: Vec<u8>,
+}
+
 mod c {
     use super::Sizes;
 
@@ -42,6 +50,28 @@ mod c {
             err: *mut u8,
             err_room: usize,
             sizes: *mut Sizes,
+        ) -> u32;
+
+        pub(super) fn hpr_data(
+            words: *const u8,
+            words_len: usize,
+            names: *const u8,
+            names_len: usize,
+            lengths: *const usize,
+            lengths_len: usize,
+            bytes: *const u8,
+            bytes_len: usize,
+            out: *mut u8,
+            out_room: usize,
+            size: *mut usize,
+        ) -> u32;
+
+        pub(super) fn hpr_places(
+            text: *const u8,
+            len: usize,
+            out: *mut u8,
+            out_room: usize,
+            size: *mut usize,
         ) -> u32;
     }
 }
@@ -79,26 +109,19 @@ pub(crate) fn integrate(
     (number, sizes)
 }
 
-pub(crate) fn call(
-    words: &[u8],
-    names: &[u8],
-    lengths: &[usize],
-    bytes: &[u8],
-    out: &mut [u8],
-    err: &mut [u8],
-) -> (u32, Sizes) {
+pub(crate) fn call(given: &Given, out: &mut [u8], err: &mut [u8]) -> (u32, Sizes) {
     let mut sizes = Sizes::default();
     // SAFETY: as above.
     let number = unsafe {
         c::hpr_call(
-            words.as_ptr(),
-            words.len(),
-            names.as_ptr(),
-            names.len(),
-            lengths.as_ptr(),
-            lengths.len(),
-            bytes.as_ptr(),
-            bytes.len(),
+            given.words.as_ptr(),
+            given.words.len(),
+            given.names.as_ptr(),
+            given.names.len(),
+            given.lengths.as_ptr(),
+            given.lengths.len(),
+            given.bytes.as_ptr(),
+            given.bytes.len(),
             out.as_mut_ptr(),
             out.len(),
             err.as_mut_ptr(),
@@ -107,4 +130,40 @@ pub(crate) fn call(
         )
     };
     (number, sizes)
+}
+
+pub(crate) fn data(given: &Given, out: &mut [u8]) -> (u32, usize) {
+    let mut size = 0;
+    // SAFETY: as above.
+    let number = unsafe {
+        c::hpr_data(
+            given.words.as_ptr(),
+            given.words.len(),
+            given.names.as_ptr(),
+            given.names.len(),
+            given.lengths.as_ptr(),
+            given.lengths.len(),
+            given.bytes.as_ptr(),
+            given.bytes.len(),
+            out.as_mut_ptr(),
+            out.len(),
+            &mut size,
+        )
+    };
+    (number, size)
+}
+
+pub(crate) fn places(text: &[u8], out: &mut [u8]) -> (u32, usize) {
+    let mut size = 0;
+    // SAFETY: as above.
+    let number = unsafe {
+        c::hpr_places(
+            text.as_ptr(),
+            text.len(),
+            out.as_mut_ptr(),
+            out.len(),
+            &mut size,
+        )
+    };
+    (number, size)
 }

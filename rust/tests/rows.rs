@@ -1,6 +1,8 @@
-//! Makes the calls of the rows that `checks/embed_rows FILE` writes, where HPR_ROWS names that file, and compares each answer.
+//! Makes the calls of the rows that `checks/embed_rows FILE` writes, where HPR_ROWS names that file, and compares each answer. Where
+//! HPR_ANSWERS names another one, what is told as data is written there, as `checks/embed_data` reads it.
 
-use std::{env, fs};
+use std::io::{BufWriter, Write};
+use std::{env, fs, io};
 
 /// What a file of rows still has.
 struct Rows<'a>(&'a [u8]);
@@ -25,6 +27,22 @@ impl<'a> Rows<'a> {
         let packed = std::str::from_utf8(self.bytes()).expect("words are UTF-8");
         packed.split_terminator('\0').collect()
     }
+
+    fn call(&mut self) -> (Vec<&'a str>, Vec<(&'a str, &'a [u8])>) {
+        let (words, names) = (self.texts(), self.texts());
+        let files = names.into_iter().map(|name| (name, self.bytes()));
+        (words, files.collect())
+    }
+
+    fn answer(&mut self) -> (usize, &'a [u8], &'a [u8]) {
+        (self.number(), self.bytes(), self.bytes())
+    }
+}
+
+fn write_told(out: &mut impl Write, told: &hpr::Data) -> io::Result<()> {
+    out.write_all(&u64::from(told.status.number()).to_le_bytes())?;
+    out.write_all(&(told.json.len() as u64).to_le_bytes())?;
+    out.write_all(told.json.as_bytes())
 }
 
 #[test]
@@ -37,10 +55,8 @@ fn rows_have_their_answers() {
     let mut rows = Rows(&whole);
     let mut calls = 0;
     while !rows.0.is_empty() {
-        let (words, names) = (rows.texts(), rows.texts());
-        let contents: Vec<&[u8]> = names.iter().map(|_| rows.bytes()).collect();
-        let files: Vec<(&str, &[u8])> = names.into_iter().zip(contents).collect();
-        let (number, out, err) = (rows.number(), rows.bytes(), rows.bytes());
+        let (words, files) = rows.call();
+        let wanted = rows.answer();
         let answer = hpr::call(&words, &files);
         assert_eq!(
             (
@@ -48,12 +64,35 @@ fn rows_have_their_answers() {
                 &answer.out[..],
                 &answer.err[..]
             ),
-            (number, out, err),
+            wanted,
             "{words:?}"
         );
         calls += 1;
     }
     assert!(calls > 500, "{calls} calls");
+}
+
+#[test]
+fn rows_are_told_as_data() -> io::Result<()> {
+    let (Some(file), Some(answers)) = (env::var_os("HPR_ROWS"), env::var_os("HPR_ANSWERS")) else {
+        eprintln!("skipped: HPR_ROWS and HPR_ANSWERS name no files");
+        return Ok(());
+    };
+    let whole = fs::read(file)?;
+    let (mut rows, mut out) = (Rows(&whole), BufWriter::new(fs::File::create(answers)?));
+    while !rows.0.is_empty() {
+        let (words, files) = rows.call();
+        let (number, _, _) = rows.answer();
+        if matches!(words.first(), Some(&("integrate" | "affected" | "run"))) {
+            let told = hpr::data(&words, &files);
+            assert_eq!(told.status.number() as usize, number, "{words:?}");
+            write_told(&mut out, &told)?;
+        }
+        for (_, text) in files {
+            write_told(&mut out, &hpr::places(text))?;
+        }
+    }
+    out.flush()
 }
 
 #[test]
@@ -63,6 +102,9 @@ fn a_text_is_whole_where_it_is_longer_than_all_that_was_handed_in() {
     let usage = hpr::call(&[], &[]);
     assert_eq!(usage.status, hpr::Status::Words);
     assert!(usage.err.len() > 256 && usage.err.ends_with(b"\n"));
+    let parts: String = (1..200).map(|n| format!("1.{n}:x:=1;")).collect();
+    let places = hpr::places(format!("program {parts}end(x)").as_bytes());
+    assert!(places.json.len() > 6000 && places.json.ends_with("]\n"));
 }
 
 #[test]
@@ -72,6 +114,26 @@ fn a_zero_byte_in_a_word_is_no_form() {
         hpr::call(&["run", "f"], &[("f\0", b"")]).status,
         hpr::Status::Form
     );
+    let told = hpr::data(&["run\0f"], &[]);
+    assert_eq!((told.status, &told.json[..]), (hpr::Status::Form, ""));
+}
+
+#[test]
+fn another_command_is_not_told_as_data() {
+    let told = hpr::data(&["sample", "7", "40"], &[]);
+    assert_eq!(
+        (told.status, &told.json[..]),
+        (hpr::Status::Words, "{\"status\":\"words\"}\n")
+    );
+}
+
+#[test]
+fn a_text_that_spells_no_program_is_refused() {
+    let places = hpr::places(b"program");
+    assert_eq!(places.status, hpr::Status::Refused);
+    assert!(places
+        .json
+        .starts_with(r#"{"byte":7,"file":"text","kind":"syntax","#));
 }
 
 #[test]
