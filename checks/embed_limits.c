@@ -1,8 +1,9 @@
 /* What hpr in process does at its limits, for checks/embed:
  *
- *     embed_limits forms            wrong forms, nulls, and rooms of each size up to that of the text
- *     embed_limits memory BASE A B  each allocation of an integration refused in turn
- *     embed_limits stack KIB        the deepest loops and expressions that are read, on a thread with a stack of KIB
+ *     embed_limits forms                 wrong forms, nulls, and rooms of each size up to that of the text
+ *     embed_limits memory KIND BASE A B  each allocation refused in turn: of an integration, where KIND is `lines` or `data`, or of
+ *                                        the `places` of the parts of BASE
+ *     embed_limits stack KIB             the deepest loops and expressions that are read, on a thread with a stack of KIB
  */
 #include <pthread.h>
 #include <stdio.h>
@@ -48,16 +49,40 @@ static uint32_t integrate(const struct text *t, uint8_t *out, size_t out_room, u
     return hpr_integrate(t[0].at, t[0].length, t[1].at, t[1].length, t[2].at, t[2].length, out, out_room, err, err_room, sizes);
 }
 
-static int refuse_each(char **names) {
+/* The same as data, which has no second text. */
+static uint32_t integrate_data(const struct text *t, uint8_t *out, size_t out_room, uint8_t *err, size_t err_room, hpr_sizes *sizes) {
+    static const char words[] = "integrate\0base\0a\0b", *names = words + sizeof "integrate";
+    static uint8_t bytes[1 << 20];
+    size_t lengths[3], all = 0;
+    (void)err, (void)err_room;
+    for (int i = 0; i < 3; all += t[i++].length) {
+        lengths[i] = t[i].length;
+        if (t[i].length) memcpy(bytes + all, t[i].at, t[i].length);
+    }
+    sizes->err = 0;
+    return hpr_data((const uint8_t *)words, sizeof words, (const uint8_t *)names, sizeof words - sizeof "integrate", lengths, 3, bytes,
+                    all, out, out_room, &sizes->out);
+}
+
+static uint32_t tell_places(const struct text *t, uint8_t *out, size_t out_room, uint8_t *err, size_t err_room, hpr_sizes *sizes) {
+    (void)err, (void)err_room;
+    sizes->err = 0;
+    return hpr_places(t[0].at, t[0].length, out, out_room, &sizes->out);
+}
+
+typedef uint32_t maker(const struct text *, uint8_t *, size_t, uint8_t *, size_t, hpr_sizes *);
+
+static int refuse_each(const char *kind, char **names) {
+    maker *make = !strcmp(kind, "data") ? integrate_data : !strcmp(kind, "places") ? tell_places : integrate;
     struct text texts[3] = {read_file(names[0]), read_file(names[1]), read_file(names[2])};
     static uint8_t out[1 << 16], err[256], right[1 << 16];
     hpr_sizes sizes, whole;
-    uint32_t wanted = integrate(texts, right, sizeof right, err, sizeof err, &whole);
+    uint32_t wanted = make(texts, right, sizeof right, err, sizeof err, &whole);
     long ran_out = 0, at;
     for (at = 0;; at++) {
         memset(out, '#', sizeof out), memset(err, '#', sizeof err);
         allocations = 0, refused = at;
-        uint32_t status = integrate(texts, out, sizeof out, err, sizeof err, &sizes);
+        uint32_t status = make(texts, out, sizeof out, err, sizeof err, &sizes);
         refused = -1;
         if (allocations <= at) break;
         if (status == HPR_MEMORY) {
@@ -71,8 +96,9 @@ static int refuse_each(char **names) {
         }
     }
     is("a call that is refused nothing", sizes.out == whole.out && !memcmp(out, right, whole.out), 1);
-    is("some are refused", ran_out > 100, 1);
-    printf("%ld allocations refused in turn: %ld times there is no memory, %ld times it is done all the same\n", at, ran_out, at - ran_out);
+    is("some are refused", ran_out > (make == tell_places ? 10 : 100), 1);
+    printf("%s: %ld allocations refused in turn: %ld times there is no memory, %ld times it is done all the same\n", kind, at, ran_out,
+           at - ran_out);
     for (int i = 0; i < 3; i++) free(texts[i].at);
     return wrong;
 }
@@ -106,11 +132,43 @@ static uint32_t call_with(const struct call *c, size_t out_room, size_t err_room
     return status;
 }
 
+/* The same of a room for data. */
+static void look_at(const uint8_t *out, size_t room, size_t size) {
+    for (size_t i = size; i < room; i++) is("a byte of the room behind its data", out[i], '#');
+}
+
+static uint8_t *filled(size_t room) {
+    uint8_t *out = room ? malloc(room) : NULL;
+    if (room) memset(out, '#', room);
+    return out;
+}
+
+static uint32_t data_with(const struct call *c, size_t room, size_t *size) {
+    uint8_t *out = filled(room);
+    *size = 12345;
+    uint32_t status = hpr_data((const uint8_t *)c->words, c->words_len, (const uint8_t *)c->names, c->names_len, c->lengths, c->count,
+                               (const uint8_t *)c->bytes, c->bytes_len, out, room, size);
+    look_at(out, room, *size), free(out);
+    return status;
+}
+
+static uint32_t places_with(const char *text, size_t length, size_t room, size_t *size) {
+    uint8_t *out = filled(room);
+    *size = 12345;
+    uint32_t status = hpr_places((const uint8_t *)text, length, out, room, size);
+    look_at(out, room, *size), free(out);
+    return status;
+}
+
 static void form(const char *what, struct call call, uint32_t wanted) {
     hpr_sizes sizes;
+    size_t size;
     is(what, call_with(&call, 64, 64, &sizes), wanted);
     is(what, call_with(&call, 0, 0, &sizes), wanted);
-    if (wanted == HPR_FORM) is("a form that is none has no text", (long)(sizes.out + sizes.err), 0);
+    is(what, data_with(&call, 64, &size), wanted);
+    is(what, data_with(&call, 0, &size), wanted);
+    if (wanted == HPR_FORM) is("a form that is none has no text", (long)(sizes.out + sizes.err + size), 0);
+    if (wanted != HPR_FORM) is("another has data", size > 0, 1);
 }
 
 static int try_forms(void) {
@@ -143,6 +201,14 @@ static int try_forms(void) {
     hpr_sizes sizes;
     is("tag", call_with(&tag, 0, 0, &sizes), HPR_DONE);
     for (size_t room = 0, most = sizes.out + 1; room <= most; room++) is("tag", call_with(&tag, room, room, &sizes), HPR_DONE);
+    struct call run = {"run\0f", 6, "f", 2, one, 1, program, n};
+    size_t size;
+    is("a run", data_with(&run, 0, &size), HPR_DONE);
+    for (size_t room = 0, most = size + 1; room <= most; room++) is("a run", data_with(&run, room, &size), HPR_DONE);
+    is("its parts", places_with(program, n, 0, &size), HPR_DONE);
+    for (size_t room = 0, most = size + 1; room <= most; room++) is("its parts", places_with(program, n, room, &size), HPR_DONE);
+    is("the parts of nothing", places_with(NULL, 0, 64, &size), HPR_REFUSED);
+    is("a command that isn't told as data", data_with(&tag, 64, &size), HPR_WORDS);
     struct text same[3], none[3] = {{NULL, 0}, {NULL, 0}, {NULL, 0}};
     for (int i = 0; i < 3; i++) same[i] = (struct text){(uint8_t *)program, n};
     uint8_t out[8] = "########";
@@ -154,6 +220,7 @@ static int try_forms(void) {
     memset(large, ' ', sizeof large);
     same[0] = (struct text){large, sizeof large};
     is("a file of 4,194,305 bytes", integrate(same, out, 8, NULL, 0, &sizes), HPR_REFUSED);
+    is("its parts", hpr_places(large, sizeof large, out, 8, &size), HPR_REFUSED);
     is("the version", hpr_version(), HPR_VERSION_NUMBER);
     printf("forms and rooms: %s\n", wrong ? "something is wrong" : "as they are to be");
     return wrong;
@@ -188,7 +255,10 @@ static void *call_deep(void *arg) {
     for (int is_expression = 0; is_expression < 2; is_expression++) {
         struct text text = deep(is_expression), texts[3] = {text, text, text};
         hpr_sizes sizes;
+        size_t size;
         is(is_expression ? "a deep expression" : "deep loops", integrate(texts, NULL, 0, NULL, 0, &sizes), HPR_DONE);
+        is("the same as data", integrate_data(texts, NULL, 0, NULL, 0, &sizes), HPR_DONE);
+        is("the places of its parts", hpr_places(text.at, text.length, NULL, 0, &size), HPR_DONE);
         free(text.at);
     }
     return NULL;
@@ -206,8 +276,8 @@ static int try_stack(long kib) {
 
 int main(int count, char **words) {
     if (count == 2 && !strcmp(words[1], "forms")) return try_forms();
-    if (count == 5 && !strcmp(words[1], "memory")) return refuse_each(words + 2);
+    if (count == 6 && !strcmp(words[1], "memory")) return refuse_each(words[2], words + 3);
     if (count == 3 && !strcmp(words[1], "stack")) return try_stack(atol(words[2]));
-    fprintf(stderr, "usage: embed_limits forms\n       embed_limits memory BASE A B\n       embed_limits stack KIB\n");
+    fprintf(stderr, "usage: embed_limits forms\n       embed_limits memory KIND BASE A B\n       embed_limits stack KIB\n");
     return 2;
 }
