@@ -253,7 +253,10 @@ static void write_answer(FILE *out, struct answer answer) {
 }
 
 static int is_told(struct text words) {
-    return words.length && (!strcmp((char *)words.at, "integrate") || !strcmp((char *)words.at, "affected") || !strcmp((char *)words.at, "run"));
+    static const char *const commands[] = {"integrate", "affected", "graph", "run"};
+    for (size_t at = 0; at < sizeof commands / sizeof *commands; at++)
+        if (words.length && !strcmp((char *)words.at, commands[at])) return 1;
+    return 0;
 }
 
 static int tell_rows(const char *name, const char *answers) {

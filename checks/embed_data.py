@@ -4,8 +4,8 @@
                                                         as data, and ends with its status
     python3 checks/embed_data.py rows ROWS ANSWERS      compares the answers of a file of rows with what the rows say
 
-ROWS is a file of embed_rows.py. ANSWERS has of each of its rows the answer as data, where it is a call of integrate, affected or
-run, and then of each of its files where its parts stand: a status as a number, and a text. Each text is to be JSON as compact as
+ROWS is a file of embed_rows.py. ANSWERS has of each of its rows the answer as data, where it is a call of integrate, affected,
+graph or run, and then of each of its files where its parts stand: a status as a number, and a text. Each text is to be JSON as compact as
 json.dumps writes it, with members in ascending order. The usage, which the program prints of words that are no call, and the steps
 of --trace are no part of the data.
 """
@@ -17,7 +17,7 @@ sys.dont_write_bytecode = True
 
 import definitions  # noqa: E402
 
-COMMANDS = [b"integrate", b"affected", b"run"]
+COMMANDS = [b"integrate", b"affected", b"graph", b"run"]
 STATUS = {"done": 0, "interference": 1, "no program": 2, "spent": 3, "refused": 4, "absent": 5, "words": 7, "faulted": 9, "not ended": 9}
 # what a file is refused for, by its kind
 REASONS = {
@@ -71,20 +71,34 @@ def message(refusal):
 
 
 def listed(word, lines):
+    lines = list(lines)
     return [f"{word} {len(lines)}", *lines]
 
 
-def printed(answer, is_many):
-    """The lines of standard output."""
+def compact(found):
+    return json.dumps(found, sort_keys=True, separators=(",", ":"), ensure_ascii=False)
+
+
+def graph(vertices, edges, is_json):
+    if is_json:
+        return [compact({"edges": edges, "vertices": [vertex(one)[1:-1] for one in vertices]})]
+    ends = [{end: vertices[one[end]] for end in ("from", "to", "loop", "for") if end in one} for one in edges]
+    return [*listed("vertices", map(vertex, vertices)), *listed("edges", [edge(one | at) for one, at in zip(edges, ends)])]
+
+
+def printed(answer, words):
+    """The lines of standard output of the call with these words."""
     status = answer["status"]
     if "program" in answer:
         return answer["program"].removesuffix("\n").split("\n")
     if "points" in answer:
-        return listed("affected", [vertex(one) for one in answer["points"]])
+        return listed("affected", map(vertex, answer["points"]))
+    if "vertices" in answer:
+        return graph(answer["vertices"], answer["edges"], b"--json" in words)
     if "values" in answer:
         return [f"ended, steps {answer['steps']}", *(f"{one['name']} = {value(one['value'])}" for one in answer["values"])]
     if status == "interference":
-        return listed("interference", [conflict(one, is_many) for one in answer["conflicts"]])
+        return listed("interference", [conflict(one, has_many(words)) for one in answer["conflicts"]])
     if status == "no program":
         return [f"no program with at most 4000 parts has the merged graph, which has {answer['parts']} parts"]
     if status == "spent":
@@ -94,7 +108,7 @@ def printed(answer, is_many):
     return [f"not ended, steps {answer['steps']}"] if status == "not ended" else []
 
 
-def told(answer, is_many):
+def told(answer, words):
     """The status, and what the program writes to standard output and standard error; of the usage nothing."""
     err = ""
     if answer["status"] == "refused":
@@ -103,7 +117,7 @@ def told(answer, is_many):
             raise ValueError(f"the message {answer['message']!r}, and not {err!r}")
     elif answer["status"] == "absent":
         err = f"hpr: cannot read {answer['file']}\n"
-    out = "".join(line + "\n" for line in printed(answer, is_many))
+    out = "".join(line + "\n" for line in printed(answer, words))
     return STATUS[answer["status"]], out.encode(), err.encode()
 
 
@@ -114,7 +128,7 @@ def has_many(words):
 
 def parsed(text):
     found = json.loads(text)
-    if json.dumps(found, sort_keys=True, separators=(",", ":"), ensure_ascii=False).encode() + b"\n" != text:
+    if compact(found).encode() + b"\n" != text:
         raise ValueError("the JSON isn't compact, or its members stand in another order")
     return found
 
@@ -166,7 +180,7 @@ class Rows:
 
 def other_call(words, wanted, status, text):
     """What an answer to a call says otherwise than its row, if it does."""
-    got = told(parsed(text), has_many(words))
+    got = told(parsed(text), words)
     out = wanted[1][-len(got[1]) :] if b"--trace" in words else wanted[1]
     err = b"" if wanted[0] == STATUS["words"] else wanted[2]
     is_same = got == (wanted[0], out, err) and status == wanted[0]
@@ -177,7 +191,7 @@ def other_places(data, status, text):
     """What the places of a file's parts are not, if they are others; that refusals are right its callers look at."""
     found = parsed(text)
     if status == STATUS["refused"]:
-        return None if told(found, False)[0] == status else "a status that the object hasn't"
+        return None if told(found, [])[0] == status else "a status that the object hasn't"
     return None if (status, found) == (0, places_of(data)) else f"{status} {found}"
 
 
@@ -211,7 +225,7 @@ def main():
     sys.setrecursionlimit(10_000)
     words = sys.argv[1:]
     if words[:1] == ["lines"]:
-        status, out, err = told(parsed(sys.stdin.buffer.read()), has_many([word.encode() for word in words[1:]]))
+        status, out, err = told(parsed(sys.stdin.buffer.read()), [word.encode() for word in words[1:]])
         sys.stdout.buffer.write(out)
         sys.stderr.buffer.write(err)
         return status

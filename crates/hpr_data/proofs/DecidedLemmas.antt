@@ -7,6 +7,10 @@ use Rattle.hpr_syntax.specs.Values.{Values}
 use Rattle.hpr_graph.specs.Answer.{interference, no_program, printed, spent}
 use Rattle.hpr_graph.specs.Conflicts.{AreConflictsBy, told_as}
 use Rattle.hpr_syntax.specs.Print.{text}
+use Rattle.hpr_graph.specs.declared.edge.Edge.{Edge}
+use Rattle.hpr_graph.specs.declared.vertex.Vertex.{Vertex}
+use Rattle.hpr_graph.specs.Graphs.{Graph}
+use Rattle.hpr_graph.specs.InOrder.{AreEdgesOf, AreVerticesOf}
 use Rattle.hpr_graph.specs.Points.{IsAffected}
 use Rattle.hpr_graph.specs.ProgramGraph.{graph_of}
 use Rattle.hpr_refusals.specs.Reasons.{refusal_text}
@@ -14,13 +18,14 @@ use Rattle.hpr_refusals.specs.Refusals.{IsFileOf, IsRefused}
 use Rattle.hpr_report.specs.AffectedText.{IsAffectedText, affected_text}
 use Rattle.hpr_report.specs.ConflictsText.{conflicts_text}
 use Rattle.hpr_report.specs.Texts.{outcome_text}
-use Rattle.hpr_words.specs.Request.{Request, Text, integrate, integrate_many, run, affected}
+use Rattle.hpr_words.specs.Request.{Request, Text, integrate, integrate_many, run, graph, affected}
 use Rattle.hpr_inputs.specs.Decision.{Decision, OnRead, Prints, prints, refuses}
 use Rattle.hpr_inputs.specs.Files.{OnAllFiles, OnFile}
 use Rattle.hpr_inputs.specs.States.{OnState, RefusedWord, refused_word_text, states_of}
 use Rattle.hpr_inputs.specs.declared.answer.Kind.TheVariants as kind
 use Rattle.hpr_decisions.specs.AffectedFiles.{AffectedPoints}
 use Rattle.hpr_decisions.specs.Ends as ends
+use Rattle.hpr_decisions.specs.GraphFile.{Graphed, IsShown}
 use Rattle.hpr_decisions.specs.Graphs.{OnAllGraphs, OnGraph, too_many_edges}
 use Rattle.hpr_decisions.specs.Integrate.{IntegratedBy, IsReported, no_program_text, spent_text}
 use Rattle.hpr_decisions.specs.IntegrateMany.{IntegratedMany, IsReportedOfMany, Told, conflict_of, told_text}
@@ -28,8 +33,8 @@ use Rattle.hpr_decisions.specs.RunFile.{Ran, kind_of}
 use Rattle.hpr_decisions.specs.TraceText.{run_text, trace_text}
 use Rattle.hpr_decisions.specs.declared.status.Status.TheVariants.{ReadFault}
 use Rattle.hpr_meaning.specs.Instances.{instances}
-use Rattle.hpr_data.specs.Findings.{AffectedBetween, AffectsPoints, Answers, Finding, Integrated, OnAllEdges, OnAllTexts, OnBytes, OnEdges, OnText, OnWords, absent, affects, conflicting, merged, no_call, over_budget, ran, refused, too_large, unmatched, word_refused}
-use Rattle.hpr_data.specs.Printed.{FoundIsDecided, IsPrinted}
+use Rattle.hpr_data.specs.Findings.{AffectedBetween, AffectsPoints, Answers, Finding, Integrated, IsGraphed, OnAllEdges, OnAllTexts, OnBytes, OnEdges, OnText, OnWords, absent, affects, conflicting, graphed, merged, no_call, over_budget, ran, refused, too_large, unmatched, word_refused}
+use Rattle.hpr_data.specs.Printed.{FoundIsDecided, IsPrinted, shown_graph}
 use Rattle.hpr_data.specs.Told.{status_of}
 use Rattle.hpr_data.proofs.TwoSides.{by_side, by_sides, same_numbers}
 
@@ -98,6 +103,17 @@ module _ (request : Request) (f : Finding) where
       let (front, is) = front_of p state steps trace in
       (prints (kind_of o) shown, refl, printed_too (ran o) e (prints (kind_of o) shown) (front, ap (prints (kind_of o)) is))
 
+-- a graph, as JSON or as text
+is_shown : (json : Bool) (g : Graph) (vs : List Vertex) (es : List Edge) → AreVerticesOf g vs → AreEdgesOf g es → IsShown json g (shown_graph json vs es)
+is_shown true g vs es are edges = (vs, es, are, edges, refl)
+is_shown false g vs es are edges = (vs, es, are, edges, refl)
+
+graph_decided : (file : Text) (json : Bool) (f : Finding) (p : Tree) → IsGraphed p f → IsDecided (graph file json) f (Prints (IsShown json (graph_of p)))
+graph_decided file json f p (vs, es, are, edges, e) =
+    let shown = shown_graph json vs es in
+    let r = prints kind.Done shown in
+    (r, (shown, is_shown json (graph_of p) vs es are edges, refl), printed_too (graph file json) f (graphed vs es) e r (shown, refl, refl))
+
 -- the answer of many variants
 many_decided : (base : Text) (names : List Text) (within : ℕ) (f : Finding) (p : Tree) (ps : List Tree) (tries : ℕ) → Answers p ps tries f
     → IsDecided (integrate_many base names within) f (IsReportedOfMany p ps tries)
@@ -162,6 +178,10 @@ found_is_decided (affected base a) files f h told there =
     (λ p. on_text asked f there files a (λ q. AffectedBetween base p a q f) (λ q r. AffectedPoints base p a q r)
     (λ q. on_edges asked f base p (OnEdges a q (AffectsPoints p q f) f) (λ r. OnGraph a q (Prints (IsAffectedText (IsAffected (graph_of q) (graph_of p))) r) r)
     (on_edges asked f a q (AffectsPoints p q f) (Prints (IsAffectedText (IsAffected (graph_of q) (graph_of p)))) (points_decided asked f p q)))) h
+found_is_decided (graph file json) files f h told there =
+    let asked = graph file json in
+    on_text asked f there files file (λ p. OnEdges file p (IsGraphed p f) f) (λ p r. Graphed file p json r)
+    (λ p. on_edges asked f file p (IsGraphed p f) (Prints (IsShown json (graph_of p))) (graph_decided file json f p)) h
 found_is_decided _ files f h told there = absurd (told (ap status_of h))
 
 -- and of its status
@@ -176,4 +196,5 @@ printed_status request (conflicting cs) r (lines, are, shown) = sym (ap ends.sta
 printed_status request (unmatched n) r shown = sym (ap ends.status_of shown)
 printed_status request (over_budget tries) r shown = sym (ap ends.status_of shown)
 printed_status request (affects vs) r shown = sym (ap ends.status_of shown)
+printed_status request (graphed vs es) r (lines, shows, shown) = sym (ap ends.status_of shown)
 printed_status request (ran o) r (front, shown) = sym (ap ends.status_of shown)

@@ -1,5 +1,5 @@
 -- What hpr decides on a request comes of it.
-use Rattle.std.proofs.Common.{◌≡◌, ℕ, ◌<◌, Bool, All, List, [], ◌∷◌, Contains, map, slice_get, Option, Some, None, IsSome, Ok, Err, Result, unwrap_or, refl, sym, ap, ◌∙◌, inl, inr, subst}
+use Rattle.std.proofs.Common.{◌≡◌, ℕ, ◌<◌, Bool, true, false, All, List, [], ◌∷◌, Contains, map, slice_get, Option, Some, None, IsSome, Ok, Err, Result, unwrap_or, refl, sym, ap, ◌∙◌, inl, inr, subst}
 use Rattle.std.proofs.lemmas.List.Elements.{All-head, All-tail}
 use Rattle.hpr_terms.proofs.Facts.{get_map, in_map, map_in}
 use Rattle.hpr_io.specs.Files.{Files, lookup}
@@ -17,17 +17,18 @@ use Rattle.hpr_merge.proofs.NoneListed.{number_within, sides_tell}
 use Rattle.hpr_refusals.specs.Refusals.{IsFileOf, IsRefused}
 use Rattle.hpr_report.specs.AffectedText.{IsAffectedText}
 use Rattle.hpr_report.specs.ConflictsText.{conflicts_text}
-use Rattle.hpr_words.specs.Request.{Request, Text, integrate, integrate_many, run, affected}
+use Rattle.hpr_words.specs.Request.{Request, Text, integrate, integrate_many, run, graph, affected}
 use Rattle.hpr_inputs.specs.Decision.{Decision, OnRead, Prints, prints, refuses}
 use Rattle.hpr_inputs.specs.Files.{OnAllFiles, OnFile}
 use Rattle.hpr_inputs.specs.States.{OnState, RefusedWord, refused_word_text, states_of}
 use Rattle.hpr_inputs.specs.declared.answer.Kind.TheVariants as kind
 use Rattle.hpr_decisions.specs.AffectedFiles.{AffectedPoints}
+use Rattle.hpr_decisions.specs.GraphFile.{Graphed, IsShown}
 use Rattle.hpr_decisions.specs.Graphs.{OnAllGraphs, OnGraph}
 use Rattle.hpr_decisions.specs.Integrate.{IntegratedBy, IsReported}
 use Rattle.hpr_decisions.specs.IntegrateMany.{IntegratedMany, IsReportedOfMany, Told, conflict_of, told_text}
 use Rattle.hpr_decisions.specs.RunFile.{Ran, kind_of}
-use Rattle.hpr_data.specs.Findings.{AffectedBetween, AffectsPoints, Answers, Finding, Integrated, OnAllEdges, OnAllTexts, OnBytes, OnEdges, OnText, OnWords, affects, conflicting, merged, over_budget, ran, refused, too_large, unmatched, word_refused}
+use Rattle.hpr_data.specs.Findings.{AffectedBetween, AffectsPoints, Answers, Finding, Integrated, IsGraphed, OnAllEdges, OnAllTexts, OnBytes, OnEdges, OnText, OnWords, affects, conflicting, graphed, merged, over_budget, ran, refused, too_large, unmatched, word_refused}
 use Rattle.hpr_data.specs.Printed.{DecidedIsFound, IsPrinted, numbered}
 use Rattle.hpr_data.proofs.DecidedLemmas.{front_of}
 
@@ -81,6 +82,11 @@ module _ (request : Request) (r : Decision) where
       let o = means.run p state steps in
       let (front, is) = front_of p state steps trace in
       (ran o, refl, (front, e ∙ ap (prints (kind_of o)) is))
+
+-- a graph, as JSON or as text
+graph_found : (file : Text) (json : Bool) (r : Decision) (p : Tree) → Prints (IsShown json (graph_of p)) r → IsFound (graph file json) r (IsGraphed p)
+graph_found file true r p (shown, (vs, es, are, edges, is), e) = (graphed vs es, (vs, es, are, edges, refl), (shown, is, e))
+graph_found file false r p (shown, (vs, es, are, edges, is), e) = (graphed vs es, (vs, es, are, edges, refl), (shown, is, e))
 
 -- the answer of many variants
 many_found : (base : Text) (names : List Text) (within : ℕ) (r : Decision) (p : Tree) (ps : List Tree) (tries : ℕ) → IsReportedOfMany p ps tries r
@@ -167,4 +173,8 @@ decided_is_found (affected base a) files r has there o =
     (λ p. of_file asked r files a (λ q. AffectedPoints base p a q r) (λ q f. AffectedBetween base p a q f)
     (λ q. of_graph asked r base p (OnGraph a q (Shown p q) r) (λ f. OnEdges a q (AffectsPoints p q f) f)
     (of_graph asked r a q (Shown p q) (AffectsPoints p q) (points_found asked r p q))) second) first o
+decided_is_found (graph file json) files r has there o =
+    let asked = graph file json in
+    of_file asked r files file (λ p. Graphed file p json r) (λ p f. OnEdges file p (IsGraphed p f) f)
+    (λ p. of_graph asked r file p (Prints (IsShown json (graph_of p)) r) (IsGraphed p) (graph_found file json r p)) (All-head (IsThere files) file [] there) o
 decided_is_found _ files r has there o = absurd has

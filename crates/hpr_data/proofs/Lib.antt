@@ -1,5 +1,6 @@
 pub mod TextLemmas
 pub mod AffectedLemmas
+pub mod GraphLemmas
 pub mod ManyLemmas
 pub mod ToldLemmas
 pub mod TwoSides

@@ -1,7 +1,7 @@
 -- What comes of a request over texts in memory.
 --
 -- Finding                   == what comes of it, one of these:
---   no_call                    it is none of the three commands
+--   no_call                    it is none of the four commands
 --   word_refused message       a word of the state is refused, with this message
 --   absent file                no text has this name
 --   refused file why           the text with this name is refused, for this cause
@@ -11,6 +11,7 @@
 --   unmatched n                no program has the merged graph, which has so many parts
 --   over_budget tries          the budget of so many tries is spent
 --   affects vs                 these are the affected points of a variant, in their order
+--   graphed vs es              a graph has these vertices and these edges, in their order
 --   ran o                      a run went so
 -- OnBytes told file next f  == there is no text, and f says so of this name; or it is refused for a cause,
 --                              and f says so; or it spells a program, and f is what next says of it
@@ -26,8 +27,9 @@
 --                              too many edges
 -- AffectsPoints p q f       == f is the affected points of the graph of q beside that of p
 -- AffectedBetween base p a q f == that, unless one of their graphs has too many edges
--- Integrates files base names tries f, Affects files base a f, Runs files file words steps f
---                           == f comes of the command over these texts
+-- IsGraphed p f             == f is the vertices and the edges of the graph of p
+-- Integrates files base names tries f, Affects files base a f, Graphs files file f,
+-- Runs files file words steps f == f comes of the command over these texts
 -- Finds request files f     == f comes of the request over these texts; there is none where the words are no
 --                              call
 use Rattle.std.specs.Prelude.{◌≡◌, ◌⊎◌, ℕ, List, [], ◌∷◌, map, Option, Some, None, Result, Ok, Err}
@@ -38,15 +40,17 @@ use Rattle.hpr_syntax.specs.Run.{Outcome}
 use Rattle.hpr_syntax.specs.Tree.{Tree}
 use Rattle.hpr_syntax.specs.Values.{Values}
 use Rattle.hpr_graph.specs.declared.conflict.ManyConflict.{ManyConflict}
+use Rattle.hpr_graph.specs.declared.edge.Edge.{Edge}
 use Rattle.hpr_graph.specs.declared.vertex.Vertex.{Vertex}
 use Rattle.hpr_graph.specs.Answer.{AnswerBy, interference, printed, no_program, spent}
+use Rattle.hpr_graph.specs.InOrder.{AreEdgesOf, AreVerticesOf}
 use Rattle.hpr_graph.specs.Points.{IsAffected}
 use Rattle.hpr_graph.specs.ProgramGraph.{graph_of}
 use Rattle.hpr_engine.specs.Limit.{HasTooManyEdges}
 use Rattle.hpr_report.specs.AffectedText.{ArePoints}
 use Rattle.hpr_refusals.specs.Refusals.{IsCauseIn, IsFileOf}
 use Rattle.hpr_refusals.specs.declared.files.Refusal.{Refusal}
-use Rattle.hpr_words.specs.Request.{Request, Text, integrate, integrate_many, run, affected}
+use Rattle.hpr_words.specs.Request.{Request, Text, integrate, integrate_many, run, graph, affected}
 use Rattle.hpr_inputs.specs.States.{RefusedWord, refused_word_text, states_of}
 use Rattle.hpr_decisions.specs.IntegrateMany.{IsAnswerOfMany, Told, conflict_of}
 
@@ -61,6 +65,7 @@ pub data Finding : Type 0 where
   unmatched : (parts : ℕ) → Finding
   over_budget : (tries : ℕ) → Finding
   affects : (points : List Vertex) → Finding
+  graphed : (vertices : List Vertex) (edges : List Edge) → Finding
   ran : (outcome : Outcome) → Finding
 
 abbrev pub OnBytes : Option (List ℕ) → Text → (Tree → Type 0) → Finding → Type 0
@@ -111,6 +116,12 @@ AffectedBetween base p a q f = OnEdges base p (OnEdges a q (AffectsPoints p q f)
 abbrev pub Affects : Files → Text → Text → Finding → Type 0
 Affects files base a f = OnText files base (λ p. OnText files a (λ q. AffectedBetween base p a q f) f) f
 
+abbrev pub IsGraphed : Tree → Finding → Type 0
+IsGraphed p f = (vs : List Vertex) × (es : List Edge) × AreVerticesOf (graph_of p) vs × AreEdgesOf (graph_of p) es × (f ≡ graphed vs es)
+
+abbrev pub Graphs : Files → Text → Finding → Type 0
+Graphs files file f = OnText files file (λ p. OnEdges file p (IsGraphed p f) f) f
+
 abbrev pub Runs : Files → Text → List Text → ℕ → Finding → Type 0
 Runs files file words steps f =
     OnWords (states_of words) (λ state. OnText files file (λ p. f ≡ ran (means.run p state steps)) f) f
@@ -119,5 +130,6 @@ abbrev pub Finds : Option Request → Files → Finding → Type 0
 Finds (Some (integrate base a b tries)) files f = Integrates files base (a ∷ b ∷ []) tries f
 Finds (Some (integrate_many base variants tries)) files f = Integrates files base variants tries f
 Finds (Some (affected base a)) files f = Affects files base a f
+Finds (Some (graph file json)) files f = Graphs files file f
 Finds (Some (run file words steps trace)) files f = Runs files file words steps f
 Finds _ files f = f ≡ no_call

@@ -16,10 +16,10 @@ use Rattle.hpr_decisions.specs.Theorem.{KeepsAllMeaning, KeepsMeaning}
 use Rattle.hpr_decisions.specs.declared.status.Status.{Status}
 use Rattle.hpr_decisions.specs.declared.status.Status.TheVariants.{Done, Interference, NoProgram, ReadFault, Refused, Spent, Words}
 use Rattle.serde_json.specs.Data.{Data}
-use Rattle.hpr_json.specs.Answers.{conflicts_data, json_line, no_program_data, points_data, program_data, spent_data}
+use Rattle.hpr_json.specs.Answers.{conflicts_data, graph_data, json_line, no_program_data, points_data, program_data, spent_data}
 use Rattle.hpr_json.specs.Outcomes.{outcome_data}
 use Rattle.hpr_json.specs.Refusals.{absent_data, edges_data, refusal_data, state_data, words_data}
-use Rattle.hpr_data.specs.Findings.{Finding, Finds, no_call, word_refused, absent, refused, too_large, merged, conflicting, unmatched, over_budget, affects, ran}
+use Rattle.hpr_data.specs.Findings.{Finding, Finds, no_call, word_refused, absent, refused, too_large, merged, conflicting, unmatched, over_budget, affects, graphed, ran}
 use Rattle.hpr_data.specs.declared.reply.Reply.{Reply}
 
 abbrev pub status_of : Finding → Status
@@ -33,6 +33,7 @@ status_of (conflicting cs) = Interference
 status_of (unmatched n) = NoProgram
 status_of (over_budget tries) = Spent
 status_of (affects vs) = Done
+status_of (graphed vs es) = Done
 status_of (ran o) = status_of_kind (kind_of o)
 
 abbrev pub data_of : Finding → Data
@@ -46,6 +47,7 @@ data_of (conflicting cs) = conflicts_data cs
 data_of (unmatched n) = no_program_data n
 data_of (over_budget tries) = spent_data tries
 data_of (affects vs) = points_data vs
+data_of (graphed vs es) = graph_data vs es
 data_of (ran o) = outcome_data o
 
 abbrev pub Tells : Finding → Reply → Type 0

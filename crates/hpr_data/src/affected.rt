@@ -1,15 +1,13 @@
 //! The command `affected`.
 ghost use Rattle.hpr_io.specs.Files.{files_in};
 ghost use Rattle.hpr_data.specs.Findings.{AffectedBetween, Affects};
-ghost use Rattle.hpr_data.specs.Private.Comes.{Comes, ComesToGraph};
+ghost use Rattle.hpr_data.specs.Private.Comes.{Comes};
 
 use crate::found::{Found, Stop};
+use crate::graph::graph_named;
 use crate::texts::program_named;
 use hpr_affected::affected;
-use hpr_build::{BuildError, graph_of};
-use hpr_graph::Graph;
 use hpr_syntax::Program;
-use hpr_terms::limits::MAX_EDGES;
 use std::alloc::Global;
 
 /// The affected points of a variant.
@@ -42,15 +40,4 @@ fn affected_between<'a>(
     let a_graph = graph_named(alloc, a, a_program)?;
     let points = affected(alloc, &a_graph, &base_graph)?;
     Ok(Found::Affected(a_graph, points))
-}
-
-/// The graph of the program of the text with this name.
-fn graph_named<'a>(alloc: Global, file: &'a str, program: &Program) -> Result<Graph, Stop<'a>>
-    ensures { ComesToGraph file.now program.now result }
-{
-    match graph_of(alloc, program, MAX_EDGES) {
-        Ok(graph) => Ok(graph),
-        Err(BuildError::TooManyEdges) => Err(Stop::TooManyEdges(file)),
-        Err(BuildError::Memory) => Err(Stop::Memory),
-    }
 }

@@ -8,6 +8,7 @@ ghost use Rattle.hpr_data.specs.Private.Comes.{Comes};
 
 use crate::affected::affected_points;
 use crate::found::{Found, Stop};
+use crate::graph::graph_shown;
 use crate::integrate::integrated;
 use crate::run::run_named;
 use hpr_words::Asked;
@@ -30,6 +31,7 @@ pub(crate) fn find<'a>(
             tries,
         } => integrated(alloc, files, base, variants.as_slice(), tries),
         Asked::Affected { base, a } => affected_points(alloc, files, base, a),
+        Asked::Graph { file, json: _ } => graph_shown(alloc, files, file),
         Asked::Run {
             file,
             states,

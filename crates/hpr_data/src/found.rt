@@ -17,6 +17,8 @@ pub(crate) enum Found {
     Spent(u64),
     /// The affected points of this graph, by their numbers.
     Affected(Graph, Vec<usize>),
+    /// The graph of a program.
+    Graph(Graph),
     /// How a run went.
     Ran(Outcome),
 }
@@ -24,7 +26,7 @@ pub(crate) enum Found {
 /// Why a request comes to nothing that it asks for.
 #[derive(Drop)]
 pub(crate) enum Stop<'a> {
-    /// It is none of the three commands.
+    /// It is none of the four commands.
     NoCall,
     /// A word of the state is refused, with this message.
     Word(String),

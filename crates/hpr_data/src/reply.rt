@@ -11,8 +11,9 @@ ghost use Rattle.hpr_data.specs.Private.ToldAs.{HasPoints, StoppedAs, ToldAs};
 use crate::found::{Found, Stop};
 use hpr_decisions::Status;
 use hpr_json::{
-    absent_value, conflicts_value, edges_value, json_line, no_program_value, outcome_value,
-    points_value, program_value, refusal_value, spent_value, state_value, words_value,
+    absent_value, conflicts_value, edges_value, graph_value, json_line, no_program_value,
+    outcome_value, points_value, program_value, refusal_value, spent_value, state_value,
+    words_value,
 };
 use hpr_run::Outcome;
 use hpr_syntax::NoMemory;
@@ -48,6 +49,7 @@ pub(crate) fn told(alloc: Global, found: &Found) -> Result<Reply, NoMemory>
         Found::Affected(graph, points) => {
             line(alloc, Status::Done, points_value(alloc, graph, points)?)
         }
+        Found::Graph(graph) => line(alloc, Status::Done, graph_value(alloc, graph)?),
         Found::Ran(outcome) => line(alloc, run_status(outcome), outcome_value(alloc, outcome)?),
     }
 }

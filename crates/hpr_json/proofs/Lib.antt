@@ -1,3 +1,5 @@
 mod Whole
 mod Ascii
 mod Marked
+mod Places
+mod Rows

@@ -11,9 +11,11 @@ use Rattle.hpr_graph.specs.declared.vertex.Vertex.{Vertex}
 use Rattle.hpr_graph.specs.declared.vertex.Vertex.TheVariants.{Entry, Init, Part, Final}
 use Rattle.hpr_graph.specs.declared.edge.Kind.{Kind}
 use Rattle.hpr_graph.specs.declared.edge.Kind.TheVariants.{Control, Independent, Carried, Order}
+use Rattle.hpr_graph.specs.declared.edge.Edge.{Edge}
 use Rattle.hpr_graph.specs.declared.conflict.ManyConflict.{ManyConflict}
+use Rattle.hpr_report.specs.GraphJson as by_places
 use Rattle.hpr_json.specs.Vertices.{vertex_data, kind_data, many_conflict_data}
-use Rattle.hpr_json.specs.Answers.{conflicts_data, points_data}
+use Rattle.hpr_json.specs.Answers.{conflicts_data, graph_data, points_data}
 use Rattle.hpr_json.specs.Outcomes.{integer_data, element_data, value_data, final_data, outcome_data}
 
 either : (a b : Bool) → a ≡ false → b ≡ false → (a || b) ≡ false
@@ -43,6 +45,15 @@ conflicts_whole cs = either _ _ (items many_conflict_data conflict cs) refl
 
 pub points_whole : (vs : List Vertex) → has_float (points_data vs) ≡ false
 points_whole vs = either _ _ (items vertex_data vertex vs) refl
+
+placed : (vs : List Vertex) (k : Kind) (from to : ℕ) → has_float (by_places.kind_data vs k from to) ≡ false
+placed vs (Control label) from to = refl
+placed vs (Independent x) from to = refl
+placed vs (Carried x w) from to = refl
+placed vs (Order u) from to = refl
+
+pub graph_whole : (vs : List Vertex) (es : List Edge) → has_float (graph_data vs es) ≡ false
+graph_whole vs es = either _ _ (items (by_places.edge_data vs) (λ e. placed vs e.kind _ _) es) (either _ _ (items vertex_data vertex vs) refl)
 
 integer : (z : ℤ) → has_float (integer_data z) ≡ false
 integer (pos n) = refl

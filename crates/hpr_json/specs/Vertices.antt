@@ -2,6 +2,8 @@
 --
 -- named_data kind x     == a vertex of this kind with a name
 -- vertex_data v         == a vertex: its kind, and its name, or its tag and what it says
+-- carried_data x w from to == a flow edge for this name between these ends, which this loop carries
+-- order_data u from to  == an order edge between these ends, for this shared use
 -- kind_data k from to   == an edge of this kind between these ends
 -- edge_data e           == an edge: its kind, its ends, and its label, name, loop or shared use
 -- conflict_data (n,p,e) == a conflict: the number of its variant, its point, and the edge that shows it
@@ -30,6 +32,19 @@ vertex_data (Part t c) =
     (member (codes "kind") (string (codes "part")) (member (codes "tag") (string (tag_text t)) no_members)))
 vertex_data (Final x) = named_data (codes "final") x
 
+abbrev pub carried_data : List ℕ → Data → Data → Data → Data
+carried_data x carrier from to =
+    object
+    (member (codes "from") from
+    (member (codes "kind") (string (codes "carried"))
+    (member (codes "loop") carrier (member (codes "name") (string x) (member (codes "to") to no_members)))))
+
+abbrev pub order_data : Data → Data → Data → Data
+order_data used from to =
+    object
+    (member (codes "for") used
+    (member (codes "from") from (member (codes "kind") (string (codes "order")) (member (codes "to") to no_members))))
+
 abbrev pub kind_data : Kind → Data → Data → Data
 kind_data (Control label) from to =
     object
@@ -39,15 +54,8 @@ kind_data (Independent x) from to =
     object
     (member (codes "from") from
     (member (codes "kind") (string (codes "flow")) (member (codes "name") (string x) (member (codes "to") to no_members))))
-kind_data (Carried x w) from to =
-    object
-    (member (codes "from") from
-    (member (codes "kind") (string (codes "carried"))
-    (member (codes "loop") (vertex_data w) (member (codes "name") (string x) (member (codes "to") to no_members)))))
-kind_data (Order u) from to =
-    object
-    (member (codes "for") (vertex_data u)
-    (member (codes "from") from (member (codes "kind") (string (codes "order")) (member (codes "to") to no_members))))
+kind_data (Carried x w) from to = carried_data x (vertex_data w) from to
+kind_data (Order u) from to = order_data (vertex_data u) from to
 
 abbrev pub edge_data : Edge → Data
 edge_data e = kind_data e.kind (vertex_data e.from) (vertex_data e.to)

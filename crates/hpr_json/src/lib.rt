@@ -2,6 +2,7 @@
 #![tactic(auto)]
 
 mod answers;
+mod graphs;
 mod line;
 mod members;
 mod outcomes;
@@ -10,6 +11,7 @@ mod refusals;
 mod vertices;
 
 pub use answers::{conflicts_value, no_program_value, program_value, spent_value};
+pub use graphs::graph_value;
 pub use line::json_line;
 pub use outcomes::outcome_value;
 pub use points::points_value;

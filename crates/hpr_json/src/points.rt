@@ -1,15 +1,14 @@
 //! The affected points as JSON.
-ghost use Rattle.std.specs.Prelude.{◌≡◌, ◌↔◌, ◌<◌, false, length, map, All, IfOk};
+ghost use Rattle.std.specs.Prelude.{◌≡◌, ◌↔◌, ◌<◌, false, length, All, IfOk};
 ghost use Rattle.serde_json.specs.View.{view};
 ghost use Rattle.serde_json.specs.Written.{has_float};
 ghost use Rattle.hpr_graph.specs.declared.vertex.Vertex.{Vertex};
 ghost use Rattle.hpr_graph.specs.Numbered.{IsMarkedVertex};
 ghost use Rattle.hpr_report.specs.AffectedText.{ArePoints, IsOneOf};
-ghost use Rattle.hpr_json.specs.Vertices.{vertex_data};
 ghost use Rattle.hpr_json.specs.Answers.{points_data, IsPointsData};
 
 use crate::members::listed_value;
-use crate::vertices::vertex_value;
+use crate::vertices::vertex_values;
 use hpr_graph::{Graph, NoMemory, Vertex};
 use serde_json::Value;
 use std::alloc::Global;
@@ -33,17 +32,6 @@ fn shown_value(alloc: Global, vertices: &[Vertex]) -> Result<Value, NoMemory>
 {
     let values = vertex_values(alloc, vertices)?;
     Ok(listed_value(alloc, "points", values, "done")?)
-}
-
-/// The object of each vertex.
-fn vertex_values(alloc: Global, vertices: &[Vertex]) -> Result<Vec<Value>, NoMemory>
-    ensures { IfOk result (λ values. map view values.items ≡ map vertex_data vertices.now) }
-{
-    let mut values = Vec::new(alloc);
-    for vertex in vertices {
-        values.push(vertex_value(alloc, vertex)?)?;
-    }
-    Ok(values)
 }
 
 /// The graph of the vertices with these numbers, in order.

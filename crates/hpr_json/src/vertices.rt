@@ -1,9 +1,9 @@
 //! Vertices, edges and conflicts as JSON.
-ghost use Rattle.std.specs.Prelude.{◌≡◌, codes, IfOk, OnOk, string_bytes};
+ghost use Rattle.std.specs.Prelude.{◌≡◌, codes, map, IfOk, OnOk, string_bytes};
 ghost use Rattle.serde_json.specs.Data.{string, member, no_members};
 ghost use Rattle.serde_json.specs.View.{view, members_view};
 ghost use Rattle.hpr_syntax.specs.Print.{content_text};
-ghost use Rattle.hpr_json.specs.Vertices.{named_data, vertex_data, kind_data, edge_data, many_conflict_data};
+ghost use Rattle.hpr_json.specs.Vertices.{named_data, vertex_data, carried_data, order_data, kind_data, edge_data, many_conflict_data};
 
 use crate::members::put_text;
 use hpr_graph::{Content, Edge, Kind, ManyConflict, Name, NoMemory, Tag, Vertex};
@@ -22,6 +22,17 @@ pub(crate) fn vertex_value(alloc: Global, vertex: &Vertex) -> Result<Value, NoMe
         Vertex::Part(tag, content) => part_value(alloc, *tag, content),
         Vertex::Final(name) => Ok(named_value(alloc, "final", name.text())?),
     }
+}
+
+/// The object of each vertex.
+pub(crate) fn vertex_values(alloc: Global, vertices: &[Vertex]) -> Result<Vec<Value>, NoMemory>
+    ensures { IfOk result (λ values. map view values.items ≡ map vertex_data vertices.now) }
+{
+    let mut values = Vec::new(alloc);
+    for vertex in vertices {
+        values.push(vertex_value(alloc, vertex)?)?;
+    }
+    Ok(values)
 }
 
 fn entry_value(alloc: Global) -> Result<Value, AllocError>
@@ -88,12 +99,23 @@ fn kind_value(alloc: Global, kind: &Kind, from: Value, to: Value) -> Result<Valu
     match kind {
         Kind::Control(label) => Ok(control_value(alloc, *label, from, to)?),
         Kind::Independent(name) => Ok(flow_value(alloc, name, from, to)?),
-        Kind::Carried(name, by) => carried_value(alloc, name, by, from, to),
-        Kind::Order(used) => order_value(alloc, used, from, to),
+        Kind::Carried(name, by) => {
+            let carrier = vertex_value(alloc, by)?;
+            Ok(carried_value(alloc, name, carrier, from, to)?)
+        }
+        Kind::Order(used) => {
+            let used = vertex_value(alloc, used)?;
+            Ok(order_value(alloc, used, from, to)?)
+        }
     }
 }
 
-fn control_value(alloc: Global, label: bool, from: Value, to: Value) -> Result<Value, AllocError>
+pub(crate) fn control_value(
+    alloc: Global,
+    label: bool,
+    from: Value,
+    to: Value,
+) -> Result<Value, AllocError>
     ensures { IfOk result (λ value. view value ≡ kind_data (Kind.Control label) (view from) (view to)) }
 {
     let mut members = Map::new(alloc);
@@ -102,7 +124,12 @@ fn control_value(alloc: Global, label: bool, from: Value, to: Value) -> Result<V
     Ok(Value::Object(members))
 }
 
-fn flow_value(alloc: Global, name: &Name, from: Value, to: Value) -> Result<Value, AllocError>
+pub(crate) fn flow_value(
+    alloc: Global,
+    name: &Name,
+    from: Value,
+    to: Value,
+) -> Result<Value, AllocError>
     ensures { IfOk result (λ value. view value ≡ kind_data (Kind.Independent name.now) (view from) (view to)) }
 {
     let mut members = Map::new(alloc);
@@ -111,16 +138,15 @@ fn flow_value(alloc: Global, name: &Name, from: Value, to: Value) -> Result<Valu
     Ok(Value::Object(members))
 }
 
-fn carried_value(
+pub(crate) fn carried_value(
     alloc: Global,
     name: &Name,
-    by: &Vertex,
+    carrier: Value,
     from: Value,
     to: Value,
-) -> Result<Value, NoMemory>
-    ensures { IfOk result (λ value. view value ≡ kind_data (Kind.Carried name.now by.now) (view from) (view to)) }
+) -> Result<Value, AllocError>
+    ensures { IfOk result (λ value. view value ≡ carried_data name.now (view carrier) (view from) (view to)) }
 {
-    let carrier = vertex_value(alloc, by)?;
     let mut members = Map::new(alloc);
     put_ends(alloc, &mut members, "carried", from, to)?;
     put(&mut members, alloc, "loop", carrier)?;
@@ -128,13 +154,17 @@ fn carried_value(
     Ok(Value::Object(members))
 }
 
-fn order_value(alloc: Global, used: &Vertex, from: Value, to: Value) -> Result<Value, NoMemory>
-    ensures { IfOk result (λ value. view value ≡ kind_data (Kind.Order used.now) (view from) (view to)) }
+pub(crate) fn order_value(
+    alloc: Global,
+    used: Value,
+    from: Value,
+    to: Value,
+) -> Result<Value, AllocError>
+    ensures { IfOk result (λ value. view value ≡ order_data (view used) (view from) (view to)) }
 {
-    let shared = vertex_value(alloc, used)?;
     let mut members = Map::new(alloc);
     put_ends(alloc, &mut members, "order", from, to)?;
-    put(&mut members, alloc, "for", shared)?;
+    put(&mut members, alloc, "for", used)?;
     Ok(Value::Object(members))
 }
 

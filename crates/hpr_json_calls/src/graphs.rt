@@ -4,18 +4,22 @@ ghost use Rattle.std.specs.Prelude.{◌↔◌, ◌<◌, length, All, IsTrue};
 use crate::put::put_value;
 use hpr_build::graph_of;
 use hpr_graph::{Edge, Graph, ManyConflict};
-use hpr_json::{conflicts_value, points_value};
+use hpr_json::{conflicts_value, graph_value, points_value};
 use hpr_rows::{Out, Row};
 use std::alloc::Global;
 
 /// Answers the call: `graph conflicts TEXT TO`: each edge of the program's graph into the vertex with this
 /// number shows a conflict at that vertex, of the variants from 1 on; `graph points TEXT NUMBER..`: the
-/// vertices with these numbers, as affected points.
+/// vertices with these numbers, as affected points; `graph whole TEXT`: the graph.
 pub(crate) fn call(row: Row<'_>, out: &mut Out) -> Option<()> {
     let graph = graph_of(row.alloc, &row.program(2)?, 1000).ok()?;
     match row.word(1)? {
         "conflicts" => put_conflicts(row.alloc, out, &graph, row.number(3)?),
         "points" => put_points(row.alloc, out, &graph, &numbers(row, 3)?),
+        "whole" => {
+            put_value(row.alloc, out, graph_value(row.alloc, &graph));
+            Some(())
+        }
         _ => None,
     }
 }

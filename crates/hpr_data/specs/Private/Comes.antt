@@ -1,7 +1,8 @@
 -- What is found of a request.
 --
 -- StopIs P stop              == what a stop tells is a finding of P; or memory ran out
--- FoundIs P found            == what is found is a finding of P; points are numbers of vertices of the graph
+-- FoundIs P found            == what is found is a finding of P; points are numbers of vertices of the graph;
+--                               and so is a graph, by its vertices and its edges in their order
 -- Comes P result             == the same of a result
 -- AreAllTexts files names ps == the first texts with these names spell these programs, and there are no more
 -- Spelled bytes file result  == the program that the bytes of a text spell; or why this name is refused
@@ -14,8 +15,10 @@ use Rattle.std.specs.Global.{Global}
 use Rattle.hpr_io.specs.Files.{Files, lookup}
 use Rattle.hpr_syntax.specs.Tree.{Tree}
 use Rattle.hpr_syntax.specs.Values.{Values}
+use Rattle.hpr_graph.specs.declared.edge.Edge.{Edge}
 use Rattle.hpr_graph.specs.declared.vertex.Vertex.{Vertex}
 use Rattle.hpr_graph.specs.Graphs.{Same}
+use Rattle.hpr_graph.specs.InOrder.{AreEdgesOf, AreVerticesOf}
 use Rattle.hpr_graph.specs.Numbered.{IsOneOf, Numbered, graph_in}
 use Rattle.hpr_graph.specs.ProgramGraph.{graph_of}
 use Rattle.hpr_engine.specs.Limit.{HasTooManyEdges}
@@ -24,7 +27,7 @@ use Rattle.hpr_refusals.specs.Refusals.{IsFileOf}
 use Rattle.hpr_run.specs.Outcomes.{outcome_of}
 use Rattle.hpr_words.specs.Request.{Text}
 use Rattle.hpr_inputs.specs.States.{states_of}
-use Rattle.hpr_data.specs.Findings.{Finding, no_call, word_refused, absent, refused, too_large, merged, conflicting, unmatched, over_budget, affects, ran, OnAllTexts, OnBytes, OnText, OnWords}
+use Rattle.hpr_data.specs.Findings.{Finding, no_call, word_refused, absent, refused, too_large, merged, conflicting, unmatched, over_budget, affects, graphed, ran, OnAllTexts, OnBytes, OnText, OnWords}
 use Rattle.hpr_data.specs.declared.found.Found.{Found}
 use Rattle.hpr_data.specs.declared.found.Found.TheVariants as found
 use Rattle.hpr_data.specs.declared.found.Stop.{Stop}
@@ -45,6 +48,7 @@ FoundIs P (found.NoProgram n) = P (unmatched n)
 FoundIs P (found.Spent tries) = P (over_budget tries)
 FoundIs P (found.Affected g numbers) =
     All (λ n. n < length g.vertices) numbers.items × ((vs : List Vertex) → ArePoints (IsOneOf g numbers.items) vs → P (affects vs))
+FoundIs P (found.Graph g) = (vs : List Vertex) (es : List Edge) → AreVerticesOf (graph_in g) vs → AreEdgesOf (graph_in g) es → P (graphed vs es)
 FoundIs P (found.Ran o) = P (ran (outcome_of o))
 
 abbrev pub Comes : (Finding → Type 0) → Result Found Stop → Type 0
