@@ -68,8 +68,8 @@ uint32_t hpr_call(const uint8_t *words, size_t words_len, const uint8_t *names, 
                   const size_t *lengths, size_t lengths_len, const uint8_t *bytes, size_t bytes_len,
                   uint8_t *out, size_t out_room, uint8_t *err, size_t err_room, hpr_sizes *sizes);
 
-/* The answer of integrate, affected, graph or run as data: an object of JSON and a newline, whose members docs/calling.md names.
- * What is handed in, and the status, are those of hpr_call; other commands are HPR_WORDS. Where the status is HPR_FORM or
+/* The answer of integrate, affected, graph, run or verify as data: an object of JSON and a newline, whose members docs/calling.md
+ * names. What is handed in, and the status, are those of hpr_call; other commands are HPR_WORDS. Where the status is HPR_FORM or
  * HPR_MEMORY the text is empty.
  *
  * The room takes the first bytes of the text, as above, and *size is how many it has. */

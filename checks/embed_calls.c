@@ -253,7 +253,7 @@ static void write_answer(FILE *out, struct answer answer) {
 }
 
 static int is_told(struct text words) {
-    static const char *const commands[] = {"integrate", "affected", "graph", "run"};
+    static const char *const commands[] = {"integrate", "affected", "graph", "run", "verify"};
     for (size_t at = 0; at < sizeof commands / sizeof *commands; at++)
         if (words.length && !strcmp((char *)words.at, commands[at])) return 1;
     return 0;

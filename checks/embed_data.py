@@ -5,7 +5,7 @@
     python3 checks/embed_data.py rows ROWS ANSWERS      compares the answers of a file of rows with what the rows say
 
 ROWS is a file of embed_rows.py. ANSWERS has of each of its rows the answer as data, where it is a call of integrate, affected,
-graph or run, and then of each of its files where its parts stand: a status as a number, and a text. Each text is to be JSON as compact as
+graph, run or verify, and then of each of its files where its parts stand: a status as a number, and a text. Each text is to be JSON as compact as
 json.dumps writes it, with members in ascending order. The usage, which the program prints of words that are no call, and the steps
 of --trace are no part of the data.
 """
@@ -17,8 +17,11 @@ sys.dont_write_bytecode = True
 
 import definitions  # noqa: E402
 
-COMMANDS = [b"integrate", b"affected", b"graph", b"run"]
-STATUS = {"done": 0, "interference": 1, "no program": 2, "spent": 3, "refused": 4, "absent": 5, "words": 7, "faulted": 9, "not ended": 9}
+COMMANDS = [b"integrate", b"affected", b"graph", b"run", b"verify"]
+STATUS = {
+    "done": 0, "verified": 0, "interference": 1, "no program": 2, "spent": 3, "refused": 4, "absent": 5, "words": 7, "faulted": 9, "not ended": 9,
+    "rejected": 10,
+}
 # what a file is refused for, by its kind
 REASONS = {
     "too long": "longer than 4194304 bytes",
@@ -36,9 +39,13 @@ SHOWN = 10
 
 
 # ---- lines
-def vertex(one):
+def words_of(one):
     said = {"entry": "entry", "part": "{tag} {content}"}.get(one["kind"], "{kind} {name}")
-    return f"[{said.format(**one)}]"
+    return said.format(**one)
+
+
+def vertex(one):
+    return f"[{words_of(one)}]"
 
 
 def edge(one):
@@ -81,9 +88,19 @@ def compact(found):
 
 def graph(vertices, edges, is_json):
     if is_json:
-        return [compact({"edges": edges, "vertices": [vertex(one)[1:-1] for one in vertices]})]
+        return [compact({"edges": edges, "vertices": list(map(words_of, vertices))})]
     ends = [{end: vertices[one[end]] for end in ("from", "to", "loop", "for") if end in one} for one in edges]
     return [*listed("vertices", map(vertex, vertices)), *listed("edges", [edge(one | at) for one, at in zip(edges, ends)])]
+
+
+def certificate(answer):
+    """What shows that an offered program isn't the merged one."""
+    shown = answer.get("conflict", answer)
+    says = {"edge": edge, "point": words_of, "vertex": words_of}
+    texts = {kind: say(shown[kind]) for kind, say in says.items() if kind in shown}
+    if "conflict" in answer:
+        return compact({**texts, "kind": "conflict", "side": " AB"[shown["variant"]]})
+    return compact({**texts, "holder": answer["holder"], "kind": next(iter(texts))})
 
 
 def printed(answer, words):
@@ -99,6 +116,10 @@ def printed(answer, words):
         return [f"ended, steps {answer['steps']}", *(f"{one['name']} = {value(one['value'])}" for one in answer["values"])]
     if status == "interference":
         return listed("interference", [conflict(one, has_many(words)) for one in answer["conflicts"]])
+    if status == "verified":
+        return ["verified"]
+    if status == "rejected":
+        return [certificate(answer)]
     if status == "no program":
         return [f"no program with at most 4000 parts has the merged graph, which has {answer['parts']} parts"]
     if status == "spent":

@@ -39,7 +39,7 @@ export class Hpr {
   readonly memory: number;
   /** Makes a call: the words of a command line, and the files that they may name. */
   call(words: string[], files?: Record<string, Text> | Map<string, Text>): Told;
-  /** The answer of `integrate`, `affected`, `graph` or `run` as data. Numbers have up to 64 bits, of which JSON.parse keeps 53. */
+  /** The answer of `integrate`, `affected`, `graph`, `run` or `verify` as data. Numbers have up to 64 bits, of which JSON.parse keeps 53. */
   data(words: string[], files?: Record<string, Text> | Map<string, Text>): Data;
   /** Where the parts of a program stand in its text, in bytes of UTF-8: `{"byte":FIRST,"length":BYTES,"tag":"1.2"}` for each. */
   places(text: Text): Data;

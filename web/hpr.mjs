@@ -109,7 +109,7 @@ export class Hpr {
   }
 
   /**
-   * The answer of `integrate`, `affected`, `graph` or `run` as data; other commands have the status of words that are no call.
+   * The answer of `integrate`, `affected`, `graph`, `run` or `verify` as data; other commands have the status of words that are no call.
    *
    * @param {string[]} words
    * @param {Record<string, string | Uint8Array> | Map<string, string | Uint8Array>} files

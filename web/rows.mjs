@@ -65,7 +65,7 @@ function rowOf({ status, json }) {
   return [numbers, text];
 }
 
-const TOLD = ['integrate', 'affected', 'graph', 'run'];
+const TOLD = ['integrate', 'affected', 'graph', 'run', 'verify'];
 const [wasm, file] = await Promise.all(process.argv.slice(2, 4).map((name) => readFile(name)));
 const hpr = await load(wasm);
 const answers = [];

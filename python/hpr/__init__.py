@@ -182,7 +182,7 @@ def call(words: Sequence[str], files: Mapping[str, bytes] = {}) -> Answer:
 
 
 def data(words: Sequence[str], files: Mapping[str, bytes] = {}) -> Data:
-    """The answer of integrate, affected, graph or run as data: words and files are those of `call`, and so is the status. Other commands are WORDS."""
+    """The answer of integrate, affected, graph, run or verify as data: words and files are those of `call`, and so is the status. Other commands are WORDS."""
     given = _given(words, files)
     if given is None:
         return Data(Status.FORM, {})

@@ -65,7 +65,7 @@ class TestHpr(unittest.TestCase):
         named, answers = self.named("HPR_ROWS", "HPR_ANSWERS")
         with answers.open("wb") as out:
             for words, listed, files, wanted in Rows(named.read_bytes()):
-                if words[:1] in (["integrate"], ["affected"], ["graph"], ["run"]):
+                if words[:1] in (["integrate"], ["affected"], ["graph"], ["run"], ["verify"]):
                     told = hpr.data(words, files)
                     self.assertEqual(told.status, wanted.status, words)
                     out.write(as_row(*told))

@@ -124,8 +124,8 @@ pub fn call(words: &[&str], files: &[(&str, &[u8])]) -> Answer {
     answer(given.bytes.len(), |out, err| raw::call(&given, out, err))
 }
 
-/// The answer of `integrate`, `affected`, `graph` or `run` as data: words and files are those of [`call`], and so is the status.
-/// Other commands are `Words`.
+/// The answer of `integrate`, `affected`, `graph`, `run` or `verify` as data: words and files are those of [`call`], and so is
+/// the status. Other commands are `Words`.
 ///
 /// ```
 /// let base = b"program issued 1:1 1.1: x := 1; end(x)";

@@ -83,7 +83,7 @@ fn rows_are_told_as_data() -> io::Result<()> {
     while !rows.0.is_empty() {
         let (words, files) = rows.call();
         let (number, _, _) = rows.answer();
-        if matches!(words.first(), Some(&("integrate" | "affected" | "graph" | "run"))) {
+        if matches!(words.first(), Some(&("integrate" | "affected" | "graph" | "run" | "verify"))) {
             let told = hpr::data(&words, &files);
             assert_eq!(told.status.number() as usize, number, "{words:?}");
             write_told(&mut out, &told)?;

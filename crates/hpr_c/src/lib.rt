@@ -131,8 +131,8 @@ pub extern "C" fn hpr_integrate(
     hand_out(&told, out, err, sizes)
 }
 
-/// Tells what `integrate`, `affected`, `graph` or `run` comes to as data: an object of JSON in compact text, and a
-/// newline.
+/// Tells what `integrate`, `affected`, `graph`, `run` or `verify` comes to as data: an object of JSON in compact text,
+/// and a newline.
 /// Words and files are handed in as to `hpr_call`. The number is that of the status of the call, and 7 for
 /// another command.
 ///

@@ -1,5 +1,5 @@
 -- What comes of a request is what hpr decides on it.
-use Rattle.std.proofs.Common.{◌≡◌, ◌≢◌, ℕ, Bool, true, false, List, [], ◌∷◌, ◌++◌, map, Option, Some, None, Ok, Err, Result, unwrap_or, refl, sym, ap, inl, inr, subst}
+use Rattle.std.proofs.Common.{◌≡◌, ◌≢◌, ℕ, Bool, true, false, List, [], ◌∷◌, ◌++◌, map, Option, Some, None, Ok, Err, Result, unwrap_or, refl, sym, ap, ◌∙◌, inl, inr, subst}
 use Rattle.hpr_io.specs.Files.{Files, lookup}
 use Rattle.hpr_syntax.specs.Run as means
 use Rattle.hpr_syntax.specs.Tree.{Tree}
@@ -13,12 +13,14 @@ use Rattle.hpr_graph.specs.Graphs.{Graph}
 use Rattle.hpr_graph.specs.InOrder.{AreEdgesOf, AreVerticesOf}
 use Rattle.hpr_graph.specs.Points.{IsAffected}
 use Rattle.hpr_graph.specs.ProgramGraph.{graph_of}
+use Rattle.hpr_verify.specs.declared.verdict.Verdict.{Verdict}
+use Rattle.hpr_verify.specs.declared.verdict.Verdict.TheVariants as verdict
 use Rattle.hpr_refusals.specs.Reasons.{refusal_text}
 use Rattle.hpr_refusals.specs.Refusals.{IsFileOf, IsRefused}
 use Rattle.hpr_report.specs.AffectedText.{IsAffectedText, affected_text}
 use Rattle.hpr_report.specs.ConflictsText.{conflicts_text}
 use Rattle.hpr_report.specs.Texts.{outcome_text}
-use Rattle.hpr_words.specs.Request.{Request, Text, integrate, integrate_many, run, graph, affected}
+use Rattle.hpr_words.specs.Request.{Request, Text, integrate, integrate_many, run, graph, affected, verify}
 use Rattle.hpr_inputs.specs.Decision.{Decision, OnRead, Prints, prints, refuses}
 use Rattle.hpr_inputs.specs.Files.{OnAllFiles, OnFile}
 use Rattle.hpr_inputs.specs.States.{OnState, RefusedWord, refused_word_text, states_of}
@@ -31,11 +33,12 @@ use Rattle.hpr_decisions.specs.Integrate.{IntegratedBy, IsReported, no_program_t
 use Rattle.hpr_decisions.specs.IntegrateMany.{IntegratedMany, IsReportedOfMany, Told, conflict_of, told_text}
 use Rattle.hpr_decisions.specs.RunFile.{Ran, kind_of}
 use Rattle.hpr_decisions.specs.TraceText.{run_text, trace_text}
+use Rattle.hpr_decisions.specs.VerifyFiles.{IsVerified, report_verdict}
 use Rattle.hpr_decisions.specs.declared.status.Status.TheVariants.{ReadFault}
 use Rattle.hpr_meaning.specs.Instances.{instances}
-use Rattle.hpr_data.specs.Findings.{AffectedBetween, AffectsPoints, Answers, Finding, Integrated, IsGraphed, OnAllEdges, OnAllTexts, OnBytes, OnEdges, OnText, OnWords, absent, affects, conflicting, graphed, merged, no_call, over_budget, ran, refused, too_large, unmatched, word_refused}
+use Rattle.hpr_data.specs.Findings.{AffectedBetween, AffectsPoints, Answers, Finding, Integrated, IsGraphed, IsJudgedOf, OnAllEdges, OnAllTexts, OnBytes, OnEdges, OnText, OnWords, Verified, absent, affects, conflicting, graphed, judged, merged, no_call, over_budget, ran, refused, too_large, unmatched, word_refused}
 use Rattle.hpr_data.specs.Printed.{FoundIsDecided, IsPrinted, shown_graph}
-use Rattle.hpr_data.specs.Told.{status_of}
+use Rattle.hpr_data.specs.Told.{status_of, verdict_status}
 use Rattle.hpr_data.proofs.TwoSides.{by_side, by_sides, same_numbers}
 
 -- a run's lines end with how it went
@@ -114,6 +117,20 @@ graph_decided file json f p (vs, es, are, edges, e) =
     let r = prints kind.Done shown in
     (r, (shown, is_shown json (graph_of p) vs es are edges, refl), printed_too (graph file json) f (graphed vs es) e r (shown, refl, refl))
 
+-- a verdict on the last of four programs
+abbrev pub IsVerifiedOf : List Tree → Decision → Type 0
+IsVerifiedOf (p ∷ q ∷ s ∷ o ∷ []) r = IsVerified p q s o r
+IsVerifiedOf _ r = ⊥
+
+judged_decided : (base a b offered : Text) (f : Finding) (ps : List Tree) → IsJudgedOf ps f → IsDecided (verify base a b offered) f (IsVerifiedOf ps)
+judged_decided base a b offered f [] h = absurd h
+judged_decided base a b offered f (p ∷ []) h = absurd h
+judged_decided base a b offered f (p ∷ q ∷ []) h = absurd h
+judged_decided base a b offered f (p ∷ q ∷ s ∷ []) h = absurd h
+judged_decided base a b offered f (p ∷ q ∷ s ∷ o ∷ []) (v, is, e) =
+    let r = report_verdict v in (r, (v, is, refl), printed_too (verify base a b offered) f (judged v) e r refl)
+judged_decided base a b offered f (p ∷ q ∷ s ∷ o ∷ x ∷ rest) h = absurd h
+
 -- the answer of many variants
 many_decided : (base : Text) (names : List Text) (within : ℕ) (f : Finding) (p : Tree) (ps : List Tree) (tries : ℕ) → Answers p ps tries f
     → IsDecided (integrate_many base names within) f (IsReportedOfMany p ps tries)
@@ -182,9 +199,20 @@ found_is_decided (graph file json) files f h told there =
     let asked = graph file json in
     on_text asked f there files file (λ p. OnEdges file p (IsGraphed p f) f) (λ p r. Graphed file p json r)
     (λ p. on_edges asked f file p (IsGraphed p f) (Prints (IsShown json (graph_of p))) (graph_decided file json f p)) h
+found_is_decided (verify base a b offered) files f h told there =
+    let asked = verify base a b offered in
+    let names = base ∷ a ∷ b ∷ offered ∷ [] in
+    on_all_texts asked f there files names (λ ps. Verified names ps f) (λ ps r. OnAllGraphs names ps (IsVerifiedOf ps r) r)
+    (λ ps. on_all_edges asked f names ps (IsJudgedOf ps f) (IsVerifiedOf ps) (judged_decided base a b offered f ps)) h
 found_is_decided _ files f h told there = absurd (told (ap status_of h))
 
 -- and of its status
+verdict_printed : (v : Verdict) → verdict_status v ≡ ends.status_of (report_verdict v)
+verdict_printed verdict.Same = refl
+verdict_printed (verdict.Conflict c) = refl
+verdict_printed (verdict.Vertex v h) = refl
+verdict_printed (verdict.Edge e h) = refl
+
 pub printed_status : (request : Request) (f : Finding) (r : Decision) → IsPrinted request f r → status_of f ≡ ends.status_of r
 printed_status request no_call r shown = absurd shown
 printed_status request (word_refused message) r shown = sym (ap ends.status_of shown)
@@ -197,4 +225,5 @@ printed_status request (unmatched n) r shown = sym (ap ends.status_of shown)
 printed_status request (over_budget tries) r shown = sym (ap ends.status_of shown)
 printed_status request (affects vs) r shown = sym (ap ends.status_of shown)
 printed_status request (graphed vs es) r (lines, shows, shown) = sym (ap ends.status_of shown)
+printed_status request (judged v) r shown = verdict_printed v ∙ sym (ap ends.status_of shown)
 printed_status request (ran o) r (front, shown) = sym (ap ends.status_of shown)

@@ -17,7 +17,7 @@ use Rattle.hpr_merge.proofs.NoneListed.{number_within, sides_tell}
 use Rattle.hpr_refusals.specs.Refusals.{IsFileOf, IsRefused}
 use Rattle.hpr_report.specs.AffectedText.{IsAffectedText}
 use Rattle.hpr_report.specs.ConflictsText.{conflicts_text}
-use Rattle.hpr_words.specs.Request.{Request, Text, integrate, integrate_many, run, graph, affected}
+use Rattle.hpr_words.specs.Request.{Request, Text, integrate, integrate_many, run, graph, affected, verify}
 use Rattle.hpr_inputs.specs.Decision.{Decision, OnRead, Prints, prints, refuses}
 use Rattle.hpr_inputs.specs.Files.{OnAllFiles, OnFile}
 use Rattle.hpr_inputs.specs.States.{OnState, RefusedWord, refused_word_text, states_of}
@@ -28,9 +28,9 @@ use Rattle.hpr_decisions.specs.Graphs.{OnAllGraphs, OnGraph}
 use Rattle.hpr_decisions.specs.Integrate.{IntegratedBy, IsReported}
 use Rattle.hpr_decisions.specs.IntegrateMany.{IntegratedMany, IsReportedOfMany, Told, conflict_of, told_text}
 use Rattle.hpr_decisions.specs.RunFile.{Ran, kind_of}
-use Rattle.hpr_data.specs.Findings.{AffectedBetween, AffectsPoints, Answers, Finding, Integrated, IsGraphed, OnAllEdges, OnAllTexts, OnBytes, OnEdges, OnText, OnWords, affects, conflicting, graphed, merged, over_budget, ran, refused, too_large, unmatched, word_refused}
+use Rattle.hpr_data.specs.Findings.{AffectedBetween, AffectsPoints, Answers, Finding, Integrated, IsGraphed, IsJudgedOf, OnAllEdges, OnAllTexts, OnBytes, OnEdges, OnText, OnWords, Verified, affects, conflicting, graphed, judged, merged, over_budget, ran, refused, too_large, unmatched, word_refused}
 use Rattle.hpr_data.specs.Printed.{DecidedIsFound, IsPrinted, numbered}
-use Rattle.hpr_data.proofs.DecidedLemmas.{front_of}
+use Rattle.hpr_data.proofs.DecidedLemmas.{IsVerifiedOf, front_of}
 
 abbrev IsThere : Files → Text → Type 0
 IsThere files file = IsSome (lookup files file)
@@ -87,6 +87,15 @@ module _ (request : Request) (r : Decision) where
 graph_found : (file : Text) (json : Bool) (r : Decision) (p : Tree) → Prints (IsShown json (graph_of p)) r → IsFound (graph file json) r (IsGraphed p)
 graph_found file true r p (shown, (vs, es, are, edges, is), e) = (graphed vs es, (vs, es, are, edges, refl), (shown, is, e))
 graph_found file false r p (shown, (vs, es, are, edges, is), e) = (graphed vs es, (vs, es, are, edges, refl), (shown, is, e))
+
+-- a verdict on the last of four programs
+judged_found : (base a b offered : Text) (r : Decision) (ps : List Tree) → IsVerifiedOf ps r → IsFound (verify base a b offered) r (IsJudgedOf ps)
+judged_found base a b offered r [] h = absurd h
+judged_found base a b offered r (p ∷ []) h = absurd h
+judged_found base a b offered r (p ∷ q ∷ []) h = absurd h
+judged_found base a b offered r (p ∷ q ∷ s ∷ []) h = absurd h
+judged_found base a b offered r (p ∷ q ∷ s ∷ o ∷ []) (v, is, e) = (judged v, (v, is, refl), e)
+judged_found base a b offered r (p ∷ q ∷ s ∷ o ∷ x ∷ rest) h = absurd h
 
 -- the answer of many variants
 many_found : (base : Text) (names : List Text) (within : ℕ) (r : Decision) (p : Tree) (ps : List Tree) (tries : ℕ) → IsReportedOfMany p ps tries r
@@ -177,4 +186,9 @@ decided_is_found (graph file json) files r has there o =
     let asked = graph file json in
     of_file asked r files file (λ p. Graphed file p json r) (λ p f. OnEdges file p (IsGraphed p f) f)
     (λ p. of_graph asked r file p (Prints (IsShown json (graph_of p)) r) (IsGraphed p) (graph_found file json r p)) (All-head (IsThere files) file [] there) o
+decided_is_found (verify base a b offered) files r has there o =
+    let asked = verify base a b offered in
+    let names = base ∷ a ∷ b ∷ offered ∷ [] in
+    of_all_files asked r files names (λ ps. OnAllGraphs names ps (IsVerifiedOf ps r) r) (λ ps f. Verified names ps f)
+    (λ ps. of_all_graphs asked r names ps (IsVerifiedOf ps r) (IsJudgedOf ps) (judged_found base a b offered r ps)) there o
 decided_is_found _ files r has there o = absurd has

@@ -2,6 +2,7 @@ pub mod TextLemmas
 pub mod AffectedLemmas
 pub mod GraphLemmas
 pub mod ManyLemmas
+pub mod VerifyLemmas
 pub mod ToldLemmas
 pub mod TwoSides
 pub mod DecidedLemmas

@@ -13,16 +13,17 @@ use Rattle.hpr_decisions.specs.declared.status.Status.{Status}
 use Rattle.hpr_decisions.specs.declared.status.Status.TheVariants.{Done, ReadFault, Words}
 use Rattle.hpr_decisions.proofs.Theorem.{request_keeps, request_keeps_all}
 use Rattle.hpr_json.specs.Answers.{json_line}
-use Rattle.hpr_data.specs.Findings.{Answers, Finding, Finds, Integrated, Integrates, OnAllEdges, OnAllTexts, OnBytes, absent, affects, conflicting, finding_of, graphed, merged, no_call, over_budget, ran, refused, too_large, unmatched, word_refused}
+use Rattle.hpr_data.specs.Findings.{Answers, Finding, Finds, Integrated, Integrates, OnAllEdges, OnAllTexts, OnBytes, absent, affects, conflicting, finding_of, graphed, judged, merged, no_call, over_budget, ran, refused, too_large, unmatched, word_refused}
 use Rattle.hpr_data.specs.Printed.{Agrees, IsPrinted}
 use Rattle.hpr_data.specs.Told.{IsReply, Tells, TellsKept, data_of, status_of}
 use Rattle.hpr_data.specs.declared.reply.Reply.{Reply}
 use Rattle.hpr_data.proofs.DecidedLemmas.{found_is_decided, printed_status}
 
--- it is neither points nor a graph nor a run
+-- it is neither points nor a graph nor a verdict nor a run
 abbrev IsOfMerge : Finding → Type 0
 IsOfMerge (affects vs) = ⊥
 IsOfMerge (graphed vs es) = ⊥
+IsOfMerge (judged v) = ⊥
 IsOfMerge (ran o) = ⊥
 IsOfMerge _ = Unit {0}
 
@@ -77,6 +78,7 @@ done_merged (unmatched n) is e = absurd cc
 done_merged (over_budget tries) is e = absurd cc
 done_merged (affects vs) is e = absurd is
 done_merged (graphed vs es) is e = absurd is
+done_merged (judged v) is e = absurd is
 done_merged (ran o) is e = absurd is
 
 module _ (request : Request) (files : Files) (reply : Reply) (does : DoesIntegrate request) (done : reply.status ≡ Done) where

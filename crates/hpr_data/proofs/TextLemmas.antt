@@ -29,6 +29,7 @@ module _ (P Q : Finding → Type 0) (f : (x : Finding) → P x → Q x) where
   found_map (found.Spent tries) h = f _ h
   found_map (found.Affected g numbers) (within, h) = (within, λ vs are. f _ (h vs are))
   found_map (found.Graph g) h = λ vs es are edges. f _ (h vs es are edges)
+  found_map (found.Judged v) h = f _ h
   found_map (found.Ran o) h = f _ h
 
   pub comes_map : (result : Result Found Stop) → Comes P result → Comes Q result

@@ -39,4 +39,5 @@ module _ (P : Finding → Type 0) where
   found_told (found.Spent tries) reply h told = (_, h, told)
   found_told (found.Affected g numbers) reply h (vs, are, told) = (_, h.1 vs are, told)
   found_told (found.Graph g) reply h (vs, es, are, edges, told) = (_, h vs es are edges, told)
+  found_told (found.Judged v) reply h told = (_, h, told)
   found_told (found.Ran o) reply h told = (_, h, told)

@@ -1,7 +1,7 @@
 -- What comes of a request over texts in memory.
 --
 -- Finding                   == what comes of it, one of these:
---   no_call                    it is none of the four commands
+--   no_call                    it is none of the five commands
 --   word_refused message       a word of the state is refused, with this message
 --   absent file                no text has this name
 --   refused file why           the text with this name is refused, for this cause
@@ -12,6 +12,7 @@
 --   over_budget tries          the budget of so many tries is spent
 --   affects vs                 these are the affected points of a variant, in their order
 --   graphed vs es              a graph has these vertices and these edges, in their order
+--   judged v                   this is the verdict on a merged program that was made elsewhere
 --   ran o                      a run went so
 -- OnBytes told file next f  == there is no text, and f says so of this name; or it is refused for a cause,
 --                              and f says so; or it spells a program, and f is what next says of it
@@ -28,7 +29,11 @@
 -- AffectsPoints p q f       == f is the affected points of the graph of q beside that of p
 -- AffectedBetween base p a q f == that, unless one of their graphs has too many edges
 -- IsGraphed p f             == f is the vertices and the edges of the graph of p
--- Integrates files base names tries f, Affects files base a f, Graphs files file f,
+-- IsJudgedOf ps f           == f is a verdict on the last of four programs, which is offered, by the first,
+--                              which is their base, and two variants
+-- Verified names ps f       == that of the programs of these names, unless one of their graphs has too many
+--                              edges
+-- Integrates files base names tries f, Affects files base a f, Graphs files file f, Verifies files names f,
 -- Runs files file words steps f == f comes of the command over these texts
 -- Finds request files f     == f comes of the request over these texts; there is none where the words are no
 --                              call
@@ -47,10 +52,12 @@ use Rattle.hpr_graph.specs.InOrder.{AreEdgesOf, AreVerticesOf}
 use Rattle.hpr_graph.specs.Points.{IsAffected}
 use Rattle.hpr_graph.specs.ProgramGraph.{graph_of}
 use Rattle.hpr_engine.specs.Limit.{HasTooManyEdges}
+use Rattle.hpr_verify.specs.Verdict.{IsVerdict}
+use Rattle.hpr_verify.specs.declared.verdict.Verdict.{Verdict}
 use Rattle.hpr_report.specs.AffectedText.{ArePoints}
 use Rattle.hpr_refusals.specs.Refusals.{IsCauseIn, IsFileOf}
 use Rattle.hpr_refusals.specs.declared.files.Refusal.{Refusal}
-use Rattle.hpr_words.specs.Request.{Request, Text, integrate, integrate_many, run, graph, affected}
+use Rattle.hpr_words.specs.Request.{Request, Text, integrate, integrate_many, run, graph, affected, verify}
 use Rattle.hpr_inputs.specs.States.{RefusedWord, refused_word_text, states_of}
 use Rattle.hpr_decisions.specs.IntegrateMany.{IsAnswerOfMany, Told, conflict_of}
 
@@ -66,6 +73,7 @@ pub data Finding : Type 0 where
   over_budget : (tries : ℕ) → Finding
   affects : (points : List Vertex) → Finding
   graphed : (vertices : List Vertex) (edges : List Edge) → Finding
+  judged : (verdict : Verdict) → Finding
   ran : (outcome : Outcome) → Finding
 
 abbrev pub OnBytes : Option (List ℕ) → Text → (Tree → Type 0) → Finding → Type 0
@@ -122,6 +130,16 @@ IsGraphed p f = (vs : List Vertex) × (es : List Edge) × AreVerticesOf (graph_o
 abbrev pub Graphs : Files → Text → Finding → Type 0
 Graphs files file f = OnText files file (λ p. OnEdges file p (IsGraphed p f) f) f
 
+abbrev pub IsJudgedOf : List Tree → Finding → Type 0
+IsJudgedOf (base ∷ a ∷ b ∷ offered ∷ []) f = (v : Verdict) × IsVerdict base a b offered v × (f ≡ judged v)
+IsJudgedOf _ f = ⊥
+
+abbrev pub Verified : List Text → List Tree → Finding → Type 0
+Verified names ps f = OnAllEdges names ps (IsJudgedOf ps f) f
+
+abbrev pub Verifies : Files → List Text → Finding → Type 0
+Verifies files names f = OnAllTexts files names (λ ps. Verified names ps f) f
+
 abbrev pub Runs : Files → Text → List Text → ℕ → Finding → Type 0
 Runs files file words steps f =
     OnWords (states_of words) (λ state. OnText files file (λ p. f ≡ ran (means.run p state steps)) f) f
@@ -131,5 +149,6 @@ Finds (Some (integrate base a b tries)) files f = Integrates files base (a ∷ b
 Finds (Some (integrate_many base variants tries)) files f = Integrates files base variants tries f
 Finds (Some (affected base a)) files f = Affects files base a f
 Finds (Some (graph file json)) files f = Graphs files file f
+Finds (Some (verify base a b offered)) files f = Verifies files (base ∷ a ∷ b ∷ offered ∷ []) f
 Finds (Some (run file words steps trace)) files f = Runs files file words steps f
 Finds _ files f = f ≡ no_call

@@ -6,9 +6,9 @@
 -- ShowsGraph request vs es text == the text is hpr's of this graph, as it is asked for
 -- IsPrinted request f r     == hpr's decision r on the request is on the same finding: it prints it, a run
 --                              behind its trace if there is one, or refuses with its message
--- FoundIsDecided            == what comes of one of the four commands is what hpr decides on it, unless a
+-- FoundIsDecided            == what comes of one of the five commands is what hpr decides on it, unless a
 --                              text that it comes to read isn't there
--- HasData request           == the request is of one of the four commands
+-- HasData request           == the request is of one of the five commands
 -- DecidedIsFound            == what hpr decides on one of them comes of it, where all its texts are there
 -- Agrees request files s    == s is the status of a decision of hpr on the request over these files
 use Rattle.std.specs.Prelude.{◌≡◌, ◌≢◌, ◌+◌, ℕ, Bool, true, false, List, ◌++◌, All, IsSome, Some, codes, map}
@@ -26,7 +26,7 @@ use Rattle.hpr_report.specs.ConflictsText.{conflicts_text, many_conflicts_text}
 use Rattle.hpr_report.specs.GraphJson.{graph_data}
 use Rattle.hpr_report.specs.GraphTexts.{graph_text}
 use Rattle.hpr_report.specs.Texts.{outcome_text}
-use Rattle.hpr_words.specs.Request.{Request, affected, graph, integrate, integrate_many, run}
+use Rattle.hpr_words.specs.Request.{Request, affected, graph, integrate, integrate_many, run, verify}
 use Rattle.hpr_inputs.specs.Decision.{Decision, prints, refuses}
 use Rattle.hpr_inputs.specs.declared.answer.Kind.TheVariants as kind
 use Rattle.hpr_decisions.specs.Ends as ends
@@ -35,9 +35,10 @@ use Rattle.hpr_decisions.specs.Integrate.{no_program_text, spent_text}
 use Rattle.hpr_decisions.specs.Outcome.{RequestOutcome}
 use Rattle.hpr_decisions.specs.Reads.{files_of}
 use Rattle.hpr_decisions.specs.RunFile.{kind_of}
+use Rattle.hpr_decisions.specs.VerifyFiles.{report_verdict}
 use Rattle.hpr_decisions.specs.declared.status.Status.{Status}
 use Rattle.hpr_decisions.specs.declared.status.Status.TheVariants.{ReadFault, Words}
-use Rattle.hpr_data.specs.Findings.{Finding, Finds, no_call, word_refused, absent, refused, too_large, merged, conflicting, unmatched, over_budget, affects, graphed, ran}
+use Rattle.hpr_data.specs.Findings.{Finding, Finds, no_call, word_refused, absent, refused, too_large, merged, conflicting, unmatched, over_budget, affects, graphed, judged, ran}
 use Rattle.hpr_data.specs.Told.{status_of}
 
 abbrev pub numbered : Conflict → ManyConflict
@@ -67,6 +68,7 @@ IsPrinted request (unmatched n) r = r ≡ prints kind.NoProgram (no_program_text
 IsPrinted request (over_budget tries) r = r ≡ prints kind.Spent (spent_text tries)
 IsPrinted request (affects vs) r = r ≡ prints kind.Done (affected_text vs)
 IsPrinted request (graphed vs es) r = (shown : List ℕ) × ShowsGraph request vs es shown × (r ≡ prints kind.Done shown)
+IsPrinted request (judged v) r = r ≡ report_verdict v
 IsPrinted request (ran o) r = (trace : List ℕ) × (r ≡ prints (kind_of o) (trace ++ outcome_text o))
 
 abbrev pub FoundIsDecided : Type 0
@@ -79,6 +81,7 @@ HasData (integrate base a b tries) = Unit {0}
 HasData (integrate_many base variants tries) = Unit {0}
 HasData (affected base a) = Unit {0}
 HasData (graph file json) = Unit {0}
+HasData (verify base a b offered) = Unit {0}
 HasData (run file words steps trace) = Unit {0}
 HasData _ = ⊥
 

@@ -11,6 +11,7 @@ use crate::found::{Found, Stop};
 use crate::graph::graph_shown;
 use crate::integrate::integrated;
 use crate::run::run_named;
+use crate::verify::verified;
 use hpr_words::Asked;
 use std::alloc::Global;
 
@@ -38,6 +39,12 @@ pub(crate) fn find<'a>(
             steps,
             trace: _,
         } => run_named(alloc, files, file, states.as_slice(), steps),
+        Asked::Verify {
+            base,
+            a,
+            b,
+            offered,
+        } => verified(alloc, files, &[base, a, b, offered]),
         _ => Err(Stop::NoCall),
     }
 }

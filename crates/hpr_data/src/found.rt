@@ -3,6 +3,7 @@ use hpr_graph::{Graph, ManyConflict};
 use hpr_refusals::Refusal;
 use hpr_run::Outcome;
 use hpr_syntax::{NoMemory, Program};
+use hpr_verify::Verdict;
 
 /// What a request comes to.
 #[derive(Drop)]
@@ -19,6 +20,8 @@ pub(crate) enum Found {
     Affected(Graph, Vec<usize>),
     /// The graph of a program.
     Graph(Graph),
+    /// The verdict on a merged program that was made elsewhere.
+    Judged(Verdict),
     /// How a run went.
     Ran(Outcome),
 }
@@ -26,7 +29,7 @@ pub(crate) enum Found {
 /// Why a request comes to nothing that it asks for.
 #[derive(Drop)]
 pub(crate) enum Stop<'a> {
-    /// It is none of the four commands.
+    /// It is none of the five commands.
     NoCall,
     /// A word of the state is refused, with this message.
     Word(String),

@@ -10,6 +10,7 @@ pub mod laws;
 mod reply;
 mod run;
 mod texts;
+mod verify;
 
 ghost use Rattle.std.specs.Prelude.{◌≡◌, ◌≢◌, Some, IfOk};
 ghost use Rattle.hpr_io.specs.Files.{files_in};
@@ -29,12 +30,12 @@ use hpr_words::{Asked, WordsError, read_words};
 pub use reply::Reply;
 use std::alloc::Global;
 
-/// What hpr answers to the words of `integrate`, `affected`, `graph` or `run` over these texts, as data.
+/// What hpr answers to the words of `integrate`, `affected`, `graph`, `run` or `verify` over these texts, as data.
 ///
 /// A word for a file names the first text with this name. The words of a state are judged from left to right, before
 /// any text; then each text before the next one: one that isn't there has the status `ReadFault`, and one that has
 /// more than 4,194,304 bytes or spells no program is refused. So is the first text whose program has a graph of more
-/// than 1,000,000 edges, where the command needs it. Words that are no call of one of the four commands have the
+/// than 1,000,000 edges, where the command needs it. Words that are no call of one of the five commands have the
 /// status `Words`. Whether a run's trace or the graph's JSON is asked for changes nothing. It fails only for want of memory.
 pub fn data(alloc: Global, words: &[String], files: &[(String, Vec<u8>)]) -> Result<Reply, NoMemory>
     // The status and the object of what comes of the words.

@@ -6,6 +6,7 @@ ghost use Rattle.hpr_run.specs.Outcomes.{outcome_of};
 ghost use Rattle.hpr_decisions.specs.Ends.{status_of_kind};
 ghost use Rattle.hpr_decisions.specs.RunFile.{kind_of};
 ghost use Rattle.hpr_json.specs.Answers.{json_line};
+ghost use Rattle.hpr_data.specs.Told.{verdict_status};
 ghost use Rattle.hpr_data.specs.Private.ToldAs.{HasPoints, StoppedAs, ToldAs};
 
 use crate::found::{Found, Stop};
@@ -13,10 +14,11 @@ use hpr_decisions::Status;
 use hpr_json::{
     absent_value, conflicts_value, edges_value, graph_value, json_line, no_program_value,
     outcome_value, points_value, program_value, refusal_value, spent_value, state_value,
-    words_value,
+    verdict_value, words_value,
 };
 use hpr_run::Outcome;
 use hpr_syntax::NoMemory;
+use hpr_verify::Verdict;
 use serde_json::Value;
 use std::alloc::Global;
 
@@ -50,7 +52,24 @@ pub(crate) fn told(alloc: Global, found: &Found) -> Result<Reply, NoMemory>
             line(alloc, Status::Done, points_value(alloc, graph, points)?)
         }
         Found::Graph(graph) => line(alloc, Status::Done, graph_value(alloc, graph)?),
+        Found::Judged(verdict) => {
+            line(
+                alloc,
+                verdict_status(verdict),
+                verdict_value(alloc, verdict)?,
+            )
+        }
         Found::Ran(outcome) => line(alloc, run_status(outcome), outcome_value(alloc, outcome)?),
+    }
+}
+
+/// The status of a verdict.
+fn verdict_status(verdict: &Verdict) -> Status
+    ensures { result ≡ verdict_status verdict.now }
+{
+    match verdict {
+        Verdict::Same => Status::Done,
+        Verdict::Conflict(_) | Verdict::Vertex(_, _) | Verdict::Edge(_, _) => Status::Rejected,
     }
 }
 

@@ -1,5 +1,5 @@
 -- No number of an answer is a float.
-use Rattle.std.proofs.Common.{◌≡◌, ℕ, ℤ, pos, negsuc, Bool, false, ◌||◌, List, [], ◌∷◌, map, refl, ap₂}
+use Rattle.std.proofs.Common.{◌≡◌, ℕ, ◌+◌, ℤ, pos, negsuc, Bool, false, ◌||◌, List, [], ◌∷◌, map, refl, ap₂}
 use Rattle.std.specs.FinMap.{entries}
 use Rattle.serde_json.specs.Data.{Data}
 use Rattle.serde_json.specs.View.{items_of}
@@ -14,8 +14,12 @@ use Rattle.hpr_graph.specs.declared.edge.Kind.TheVariants.{Control, Independent,
 use Rattle.hpr_graph.specs.declared.edge.Edge.{Edge}
 use Rattle.hpr_graph.specs.declared.conflict.ManyConflict.{ManyConflict}
 use Rattle.hpr_report.specs.GraphJson as by_places
-use Rattle.hpr_json.specs.Vertices.{vertex_data, kind_data, many_conflict_data}
+use Rattle.hpr_json.specs.Vertices.{vertex_data, kind_data, edge_data, conflict_data, many_conflict_data}
 use Rattle.hpr_json.specs.Answers.{conflicts_data, graph_data, points_data}
+use Rattle.hpr_graph.specs.Conflicts.{number_of}
+use Rattle.hpr_verify.specs.declared.verdict.Verdict.{Verdict}
+use Rattle.hpr_verify.specs.declared.verdict.Verdict.TheVariants as verdict
+use Rattle.hpr_json.specs.Verdicts.{verdict_data}
 use Rattle.hpr_json.specs.Outcomes.{integer_data, element_data, value_data, final_data, outcome_data}
 
 either : (a b : Bool) → a ≡ false → b ≡ false → (a || b) ≡ false
@@ -37,11 +41,14 @@ kind (Independent x) from to f t = either _ _ f (either _ _ t refl)
 kind (Carried x w) from to f t = either _ _ f (either _ _ (vertex w) (either _ _ t refl))
 kind (Order u) from to f t = either _ _ (vertex u) (either _ _ f (either _ _ t refl))
 
-conflict : (c : ManyConflict) → has_float (many_conflict_data c) ≡ false
-conflict c = either _ _ (kind c.edge.kind _ _ (vertex c.edge.from) (vertex c.edge.to)) (either _ _ (vertex c.point) refl)
+edge : (e : Edge) → has_float (edge_data e) ≡ false
+edge e = kind e.kind _ _ (vertex e.from) (vertex e.to)
+
+conflict : (n : ℕ) (v : Vertex) (e : Edge) → has_float (conflict_data (n, v, e)) ≡ false
+conflict n v e = either _ _ (edge e) (either _ _ (vertex v) refl)
 
 pub conflicts_whole : (cs : List ManyConflict) → has_float (conflicts_data cs) ≡ false
-conflicts_whole cs = either _ _ (items many_conflict_data conflict cs) refl
+conflicts_whole cs = either _ _ (items many_conflict_data (λ c. conflict c.variant c.point c.edge) cs) refl
 
 pub points_whole : (vs : List Vertex) → has_float (points_data vs) ≡ false
 points_whole vs = either _ _ (items vertex_data vertex vs) refl
@@ -54,6 +61,12 @@ placed vs (Order u) from to = refl
 
 pub graph_whole : (vs : List Vertex) (es : List Edge) → has_float (graph_data vs es) ≡ false
 graph_whole vs es = either _ _ (items (by_places.edge_data vs) (λ e. placed vs e.kind _ _) es) (either _ _ (items vertex_data vertex vs) refl)
+
+pub verdict_whole : (v : Verdict) → has_float (verdict_data v) ≡ false
+verdict_whole verdict.Same = refl
+verdict_whole (verdict.Conflict c) = either _ _ (conflict (number_of c.side + 1) c.point c.edge) refl
+verdict_whole (verdict.Vertex v h) = either _ _ (vertex v) refl
+verdict_whole (verdict.Edge e h) = either _ _ (edge e) refl
 
 integer : (z : ℤ) → has_float (integer_data z) ≡ false
 integer (pos n) = refl

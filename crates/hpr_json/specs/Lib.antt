@@ -1,4 +1,5 @@
 pub mod Vertices
 pub mod Answers
+pub mod Verdicts
 pub mod Outcomes
 pub mod Refusals

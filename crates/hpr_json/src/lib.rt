@@ -8,6 +8,7 @@ mod members;
 mod outcomes;
 mod points;
 mod refusals;
+mod verdicts;
 mod vertices;
 
 pub use answers::{conflicts_value, no_program_value, program_value, spent_value};
@@ -16,3 +17,4 @@ pub use line::json_line;
 pub use outcomes::outcome_value;
 pub use points::points_value;
 pub use refusals::{absent_value, edges_value, refusal_value, state_value, words_value};
+pub use verdicts::verdict_value;

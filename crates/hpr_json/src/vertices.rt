@@ -3,7 +3,7 @@ ghost use Rattle.std.specs.Prelude.{◌≡◌, codes, map, IfOk, OnOk, string_by
 ghost use Rattle.serde_json.specs.Data.{string, member, no_members};
 ghost use Rattle.serde_json.specs.View.{view, members_view};
 ghost use Rattle.hpr_syntax.specs.Print.{content_text};
-ghost use Rattle.hpr_json.specs.Vertices.{named_data, vertex_data, carried_data, order_data, kind_data, edge_data, many_conflict_data};
+ghost use Rattle.hpr_json.specs.Vertices.{named_data, vertex_data, carried_data, order_data, kind_data, edge_data, conflict_data, many_conflict_data};
 
 use crate::members::put_text;
 use hpr_graph::{Content, Edge, Kind, ManyConflict, Name, NoMemory, Tag, Vertex};
@@ -83,7 +83,7 @@ fn content_words(alloc: Global, content: &Content) -> Result<String, NoMemory>
 /// vertices. A control edge has its `label`, a flow edge the `name` of what flows, a carried one also the
 /// vertex of the `loop` that carries it, and an order edge the vertex `for` which it is, the shared use. It
 /// fails only for want of memory.
-fn edge_value(alloc: Global, edge: &Edge) -> Result<Value, NoMemory>
+pub(crate) fn edge_value(alloc: Global, edge: &Edge) -> Result<Value, NoMemory>
     ensures { IfOk result (λ value. view value ≡ edge_data edge.now) }
 {
     let from = vertex_value(alloc, &edge.from)?;
@@ -185,21 +185,28 @@ fn put_ends(
     put(members, alloc, "to", to)
 }
 
-/// A conflict as an object: the `edge` that shows it, the affected `point`, and the number of the
-/// `variant`, from 1. It fails only for want of memory.
+/// A conflict of one of many variants.
 pub(crate) fn conflict_value(alloc: Global, conflict: &ManyConflict) -> Result<Value, NoMemory>
     ensures { IfOk result (λ value. view value ≡ many_conflict_data conflict.now) }
 {
-    let edge = edge_value(alloc, &conflict.edge)?;
-    let point = vertex_value(alloc, &conflict.point)?;
+    numbered_value(alloc, conflict.variant, &conflict.point, &conflict.edge)
+}
+
+/// A conflict as an object: the `edge` that shows it, the affected `point`, and the number of the
+/// `variant`, from 1. It fails only for want of memory.
+pub(crate) fn numbered_value(
+    alloc: Global,
+    variant: usize,
+    point: &Vertex,
+    edge: &Edge,
+) -> Result<Value, NoMemory>
+    ensures { IfOk result (λ value. view value ≡ conflict_data (variant, point.now, edge.now)) }
+{
+    let edge = edge_value(alloc, edge)?;
+    let point = vertex_value(alloc, point)?;
     let mut members = Map::new(alloc);
     put(&mut members, alloc, "edge", edge)?;
     put(&mut members, alloc, "point", point)?;
-    put(
-        &mut members,
-        alloc,
-        "variant",
-        Value::from(conflict.variant),
-    )?;
+    put(&mut members, alloc, "variant", Value::from(variant))?;
     Ok(Value::Object(members))
 }

@@ -27,7 +27,7 @@ use Rattle.hpr_refusals.specs.Refusals.{IsFileOf}
 use Rattle.hpr_run.specs.Outcomes.{outcome_of}
 use Rattle.hpr_words.specs.Request.{Text}
 use Rattle.hpr_inputs.specs.States.{states_of}
-use Rattle.hpr_data.specs.Findings.{Finding, no_call, word_refused, absent, refused, too_large, merged, conflicting, unmatched, over_budget, affects, graphed, ran, OnAllTexts, OnBytes, OnText, OnWords}
+use Rattle.hpr_data.specs.Findings.{Finding, no_call, word_refused, absent, refused, too_large, merged, conflicting, unmatched, over_budget, affects, graphed, judged, ran, OnAllTexts, OnBytes, OnText, OnWords}
 use Rattle.hpr_data.specs.declared.found.Found.{Found}
 use Rattle.hpr_data.specs.declared.found.Found.TheVariants as found
 use Rattle.hpr_data.specs.declared.found.Stop.{Stop}
@@ -49,6 +49,7 @@ FoundIs P (found.Spent tries) = P (over_budget tries)
 FoundIs P (found.Affected g numbers) =
     All (λ n. n < length g.vertices) numbers.items × ((vs : List Vertex) → ArePoints (IsOneOf g numbers.items) vs → P (affects vs))
 FoundIs P (found.Graph g) = (vs : List Vertex) (es : List Edge) → AreVerticesOf (graph_in g) vs → AreEdgesOf (graph_in g) es → P (graphed vs es)
+FoundIs P (found.Judged v) = P (judged v)
 FoundIs P (found.Ran o) = P (ran (outcome_of o))
 
 abbrev pub Comes : (Finding → Type 0) → Result Found Stop → Type 0

@@ -10,7 +10,7 @@ use Rattle.hpr_graph.specs.InOrder.{AreEdgesOf, AreVerticesOf}
 use Rattle.hpr_graph.specs.Numbered.{IsOneOf, graph_in}
 use Rattle.hpr_report.specs.AffectedText.{ArePoints}
 use Rattle.hpr_run.specs.Outcomes.{outcome_of}
-use Rattle.hpr_data.specs.Findings.{no_call, word_refused, absent, refused, too_large, merged, conflicting, unmatched, over_budget, affects, graphed, ran}
+use Rattle.hpr_data.specs.Findings.{no_call, word_refused, absent, refused, too_large, merged, conflicting, unmatched, over_budget, affects, graphed, judged, ran}
 use Rattle.hpr_data.specs.Told.{Tells}
 use Rattle.hpr_data.specs.declared.found.Found.{Found}
 use Rattle.hpr_data.specs.declared.found.Found.TheVariants as found
@@ -25,6 +25,7 @@ HasPoints (found.NoProgram n) = Unit {0}
 HasPoints (found.Spent tries) = Unit {0}
 HasPoints (found.Affected g numbers) = All (λ n. n < length g.vertices) numbers.items
 HasPoints (found.Graph g) = Unit {0}
+HasPoints (found.Judged v) = Unit {0}
 HasPoints (found.Ran o) = Unit {0}
 
 abbrev pub ToldAs : Found → Reply → Type 0
@@ -35,6 +36,7 @@ ToldAs (found.Spent tries) reply = Tells (over_budget tries) reply
 ToldAs (found.Affected g numbers) reply = (vs : List Vertex) × ArePoints (IsOneOf g numbers.items) vs × Tells (affects vs) reply
 ToldAs (found.Graph g) reply =
     (vs : List Vertex) × (es : List Edge) × AreVerticesOf (graph_in g) vs × AreEdgesOf (graph_in g) es × Tells (graphed vs es) reply
+ToldAs (found.Judged v) reply = Tells (judged v) reply
 ToldAs (found.Ran o) reply = Tells (ran (outcome_of o)) reply
 
 abbrev pub StoppedAs : Stop → Reply → Type 0

@@ -14,3 +14,6 @@ returns-in-Graph c = rw c.in-Graph.is c.graph_shown.ensures
 
 pub returns-in-Run : goal.returns-in-Run
 returns-in-Run c = rw c.in-Run.is (rw c.as_slice-in-Run.ensures.value at c.run_named.ensures)
+
+pub returns-in-Verify : goal.returns-in-Verify
+returns-in-Verify c = rw c.in-Verify.is c.verified.ensures
