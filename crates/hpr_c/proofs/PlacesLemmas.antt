@@ -1,5 +1,5 @@
 -- What is told of places, and that no number of it is a float.
-use Rattle.std.proofs.Common.{◌≡◌, ℕ, false, List, [], ◌∷◌, Result, Ok, Err, map, refl, codes}
+use Rattle.std.proofs.Common.{◌≡◌, ℕ, false, List, [], ◌∷◌, Result, Ok, Err, refl, codes}
 use Rattle.std.specs.Prelude.{IfOk}
 use Rattle.serde_json.specs.Written.{has_float}
 use Rattle.hpr_syntax.specs.Grammar.{tagged}
