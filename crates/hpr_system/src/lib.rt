@@ -13,8 +13,11 @@ use std::marker::Model;
 use std::rt::Files;
 use std::{fs, io};
 
+mod input;
 #[cfg(test)]
 mod tests;
+
+pub use input::InputShelf;
 
 // How often a call that a signal interrupts is made, the first time included.
 const TRIES: u32 = 64;

@@ -10,7 +10,7 @@ use Rattle.hpr_words.proofs.RowLemmas.{is_same}
 use Rattle.hpr_words.proofs.UseLemmas.{found_passes}
 
 -- what is found passes
-found_has : {X : Type 0} (p : X → Bool) (xs : List X) (x : X) → find p xs ≡ Some x → p x ≡ true
+pub found_has : {X : Type 0} (p : X → Bool) (xs : List X) (x : X) → find p xs ≡ Some x → p x ≡ true
 found_has p [] x e = absurd (none_some x e)
 found_has p (y ∷ ys) x e = go (p y) refl (λ f. found_has p ys x f) e
   where

@@ -1,5 +1,6 @@
 pub mod Request
 pub mod Commands
+pub mod Arguments
 pub mod Taken
 pub mod Asked
 pub mod Plain

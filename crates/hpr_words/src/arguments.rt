@@ -1,6 +1,6 @@
 //! The arguments that commands have, and what `clap` finds of them in the words.
 ghost use Rattle.std.specs.Prelude.{◌≡◌, [], false, true, map, string_bytes, IfOk, IsErrOf};
-ghost use Rattle.hpr_words.specs.Private.Commands.{app_with, rule_of_argument};
+ghost use Rattle.hpr_words.specs.Arguments.{app_with, rule_of_argument};
 ghost use Rattle.clap.specs.Walk.{is_empty};
 ghost use Rattle.clap.specs.Words.{app_of, fault_of, found_of, is_simple_and_free, rule_of, matches_of, rows_of};
 ghost use Rattle.clap.specs.declared.builder.value_parser.ValueParser.TheVariants.{Unsigned};
@@ -32,6 +32,10 @@ pub enum Argument {
 
 /// What the command of this name and these arguments finds in the words, of which the first is the
 /// command's name.
+///
+/// # Errors
+///
+/// `Refused` only where the command doesn't take the words, and `Memory` where memory ran out.
 pub fn parse<'a>(
     alloc: Global,
     name: &'a str,

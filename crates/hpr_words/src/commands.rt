@@ -1,7 +1,8 @@
 //! The commands: what each is called, which arguments it has, and what it asks for.
 ghost use Rattle.std.specs.Prelude.{◌≡◌, [], ◌∷◌, map, option_map};
 ghost use Rattle.hpr_words.specs.Commands.{affected_form, edit_form, form_app, form_named, graph_form, integrate_form, integrate_of, run_form, sample_form, slice_form, tag_form, trial_form, verify_form};
-ghost use Rattle.hpr_words.specs.Private.Commands.{Reads, app_with, form_of};
+ghost use Rattle.hpr_words.specs.Arguments.{app_with};
+ghost use Rattle.hpr_words.specs.Private.Commands.{Reads, form_of};
 ghost use Rattle.hpr_words.specs.Taken.{asked_in};
 ghost use Rattle.clap.specs.Words.{found_of, rows_of};
 

@@ -1,7 +1,7 @@
 use Rattle.std.proofs.Common.{◌∙◌, ap₂, sym}
 use Rattle.std.proofs.lemmas.List.Sums.{fold_more}
 use Rattle.clap.specs.Words.{new_app, with_rule}
-use Rattle.hpr_words.specs.Private.Commands.{rule_of_argument}
+use Rattle.hpr_words.specs.Arguments.{rule_of_argument}
 use Rattle.hpr_words.proofs.arguments.command_of.Goals as goal
 
 pub loop-argument-preserved : goal.loop-argument-preserved

@@ -1,6 +1,6 @@
 use Rattle.std.proofs.Common.{◌≡◌, take}
 use Rattle.clap.specs.Words.{app_of}
-use Rattle.hpr_words.specs.Private.Commands.{app_with}
+use Rattle.hpr_words.specs.Arguments.{app_with}
 use Rattle.hpr_words.proofs.arguments.command_of.Given as goal
 
 abbrev pub invariant-loop-argument : goal.invariant-loop-argument

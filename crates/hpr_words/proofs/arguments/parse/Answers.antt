@@ -1,6 +1,6 @@
 use Rattle.std.proofs.Common.{map, string_bytes}
 use Rattle.clap.specs.Words.{app_of}
-use Rattle.hpr_words.specs.Private.Commands.{app_with}
+use Rattle.hpr_words.specs.Arguments.{app_with}
 use Rattle.hpr_words.proofs.AskedLemmas.{found_by, refused_by}
 use Rattle.hpr_words.proofs.arguments.parse.Goals as goal
 

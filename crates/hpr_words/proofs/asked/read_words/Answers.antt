@@ -2,7 +2,8 @@ use Rattle.std.proofs.Common.{◌∙◌, Err, Some, ap, map, option_map, string_
 use Rattle.std.proofs.lemmas.Option.{slice_get-map}
 use Rattle.std.specs.Option.{option_copied}
 use Rattle.clap.specs.Words.{found_of, is_simple_and_free, rows_of}
-use Rattle.hpr_words.specs.Private.Commands.{app_with, form_of}
+use Rattle.hpr_words.specs.Arguments.{app_with}
+use Rattle.hpr_words.specs.Private.Commands.{form_of}
 use Rattle.hpr_words.proofs.AskedLemmas.{reads_in_range, reads_refused, reads_taken, same_error, taken_not, unnamed}
 use Rattle.hpr_words.proofs.NameLemmas.{is_simple, named_is}
 use Rattle.hpr_words.proofs.asked.read_words.Goals as goal
