@@ -1,0 +1,58 @@
+-- Only of words that are no call is that the status.
+use Rattle.std.proofs.Common.{◌≡◌, ◌≢◌, ◌∙◌, ℕ, ◌++◌, Bool, true, false, cond, List, [], length, sym, ap, subst, inl, inr, bytes_eq, codes, nat_lt}
+use Rattle.hpr_terms.specs.declared.limits.TheConstants.{MAX_FILE}
+use Rattle.hpr_syntax.specs.Print.{text}
+use Rattle.hpr_syntax.specs.Tree.{Tree}
+use Rattle.hpr_refusals.specs.declared.files.Refusal.TheVariants.{Longer}
+use Rattle.hpr_kit.specs.Answer.{Answer, beyond_text, denies, differs_text, prints, refused_text, refuses}
+use Rattle.hpr_kit.specs.Comes.{OnProgram, formatted, placed}
+use Rattle.hpr_kit.specs.Ends.{Change}
+use Rattle.hpr_kit.specs.Private.Replies.{Writes, stop_status}
+use Rattle.hpr_kit.specs.Shown.{place_of}
+use Rattle.hpr_kit.specs.declared.reply.Stop.{Stop}
+use Rattle.hpr_kit.specs.declared.reply.Stop.TheVariants as stop
+use Rattle.hpr_kit.specs.declared.status.Status.{Status}
+use Rattle.hpr_kit.specs.declared.status.Status.TheVariants as status
+
+abbrev IsTaken : Status → Type 0
+IsTaken status.Done = Unit {0}
+IsTaken status.No = Unit {0}
+IsTaken status.Refused = Unit {0}
+IsTaken status.ReadFault = Unit {0}
+IsTaken status.WriteFault = Unit {0}
+IsTaken status.Words = ⊥
+IsTaken status.Memory = Unit {0}
+
+pub not_words : (a b : Answer) → a ≡ b → IsTaken b.status → a.status ≢ status.Words
+not_words a b same taken words = subst IsTaken (sym (ap (λ (x : Answer). x.status) same) ∙ words) taken
+
+cond_taken : (b : Bool) (x y : Answer) → IsTaken x.status → IsTaken y.status → IsTaken (cond b x y).status
+cond_taken true x y p q = p
+cond_taken false x y p q = q
+
+formatted_taken : (check : Bool) (file bytes : List ℕ) (p : Tree) → IsTaken (formatted check file bytes p).status
+formatted_taken false file bytes p = tt
+formatted_taken true file bytes p = cond_taken (bytes_eq bytes (text p)) (prints []) (denies (differs_text file bytes (text p))) tt tt
+
+pub program_taken : (check : Bool) (file bytes : List ℕ) (a : Answer) → OnProgram file bytes (λ p. a ≡ formatted check file bytes p) a → a.status ≢ status.Words
+program_taken check file bytes a (inl (why, cause, is)) = not_words a (refuses (refused_text file bytes why)) is tt
+program_taken check file bytes a (inr (p, spelled, is)) = not_words a (formatted check file bytes p) is (formatted_taken check file bytes p)
+
+pub place_taken : (file bytes : List ℕ) (n : ℕ) (a : Answer) → a ≡ placed file bytes n → a.status ≢ status.Words
+place_taken file bytes n a is =
+    let beyond : Answer = refuses (beyond_text file n (length bytes)) in
+    let told : Answer = prints (place_of bytes n ++ codes "\n") in
+    not_words a (placed file bytes n) is
+    (cond_taken (nat_lt MAX_FILE (length bytes)) (refuses (refused_text file bytes Longer)) (cond (nat_lt (length bytes) n) beyond told) tt
+    (cond_taken (nat_lt (length bytes) n) beyond told tt tt))
+
+pub write_taken : (a : Answer) (s : Status) (out err : Change) → a.status ≢ status.Words → Writes a s out err → s ≢ status.Words
+write_taken a s out err taken (inl (is, took, says)) words = taken (sym is ∙ words)
+write_taken a s out err taken (inr (is, took, says)) words = subst IsTaken (sym is ∙ words) tt
+
+stop_taken : (x : Stop) → IsTaken (stop_status x)
+stop_taken (stop.ReadFault message) = tt
+stop_taken stop.Memory = tt
+
+pub stopped_taken : (x : Stop) (s : Status) → s ≡ stop_status x → s ≢ status.Words
+stopped_taken x s is words = subst IsTaken (sym is ∙ words) (stop_taken x)

@@ -1,0 +1,2 @@
+-- What the contracts of private functions say: no public clause cites it.
+pub mod Replies

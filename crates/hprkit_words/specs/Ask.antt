@@ -1,0 +1,14 @@
+-- What the words of a call ask for.
+--
+-- help              == the commands
+-- version           == the version
+-- format file check == the canonical text of the program of a file; or whether the file has it
+-- place file byte   == the line and the column of a byte of a file
+use Rattle.std.specs.Prelude.{ℕ, Bool}
+use Rattle.hpr_words.specs.Request.{Text}
+
+pub data Ask : Type 0 where
+  help : Ask
+  version : Ask
+  format : (file : Text) (check : Bool) → Ask
+  place : (file : Text) (byte : ℕ) → Ask

@@ -1,0 +1,5 @@
+pub mod Ask
+pub mod Commands
+pub mod Taken
+pub mod Asked
+pub mod Private

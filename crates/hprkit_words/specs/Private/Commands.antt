@@ -1,0 +1,21 @@
+-- The commands as rows of data in the code: what each takes, and what it asks for.
+--
+-- form_of command    == what the command takes and asks for
+-- Reads asked result == a result of what is asked for: that, or refused where there is nothing, or want of
+--                       memory
+use Rattle.std.specs.Prelude.{◌≡◌, Option, Some, None, Result, MatchResult}
+use Rattle.hpr_words.specs.declared.asked.WordsError.{WordsError}
+use Rattle.hpr_words.specs.declared.asked.WordsError.TheVariants.{Refused}
+use Rattle.hprkit_words.specs.Ask.{Ask}
+use Rattle.hprkit_words.specs.Asked.{ask_of}
+use Rattle.hprkit_words.specs.Commands.{Form, at_form, format_form}
+use Rattle.hprkit_words.specs.declared.asked.Asked.{Asked}
+use Rattle.hprkit_words.specs.declared.commands.CommandName.{CommandName}
+use Rattle.hprkit_words.specs.declared.commands.CommandName.TheVariants.{At, Format}
+
+abbrev pub form_of : CommandName → Form
+form_of Format = format_form
+form_of At = at_form
+
+abbrev pub Reads : Option Ask → Result Asked WordsError → Type 0
+Reads asked result = MatchResult result (λ read. asked ≡ Some (ask_of read)) (λ error. error ≡ Refused → asked ≡ None)
