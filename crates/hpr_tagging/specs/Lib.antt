@@ -1,0 +1,4 @@
+pub mod Lexemes
+pub mod Tagging
+pub mod Answers
+pub mod Laws
