@@ -7,6 +7,8 @@ hpr=${HPR:-$(dirname "$(realpath "${BASH_SOURCE[0]}")")/../../hpr}
 case $hpr in */*) hpr=$(realpath -m -- "$hpr") ;; esac
 work=${work:?}
 trap 'rm -rf -- "$work"' EXIT
+# names are bytes: where they are letters, `read` takes the zero behind one that ends within a letter for a part of it
+LC_ALL=C
 
 # Calls hpr there. What it prints goes to the file `printed`, and what it says on standard error to `said`. A status 0 or 1
 # without the text that belongs to it doesn't come from hpr, and 127 stands for it.
@@ -15,10 +17,19 @@ ask() {
   (cd "$work" && HPR_BUILD=never exec "$hpr" "$@") >"$work/printed" 2>"$work/said" </dev/null
   status=$?
   case $status in
-    0) [ -s "$work/printed" ] || status=127 ;;
+    0) is_answer "$1" || status=127 ;;
     1) grep -q '^interference ' "$work/printed" || status=127 ;;
   esac
   return "$status"
+}
+
+# Whether what is printed looks like what this command of hpr prints with status 0.
+is_answer() {
+  case $1 in
+    integrate) head -n 1 -- "$work/printed" | grep -qx program && tail -n 1 -- "$work/printed" | grep -q '^end(.*)$' ;;
+    verify) echo verified | cmp -s - "$work/printed" ;;
+    *) head -n 1 -- "$work/printed" | grep -q '^vertices ' ;;
+  esac
 }
 
 # Calls `hpr integrate` with as many tries as git's settings say.
