@@ -1,11 +1,11 @@
 # shellcheck shell=bash
-# How the scripts for git ask hpr: in the folder $work, which they have made for it and which goes at their end. There each
+# How the scripts for git ask hpr: in the folder $work, which they make for it and which goes at their end. There each
 # version of a program is a file with the version's name, so that messages have this name. Read by those scripts, never run.
 #
 # HPR names the command hpr; else it is the one two folders up. HPR_BUILD=never tells it not to prove and build itself now.
 hpr=${HPR:-$(dirname "$(realpath "${BASH_SOURCE[0]}")")/../../hpr}
 case $hpr in */*) hpr=$(realpath -m -- "$hpr") ;; esac
-work=${work:?}
+work=${work:-}
 trap 'rm -rf -- "$work"' EXIT
 # names are bytes: where they are letters, `read` takes the zero behind one that ends within a letter for a part of it
 LC_ALL=C
@@ -69,6 +69,18 @@ details() {
     1 | 2 | 3 | 10) cat "$work/printed" ;;
     *) cat "$work/said" ;;
   esac
+}
+
+# Copies what stands at a path to `folder`, a new one in git's hpr-kept, which is made for the first.
+folder=''
+copy_aside() {
+  local kept copy
+  if [ -z "$folder" ]; then
+    kept=$(git rev-parse --git-common-dir)/hpr-kept
+    { mkdir -p -- "$kept" && folder=$(mktemp -d -- "$kept/XXXXXX"); } || return
+  fi
+  copy=$folder/$1
+  mkdir -p -- "${copy%/*}" && cp -a -- "$1" "$copy"
 }
 
 # A path in one line.
