@@ -83,6 +83,12 @@ copy_aside() {
   mkdir -p -- "${copy%/*}" && cp -a -- "$1" "$copy"
 }
 
+# Keeps what `git merge --autostash` has taken away: git brings it back at the end, and forgets it where it is stopped before.
+keep_autostash() {
+  local edits
+  edits=$(git rev-parse -q --verify MERGE_AUTOSTASH) && git update-ref --create-reflog -m autostash refs/hpr-kept "$edits"
+}
+
 # A path in one line.
 in_a_line() {
   case $1 in *[[:cntrl:]]*) printf '%q' "$1" ;; *) printf '%s' "$1" ;; esac
