@@ -71,7 +71,8 @@ details() {
   esac
 }
 
-# Copies what stands at a path to `folder`, a new one in git's hpr-kept, which is made for the first.
+# Copies what stands at a path to `folder`, a new one in git's hpr-kept, which is made for the first. With `by_links` a file gets a
+# second name where it can, which is quick; git takes away the first before it writes it anew.
 folder=''
 copy_aside() {
   local kept copy
@@ -80,7 +81,12 @@ copy_aside() {
     { mkdir -p -- "$kept" && folder=$(mktemp -d -- "$kept/XXXXXX"); } || return
   fi
   copy=$folder/$1
-  mkdir -p -- "${copy%/*}" && cp -a -- "$1" "$copy"
+  mkdir -p -- "${copy%/*}" || return
+  if [ -n "${by_links-}" ]; then
+    if cp -al -- "$1" "$copy"; then return; fi
+    rm -rf -- "$copy"
+  fi
+  cp -a -- "$1" "$copy"
 }
 
 # Keeps what `git merge --autostash` has taken away: git brings it back at the end, and forgets it where it is stopped before.
