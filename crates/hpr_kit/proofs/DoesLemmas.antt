@@ -12,12 +12,14 @@ use Rattle.hpr_refusals.specs.Reasons.{refusal_text}
 use Rattle.hpr_refusals.specs.Refusals.{IsFileOf}
 use Rattle.hpr_refusals.specs.declared.files.Refusal.TheVariants.{Longer}
 use Rattle.hpr_words.proofs.RowLemmas.{is_same, same_text}
-use Rattle.hprkit_words.specs.Ask.{Ask, format, help, place, version}
+use Rattle.hprkit_words.specs.Ask.{Ask, format, help, place, tag, version}
 use Rattle.hpr_kit.specs.Answer.{Answer, beyond_text, denies, differs_text, prints, refused_text, refuses}
 use Rattle.hpr_kit.specs.Comes.{Comes, OnProgram, checked, placed, read}
-use Rattle.hpr_kit.specs.Does.{Checks, Formats, IsCanonical, Places, Took}
+use Rattle.hpr_kit.specs.Does.{Checks, Formats, IsCanonical, Places, Tags, Took}
 use Rattle.hpr_kit.specs.Ends.{Change, Ends, TookAll, answers, cut_short, no_memory, unread}
 use Rattle.hpr_kit.specs.Shown.{place_of}
+use Rattle.hpr_kit.specs.Tags.{IsTagging}
+use Rattle.hpr_kit.proofs.TagLemmas.{tagged_done}
 use Rattle.hpr_kit.specs.declared.status.Status.{Status}
 use Rattle.hpr_kit.specs.declared.status.Status.TheVariants as status
 
@@ -86,6 +88,7 @@ printed (format file true) files a h done = tt
 printed help files a h done = tt
 printed version files a h done = tt
 printed (place file n) files a h done = tt
+printed (tag file author keep) files a h done = tt
 
 -- ---- `fmt --check`
 
@@ -176,6 +179,18 @@ told_place (place file n) files a h done =
 told_place help files a h done = tt
 told_place version files a h done = tt
 told_place (format file check) files a h done = tt
+told_place (tag file author keep) files a h done = tt
+
+-- ---- `tag`
+
+tagged_file : (ask : Ask) (files : Files) (a : Answer) → Comes (Some ask) files a → a.status ≡ status.Done → Tags ask files a.out
+tagged_file (tag file author keep) files a h done =
+    let (short, is) = tagged_done file (read files file) a author keep h done in
+    subst (λ bytes. IsTagging author keep bytes a.out) (read_is files file short) is
+tagged_file help files a h done = tt
+tagged_file version files a h done = tt
+tagged_file (format file check) files a h done = tt
+tagged_file (place file n) files a h done = tt
 
 module _ (ask : Ask) (files : Files) (reads : List ℕ → Type 0) (s : Status) (before now : ℕ) (out err : Change) (ends : Ends s (Comes (Some ask) files) reads before now out err) where
   took_done : (Does : List ℕ → Type 0) → ((a : Answer) → Comes (Some ask) files a → a.status ≡ status.Done → Does a.out) → s ≡ status.Done → Took out.old out.new Does
@@ -188,6 +203,9 @@ module _ (ask : Ask) (files : Files) (reads : List ℕ → Type 0) (s : Status) 
 
   pub places_done : s ≡ status.Done → Took out.old out.new (Places ask files)
   places_done done = took_done (Places ask files) (λ a comes is. told_place ask files a comes is) done
+
+  pub tags_done : s ≡ status.Done → Took out.old out.new (Tags ask files)
+  tags_done done = took_done (Tags ask files) (λ a comes is. tagged_file ask files a comes is) done
 
 pub checks : (ask : Ask) (files : Files) (reads : List ℕ → Type 0) (s : Status) (before now : ℕ) (out err : Change) → Ends s (Comes (Some ask) files) reads before now out err
     → Checks ask files s
@@ -206,3 +224,4 @@ checks (format file false) files reads s before now out err ends = tt
 checks help files reads s before now out err ends = tt
 checks version files reads s before now out err ends = tt
 checks (place file n) files reads s before now out err ends = tt
+checks (tag file author keep) files reads s before now out err ends = tt

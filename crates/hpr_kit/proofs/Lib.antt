@@ -1,3 +1,4 @@
 mod TakenLemmas
 mod EndsLemmas
+mod TagLemmas
 mod DoesLemmas

@@ -3,9 +3,10 @@ use Rattle.std.proofs.Common.{◌≡◌, ◌≢◌, ◌∙◌, ℕ, ◌++◌, Bo
 use Rattle.hpr_terms.specs.declared.limits.TheConstants.{MAX_FILE}
 use Rattle.hpr_syntax.specs.Print.{text}
 use Rattle.hpr_syntax.specs.Tree.{Tree}
+use Rattle.hpr_tagging.specs.Tagging.{kept}
 use Rattle.hpr_refusals.specs.declared.files.Refusal.TheVariants.{Longer}
-use Rattle.hpr_kit.specs.Answer.{Answer, beyond_text, denies, differs_text, prints, refused_text, refuses}
-use Rattle.hpr_kit.specs.Comes.{OnProgram, formatted, placed}
+use Rattle.hpr_kit.specs.Answer.{Answer, beyond_text, denies, differs_text, prints, refused_text, refuses, spent_text}
+use Rattle.hpr_kit.specs.Comes.{OnProgram, OnTagged, formatted, placed, retold}
 use Rattle.hpr_kit.specs.Ends.{Change}
 use Rattle.hpr_kit.specs.Private.Replies.{Writes, stop_status}
 use Rattle.hpr_kit.specs.Shown.{place_of}
@@ -45,6 +46,17 @@ place_taken file bytes n a is =
     not_words a (placed file bytes n) is
     (cond_taken (nat_lt MAX_FILE (length bytes)) (refuses (refused_text file bytes Longer)) (cond (nat_lt (length bytes) n) beyond told) tt
     (cond_taken (nat_lt (length bytes) n) beyond told tt tt))
+
+retold_taken : (keep : Bool) (file bytes t : List ℕ) (p : Tree) → IsTaken (retold keep file bytes t p).status
+retold_taken false file bytes t p = tt
+retold_taken true file bytes t p = cond_taken (nat_lt MAX_FILE (length t)) (refuses (refused_text file bytes Longer)) (prints t) tt tt
+
+pub tagging_taken : (author : ℕ) (keep : Bool) (file bytes : List ℕ) (a : Answer)
+    → OnTagged author file bytes (λ p. a ≡ retold keep file bytes (kept author bytes) p) a → a.status ≢ status.Words
+tagging_taken author keep file bytes a (inl (why, cause, is)) = not_words a (refuses (refused_text file bytes why)) is tt
+tagging_taken author keep file bytes a (inr (inl (spent, is))) = not_words a (refuses (spent_text file)) is tt
+tagging_taken author keep file bytes a (inr (inr (p, tags, is))) =
+    not_words a (retold keep file bytes (kept author bytes) p) is (retold_taken keep file bytes (kept author bytes) p)
 
 pub write_taken : (a : Answer) (s : Status) (out err : Change) → a.status ≢ status.Words → Writes a s out err → s ≢ status.Words
 write_taken a s out err taken (inl (is, took, says)) words = taken (sym is ∙ words)

@@ -10,11 +10,12 @@
 -- differs_text file bytes canonical == the message on bytes that aren't the canonical text, with the first
 --                                      byte at which they differ
 -- beyond_text file n count          == the message on a byte n that a file of so many bytes doesn't have
+-- spent_text file                   == the message on a file for whose parts an author has too few serials
 -- help_text, version_text, usage_text, cannot_read file, cannot_write, no_memory == the other texts
 use Rattle.std.specs.Prelude.{ℕ, ◌==◌, List, [], ◌++◌, codes}
 use Rattle.std.specs.Fmt.{decimal}
 use Rattle.std.specs.List.{common_prefix_len}
-use Rattle.hpr_refusals.specs.Reasons.{refusal_text}
+use Rattle.hpr_refusals.specs.Reasons.{about, refusal_text}
 use Rattle.hpr_refusals.specs.declared.files.Refusal.{Refusal}
 use Rattle.hpr_refusals.specs.declared.files.Refusal.TheVariants as refusal
 use Rattle.hpr_kit.specs.Shown.{place_text}
@@ -50,11 +51,14 @@ differs_text file bytes canonical =
 abbrev pub beyond_text : List ℕ → ℕ → ℕ → List ℕ
 beyond_text file n count = codes "hprkit: " ++ file ++ codes ": no byte " ++ decimal n ++ codes " in " ++ decimal count ++ codes "\n"
 
+abbrev pub spent_text : List ℕ → List ℕ
+spent_text file = about file (codes "serials are spent")
+
 abbrev pub usage_text : List ℕ
-usage_text = codes "usage: hprkit fmt FILE [--check]\n       hprkit at FILE BYTE\n       hprkit --help\n       hprkit --version\n"
+usage_text = codes "usage: hprkit fmt FILE [--check]\n       hprkit at FILE BYTE\n       hprkit tag FILE --author N [--keep]\n       hprkit --help\n       hprkit --version\n"
 
 abbrev pub help_text : List ℕ
-help_text = codes "usage: hprkit fmt FILE [--check]\n       hprkit at FILE BYTE\n       hprkit --help\n       hprkit --version\n\nfmt FILE          print the canonical text of the program that FILE spells\nfmt FILE --check  print nothing: status 1 where FILE hasn't the canonical text\nat FILE BYTE      print LINE:COLUMN of a byte of FILE, counted from 0\n\n`-` as FILE is standard input.\n"
+help_text = codes "usage: hprkit fmt FILE [--check]\n       hprkit at FILE BYTE\n       hprkit tag FILE --author N [--keep]\n       hprkit --help\n       hprkit --version\n\nfmt FILE          print the canonical text of the program that FILE spells\nfmt FILE --check  print nothing: status 1 where FILE hasn't the canonical text\nat FILE BYTE      print LINE:COLUMN of a byte of FILE, counted from 0\ntag FILE --author N [--keep]\n                  give the parts without a tag the next serials of N, and print the\n                  canonical text, or with --keep FILE's text with these tags put in\n\n`-` as FILE is standard input.\n"
 
 abbrev pub version_text : List ℕ
 version_text = codes "hprkit 1.0.0\n"

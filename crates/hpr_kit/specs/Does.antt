@@ -12,6 +12,7 @@
 --                              one in another text
 -- Checks ask files s        == `fmt --check`: that is so of the file
 -- Places ask files printed  == `at`: the file has so many bytes, and printed is the line and the column
+-- Tags ask files printed    == `tag`: with the author's tags the file spells a program, and so does printed
 use Rattle.std.specs.Prelude.{◌≡◌, ◌≢◌, ℕ, ◌≤◌, true, false, List, ◌++◌, length, map, Option, Some, String, string_bytes, codes}
 use Rattle.std.specs.Global.{Global}
 use Rattle.hpr_io.specs.Files.{Files, bytes_of}
@@ -19,9 +20,10 @@ use Rattle.hpr_io.specs.Taken.{taken_then}
 use Rattle.hpr_syntax.specs.Print.{text}
 use Rattle.hpr_syntax.specs.Tree.{Tree}
 use Rattle.hpr_refusals.specs.Refusals.{IsFileOf}
-use Rattle.hprkit_words.specs.Ask.{Ask, format, help, place, version}
+use Rattle.hprkit_words.specs.Ask.{Ask, format, help, place, tag, version}
 use Rattle.hprkit_words.specs.Taken.{taken}
 use Rattle.hpr_kit.specs.Shown.{place_of}
+use Rattle.hpr_kit.specs.Tags.{IsTagging}
 use Rattle.hpr_kit.specs.declared.status.Status.{Status}
 use Rattle.hpr_kit.specs.declared.status.Status.TheVariants.{Done, No, Refused}
 
@@ -43,6 +45,7 @@ Formats (format file true) files printed = Unit {0}
 Formats help files printed = Unit {0}
 Formats version files printed = Unit {0}
 Formats (place file n) files printed = Unit {0}
+Formats (tag file author keep) files printed = Unit {0}
 
 pub record IsChecked (bytes : List ℕ) (s : Status) : Type 0 where
   pub done : s ≡ Done → IsCanonical bytes
@@ -56,6 +59,7 @@ Checks (format file false) files s = Unit {0}
 Checks help files s = Unit {0}
 Checks version files s = Unit {0}
 Checks (place file n) files s = Unit {0}
+Checks (tag file author keep) files s = Unit {0}
 
 abbrev pub Places : Ask → Files → List ℕ → Type 0
 Places (place file n) files printed =
@@ -63,3 +67,11 @@ Places (place file n) files printed =
 Places help files printed = Unit {0}
 Places version files printed = Unit {0}
 Places (format file check) files printed = Unit {0}
+Places (tag file author keep) files printed = Unit {0}
+
+abbrev pub Tags : Ask → Files → List ℕ → Type 0
+Tags (tag file author keep) files printed = IsTagging author keep (bytes_of files file) printed
+Tags help files printed = Unit {0}
+Tags version files printed = Unit {0}
+Tags (format file check) files printed = Unit {0}
+Tags (place file n) files printed = Unit {0}

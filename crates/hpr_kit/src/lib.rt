@@ -12,13 +12,14 @@ mod put;
 mod refused;
 mod reply;
 mod status;
+mod tag;
 mod write;
 
 ghost use Rattle.std.specs.Prelude.{◌≡◌, ◌≢◌, ◌↔◌, ℕ, List, None, Some, IfSome, IsTrue};
 ghost use Rattle.hpr_words.specs.Request.{Text};
 ghost use Rattle.hprkit_words.specs.Asked.{ask_of};
 ghost use Rattle.hpr_kit.specs.Comes.{Comes, Names};
-ghost use Rattle.hpr_kit.specs.Does.{Checks, Formats, Places, Took, WhereAsked, asked_by};
+ghost use Rattle.hpr_kit.specs.Does.{Checks, Formats, Places, Tags, Took, WhereAsked, asked_by};
 ghost use Rattle.hpr_kit.specs.Ends.{Ends};
 
 use crate::commands::decide;
@@ -34,10 +35,14 @@ use std::alloc::Global;
 ///
 /// `fmt FILE` prints the canonical text of the program that the file spells. `fmt FILE --check` prints nothing and
 /// tells by the status whether the file has that text already. `at FILE BYTE` prints the line and the column of a byte,
-/// of whatever the file holds. `--help` and `--version` print fixed texts, and read no file.
+/// of whatever the file holds. `tag FILE --author N` prints the canonical text of the program that the file spells once
+/// its parts without a tag have the next serials of the author, as [`hpr_tagging::tag_parts`] gives them, and with
+/// `--keep` the file's own text with these tags. `--help` and `--version` print fixed texts, and read no file.
 ///
 /// A file of more than 4,194,304 bytes is refused, and so is one that is to spell a program and spells none: with
 /// the line that hpr says of it and, where its bytes spell no tree, the line around the place and a caret under it.
+/// `tag` refuses also a file for whose parts the author has too few serials, and with `--keep` one whose text has more
+/// bytes than that with the tags.
 /// All text is made before its first byte is put. No status is for a failed write to `err`.
 pub fn kit<S: Shelf, O: Sink, E: Sink>(
     alloc: Global,
@@ -69,6 +74,11 @@ pub fn kit<S: Shelf, O: Sink, E: Sink>(
     // `at` prints the line and the column of a byte that the file has, or of its end.
     ensures places { WhereAsked words.now (S.files shelf.old) (λ ask files. result ≡ Status.Done
         → Took (O.taken out.old) (O.taken out.new) (Places ask files)) }
+
+    // `tag` prints a text of the program that the file spells with the author's tags: its canonical text, or with
+    // `--keep` the file's own text with these tags.
+    ensures tags { WhereAsked words.now (S.files shelf.old) (λ ask files. result ≡ Status.Done
+        → Took (O.taken out.old) (O.taken out.new) (Tags ask files)) }
 
     // The shelf tells the same files and serves the same names as before, so that a call can follow on it.
     ensures same_files { S.files shelf.new ≡ S.files shelf.old }

@@ -1,9 +1,7 @@
 //! Replies that say something alone: no, or why something is refused.
 ghost use Rattle.std.specs.Prelude.{◌≡◌, ◌++◌, [], IfOk, OnOk};
-ghost use Rattle.hpr_syntax.specs.Grammar.{tagged};
-ghost use Rattle.hpr_refusals.specs.Refusals.{IsCauseIn};
 ghost use Rattle.hpr_kit.specs.Answer.{beyond_text, place_if_any, refused_text, refuses};
-ghost use Rattle.hpr_kit.specs.Private.Replies.{seen};
+ghost use Rattle.hpr_kit.specs.Private.Replies.{IsWithin, seen};
 
 use crate::place::put_place;
 use crate::put::put;
@@ -20,7 +18,7 @@ pub(crate) fn refused(
     bytes: &[u8],
     why: &Refusal,
 ) -> Result<Reply, NoMemory>
-    requires { IsCauseIn tagged bytes.now why.now }
+    requires { IsWithin bytes.now why.now }
     ensures { IfOk result (λ reply. seen reply ≡ refuses (refused_text file.now bytes.now why.now)) }
 {
     let mut text = why.message(alloc, file)?.into_bytes();
@@ -36,7 +34,7 @@ fn put_place_if_any(
     bytes: &[u8],
     why: &Refusal,
 ) -> Result<(), NoMemory>
-    requires { IsCauseIn tagged bytes.now why.now }
+    requires { IsWithin bytes.now why.now }
     ensures { OnOk result (text.new.items ≡ text.old.items ++ place_if_any file.now bytes.now why.now) }
 {
     match why {

@@ -5,11 +5,11 @@ use std::alloc::AllocError;
 
 /// The text for words that are no call.
 pub(crate) const USAGE: &[u8] =
-    b"usage: hprkit fmt FILE [--check]\n       hprkit at FILE BYTE\n       hprkit --help\n       hprkit --version\n";
+    b"usage: hprkit fmt FILE [--check]\n       hprkit at FILE BYTE\n       hprkit tag FILE --author N [--keep]\n       hprkit --help\n       hprkit --version\n";
 
 /// The text of `--help`.
 pub(crate) const HELP: &[u8] =
-    b"usage: hprkit fmt FILE [--check]\n       hprkit at FILE BYTE\n       hprkit --help\n       hprkit --version\n\nfmt FILE          print the canonical text of the program that FILE spells\nfmt FILE --check  print nothing: status 1 where FILE hasn't the canonical text\nat FILE BYTE      print LINE:COLUMN of a byte of FILE, counted from 0\n\n`-` as FILE is standard input.\n";
+    b"usage: hprkit fmt FILE [--check]\n       hprkit at FILE BYTE\n       hprkit tag FILE --author N [--keep]\n       hprkit --help\n       hprkit --version\n\nfmt FILE          print the canonical text of the program that FILE spells\nfmt FILE --check  print nothing: status 1 where FILE hasn't the canonical text\nat FILE BYTE      print LINE:COLUMN of a byte of FILE, counted from 0\ntag FILE --author N [--keep]\n                  give the parts without a tag the next serials of N, and print the\n                  canonical text, or with --keep FILE's text with these tags put in\n\n`-` as FILE is standard input.\n";
 
 /// The text of `--version`.
 pub(crate) const VERSION: &[u8] = b"hprkit 1.0.0\n";

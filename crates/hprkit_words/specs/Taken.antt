@@ -11,12 +11,13 @@ use Rattle.std.specs.Str.{bytes_eq}
 use Rattle.clap.specs.Words.{Row, fault_of, first_of, matches_of}
 use Rattle.clap.specs.Walk.{is_empty}
 use Rattle.hpr_words.specs.Request.{Text}
-use Rattle.hpr_words.specs.Taken.{all_some, flag_in}
+use Rattle.hpr_words.specs.Taken.{all_some, flag_in, number_in}
 use Rattle.hprkit_words.specs.Ask.{Ask, help, version}
 use Rattle.hprkit_words.specs.Commands.{Form, asked_with, form_app, form_named}
 
 abbrev pub asked_in : Form → List Row → Option Ask
-asked_in form rows = asked_with form (all_some (map (λ id. first_of id rows) form.words)) (map (λ id. flag_in id rows) form.flags)
+asked_in form rows = asked_with form (all_some (map (λ id. first_of id rows) form.words))
+    (all_some (map (λ option. number_in option rows) form.numbers)) (map (λ id. flag_in id rows) form.flags)
 
 abbrev pub taken_by : Form → List Text → Option Ask
 taken_by form words = if is_empty (fault_of (form_app form) words) then asked_in form (matches_of (form_app form) words) else None

@@ -15,10 +15,23 @@ pub enum Asked<'a> {
     /// `--version`: tell the version.
     Version,
     /// `fmt FILE [--check]`: print the canonical text of the program of a file, or tell whether the file has it.
-    Format { file: &'a str, check: bool },
+    Format {
+        file: &'a str,
+        check: bool,
+    },
     /// `at FILE BYTE`: tell the line and the column of a byte of a file, which is counted from 0 and is any number of
     /// 64 bits.
-    At { file: &'a str, byte: u64 },
+    At {
+        file: &'a str,
+        byte: u64,
+    },
+    /// `tag FILE --author N [--keep]`: put the next serials of an author, of a number from 1 to 4,294,967,295, on the
+    /// parts of a file that have no tag, and print the canonical text of its program, or the text as it was written.
+    Tag {
+        file: &'a str,
+        author: u32,
+        keep: bool,
+    },
 }
 
 /// Whether one of the words is `--help`.

@@ -2,6 +2,7 @@
 --
 -- seen reply                         == the answer that a reply is
 -- stop_status, stop_message          == the status of a stop, and its message for `err`
+-- IsWithin bytes why                 == the place of what is refused stands in the bytes, or behind them
 -- Reads bytes result                 == the program that the bytes spell, or why they are refused, or want of
 --                                       memory
 -- StopIs reads before now stop       == a failed read, counted by the shelf, of a file that is read; or memory
@@ -10,13 +11,15 @@
 -- Decides ask told before now result == the reply to what is asked; or a read failed, of a file that is
 --                                       named; or memory ran out
 -- Writes a s out err                 == the answer a is written, or a write failed; the status is s
-use Rattle.std.specs.Prelude.{◌≡◌, ◌⊎◌, ℕ, List, Option, Some, Result, Ok, Err, IfSome, Vec, string_bytes}
+use Rattle.std.specs.Prelude.{◌≡◌, ◌⊎◌, ℕ, ◌≤◌, List, length, Option, Some, Result, Ok, Err, IfSome, Vec, string_bytes}
 use Rattle.std.specs.Global.{Global}
 use Rattle.hpr_io.specs.Counts.{Rose}
 use Rattle.hpr_io.specs.Files.{Files}
 use Rattle.hpr_syntax.specs.Grammar.{tagged}
 use Rattle.hpr_syntax.specs.Tree.{Tree}
 use Rattle.hpr_refusals.specs.Refusals.{IsCauseIn, IsFileOf}
+use Rattle.hpr_refusals.specs.declared.files.Refusal.{Refusal}
+use Rattle.hpr_refusals.specs.declared.files.Refusal.TheVariants as refusal
 use Rattle.hpr_words.specs.Request.{Text}
 use Rattle.hprkit_words.specs.Ask.{Ask}
 use Rattle.hpr_kit.specs.Answer.{Answer, cannot_read, cannot_write, no_memory}
@@ -40,6 +43,11 @@ stop_status stop.Memory = Memory
 abbrev pub stop_message : Stop → List ℕ
 stop_message (stop.ReadFault message) = string_bytes message
 stop_message stop.Memory = no_memory
+
+abbrev pub IsWithin : List ℕ → Refusal → Type 0
+IsWithin bytes (refusal.Syntax n) = n ≤ length bytes
+IsWithin bytes refusal.Longer = Unit {0}
+IsWithin bytes (refusal.Shape error) = Unit {0}
 
 abbrev pub Reads : List ℕ → Result Tree Unread → Type 0
 Reads bytes (Ok p) = IsFileOf bytes p

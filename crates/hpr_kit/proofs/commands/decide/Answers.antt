@@ -9,6 +9,12 @@ format_file-requires g c = c.requires c.in-Format.file.now (rw c.in-Format.is re
 pub place_file-requires : goal.place_file-requires
 place_file-requires g c = c.requires c.in-At.file.now (rw c.in-At.is refl)
 
+pub tag_file-requires : goal.tag_file-requires
+tag_file-requires g c = c.requires c.in-Tag.file.now (rw c.in-Tag.is refl)
+
+pub returns-in-Tag-clause-decides : goal.returns-in-Tag-clause-decides
+returns-in-Tag-clause-decides g c = rw c.in-Tag.is c.tag_file.ensures.decides
+
 pub returns-in-Format-clause-decides : goal.returns-in-Format-clause-decides
 returns-in-Format-clause-decides g c = rw c.in-Format.is c.format_file.ensures.decides
 
