@@ -67,7 +67,7 @@ module _ (m : Numbered) (km : IsNumbered m) (up : Ascends vertex_cmp m.vertices)
       first_less (vertex_cmp e.to f.to) (ordering_then (vertex_cmp e.from f.from) (kind_cmp e.kind f.kind)) (up to t e.to f.to less is.0 is'.0)
 
   -- an edge that comes before another has a link before its link
-  comes_first : (to i t : ℕ) (l l' : Link) (e f : Edge) → slice_get (row_of m to) i ≡ Some l → IsEdgeAt m.vertices to l e → HasLink m t l' → IsEdgeAt m.vertices t l' f → edge_cmp f e ≡ Less
+  pub comes_first : (to i t : ℕ) (l l' : Link) (e f : Edge) → slice_get (row_of m to) i ≡ Some l → IsEdgeAt m.vertices to l e → HasLink m t l' → IsEdgeAt m.vertices t l' f → edge_cmp f e ≡ Less
       → (t < to) ⊎ ((t ≡ to) × ((j : ℕ) × (j < i) × (slice_get (row_of m to) j ≡ Some l')))
   comes_first to i t l l' e f at is has is' less = elim (cases_lt t to) [
     | inl before ↦ inl before

@@ -11,6 +11,7 @@ use Rattle.hpr_graph.specs.Numbered.{Numbered, HasEdge, HasVertex, graph_in}
 use Rattle.hpr_graph.specs.Order.{vertex_cmp}
 use Rattle.hpr_graph.specs.InOrder.{Ascends, RowsAscend}
 use Rattle.hpr_graph.specs.Conflicts.{IsAdded, IsLeast}
+use Rattle.hpr_graph.specs.Whole.{HasLoops}
 use Rattle.hpr_graph.proofs.InOrder.{vertices_agree}
 use Rattle.hpr_graph.proofs.Laws.{closed_by_numbers}
 use Rattle.hpr_slice.specs.Vertices.{IsOneOf}
@@ -20,7 +21,7 @@ use Rattle.hpr_merge.specs.Beside.{AreBeside}
 use Rattle.hpr_merge.specs.PointConflicts.{IsPointConflict, ArePointConflicts, IsEdgeOfPoint, with_edge}
 use Rattle.hpr_graph.proofs.EdgeOrder.{edge_one}
 use Rattle.hpr_graph.proofs.LinkOrder.{link_cmp}
-use Rattle.hpr_merge.proofs.Widened.{least_narrow, least_wide}
+use Rattle.hpr_merge.proofs.Widened.{least_narrow, least_wide, loops_over}
 
 abbrev IsBefore : List Vertex → ℕ → Vertex → Type 0
 IsBefore vs n v = (i : ℕ) × (i < n) × (slice_get vs i ≡ Some v)
@@ -143,12 +144,15 @@ module _ (merged variant wide narrow : Numbered) (all : (v : Vertex) → HasVert
     λ h. (own v).1 (elim ((all v).0 h) [ inl a ↦ inr a | inr b ↦ inl b ]),
   )
 
-  pub are_beside : Ascends vertex_cmp wide.vertices → Ascends vertex_cmp narrow.vertices → RowsAscend link_cmp wide → RowsAscend link_cmp narrow → AreBeside link_cmp wide narrow
-  are_beside up up' rows rows' = record {
+  pub are_beside : Ascends vertex_cmp wide.vertices → Ascends vertex_cmp narrow.vertices → RowsAscend link_cmp wide → RowsAscend link_cmp narrow → ((e : Edge) → HasEdge wide e ↔ HasEdge merged e) → ((e : Edge) → HasEdge narrow e ↔ HasEdge variant e)
+      → HasLoops (graph_in merged) → HasLoops (graph_in variant) → AreBeside link_cmp wide narrow
+  are_beside up up' rows rows' edges own_edges loops own_loops = record {
     order = up;
     vertices = vertices_agree (graph_in wide) narrow.vertices wide.vertices (up', turned) (up, λ v. (λ h. h, λ h. h));
     rows = rows;
     own_rows = rows';
+    loops = loops_over (graph_in merged) (graph_in wide) edges loops;
+    own_loops = loops_over (graph_in variant) (graph_in narrow) own_edges own_loops;
   }
 
   -- the conflicts at all vertices are those of the graphs themselves

@@ -9,7 +9,7 @@ use Rattle.hpr_graph.specs.Points.{IsAffected}
 use Rattle.hpr_graph.specs.Slices.{LeadsTo}
 use Rattle.hpr_graph.proofs.Laws.{closed_by_numbers}
 use Rattle.hpr_graph.proofs.Lists.{in_none, contains_at}
-use Rattle.hpr_affected.specs.Comparison.{Sides, MarksAffected}
+use Rattle.hpr_affected.specs.Comparison.{Sides}
 use Rattle.hpr_affected.specs.Numbers.{AreNumbersOf}
 use Rattle.hpr_merge.specs.PointConflicts.{ArePointConflicts}
 

@@ -8,6 +8,10 @@ mod Bits
 mod Spreads
 mod Past
 mod LeastLinks
+mod KnownLinks
+mod Putting
+mod NewLinks
+mod KnownNumbers
 pub mod MergedParts
 pub mod EdgeStands
 pub mod NoneListed

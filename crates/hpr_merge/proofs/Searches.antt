@@ -3,12 +3,9 @@ use Rattle.std.proofs.Common.{ℕ, ◌↔◌, Result, List, length, Contains, Is
 use Rattle.std.specs.Result.{is_ok}
 use Rattle.std.specs.FinMap.{nat_cmp-IsAntisymmetric}
 use Rattle.std.specs.Ordering.{nat_cmp}
-use Rattle.std.specs.List.Sorted.{IsSorted, IsBinarySearchResult, IsSearchInRange}
+use Rattle.std.specs.List.Sorted.{IsBinarySearchResult, IsSearchInRange}
 use Rattle.std.proofs.lemmas.Cmp.{nat_cmp_total}
-use Rattle.hpr_graph.specs.declared.link.Link.{Link}
-use Rattle.hpr_graph.specs.contracts.link.LinkOrd.TheImpl.Laws.{total-law}
 use Rattle.hpr_graph.specs.InOrder.{Ascends}
-use Rattle.hpr_graph.proofs.LinkOrder.{link_cmp}
 use Rattle.hpr_graph.proofs.Searches.{sorted_ascending, found_sorted}
 
 pub number_found : (xs : List ℕ) (n : ℕ) (r : Result ℕ ℕ) → Ascends nat_cmp xs → IsSearchInRange r (length xs) → IsBinarySearchResult (λ y. nat_cmp y n) xs r → IsTrue (is_ok r) ↔ Contains xs n

@@ -7,7 +7,7 @@ use Rattle.hpr_graph.specs.Graphs.{Graph, Same, union_of}
 use Rattle.hpr_graph.specs.Numbered.{Numbered, HasEdge, HasLink, HasVertex, graph_in}
 use Rattle.hpr_graph.specs.Slices.{LeadsTo, ReachesOne, slice_at}
 use Rattle.hpr_graph.specs.Conflicts.{IsAdded, IsLeast}
-use Rattle.hpr_graph.specs.Whole.{HasEnds}
+use Rattle.hpr_graph.specs.Whole.{HasEnds, HasLoops}
 use Rattle.hpr_graph.proofs.Laws.{vertices_map}
 
 -- the vertices and edges of what is put together
@@ -31,6 +31,9 @@ module _ (bare g other u r : Numbered) (vertices : bare.vertices ≡ other.verti
 leads_over : (g h : Graph) → ((e : Edge) → g.edge e → h.edge e) → (a : Vertex) (es : List Edge) (b : Vertex) → LeadsTo g a es b → LeadsTo h a es b
 leads_over g h into a [] b w = w
 leads_over g h into a (e ∷ es) b w = (into e w.0, w.1, w.2, leads_over g h into e.to es b w.3)
+
+pub loops_over : (g h : Graph) → ((e : Edge) → h.edge e ↔ g.edge e) → HasLoops g → HasLoops h
+loops_over g h same loops e x w has is = let (es, leads) = loops e x w ((same e).0 has) is in (es, leads_over g h (λ f. (same f).1) w es e.to leads)
 
 reaches_over : (g h : Graph) → ((e : Edge) → g.edge e → h.edge e) → (v w : Vertex) → ReachesOne g (λ s. s ≡ v) w → ReachesOne h (λ s. s ≡ v) w
 reaches_over g h into v w (s, es, is, leads) = (s, es, is, leads_over g h into w es s leads)

@@ -1,7 +1,8 @@
 -- Two graphs with the same vertices by the same numbers.
 --
 -- Pair                  == a graph, and one whose slices are looked at beside its slices
--- AreBeside cmp m k     == both have the same vertices in their order, and their links ascend
+-- AreBeside cmp m k     == both have the same vertices in their order, their links ascend, and loops lead to
+--                          the targets of carried edges
 -- IsBeside cmp m k w n  == the same, where w and n are the steps of the two graphs
 -- IsLeastAdded m k v o  == o is the least edge added at v to k's slice, none where none is added
 -- IsLeastLink m k v o   == o is the link of that edge with its target's number, none where no edge is added
@@ -17,6 +18,7 @@ use Rattle.hpr_graph.specs.Numbered.{Numbered, IsEdgeAt, IsLink, IsNumbered, gra
 use Rattle.hpr_graph.specs.Order.{vertex_cmp}
 use Rattle.hpr_graph.specs.InOrder.{Ascends, RowsAscend}
 use Rattle.hpr_graph.specs.Conflicts.{IsAdded, IsLeast}
+use Rattle.hpr_graph.specs.Whole.{HasLoops}
 use Rattle.hpr_slice.specs.Steps.{AreSteps, AreStepsWithin}
 
 pub record Pair : Type 0 where
@@ -28,6 +30,8 @@ pub record AreBeside (cmp : Link → Link → Ordering) (m k : Numbered) : Type 
   pub vertices : k.vertices ≡ m.vertices
   pub rows : RowsAscend cmp m
   pub own_rows : RowsAscend cmp k
+  pub loops : HasLoops (graph_in m)
+  pub own_loops : HasLoops (graph_in k)
 
 pub record IsBeside (cmp : Link → Link → Ordering) (m k : Numbered) (wide narrow : List (ℕ × ℕ)) : Type 0 where
   pub merged : IsNumbered m

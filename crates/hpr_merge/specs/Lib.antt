@@ -1,5 +1,8 @@
 pub mod Added
 pub mod Beside
+pub mod Candidates
+pub mod Firsts
+pub mod Known
 pub mod PointConflicts
 pub mod ThreePoints
 pub mod Words

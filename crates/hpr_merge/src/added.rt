@@ -37,7 +37,7 @@ pub(crate) fn first_added(
 }
 
 /// So many slices, of none of which a link is known.
-fn no_firsts(alloc: Global, count: usize) -> Result<Vec<Option<(usize, Link)>>, NoMemory>
+pub(crate) fn no_firsts(alloc: Global, count: usize) -> Result<Vec<Option<(usize, Link)>>, NoMemory>
     ensures { IfOk result (λ firsts. firsts.items ≡ replicate count None) }
 {
     let mut firsts = Vec::with_capacity(alloc, count)?;

@@ -1,5 +1,6 @@
 //! The merged graph with a variant's graph beside it.
 ghost use Rattle.std.specs.Prelude.{◌≡◌, ◌↔◌, ◌⊎◌, ◌<◌, ◌≤◌, All, IfOk, length};
+ghost use Rattle.std.specs.Ordering.{nat_cmp};
 ghost use Rattle.hpr_graph.specs.declared.vertex.Vertex.{Vertex};
 ghost use Rattle.hpr_graph.specs.declared.edge.Edge.{Edge};
 ghost use Rattle.hpr_graph.specs.Graphs.{IsOnce};
@@ -7,11 +8,16 @@ ghost use Rattle.hpr_graph.specs.Numbered.{HasEdge, HasVertex, IsEdgeAt, IsLink}
 ghost use Rattle.hpr_graph.specs.Order.{vertex_cmp};
 ghost use Rattle.hpr_graph.specs.InOrder.{Ascends, RowsAscend};
 ghost use Rattle.hpr_merge.specs.Beside.{AreBeside, AreLeastLinks};
+ghost use Rattle.hpr_merge.specs.Candidates.{KeepsSteps};
+ghost use Rattle.hpr_merge.specs.Known.{AreKnownLinks, IsNear};
 
 use crate::added::first_added;
+use crate::candidates::{candidates, keeps_steps, new_sources};
+use crate::firsts::{firsts_from, rows_of};
+use crate::known::{known_links, unknown_numbers};
 use crate::words::reach_words;
 use hpr_graph::{Edge, Graph, Link, NoMemory};
-use hpr_slice::steps_of;
+use hpr_slice::{Sources, steps_of};
 use std::alloc::Global;
 use std::marker::Model;
 
@@ -79,13 +85,70 @@ impl<'a> Beside<'a> {
         })
     }
 
-    /// At each of the vertices with these numbers the link of the least edge that the merged graph adds to
-    /// the variant's slice and that ends in a vertex of that slice, with its target's number, or none where
-    /// there is none. Looks at each edge a few times for every 64 of them.
+    /// At each of the vertices with these numbers, which ascend, the link of the least edge that the merged
+    /// graph adds to the variant's slice and that ends in a vertex of that slice, with its target's number,
+    /// or none where there is none.
+    ///
+    /// Where the merged graph has the variant's slices there, looks at each edge a fixed number of times, and
+    /// then, only for those vertices whose least edge may be an order edge, a few times for every 64 of them;
+    /// else so for all of them.
     pub(crate) fn least_links(
         &self,
         numbers: &[usize],
     ) -> Result<Vec<Option<(usize, Link)>>, NoMemory>
+        requires within { All (λ n. n < length self.now.merged.vertices) numbers.now }
+        requires ascend { Ascends nat_cmp numbers.now }
+        ensures { IfOk result (λ links. AreLeastLinks self.now numbers.now links.items) }
+    {
+        let near = Sources::of(self.alloc, self.variant).reaching(numbers)?;
+        if !keeps_steps(self.merged, self.variant, &near) {
+            return self.links_by_words(numbers);
+        }
+        let firsts = self.firsts(numbers, &near)?;
+        self.links_by_firsts(numbers, &firsts)
+    }
+
+    /// At each vertex the first link that may be added to its slice, with its target's number. The marked
+    /// vertices are those from which control and flow edges lead in the variant to those with these numbers.
+    fn firsts(
+        &self,
+        numbers: &[usize],
+        near: &[bool],
+    ) -> Result<Vec<Option<(usize, Link)>>, NoMemory>
+        requires near { IsNear self.now.own numbers.now near.now }
+        requires keeps { KeepsSteps self.now.merged self.now.own near.now }
+        ensures { IfOk result (λ firsts. AreKnownLinks self.now numbers.now firsts.items) }
+    {
+        let count = self.merged.vertices().len();
+        let _others = self.variant.vertices();
+        let sources = new_sources(self.alloc, self.merged, self.variant, near)?;
+        let far = Sources::of(self.alloc, self.merged).reaching(&sources)?;
+        let links = candidates(self.alloc, self.merged, self.variant, near, &far)?;
+        let rows = rows_of(self.alloc, &self.narrow, count)?;
+        let firsts = firsts_from(self.alloc, &rows, &links)?;
+        Ok(firsts)
+    }
+
+    /// The least links, by the first link that may be added at each vertex. Looks at each edge a few times
+    /// for every 64 of the vertices at which that isn't known to be the least one.
+    fn links_by_firsts(
+        &self,
+        numbers: &[usize],
+        firsts: &[Option<(usize, Link)>],
+    ) -> Result<Vec<Option<(usize, Link)>>, NoMemory>
+        requires within { All (λ n. n < length self.now.merged.vertices) numbers.now }
+        requires ascend { Ascends nat_cmp numbers.now }
+        requires firsts { AreKnownLinks self.now numbers.now firsts.now }
+        ensures { IfOk result (λ links. AreLeastLinks self.now numbers.now links.items) }
+    {
+        let unknown = unknown_numbers(self.alloc, numbers, firsts)?;
+        let some = self.links_by_words(&unknown)?;
+        let links = known_links(self.alloc, numbers, firsts, &unknown, &some)?;
+        Ok(links)
+    }
+
+    /// The least links, found for 64 vertices at a time. Looks at each edge a few times for every 64 of them.
+    fn links_by_words(&self, numbers: &[usize]) -> Result<Vec<Option<(usize, Link)>>, NoMemory>
         requires { All (λ n. n < length self.now.merged.vertices) numbers.now }
         ensures { IfOk result (λ links. AreLeastLinks self.now numbers.now links.items) }
     {

@@ -8,7 +8,7 @@ ghost use Rattle.hpr_graph.specs.Numbered.{HasVertex, graph_in};
 ghost use Rattle.hpr_graph.specs.Order.{vertex_cmp};
 ghost use Rattle.hpr_graph.specs.InOrder.{Ascends};
 ghost use Rattle.hpr_graph.specs.Points.{IsAffected};
-ghost use Rattle.hpr_graph.specs.Whole.{IsWhole};
+ghost use Rattle.hpr_graph.specs.Whole.{HasLoops, IsWhole};
 ghost use Rattle.hpr_slice.specs.Vertices.{IsOneOf};
 ghost use Rattle.hpr_affected.specs.Comparison.{MarksAffected};
 ghost use Rattle.hpr_affected.specs.Numbers.{AreNumbersOf};
@@ -16,6 +16,7 @@ ghost use Rattle.hpr_merge.specs.Beside.{AreLeastLinks};
 ghost use Rattle.hpr_merge.specs.PointConflicts.{ArePointConflicts, IsEdgeOfPoint, with_edge};
 
 use crate::beside::{Beside, widened};
+use crate::known::link_at;
 use hpr_affected::Comparison;
 use hpr_graph::{Edge, Graph, Link, NoMemory, Vertex};
 use hpr_search::is_marked;
@@ -28,7 +29,8 @@ use std::alloc::Global;
 ///
 /// Where the points are the affected ones, these are the variant's conflicts (Horwitz, Prins and Reps 1989,
 /// who name no edge). Goes forward once in the merged graph, to find the points in conflict. Only where
-/// there is one, puts both graphs in order, and looks at each of their edges a few times for every 64 of them.
+/// there is one, puts both graphs in order, and looks at each of their edges a fixed number of times, and then
+/// a few times for every 64 points whose least edge may be an order edge.
 pub fn conflicts_of(
     alloc: Global,
     variant: &Graph,
@@ -105,14 +107,16 @@ fn push_if(test: bool, number: usize, into: &mut Vec<usize>) -> Result<(), NoMem
     Ok(())
 }
 
-/// The conflicts of a variant at some of its points, by their numbers in it, which ascend, of any graphs.
+/// The conflicts of a variant at some of its points, by their numbers in it, which ascend.
 fn conflicts_at(
     alloc: Global,
     variant: &Graph,
     points: &[usize],
     merged: &Graph,
 ) -> Result<Vec<(Vertex, Edge)>, NoMemory>
-    requires { Ascends nat_cmp points.now }
+    requires points { Ascends nat_cmp points.now }
+    requires variant { HasLoops (graph_in variant.now) }
+    requires merged { HasLoops (graph_in merged.now) }
     ensures { IfOk result (λ ps. ArePointConflicts (graph_in merged.now) (graph_in variant.now)
         (IsOneOf variant.now points.now) ps.items) }
 {
@@ -186,23 +190,6 @@ fn edge_at(
     match link_at(numbers, links, at) {
         Some((to, link)) => Ok(Some(beside.edge(to, link)?)),
         None => Ok(None),
-    }
-}
-
-/// The link beside the number in these lists, of which that of the numbers ascends, if the number is there.
-fn link_at(
-    numbers: &[usize],
-    links: &[Option<(usize, Link)>],
-    number: usize,
-) -> Option<(usize, Link)>
-    requires numbers { Ascends nat_cmp numbers.now }
-    requires count { length links.now ≡ length numbers.now }
-    ensures beside { (i : ℕ) → slice_get numbers.now i ≡ Some number → slice_get links.now i ≡ Some result }
-    ensures there { IsSome result → Contains numbers.now number }
-{
-    match numbers.binary_search(&number) {
-        Ok(at) => links[at],
-        Err(_) => None,
     }
 }
 

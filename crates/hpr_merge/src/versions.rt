@@ -39,7 +39,8 @@ pub struct Merged {
 ///
 /// The graphs are whole, as those of programs are. Refuses for want of memory alone. Looks at each edge
 /// and looks each vertex up a fixed number of times; only where there are conflicts, puts vertices and
-/// edges in order, and looks at each edge a few times for every 64 of them.
+/// edges in order, and looks at each edge a few times for every 64 of those whose least edge may be an order
+/// edge.
 pub fn merge(alloc: Global, base: &Graph, a: &Graph, b: &Graph) -> Result<Merged, NoMemory>
     requires base { IsWhole (graph_in base.now) }
     requires a { IsWhole (graph_in a.now) }

@@ -1,6 +1,6 @@
 use Rattle.std.proofs.Common.{◌≤◌, ◌-◌, length, take}
 use Rattle.hpr_merge.specs.Beside.{AreLeastLinks}
-use Rattle.hpr_merge.proofs.beside.Beside.least_links.Given as goal
+use Rattle.hpr_merge.proofs.beside.Beside.links_by_words.Given as goal
 
 abbrev pub invariant-loop-start : goal.invariant-loop-start
 invariant-loop-start l = record {

@@ -3,7 +3,7 @@ use Rattle.std.proofs.Common.{Err, get_or}
 use Rattle.hpr_graph.proofs.Lists.{contains_at}
 use Rattle.hpr_merge.proofs.LeastLinks.{found_beside}
 use Rattle.hpr_merge.proofs.Searches.{number_found}
-use Rattle.hpr_merge.proofs.conflicts.link_at.Goals as goal
+use Rattle.hpr_merge.proofs.known.link_at.Goals as goal
 
 pub returns-in-Ok-clause-beside : goal.returns-in-Ok-clause-beside
 returns-in-Ok-clause-beside c =
