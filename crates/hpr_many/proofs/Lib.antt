@@ -1,5 +1,2 @@
-mod ManyParts
-mod ManyPoints
-mod ManyConflicts
 mod InLimit
 mod Refused

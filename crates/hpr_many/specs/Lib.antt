@@ -1,4 +1,2 @@
 pub mod Answers
-pub mod Conflicts
 pub mod Made
-pub mod ManyPoints

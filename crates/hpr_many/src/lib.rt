@@ -3,14 +3,12 @@
 //! all of it of two variants, and name no edge for a conflict.
 #![tactic(auto)]
 
-mod conflicts;
 mod integration;
 mod programs;
 mod stop;
-mod versions;
 
 pub use hpr_graph::{Edge, Graph, ManyConflict, NoMemory, Vertex};
+pub use hpr_merge_many::{ManyMerged, merge_many};
 pub use hpr_syntax::Program;
 pub use integration::integrate_many;
 pub use stop::ManyStop;
-pub use versions::{ManyMerged, merge_many};

@@ -18,9 +18,9 @@ ghost use Rattle.hpr_many.specs.Answers.{IsFirstTooLargeVariant, IsManyUnsearche
 ghost use Rattle.hpr_many.specs.Made.{IsMergeOfAll};
 
 use crate::stop::ManyStop;
-use crate::versions::merge_many;
 use hpr_build::{BuildError, graph_of};
 use hpr_graph::{Graph, NoMemory};
+use hpr_merge_many::merge_many;
 use hpr_syntax::Program;
 use hpr_terms::limits::MAX_EDGES;
 use std::alloc::Global;

@@ -1,8 +1,8 @@
 use Rattle.std.proofs.Common.{sym, ◌∙◌, subst}
 use Rattle.hpr_graph.specs.Numbered.{Numbered, graph_in}
 use Rattle.hpr_graph.specs.Whole.{IsWhole}
-use Rattle.hpr_many.proofs.ManyPoints.{points_found}
-use Rattle.hpr_many.proofs.versions.push_points.Goals as goal
+use Rattle.hpr_merge_many.proofs.ManyPoints.{points_found}
+use Rattle.hpr_merge_many.proofs.versions.push_points.Goals as goal
 
 pub affected-requires-clause-graph : goal.affected-requires-clause-graph
 affected-requires-clause-graph c = subst (λ (g : Numbered). IsWhole (graph_in g)) (sym c.in_ok-comparison.ensures.graph) c.requires.variant

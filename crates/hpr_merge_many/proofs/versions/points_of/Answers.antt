@@ -4,8 +4,8 @@ use Rattle.hpr_graph.specs.Numbered.{Numbered, graph_in, graphs_in}
 use Rattle.hpr_graph.specs.Points.{IsPreservedBy}
 use Rattle.hpr_graph.specs.Whole.{AreAll, IsWhole}
 use Rattle.hpr_affected.specs.Numbers.{AreNumbersOf}
-use Rattle.hpr_many.proofs.ManyPoints.{affected_all, affected_more, affected_none, beside_more, read_base, read_others, whole_one}
-use Rattle.hpr_many.proofs.versions.points_of.Goals as goal
+use Rattle.hpr_merge_many.proofs.ManyPoints.{affected_all, affected_more, affected_none, beside_more, read_base, read_others, whole_one}
+use Rattle.hpr_merge_many.proofs.versions.points_of.Goals as goal
 
 pub loop-variant-init : goal.loop-variant-init
 loop-variant-init c = (affected_none c.args.base.now c.in_ok-affected.affected.items c.in_ok-affected.ensures.items, c.in_ok-beside.ensures.items)

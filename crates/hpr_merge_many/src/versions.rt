@@ -11,7 +11,7 @@ ghost use Rattle.hpr_graph.specs.Whole.{AreAll, IsWhole};
 ghost use Rattle.hpr_affected.specs.Comparison.{Sides};
 ghost use Rattle.hpr_affected.specs.Numbers.{AreNumbersOf};
 ghost use Rattle.hpr_graph.specs.declared.conflict.ManyConflict.{ManyConflict};
-ghost use Rattle.hpr_many.specs.ManyPoints.{AreAffectedIn};
+ghost use Rattle.hpr_merge_many.specs.ManyPoints.{AreAffectedIn};
 
 use crate::conflicts::push_conflicts;
 use hpr_affected::{Comparison, preserved_by};

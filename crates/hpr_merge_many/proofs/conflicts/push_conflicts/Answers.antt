@@ -5,8 +5,8 @@ use Rattle.std.proofs.lemmas.Iterator.Consumers.{YieldsList-end}
 use Rattle.hpr_graph.specs.declared.conflict.ManyConflict.{ManyConflict}
 use Rattle.hpr_graph.specs.declared.edge.Edge.{Edge}
 use Rattle.hpr_graph.specs.declared.vertex.Vertex.{Vertex}
-use Rattle.hpr_many.specs.Conflicts.{conflict_of}
-use Rattle.hpr_many.proofs.conflicts.push_conflicts.Goals as goal
+use Rattle.hpr_merge_many.specs.Conflicts.{conflict_of}
+use Rattle.hpr_merge_many.proofs.conflicts.push_conflicts.Goals as goal
 
 -- one pair more
 one_more : (n : ℕ) (before old new : List ManyConflict) (ps : List (Vertex × Edge)) (p : Vertex × Edge) → old ≡ before ++ map (conflict_of n) ps → new ≡ old ++ conflict_of n p ∷ [] → new ≡ before ++ map (conflict_of n) (ps ++ p ∷ [])

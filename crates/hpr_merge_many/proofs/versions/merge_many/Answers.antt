@@ -4,9 +4,9 @@ use Rattle.hpr_graph.specs.Points.{merged_all}
 use Rattle.hpr_closure.proofs.WholeSlices.{merged_whole, whole_same}
 use Rattle.hpr_slice.specs.Vertices.{IsOneOf}
 use Rattle.hpr_merge.proofs.MergedParts.{affected_points, ascending_read, conflicts_read}
-use Rattle.hpr_many.proofs.ManyConflicts.{many_all, many_more, many_none}
-use Rattle.hpr_many.proofs.ManyPoints.{own_points, row_inside, whole_one}
-use Rattle.hpr_many.proofs.versions.merge_many.Goals as goal
+use Rattle.hpr_merge_many.proofs.ManyConflicts.{many_all, many_more, many_none}
+use Rattle.hpr_merge_many.proofs.ManyPoints.{own_points, row_inside, whole_one}
+use Rattle.hpr_merge_many.proofs.versions.merge_many.Goals as goal
 
 pub points_of-requires : goal.points_of-requires
 points_of-requires c = record { base = c.requires.base; variants = c.requires.variants }

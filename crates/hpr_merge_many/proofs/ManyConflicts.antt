@@ -13,7 +13,7 @@ use Rattle.hpr_graph.proofs.Lists.{in_none}
 use Rattle.hpr_merge.specs.PointConflicts.{ArePointConflicts}
 use Rattle.hpr_merge.proofs.ToldConflicts.{AreToldBelow, IsTelling, told_all, told_more, told_none}
 use Rattle.hpr_graph.specs.declared.conflict.ManyConflict.{ManyConflict}
-use Rattle.hpr_many.specs.Conflicts.{conflict_of}
+use Rattle.hpr_merge_many.specs.Conflicts.{conflict_of}
 
 abbrev Told : Type 0
 Told = ℕ × Vertex × Edge

@@ -8,7 +8,7 @@ ghost use Rattle.hpr_graph.specs.Numbered.{graph_in};
 ghost use Rattle.hpr_graph.specs.Whole.{IsWhole};
 ghost use Rattle.hpr_slice.specs.Vertices.{IsOneOf};
 ghost use Rattle.hpr_merge.specs.PointConflicts.{ArePointConflicts};
-ghost use Rattle.hpr_many.specs.Conflicts.{conflict_of};
+ghost use Rattle.hpr_merge_many.specs.Conflicts.{conflict_of};
 
 use hpr_graph::{Edge, Graph, ManyConflict, NoMemory, Vertex};
 use hpr_merge::conflicts_of;

@@ -6,9 +6,9 @@ use Rattle.hpr_graph.specs.Points.{IsAffected, IsPreservedBy, changed, merged_al
 use Rattle.hpr_graph.specs.Slices.{slice_of}
 use Rattle.hpr_graph.proofs.Laws.{same_then, union_same}
 use Rattle.hpr_merge.proofs.MergedParts.{points_slice, points_within, union_either}
-use Rattle.hpr_many.proofs.ManyParts.{nothing_in, united_all, united_more}
-use Rattle.hpr_many.proofs.ManyPoints.{own_points, row_inside}
-use Rattle.hpr_many.proofs.versions.merged_graph.Goals as goal
+use Rattle.hpr_merge_many.proofs.ManyParts.{nothing_in, united_all, united_more}
+use Rattle.hpr_merge_many.proofs.ManyPoints.{own_points, row_inside}
+use Rattle.hpr_merge_many.proofs.versions.merged_graph.Goals as goal
 
 pub loop-at-init : goal.loop-at-init
 loop-at-init c = nothing_in c.in_ok-changed.changed c.in_ok-changed.ensures.vertices c.in_ok-changed.ensures.none

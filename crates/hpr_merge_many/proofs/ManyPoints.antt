@@ -11,7 +11,7 @@ use Rattle.hpr_graph.proofs.Lists.{at_push}
 use Rattle.hpr_affected.specs.Comparison.{Sides}
 use Rattle.hpr_affected.specs.Numbers.{AreNumbersOf}
 use Rattle.hpr_affected.specs.Shared.{AreOfBase, others_of}
-use Rattle.hpr_many.specs.ManyPoints.{AreAffectedIn}
+use Rattle.hpr_merge_many.specs.ManyPoints.{AreAffectedIn}
 
 module _ (base : Numbered) where
   abbrev Affected : Numbered → List ℕ → Type 0

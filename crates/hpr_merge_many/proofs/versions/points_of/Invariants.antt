@@ -1,8 +1,8 @@
 use Rattle.std.proofs.Common.{◌≡◌, map, take}
 use Rattle.hpr_search.specs.Rows.{numbers_of}
-use Rattle.hpr_many.specs.ManyPoints.{AreAffectedIn}
-use Rattle.hpr_many.proofs.ManyPoints.{with_base}
-use Rattle.hpr_many.proofs.versions.points_of.Given as goal
+use Rattle.hpr_merge_many.specs.ManyPoints.{AreAffectedIn}
+use Rattle.hpr_merge_many.proofs.ManyPoints.{with_base}
+use Rattle.hpr_merge_many.proofs.versions.points_of.Given as goal
 
 abbrev pub invariant-loop-variant : goal.invariant-loop-variant
 invariant-loop-variant l = AreAffectedIn l.base (take l.variant-index l.variants) (numbers_of l.affected.items)

@@ -1,0 +1,3 @@
+mod ManyParts
+mod ManyPoints
+mod ManyConflicts
