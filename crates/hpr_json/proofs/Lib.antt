@@ -1,5 +1,5 @@
 mod Whole
 mod Ascii
 mod Marked
-mod Places
-mod Rows
+pub mod Places
+pub mod Rows

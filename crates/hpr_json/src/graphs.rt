@@ -53,8 +53,9 @@ fn listed_graph(alloc: Global, vertices: Vec<Value>, edges: Vec<Value>) -> Resul
     Ok(Value::Object(members))
 }
 
-/// The object of each edge, vertex by vertex.
-fn edge_values(alloc: Global, graph: &Graph) -> Result<Vec<Value>, NoMemory>
+/// The object of each edge of a graph whose vertices ascend, vertex by vertex, as [`graph_value`] has it. It fails only
+/// for want of memory.
+pub fn edge_values(alloc: Global, graph: &Graph) -> Result<Vec<Value>, NoMemory>
     requires { Ascends vertex_cmp graph.now.vertices }
     ensures { IfOk result (λ values. map view values.items ≡ map (edge_data graph.now.vertices) (edges_of graph.now)) }
 {

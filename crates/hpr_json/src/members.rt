@@ -6,8 +6,8 @@ ghost use Rattle.serde_json.specs.View.{view, items_view, members_view};
 use serde_json::{Map, Value, put};
 use std::alloc::{AllocError, Global};
 
-/// Puts a member that is a text.
-pub(crate) fn put_text(
+/// Puts a member that is a text. It fails only for want of memory.
+pub fn put_text(
     alloc: Global,
     members: &mut Map<String, Value>,
     key: &str,

@@ -13,7 +13,7 @@ use std::alloc::{AllocError, Global};
 
 /// A vertex as an object: its `kind` is `entry`, `init`, `part` or `final`. An init and a final vertex have
 /// their `name`, and a part its `tag` and its `content`, what it says. It fails only for want of memory.
-pub(crate) fn vertex_value(alloc: Global, vertex: &Vertex) -> Result<Value, NoMemory>
+pub fn vertex_value(alloc: Global, vertex: &Vertex) -> Result<Value, NoMemory>
     ensures { IfOk result (λ value. view value ≡ vertex_data vertex.now) }
 {
     match vertex {
@@ -25,7 +25,7 @@ pub(crate) fn vertex_value(alloc: Global, vertex: &Vertex) -> Result<Value, NoMe
 }
 
 /// The object of each vertex.
-pub(crate) fn vertex_values(alloc: Global, vertices: &[Vertex]) -> Result<Vec<Value>, NoMemory>
+pub fn vertex_values(alloc: Global, vertices: &[Vertex]) -> Result<Vec<Value>, NoMemory>
     ensures { IfOk result (λ values. map view values.items ≡ map vertex_data vertices.now) }
 {
     let mut values = Vec::new(alloc);
@@ -91,8 +91,7 @@ pub(crate) fn edge_value(alloc: Global, edge: &Edge) -> Result<Value, NoMemory>
     kind_value(alloc, &edge.kind, from, to)
 }
 
-// Each of these makes the object of an edge between two vertices.
-
+/// The object of an edge of this kind between two vertices.
 fn kind_value(alloc: Global, kind: &Kind, from: Value, to: Value) -> Result<Value, NoMemory>
     ensures { IfOk result (λ value. view value ≡ kind_data kind.now (view from) (view to)) }
 {
@@ -110,7 +109,8 @@ fn kind_value(alloc: Global, kind: &Kind, from: Value, to: Value) -> Result<Valu
     }
 }
 
-pub(crate) fn control_value(
+/// The object of a control edge with this label between two vertices. It fails only for want of memory.
+pub fn control_value(
     alloc: Global,
     label: bool,
     from: Value,
@@ -124,12 +124,8 @@ pub(crate) fn control_value(
     Ok(Value::Object(members))
 }
 
-pub(crate) fn flow_value(
-    alloc: Global,
-    name: &Name,
-    from: Value,
-    to: Value,
-) -> Result<Value, AllocError>
+/// The object of a flow edge for this name that no loop carries. It fails only for want of memory.
+pub fn flow_value(alloc: Global, name: &Name, from: Value, to: Value) -> Result<Value, AllocError>
     ensures { IfOk result (λ value. view value ≡ kind_data (Kind.Independent name.now) (view from) (view to)) }
 {
     let mut members = Map::new(alloc);
@@ -138,7 +134,8 @@ pub(crate) fn flow_value(
     Ok(Value::Object(members))
 }
 
-pub(crate) fn carried_value(
+/// The object of a flow edge for this name that a loop carries. It fails only for want of memory.
+pub fn carried_value(
     alloc: Global,
     name: &Name,
     carrier: Value,
@@ -154,12 +151,8 @@ pub(crate) fn carried_value(
     Ok(Value::Object(members))
 }
 
-pub(crate) fn order_value(
-    alloc: Global,
-    used: Value,
-    from: Value,
-    to: Value,
-) -> Result<Value, AllocError>
+/// The object of an order edge for a shared use. It fails only for want of memory.
+pub fn order_value(alloc: Global, used: Value, from: Value, to: Value) -> Result<Value, AllocError>
     ensures { IfOk result (λ value. view value ≡ order_data (view used) (view from) (view to)) }
 {
     let mut members = Map::new(alloc);

@@ -1,0 +1,5 @@
+mod Texts
+mod EdgeRows
+mod Objects
+mod Uses
+mod Whole

@@ -1,0 +1,4 @@
+pub mod Located
+pub mod Sources
+pub mod Shown
+pub mod Private
