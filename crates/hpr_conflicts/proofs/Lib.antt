@@ -1,0 +1,5 @@
+mod KeyEqual
+mod Placed
+mod Numbered
+mod Rowed
+mod Pieces

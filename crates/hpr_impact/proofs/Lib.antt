@@ -1,0 +1,13 @@
+mod Beside
+mod Found
+mod Leading
+mod LineMarks
+mod Made
+mod Marking
+mod Places
+mod Reached
+mod Rows
+mod Tables
+mod Trails
+mod Visits
+mod Whole

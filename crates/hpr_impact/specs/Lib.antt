@@ -1,0 +1,4 @@
+pub mod Lines
+pub mod Reasons
+pub mod Shown
+pub mod Private

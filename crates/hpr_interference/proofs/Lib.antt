@@ -1,0 +1,4 @@
+mod Nearest
+mod Listed
+mod Grouped
+mod Whole
