@@ -2,3 +2,5 @@ mod TakenLemmas
 mod EndsLemmas
 mod TagLemmas
 mod DoesLemmas
+mod GraphLemmas
+mod LoadLemmas

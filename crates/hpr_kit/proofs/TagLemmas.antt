@@ -17,12 +17,6 @@ use Rattle.hpr_kit.specs.Private.Replies.{IsWithin}
 use Rattle.hpr_kit.specs.Tags.{IsTagged, IsTagging}
 use Rattle.hpr_kit.specs.declared.status.Status.TheVariants as status
 
--- a place that is refused stands in the bytes, or behind them
-pub cause_within : (bytes : List ℕ) (why : Refusal) → IsCauseIn tagged bytes why → IsWithin bytes why
-cause_within bytes (refusal.Syntax n) h = h.1.within
-cause_within bytes refusal.Longer h = tt
-cause_within bytes (refusal.Shape error) h = tt
-
 module _ (file bytes : List ℕ) (a : Answer) where
   not_done : (message : List ℕ) → a ≡ refuses message → a.status ≡ status.Done → ⊥
   not_done message is done = let e : status.Refused ≡ status.Done = sym (ap (λ (x : Answer). x.status) is) ∙ done in cc

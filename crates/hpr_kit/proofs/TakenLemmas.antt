@@ -5,10 +5,13 @@ use Rattle.hpr_syntax.specs.Print.{text}
 use Rattle.hpr_syntax.specs.Tree.{Tree}
 use Rattle.hpr_tagging.specs.Tagging.{kept}
 use Rattle.hpr_refusals.specs.declared.files.Refusal.TheVariants.{Longer}
-use Rattle.hpr_kit.specs.Answer.{Answer, beyond_text, denies, differs_text, prints, refused_text, refuses, spent_text}
-use Rattle.hpr_kit.specs.Comes.{OnProgram, OnTagged, formatted, placed, retold}
-use Rattle.hpr_kit.specs.Ends.{Change}
-use Rattle.hpr_kit.specs.Private.Replies.{Writes, stop_status}
+use Rattle.hprkit_words.specs.declared.forms.FormatForm.{FormatForm}
+use Rattle.hprkit_words.specs.declared.forms.FormatForm.TheVariants as form
+use Rattle.hpr_kit.specs.Answer.{Answer, beyond_text, denies, differs_text, prints, refused_text, refuses, rewrites, spent_text}
+use Rattle.hpr_kit.specs.Comes.{OnTagged, formatted, placed, retold}
+use Rattle.hpr_kit.specs.Reading.{OnProgram}
+use Rattle.hpr_kit.specs.Ends.{Change, Rewriting}
+use Rattle.hpr_kit.specs.Private.Replies.{Writes, cut, lost, no_room, stop_status, written}
 use Rattle.hpr_kit.specs.Shown.{place_of}
 use Rattle.hpr_kit.specs.declared.reply.Stop.{Stop}
 use Rattle.hpr_kit.specs.declared.reply.Stop.TheVariants as stop
@@ -31,13 +34,14 @@ cond_taken : (b : Bool) (x y : Answer) → IsTaken x.status → IsTaken y.status
 cond_taken true x y p q = p
 cond_taken false x y p q = q
 
-formatted_taken : (check : Bool) (file bytes : List ℕ) (p : Tree) → IsTaken (formatted check file bytes p).status
-formatted_taken false file bytes p = tt
-formatted_taken true file bytes p = cond_taken (bytes_eq bytes (text p)) (prints []) (denies (differs_text file bytes (text p))) tt tt
+formatted_taken : (how : FormatForm) (file bytes : List ℕ) (p : Tree) → IsTaken (formatted how file bytes p).status
+formatted_taken form.Print file bytes p = tt
+formatted_taken form.Check file bytes p = cond_taken (bytes_eq bytes (text p)) (prints []) (denies (differs_text file bytes (text p))) tt tt
+formatted_taken form.InPlace file bytes p = cond_taken (bytes_eq bytes (text p)) (prints []) (rewrites file (text p)) tt tt
 
-pub program_taken : (check : Bool) (file bytes : List ℕ) (a : Answer) → OnProgram file bytes (λ p. a ≡ formatted check file bytes p) a → a.status ≢ status.Words
-program_taken check file bytes a (inl (why, cause, is)) = not_words a (refuses (refused_text file bytes why)) is tt
-program_taken check file bytes a (inr (p, spelled, is)) = not_words a (formatted check file bytes p) is (formatted_taken check file bytes p)
+pub program_taken : (how : FormatForm) (file bytes : List ℕ) (a : Answer) → OnProgram file bytes (λ p. a ≡ formatted how file bytes p) a → a.status ≢ status.Words
+program_taken how file bytes a (inl (why, cause, is)) = not_words a (refuses (refused_text file bytes why)) is tt
+program_taken how file bytes a (inr (p, spelled, is)) = not_words a (formatted how file bytes p) is (formatted_taken how file bytes p)
 
 pub place_taken : (file bytes : List ℕ) (n : ℕ) (a : Answer) → a ≡ placed file bytes n → a.status ≢ status.Words
 place_taken file bytes n a is =
@@ -58,12 +62,15 @@ tagging_taken author keep file bytes a (inr (inl (spent, is))) = not_words a (re
 tagging_taken author keep file bytes a (inr (inr (p, tags, is))) =
     not_words a (retold keep file bytes (kept author bytes) p) is (retold_taken keep file bytes (kept author bytes) p)
 
-pub write_taken : (a : Answer) (s : Status) (out err : Change) → a.status ≢ status.Words → Writes a s out err → s ≢ status.Words
-write_taken a s out err taken (inl (is, took, says)) words = taken (sym is ∙ words)
-write_taken a s out err taken (inr (is, took, says)) words = subst IsTaken (sym is ∙ words) tt
+pub write_taken : (a : Answer) (s : Status) (w : Rewriting) (out err : Change) → a.status ≢ status.Words → Writes a s w out err → s ≢ status.Words
+write_taken a s w out err taken (written is rewrote quiet took says) words = taken (sym is ∙ words)
+write_taken a s w out err taken (cut is kept took says) words = subst IsTaken (sym is ∙ words) tt
+write_taken a s w out err taken (lost file so is kept rose took says) words = subst IsTaken (sym is ∙ words) tt
+write_taken a s w out err taken (no_room is kept took says) words = subst IsTaken (sym is ∙ words) tt
 
 stop_taken : (x : Stop) → IsTaken (stop_status x)
 stop_taken (stop.ReadFault message) = tt
+stop_taken (stop.WriteFault message) = tt
 stop_taken stop.Memory = tt
 
 pub stopped_taken : (x : Stop) (s : Status) → s ≡ stop_status x → s ≢ status.Words

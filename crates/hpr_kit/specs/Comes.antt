@@ -1,11 +1,9 @@
 -- What comes of a call.
 --
--- read files file              == what is read of a file: its bytes; of one that is too long the first of
---                                 them, one more than the limit
--- OnProgram file bytes next a  == a refuses the bytes of this file; or they spell a program, and a is what
---                                 next says of it
 -- checked file bytes canonical == whether the bytes are this canonical text
--- formatted check file bytes p == the canonical text of the program p; or whether the bytes are this text
+-- renewed file bytes canonical == the file with these bytes gets the canonical text, unless that is what it has
+-- formatted form file bytes p  == the canonical text of the program p, printed, compared with the bytes or put
+--                                 into the file
 -- placed file bytes n          == the line and the column of the byte n; the place behind the last byte has
 --                                 them too
 -- OnTagged n file bytes next a == a refuses the bytes of this file, as they are or for the serials of the
@@ -16,37 +14,37 @@
 -- Comes ask files a            == a comes of what is asked over these files; words that are no call ask for
 --                                 nothing
 -- Names ask file               == the file is named in what is asked
-use Rattle.std.specs.Prelude.{◌≡◌, ◌⊎◌, ℕ, ◌+◌, Bool, true, false, nat_lt, if◌then◌else◌, List, [], ◌++◌, length, take, Option, Some, None, codes}
+use Rattle.std.specs.Prelude.{◌≡◌, ◌⊎◌, ℕ, Bool, true, false, nat_lt, if◌then◌else◌, List, [], ◌++◌, length, Option, Some, None, codes}
 use Rattle.std.specs.Str.{bytes_eq}
-use Rattle.hpr_io.specs.Files.{Files, bytes_of}
+use Rattle.hpr_io.specs.Files.{Files}
 use Rattle.hpr_terms.specs.declared.limits.TheConstants.{MAX_FILE}
-use Rattle.hpr_syntax.specs.Grammar.{tagged}
 use Rattle.hpr_syntax.specs.Print.{text}
 use Rattle.hpr_syntax.specs.Tree.{Tree}
 use Rattle.hpr_tagging.specs.Tagging.{kept}
-use Rattle.hpr_refusals.specs.Refusals.{IsCauseIn, IsFileOf}
 use Rattle.hpr_refusals.specs.declared.files.Refusal.{Refusal}
 use Rattle.hpr_refusals.specs.declared.files.Refusal.TheVariants.{Longer}
 use Rattle.hpr_words.specs.Request.{Text}
-use Rattle.hprkit_words.specs.Ask.{Ask, format, help, place, tag, version}
-use Rattle.hpr_kit.specs.Answer.{Answer, beyond_text, denies, differs_text, help_text, prints, refused_text, refuses, spent_text, usage_text, version_text}
+use Rattle.hprkit_words.specs.declared.forms.FormatForm.{FormatForm}
+use Rattle.hprkit_words.specs.declared.forms.FormatForm.TheVariants as form
+use Rattle.hprkit_words.specs.Ask.{Ask, affected, format, graph, help, impact, place, tag, version}
+use Rattle.hpr_kit.specs.Answer.{Answer, beyond_text, denies, differs_text, help_text, prints, refused_text, refuses, rewrites, spent_text, usage_text, version_text}
+use Rattle.hpr_kit.specs.Reading.{OnProgram, read}
+use Rattle.hpr_kit.specs.Graphs.{AreReasonsTold, IsGraphTold, IsImpactTold, OnGraph, OnPoints}
 use Rattle.hpr_kit.specs.Shown.{place_of}
+use Rattle.hpr_kit.specs.Sources.{OnSource}
 use Rattle.hpr_kit.specs.Tags.{IsSpent, IsTagCause, IsTagged}
 use Rattle.hpr_kit.specs.declared.status.Status.TheVariants.{Words}
-
-abbrev pub read : Files → Text → List ℕ
-read files file = take (MAX_FILE + 1) (bytes_of files file)
-
-abbrev pub OnProgram : Text → List ℕ → (Tree → Type 0) → Answer → Type 0
-OnProgram file bytes next a =
-    ((why : Refusal) × IsCauseIn tagged bytes why × (a ≡ refuses (refused_text file bytes why))) ⊎ ((p : Tree) × IsFileOf bytes p × next p)
 
 abbrev pub checked : Text → List ℕ → List ℕ → Answer
 checked file bytes canonical = if bytes_eq bytes canonical then prints [] else denies (differs_text file bytes canonical)
 
-abbrev pub formatted : Bool → Text → List ℕ → Tree → Answer
-formatted false file bytes p = prints (text p)
-formatted true file bytes p = checked file bytes (text p)
+abbrev pub renewed : Text → List ℕ → List ℕ → Answer
+renewed file bytes canonical = if bytes_eq bytes canonical then prints [] else rewrites file canonical
+
+abbrev pub formatted : FormatForm → Text → List ℕ → Tree → Answer
+formatted form.Print file bytes p = prints (text p)
+formatted form.Check file bytes p = checked file bytes (text p)
+formatted form.InPlace file bytes p = renewed file bytes (text p)
 
 abbrev pub placed : Text → List ℕ → ℕ → Answer
 placed file bytes n =
@@ -69,19 +67,27 @@ retold false file bytes t p = prints (text p)
 retold true file bytes t p = kept_answer file bytes t
 
 abbrev pub Comes : Option Ask → Files → Answer → Type 0
-Comes None files a = a ≡ record { status = Words; out = []; err = usage_text }
+Comes None files a = a ≡ record { status = Words; out = []; err = usage_text; rewrite = None }
 Comes (Some help) files a = a ≡ prints help_text
 Comes (Some version) files a = a ≡ prints version_text
-Comes (Some (format file check)) files a = OnProgram file (read files file) (λ p. a ≡ formatted check file (read files file) p) a
+Comes (Some (format file form)) files a = OnProgram file (read files file) (λ p. a ≡ formatted form file (read files file) p) a
 Comes (Some (place file n)) files a = a ≡ placed file (read files file) n
 Comes (Some (tag file author keep)) files a =
     OnTagged author file (read files file)
     (λ p. a ≡ retold keep file (read files file) (kept author (read files file)) p) a
+Comes (Some (graph file form)) files a = OnSource files file (λ p s. OnGraph file p (λ g. IsGraphTold form p s g a) a) a
+Comes (Some (impact file points form)) files a =
+    OnSource files file (λ p s. OnGraph file p (λ g. OnPoints g points (λ ns. IsImpactTold form g ns (read files file) s a) a) a) a
+Comes (Some (affected base variant)) files a =
+    OnSource files base (λ p r. OnSource files variant (λ q s. OnGraph base p (λ h. OnGraph variant q (λ g. AreReasonsTold g h s a) a) a) a) a
 
 abbrev pub Names : Option Ask → Text → Type 0
-Names (Some (format named check)) file = file ≡ named
+Names (Some (format named form)) file = file ≡ named
 Names (Some (place named n)) file = file ≡ named
 Names (Some (tag named author keep)) file = file ≡ named
 Names (Some help) file = ⊥
 Names (Some version) file = ⊥
 Names None file = ⊥
+Names (Some (graph named form)) file = file ≡ named
+Names (Some (impact named points form)) file = file ≡ named
+Names (Some (affected base variant)) file = (file ≡ base) ⊎ (file ≡ variant)

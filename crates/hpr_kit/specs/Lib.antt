@@ -2,6 +2,9 @@ pub mod Number
 pub mod Shown
 pub mod Answer
 pub mod Tags
+pub mod Reading
+pub mod Sources
+pub mod Graphs
 pub mod Comes
 pub mod Ends
 pub mod Does

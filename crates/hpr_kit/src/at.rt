@@ -6,8 +6,7 @@ ghost use Rattle.hpr_kit.specs.Private.Replies.{seen};
 ghost use Rattle.hpr_kit.specs.Shown.{place_of};
 
 use crate::refused::{beyond, refused};
-use crate::reply::Reply;
-use crate::status::Status;
+use crate::reply::{Reply, prints};
 use hpr_places::line_and_column;
 use hpr_refusals::Refusal;
 use hpr_syntax::NoMemory;
@@ -38,9 +37,5 @@ fn print_place(alloc: Global, bytes: &[u8], byte: usize) -> Result<Reply, NoMemo
 {
     let (line, column) = line_and_column(bytes, byte);
     let text = format!(in alloc; "{line}:{column}\n")?;
-    Ok(Reply {
-        status: Status::Done,
-        out: text.into_bytes(),
-        err: Vec::new(alloc),
-    })
+    Ok(prints(alloc, text.into_bytes()))
 }

@@ -2,54 +2,68 @@
 ghost use Rattle.std.specs.Prelude.{◌≡◌, ◌≤◌, ◌==◌, ◌++◌, IfOk, codes, length};
 ghost use Rattle.std.specs.List.{common_prefix_len};
 ghost use Rattle.hpr_kit.specs.Answer.{denies};
-ghost use Rattle.hpr_kit.specs.Comes.{OnProgram, checked, formatted};
+ghost use Rattle.hpr_kit.specs.Comes.{checked, formatted, renewed};
+ghost use Rattle.hpr_kit.specs.Reading.{OnProgram};
 ghost use Rattle.hpr_kit.specs.Private.Replies.{seen};
 ghost use Rattle.hpr_kit.specs.Shown.{place_text};
 
 use crate::place::put_place;
 use crate::program::{Unread, program_of};
 use crate::refused::{refused, says};
-use crate::reply::Reply;
+use crate::reply::{Reply, prints};
 use crate::status::Status;
 use hpr_print::text_of;
 use hpr_syntax::{NoMemory, Program};
+use hprkit_words::FormatForm;
 use std::alloc::Global;
 
-/// The canonical text of the program that the bytes of a file spell, or whether they are that text.
+/// The canonical text of the program that the bytes of a file spell: printed, compared with them, or to be put in
+/// their place.
 pub(crate) fn format_bytes(
     alloc: Global,
     file: &str,
     bytes: &[u8],
-    check: bool,
+    form: FormatForm,
 ) -> Result<Reply, NoMemory>
     ensures { IfOk result (λ reply. OnProgram file.now bytes.now
-        (λ p. seen reply ≡ formatted check file.now bytes.now p) (seen reply)) }
+        (λ p. seen reply ≡ formatted form file.now bytes.now p) (seen reply)) }
 {
     match program_of(alloc, bytes) {
-        Ok(program) => format_program(alloc, file, bytes, &program, check),
+        Ok(program) => format_program(alloc, file, bytes, &program, form),
         Err(Unread::Refused(why)) => refused(alloc, file, bytes, &why),
         Err(Unread::Memory) => Err(NoMemory),
     }
 }
 
-/// The canonical text of the program that the bytes spell, or whether they are that text.
+/// The same of a program that they spell.
 fn format_program(
     alloc: Global,
     file: &str,
     bytes: &[u8],
     program: &Program,
-    check: bool,
+    form: FormatForm,
 ) -> Result<Reply, NoMemory>
-    ensures { IfOk result (λ reply. seen reply ≡ formatted check file.now bytes.now program.now) }
+    ensures { IfOk result (λ reply. seen reply ≡ formatted form file.now bytes.now program.now) }
 {
     let canonical = text_of(alloc, program)?;
-    if check {
-        return check_text(alloc, file, bytes, canonical.as_slice());
+    match form {
+        FormatForm::Print => Ok(prints(alloc, canonical)),
+        FormatForm::Check => check_text(alloc, file, bytes, canonical.as_slice()),
+        FormatForm::InPlace => renew(alloc, file, bytes, canonical),
     }
-    Ok(Reply {
-        status: Status::Done,
-        out: canonical,
-        err: Vec::new(alloc),
+}
+
+/// The reply that gives the file with these bytes the canonical text, unless it has it.
+fn renew(alloc: Global, file: &str, bytes: &[u8], canonical: Vec<u8>) -> Result<Reply, NoMemory>
+    ensures { IfOk result (λ reply. seen reply ≡ renewed file.now bytes.now canonical.items) }
+{
+    if bytes == canonical.as_slice() {
+        return Ok(prints(alloc, Vec::new(alloc)));
+    }
+    Ok(Reply::Rewrites {
+        file: String::from_str(alloc, file)?,
+        had: Vec::from_slice(alloc, bytes)?,
+        bytes: canonical,
     })
 }
 

@@ -1,21 +1,26 @@
 //! The commands: each has its own reply.
-ghost use Rattle.std.specs.Prelude.{◌≡◌, ◌≢◌, ℕ, List, Some, IfOk, IsTrue};
+ghost use Rattle.std.specs.Prelude.{◌≡◌, ◌≢◌, ℕ, List, Some, IfOk, IsTrue, map};
 ghost use Rattle.hpr_words.specs.Request.{Text};
-ghost use Rattle.hprkit_words.specs.Ask.{format, place, tag};
+ghost use Rattle.hprkit_words.specs.Ask.{affected, format, graph, impact, place, tag};
 ghost use Rattle.hprkit_words.specs.Asked.{ask_of};
 ghost use Rattle.hpr_kit.specs.Answer.{prints};
-ghost use Rattle.hpr_kit.specs.Comes.{Names};
+ghost use Rattle.hpr_kit.specs.Comes.{Comes, Names};
+ghost use Rattle.hpr_kit.specs.Private.Graphs.{Halts};
 ghost use Rattle.hpr_kit.specs.Private.Replies.{Decides, seen};
 
+use crate::affected::affected_reply;
 use crate::at::place_bytes;
 use crate::canonical::format_bytes;
 use crate::fetch::fetch;
-use crate::reply::{HELP, Reply, Stop, VERSION};
+use crate::graphs::graph_reply;
+use crate::impact::impact_reply;
+use crate::load::{Halt, load, settle};
+use crate::reply::{HELP, Reply, Stop, VERSION, prints};
 use crate::status::Status;
 use crate::tag::tag_bytes;
 use hpr_io::Shelf;
 use hpr_syntax::NoMemory;
-use hprkit_words::Asked;
+use hprkit_words::{Asked, FormatForm, GraphForm, ImpactForm};
 use std::alloc::Global;
 
 /// The reply to what is asked.
@@ -27,16 +32,21 @@ pub(crate) fn decide<S: Shelf>(
     requires { (name : Text) → Names (Some (ask_of asked)) name → IsTrue (S.serves shelf.old name) }
     ensures decides { Decides (ask_of asked.entry) (S.files shelf.old)
         (S.faults shelf.old) (S.faults shelf.new) result }
-    ensures taken { IfOk result (λ reply. reply.status ≢ Status.Words) }
+    ensures taken { IfOk result (λ reply. (seen reply).status ≢ Status.Words) }
     ensures same_files { S.files shelf.new ≡ S.files shelf.old }
     ensures same_names { (n : List ℕ) → S.serves shelf.new n ≡ S.serves shelf.old n }
 {
     match asked {
         Asked::Help => Ok(printed(alloc, HELP)?),
         Asked::Version => Ok(printed(alloc, VERSION)?),
-        Asked::Format { file, check } => format_file(alloc, file, check, shelf),
+        Asked::Format { file, form } => format_file(alloc, file, form, shelf),
         Asked::At { file, byte } => place_file(alloc, file, byte, shelf),
         Asked::Tag { file, author, keep } => tag_file(alloc, file, author, keep, shelf),
+        Asked::Graph { file, form } => settle(graph_file(alloc, file, form, shelf)),
+        Asked::Impact { file, points, form } => {
+            settle(impact_file(alloc, file, points.as_slice(), form, shelf))
+        }
+        Asked::Affected { base, variant } => settle(affected_files(alloc, base, variant, shelf)),
     }
 }
 
@@ -44,35 +54,31 @@ pub(crate) fn decide<S: Shelf>(
 fn printed(alloc: Global, bytes: &[u8]) -> Result<Reply, NoMemory>
     ensures { IfOk result (λ reply. seen reply ≡ prints bytes.now) }
 {
-    Ok(Reply {
-        status: Status::Done,
-        out: Vec::from_slice(alloc, bytes)?,
-        err: Vec::new(alloc),
-    })
+    Ok(prints(alloc, Vec::from_slice(alloc, bytes)?))
 }
 
 fn format_file<S: Shelf>(
     alloc: Global,
     file: &str,
-    check: bool,
+    form: FormatForm,
     shelf: &mut S,
 ) -> Result<Reply, Stop>
     requires { IsTrue (S.serves shelf.old file.now) }
-    ensures decides { Decides (format file.now check) (S.files shelf.old)
+    ensures decides { Decides (format file.now form) (S.files shelf.old)
         (S.faults shelf.old) (S.faults shelf.new) result }
-    ensures taken { IfOk result (λ reply. reply.status ≢ Status.Words) }
+    ensures taken { IfOk result (λ reply. (seen reply).status ≢ Status.Words) }
     ensures same_files { S.files shelf.new ≡ S.files shelf.old }
     ensures same_names { (n : List ℕ) → S.serves shelf.new n ≡ S.serves shelf.old n }
 {
     let bytes = fetch(alloc, file, shelf)?;
-    Ok(format_bytes(alloc, file, bytes.as_slice(), check)?)
+    Ok(format_bytes(alloc, file, bytes.as_slice(), form)?)
 }
 
 fn place_file<S: Shelf>(alloc: Global, file: &str, byte: u64, shelf: &mut S) -> Result<Reply, Stop>
     requires { IsTrue (S.serves shelf.old file.now) }
     ensures decides { Decides (place file.now byte) (S.files shelf.old)
         (S.faults shelf.old) (S.faults shelf.new) result }
-    ensures taken { IfOk result (λ reply. reply.status ≢ Status.Words) }
+    ensures taken { IfOk result (λ reply. (seen reply).status ≢ Status.Words) }
     ensures same_files { S.files shelf.new ≡ S.files shelf.old }
     ensures same_names { (n : List ℕ) → S.serves shelf.new n ≡ S.serves shelf.old n }
 {
@@ -90,10 +96,69 @@ fn tag_file<S: Shelf>(
     requires { IsTrue (S.serves shelf.old file.now) }
     ensures decides { Decides (tag file.now author keep) (S.files shelf.old)
         (S.faults shelf.old) (S.faults shelf.new) result }
-    ensures taken { IfOk result (λ reply. reply.status ≢ Status.Words) }
+    ensures taken { IfOk result (λ reply. (seen reply).status ≢ Status.Words) }
     ensures same_files { S.files shelf.new ≡ S.files shelf.old }
     ensures same_names { (n : List ℕ) → S.serves shelf.new n ≡ S.serves shelf.old n }
 {
     let bytes = fetch(alloc, file, shelf)?;
     Ok(tag_bytes(alloc, file, bytes.as_slice(), author, keep)?)
+}
+
+fn graph_file<S: Shelf>(
+    alloc: Global,
+    file: &str,
+    form: GraphForm,
+    shelf: &mut S,
+) -> Result<Reply, Halt>
+    requires { IsTrue (S.serves shelf.old file.now) }
+    ensures halts { Halts (λ files a. Comes (Some (graph file.now form)) files a) (Names (Some (graph file.now form)))
+        (S.files shelf.old) (S.faults shelf.old) (S.faults shelf.new) result }
+    ensures same_files { S.files shelf.new ≡ S.files shelf.old }
+    ensures same_names { (n : List ℕ) → S.serves shelf.new n ≡ S.serves shelf.old n }
+{
+    let (_, program, source) = load(alloc, file, shelf)?;
+    graph_reply(alloc, file, &program, source, form)
+}
+
+fn impact_file<S: Shelf>(
+    alloc: Global,
+    file: &str,
+    points: &[&str],
+    form: ImpactForm,
+    shelf: &mut S,
+) -> Result<Reply, Halt>
+    requires { IsTrue (S.serves shelf.old file.now) }
+    ensures halts { Halts (λ files a. Comes (Some (impact file.now (map (λ w. w.now) points.now) form)) files a) (Names (Some (impact file.now (map (λ w. w.now) points.now) form)))
+        (S.files shelf.old) (S.faults shelf.old) (S.faults shelf.new) result }
+    ensures same_files { S.files shelf.new ≡ S.files shelf.old }
+    ensures same_names { (n : List ℕ) → S.serves shelf.new n ≡ S.serves shelf.old n }
+{
+    let (bytes, program, source) = load(alloc, file, shelf)?;
+    impact_reply(
+        alloc,
+        file,
+        bytes.as_slice(),
+        &program,
+        source,
+        points,
+        form,
+    )
+}
+
+fn affected_files<S: Shelf>(
+    alloc: Global,
+    base: &str,
+    variant: &str,
+    shelf: &mut S,
+) -> Result<Reply, Halt>
+    requires base { IsTrue (S.serves shelf.old base.now) }
+    requires variant { IsTrue (S.serves shelf.old variant.now) }
+    ensures halts { Halts (λ files a. Comes (Some (affected base.now variant.now)) files a) (Names (Some (affected base.now variant.now)))
+        (S.files shelf.old) (S.faults shelf.old) (S.faults shelf.new) result }
+    ensures same_files { S.files shelf.new ≡ S.files shelf.old }
+    ensures same_names { (n : List ℕ) → S.serves shelf.new n ≡ S.serves shelf.old n }
+{
+    let (_, base_program, _) = load(alloc, base, shelf)?;
+    let (_, program, source) = load(alloc, variant, shelf)?;
+    affected_reply(alloc, base, &base_program, variant, &program, source)
 }

@@ -2,16 +2,21 @@
 //! and writes the answer.
 #![tactic(auto)]
 
+mod affected;
 mod at;
 mod canonical;
 mod commands;
 mod fetch;
+mod graphs;
+mod impact;
+mod load;
 mod place;
 mod program;
 mod put;
 mod refused;
 mod reply;
 mod status;
+mod store;
 mod tag;
 mod write;
 
@@ -19,7 +24,7 @@ ghost use Rattle.std.specs.Prelude.{◌≡◌, ◌≢◌, ◌↔◌, ℕ, List, 
 ghost use Rattle.hpr_words.specs.Request.{Text};
 ghost use Rattle.hprkit_words.specs.Asked.{ask_of};
 ghost use Rattle.hpr_kit.specs.Comes.{Comes, Names};
-ghost use Rattle.hpr_kit.specs.Does.{Checks, Formats, Places, Tags, Took, WhereAsked, asked_by};
+ghost use Rattle.hpr_kit.specs.Does.{Checks, Formats, Places, Renews, Tags, Took, WhereAsked, asked_by};
 ghost use Rattle.hpr_kit.specs.Ends.{Ends};
 
 use crate::commands::decide;
@@ -29,12 +34,14 @@ use hpr_io::{Shelf, Sink};
 use hprkit_words::{Asked, WordsError, read_words};
 pub use status::Status;
 use std::alloc::Global;
+pub use store::{RewriteError, Store};
 
 /// Makes one call: reads its words, fetches the file that they name, and puts its text to `out` or its message to
 /// `err`.
 ///
 /// `fmt FILE` prints the canonical text of the program that the file spells. `fmt FILE --check` prints nothing and
-/// tells by the status whether the file has that text already. `at FILE BYTE` prints the line and the column of a byte,
+/// tells by the status whether the file has that text already; `fmt FILE --in-place` gives it the file, through `store`,
+/// where it hasn't. `at FILE BYTE` prints the line and the column of a byte,
 /// of whatever the file holds. `tag FILE --author N` prints the canonical text of the program that the file spells once
 /// its parts without a tag have the next serials of the author, as [`hpr_tagging::tag_parts`] gives them, and with
 /// `--keep` the file's own text with these tags. `--help` and `--version` print fixed texts, and read no file.
@@ -43,11 +50,12 @@ use std::alloc::Global;
 /// the line that hpr says of it and, where its bytes spell no tree, the line around the place and a caret under it.
 /// `tag` refuses also a file for whose parts the author has too few serials, and with `--keep` one whose text has more
 /// bytes than that with the tags.
-/// All text is made before its first byte is put. No status is for a failed write to `err`.
-pub fn kit<S: Shelf, O: Sink, E: Sink>(
+/// All text is made before its first byte is put, or a file gets it. No status is for a failed write to `err`.
+pub fn kit<S: Shelf, D: Store, O: Sink, E: Sink>(
     alloc: Global,
     words: &[String],
     shelf: &mut S,
+    store: &mut D,
     out: &mut O,
     err: &mut E,
 ) -> Status
@@ -57,6 +65,12 @@ pub fn kit<S: Shelf, O: Sink, E: Sink>(
     // memory ran out.
     ensures ends { Ends result (λ a. IfSome (S.files shelf.old) (λ files. Comes (asked_by words.now) files a))
         (Names (asked_by words.now)) (S.faults shelf.old) (S.faults shelf.new)
+        (record {
+          before = D.faults store.old;
+          now = D.faults store.new;
+          old = D.rewritten store.old;
+          new = D.rewritten store.new;
+        })
         (record { before = O.faults out.old; now = O.faults out.new; old = O.taken out.old; new = O.taken out.new })
         (record { before = E.faults err.old; now = E.faults err.new; old = E.taken err.old; new = E.taken err.new }) }
 
@@ -71,6 +85,16 @@ pub fn kit<S: Shelf, O: Sink, E: Sink>(
     // with `No` exactly where it spells a program in another text, unless a read or a write failed or memory ran out.
     ensures checks { WhereAsked words.now (S.files shelf.old) (λ ask files. Checks ask files result) }
 
+    // `fmt --in-place` gives the file the canonical text of exactly the program that it spells, unless it has it, or
+    // leaves it as it was and has another status. No other call gives a file anything.
+    ensures renews { WhereAsked words.now (S.files shelf.old) (λ ask files. Renews ask files result
+        (record {
+          before = D.faults store.old;
+          now = D.faults store.new;
+          old = D.rewritten store.old;
+          new = D.rewritten store.new;
+        })) }
+
     // `at` prints the line and the column of a byte that the file has, or of its end.
     ensures places { WhereAsked words.now (S.files shelf.old) (λ ask files. result ≡ Status.Done
         → Took (O.taken out.old) (O.taken out.new) (Places ask files)) }
@@ -84,20 +108,27 @@ pub fn kit<S: Shelf, O: Sink, E: Sink>(
     ensures same_files { S.files shelf.new ≡ S.files shelf.old }
     ensures same_names { (n : List ℕ) → S.serves shelf.new n ≡ S.serves shelf.old n }
 {
-    run_words(alloc, words, shelf, out, err)
+    run_words(alloc, words, shelf, store, out, err)
 }
 
 /// The same, told by how the call ends.
-fn run_words<S: Shelf, O: Sink, E: Sink>(
+fn run_words<S: Shelf, D: Store, O: Sink, E: Sink>(
     alloc: Global,
     words: &[String],
     shelf: &mut S,
+    store: &mut D,
     out: &mut O,
     err: &mut E,
 ) -> Status
     requires { (name : Text) → Names (asked_by words.now) name → IsTrue (S.serves shelf.old name) }
     ensures ends { Ends result (λ a. IfSome (S.files shelf.old) (λ files. Comes (asked_by words.now) files a))
         (Names (asked_by words.now)) (S.faults shelf.old) (S.faults shelf.new)
+        (record {
+          before = D.faults store.old;
+          now = D.faults store.new;
+          old = D.rewritten store.old;
+          new = D.rewritten store.new;
+        })
         (record { before = O.faults out.old; now = O.faults out.new; old = O.taken out.old; new = O.taken out.new })
         (record { before = E.faults err.old; now = E.faults err.new; old = E.taken err.old; new = E.taken err.new }) }
     ensures words { result ≢ Status.Memory → ((result ≡ Status.Words) ↔ (asked_by words.now ≡ None)) }
@@ -105,7 +136,7 @@ fn run_words<S: Shelf, O: Sink, E: Sink>(
     ensures same_names { (n : List ℕ) → S.serves shelf.new n ≡ S.serves shelf.old n }
 {
     match read_words(alloc, words) {
-        Ok(asked) => run_asked(alloc, asked, shelf, out, err),
+        Ok(asked) => run_asked(alloc, asked, shelf, store, out, err),
         Err(WordsError::Refused) => {
             write_message(USAGE, err);
             Status::Words
@@ -114,10 +145,11 @@ fn run_words<S: Shelf, O: Sink, E: Sink>(
     }
 }
 
-fn run_asked<S: Shelf, O: Sink, E: Sink>(
+fn run_asked<S: Shelf, D: Store, O: Sink, E: Sink>(
     alloc: Global,
     asked: Asked<'_>,
     shelf: &mut S,
+    store: &mut D,
     out: &mut O,
     err: &mut E,
 ) -> Status
@@ -125,6 +157,12 @@ fn run_asked<S: Shelf, O: Sink, E: Sink>(
     ensures ends { Ends result
         (λ a. IfSome (S.files shelf.old) (λ files. Comes (Some (ask_of asked.entry)) files a))
         (Names (Some (ask_of asked.entry))) (S.faults shelf.old) (S.faults shelf.new)
+        (record {
+          before = D.faults store.old;
+          now = D.faults store.new;
+          old = D.rewritten store.old;
+          new = D.rewritten store.new;
+        })
         (record { before = O.faults out.old; now = O.faults out.new; old = O.taken out.old; new = O.taken out.new })
         (record { before = E.faults err.old; now = E.faults err.new; old = E.taken err.old; new = E.taken err.new }) }
     ensures taken { result ≢ Status.Words }
@@ -132,7 +170,7 @@ fn run_asked<S: Shelf, O: Sink, E: Sink>(
     ensures same_names { (n : List ℕ) → S.serves shelf.new n ≡ S.serves shelf.old n }
 {
     match decide(alloc, asked, shelf) {
-        Ok(reply) => write_reply(&reply, out, err),
+        Ok(reply) => write_reply(alloc, &reply, store, out, err),
         Err(stop) => write_stop(&stop, err),
     }
 }

@@ -2,7 +2,7 @@
 ghost use Rattle.hpr_kit.specs.Private.Replies.{Reads};
 
 use hpr_refusals::Refusal;
-use hpr_syntax::Program;
+use hpr_syntax::{NoMemory, Program};
 use hpr_terms::limits::MAX_FILE;
 use hpr_text::{Mode, TextError, parse};
 use std::alloc::Global;
@@ -12,6 +12,17 @@ use std::alloc::Global;
 pub(crate) enum Unread {
     Refused(Refusal),
     Memory,
+}
+
+impl From<NoMemory> for Unread {
+    ghost use Rattle.std.specs.Prelude.{◌≡◌};
+    ghost use Rattle.hpr_kit.specs.declared.program.Unread.TheVariants.{Memory};
+
+    ghost from_gives = { λ _ unread. unread ≡ Memory };
+
+    fn from(_error: NoMemory) -> Unread {
+        Unread::Memory
+    }
 }
 
 /// The program that the bytes of a file spell. Those of one that is too long are not read.

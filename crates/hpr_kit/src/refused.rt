@@ -1,5 +1,5 @@
 //! Replies that say something alone: no, or why something is refused.
-ghost use Rattle.std.specs.Prelude.{◌≡◌, ◌++◌, [], IfOk, OnOk};
+ghost use Rattle.std.specs.Prelude.{◌≡◌, ◌++◌, [], None, IfOk, OnOk};
 ghost use Rattle.hpr_kit.specs.Answer.{beyond_text, place_if_any, refused_text, refuses};
 ghost use Rattle.hpr_kit.specs.Private.Replies.{IsWithin, seen};
 
@@ -54,9 +54,9 @@ pub(crate) fn beyond(alloc: Global, file: &str, byte: u64, count: usize) -> Resu
 
 /// The reply with this status that says a message alone.
 pub(crate) fn says(alloc: Global, status: Status, message: Vec<u8>) -> Reply
-    ensures { seen result ≡ record { status = status; out = []; err = message.items } }
+    ensures { seen result ≡ record { status = status; out = []; err = message.items; rewrite = None } }
 {
-    Reply {
+    Reply::Said {
         status,
         out: Vec::new(alloc),
         err: message,

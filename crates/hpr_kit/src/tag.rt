@@ -7,7 +7,7 @@ ghost use Rattle.hpr_kit.specs.Private.Replies.{seen};
 ghost use Rattle.hpr_syntax.specs.Print.{text};
 
 use crate::refused::{refused, says};
-use crate::reply::Reply;
+use crate::reply::{Reply, prints};
 use crate::status::Status;
 use hpr_print::text_of;
 use hpr_refusals::{Refusal, about};
@@ -66,22 +66,14 @@ fn print_kept(alloc: Global, file: &str, bytes: &[u8], text: Vec<u8>) -> Result<
     if text.len() > MAX_FILE {
         return refused(alloc, file, bytes, &Refusal::Longer);
     }
-    Ok(Reply {
-        status: Status::Done,
-        out: text,
-        err: Vec::new(alloc),
-    })
+    Ok(prints(alloc, text))
 }
 
 /// The reply that prints the canonical text of a program.
 fn print_program(alloc: Global, program: &Program) -> Result<Reply, NoMemory>
     ensures { IfOk result (λ reply. seen reply ≡ prints (text program.now)) }
 {
-    Ok(Reply {
-        status: Status::Done,
-        out: text_of(alloc, program)?,
-        err: Vec::new(alloc),
-    })
+    Ok(prints(alloc, text_of(alloc, program)?))
 }
 
 /// The reply that the author's serials don't suffice.

@@ -1,4 +1,5 @@
 //! One call, and what it comes to.
+use crate::store::MemoryStore;
 use hpr_io::{MemoryShelf, MemorySink};
 use hpr_kit::kit;
 use hpr_rows::{Out, Row, Text, put, put_bytes, put_count};
@@ -19,6 +20,20 @@ pub(crate) fn unread(row: Row<'_>, told: &mut Out) -> Option<()> {
     failing.push(0).ok()?;
     let mut shelf = shelf_of(row, failing)?;
     tell(row.alloc, row.rest(1), &mut shelf, told, (ROOM, ROOM))
+}
+
+/// `unwritten WORDS..`: a call in which no file gets other bytes.
+pub(crate) fn unwritten(row: Row<'_>, told: &mut Out) -> Option<()> {
+    let mut shelf = shelf_of(row, Vec::new(row.alloc))?;
+    let mut store = MemoryStore::new(row.alloc, true);
+    tell_over(
+        row.alloc,
+        row.rest(1),
+        &mut shelf,
+        &mut store,
+        told,
+        (ROOM, ROOM),
+    )
 }
 
 /// `out ROOM WORDS..`: a call whose `out` has room for so many bytes.
@@ -63,12 +78,31 @@ fn tell(
     told: &mut Out,
     room: (usize, usize),
 ) -> Option<()> {
+    let mut store = MemoryStore::new(alloc, false);
+    tell_over(alloc, words, shelf, &mut store, told, room)
+}
+
+// The same over a store, of which it tells what files got too.
+fn tell_over(
+    alloc: Global,
+    words: &[String],
+    shelf: &mut MemoryShelf,
+    store: &mut MemoryStore,
+    told: &mut Out,
+    room: (usize, usize),
+) -> Option<()> {
     let mut out = sink(alloc, room.0)?;
     let mut err = sink(alloc, room.1)?;
-    let status = kit(alloc, words, shelf, &mut out, &mut err);
+    let status = kit(alloc, words, shelf, store, &mut out, &mut err);
     put_count(told, "status ", u64::from(status.number()));
     put_part(told, "out ", out.bytes());
     put_part(told, "err ", err.bytes());
+    for (name, bytes) in store.files() {
+        put(told, &["file "]);
+        put_bytes(told, name.as_bytes());
+        put(told, &["\n"]);
+        put_part(told, "bytes ", bytes.as_slice());
+    }
     Some(())
 }
 

@@ -15,4 +15,4 @@ pub mod laws;
 
 pub use arguments::{Argument, parse};
 pub use asked::{Asked, WordsError, read_words};
-pub use found::{flag_from, name_from, word_number_from};
+pub use found::{flag_from, list_from, name_from, word_number_from};

@@ -1,6 +1,9 @@
 //! The program: real files and streams, standard input as the file `-`, and the top call over them.
 #![tactic(auto)]
 
+mod store;
+
+use crate::store::FileStore;
 use hpr_kit::{Status, kit};
 use hpr_system::{InputShelf, StdSink};
 use std::io;
@@ -27,7 +30,15 @@ fn run(rt: &HostRuntime, words: &[String]) -> Status {
     let mut shelf = InputShelf::new(rt, rt.stdin());
     let mut out = StdSink::new(rt.stdout());
     let mut err = StdSink::new(rt.stderr());
-    kit(rt.alloc(), words, &mut shelf, &mut out, &mut err)
+    let mut store = FileStore::new(rt);
+    kit(
+        rt.alloc(),
+        words,
+        &mut shelf,
+        &mut store,
+        &mut out,
+        &mut err,
+    )
 }
 
 // The words after the program's name. The error's kind is `OutOfMemory` where there is no memory for them, and another

@@ -2,16 +2,26 @@
 --
 -- help              == the commands
 -- version           == the version
--- format file check == the canonical text of the program of a file; or whether the file has it
+-- format file form  == the canonical text of the program of a file, to be printed, compared with the file or
+--                      put into it
 -- place file byte   == the line and the column of a byte of a file
 -- tag file n keep   == a file's text with the next serials of the author n on the parts without a tag, as it
 --                      was written; or the canonical text of its program
-use Rattle.std.specs.Prelude.{ℕ, Bool}
+-- graph file form   == the dependence graph of the program of a file
+-- impact file points form == what a change at these points of the program of a file can reach
+-- affected base variant   == the affected points of a variant, each with its reason
+use Rattle.std.specs.Prelude.{ℕ, Bool, List}
 use Rattle.hpr_words.specs.Request.{Text}
+use Rattle.hprkit_words.specs.declared.forms.FormatForm.{FormatForm}
+use Rattle.hprkit_words.specs.declared.forms.GraphForm.{GraphForm}
+use Rattle.hprkit_words.specs.declared.forms.ImpactForm.{ImpactForm}
 
 pub data Ask : Type 0 where
   help : Ask
   version : Ask
-  format : (file : Text) (check : Bool) → Ask
+  format : (file : Text) (form : FormatForm) → Ask
   place : (file : Text) (byte : ℕ) → Ask
   tag : (file : Text) (author : ℕ) (keep : Bool) → Ask
+  graph : (file : Text) (form : GraphForm) → Ask
+  impact : (file : Text) (points : List Text) (form : ImpactForm) → Ask
+  affected : (base variant : Text) → Ask

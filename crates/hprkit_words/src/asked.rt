@@ -4,6 +4,7 @@ ghost use Rattle.hprkit_words.specs.Asked.{ask_of};
 ghost use Rattle.hprkit_words.specs.Taken.{asks_help, asks_version, commanded, taken};
 
 use crate::commands::CommandName;
+use crate::forms::{FormatForm, GraphForm, ImpactForm};
 use hpr_words::{WordsError, parse};
 use std::alloc::Global;
 
@@ -14,10 +15,11 @@ pub enum Asked<'a> {
     Help,
     /// `--version`: tell the version.
     Version,
-    /// `fmt FILE [--check]`: print the canonical text of the program of a file, or tell whether the file has it.
+    /// `fmt FILE [--check | --in-place]`: print the canonical text of the program of a file, tell whether the file has
+    /// it, or put it into the file, which isn't `-`.
     Format {
         file: &'a str,
-        check: bool,
+        form: FormatForm,
     },
     /// `at FILE BYTE`: tell the line and the column of a byte of a file, which is counted from 0 and is any number of
     /// 64 bits.
@@ -31,6 +33,24 @@ pub enum Asked<'a> {
         file: &'a str,
         author: u32,
         keep: bool,
+    },
+    /// `graph FILE --json` or `graph FILE --dot [--no-control] [--no-flow] [--no-order]`: tell the dependence graph of
+    /// the program of a file.
+    Graph {
+        file: &'a str,
+        form: GraphForm,
+    },
+    /// `impact FILE POINT.. [--json | --marks]`: tell what a change at some points of the program of a file, at least
+    /// one, can reach. The words of the points stand in their order, and nothing has read them yet.
+    Impact {
+        file: &'a str,
+        points: Vec<&'a str>,
+        form: ImpactForm,
+    },
+    /// `affected BASE V`: tell the affected points of a variant of base, each with its reason.
+    Affected {
+        base: &'a str,
+        variant: &'a str,
     },
 }
 
@@ -84,5 +104,5 @@ fn read_command<'a>(alloc: Global, words: &'a [String]) -> Result<Asked<'a>, Wor
     let name = words.first().ok_or(WordsError::Refused)?.as_str();
     let command = CommandName::named(name).ok_or(WordsError::Refused)?;
     let matches = parse(alloc, name, command.arguments(), words)?;
-    command.asked(&matches)
+    command.asked(alloc, &matches)
 }

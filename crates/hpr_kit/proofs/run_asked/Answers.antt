@@ -8,13 +8,13 @@ pub decide-requires : goal.decide-requires
 decide-requires g c = c.requires
 
 pub returns-in-Ok-clause-ends : goal.returns-in-Ok-clause-ends
-returns-in-Ok-clause-ends g c = reply_ends _ _ _ _ _ _ _ c.write_reply.result c.in-Ok.ensures.decides.0 c.in-Ok.ensures.decides.1 c.write_reply.ensures
+returns-in-Ok-clause-ends g c = reply_ends _ _ _ _ _ _ _ _ c.write_reply.result c.in-Ok.ensures.decides.0 c.in-Ok.ensures.decides.1 c.write_reply.ensures
 
 pub returns-in-Err-clause-ends : goal.returns-in-Err-clause-ends
-returns-in-Err-clause-ends g c = stop_ends _ _ _ _ _ _ c.in-Err.stop c.write_stop.result c.in-Err.ensures.decides c.write_stop.ensures.status (refl, taken_nothing _) c.write_stop.ensures.says
+returns-in-Err-clause-ends g c = stop_ends _ _ _ _ _ _ _ c.in-Err.stop c.write_stop.result c.in-Err.ensures.decides c.write_stop.ensures.status refl (refl, taken_nothing _) c.write_stop.ensures.says
 
 pub returns-in-Ok-clause-taken : goal.returns-in-Ok-clause-taken
-returns-in-Ok-clause-taken g c = write_taken (seen c.in-Ok.reply) c.write_reply.result _ _ c.in-Ok.ensures.taken c.write_reply.ensures
+returns-in-Ok-clause-taken g c = write_taken (seen c.in-Ok.reply) c.write_reply.result _ _ _ c.in-Ok.ensures.taken c.write_reply.ensures
 
 pub returns-in-Err-clause-taken : goal.returns-in-Err-clause-taken
 returns-in-Err-clause-taken g c = stopped_taken c.in-Err.stop c.write_stop.result c.write_stop.ensures.status

@@ -8,11 +8,11 @@ pub run_asked-requires : goal.run_asked-requires
 run_asked-requires g c = subst (λ o. (name : Text) → Names o name → IsTrue (g.S.Shelf.serves c.args.shelf.now name)) c.in-Ok.ensures.taken c.requires
 
 pub returns-in-Ok-clause-ends : goal.returns-in-Ok-clause-ends
-returns-in-Ok-clause-ends g c = ends_for _ _ _ _ _ _ _ _ (sym c.in-Ok.ensures.taken) c.run_asked.ensures.ends
+returns-in-Ok-clause-ends g c = ends_for _ _ _ _ _ _ _ _ _ (sym c.in-Ok.ensures.taken) c.run_asked.ensures.ends
 
 pub returns-in-Err-Refused-clause-ends : goal.returns-in-Err-Refused-clause-ends
 returns-in-Err-Refused-clause-ends g c =
-    words_end _ _ _ _ _ (c.in-Err-Refused.ensures.refused (ap Err c.in-Err-Refused.field-0-is)) (refl, taken_nothing _) c.write_message.ensures
+    words_end _ _ _ _ _ _ (c.in-Err-Refused.ensures.refused (ap Err c.in-Err-Refused.field-0-is)) refl refl (refl, taken_nothing _) c.write_message.ensures
 
 pub returns-in-Err-Memory-clause-ends : goal.returns-in-Err-Memory-clause-ends
-returns-in-Err-Memory-clause-ends g c = memory_ends _ _ _ _ _ _ c.write_stop.result c.write_stop.ensures.status (refl, taken_nothing _) c.write_stop.ensures.says
+returns-in-Err-Memory-clause-ends g c = memory_ends _ _ _ _ _ _ _ c.write_stop.result c.write_stop.ensures.status refl (refl, taken_nothing _) c.write_stop.ensures.says

@@ -10,8 +10,12 @@
 -- Fetches told file before now result == what is read of the file; or a read failed; or memory ran out
 -- Decides ask told before now result == the reply to what is asked; or a read failed, of a file that is
 --                                       named; or memory ran out
--- Writes a s out err                 == the answer a is written, or a write failed; the status is s
-use Rattle.std.specs.Prelude.{◌≡◌, ◌⊎◌, ℕ, ◌≤◌, List, length, Option, Some, Result, Ok, Err, IfSome, Vec, string_bytes}
+-- WritesTexts status text message s out err == the texts are written with this status, or a write failed
+-- IsUnwritten file stop              == this file can't be written; or memory ran out
+-- RewritesFile file bytes s w err    == the file got the bytes, or it can't be written, or memory ran out
+-- Writes a s w out err               == the answer a is written, which may be that a file gets its bytes; or a
+--                                       write failed; or memory ran out; the status is s
+use Rattle.std.specs.Prelude.{◌≡◌, ◌⊎◌, ℕ, ◌≤◌, List, length, [], None, Option, Some, Result, Ok, Err, IfSome, Vec, string_bytes}
 use Rattle.std.specs.Global.{Global}
 use Rattle.hpr_io.specs.Counts.{Rose}
 use Rattle.hpr_io.specs.Files.{Files}
@@ -22,26 +26,31 @@ use Rattle.hpr_refusals.specs.declared.files.Refusal.{Refusal}
 use Rattle.hpr_refusals.specs.declared.files.Refusal.TheVariants as refusal
 use Rattle.hpr_words.specs.Request.{Text}
 use Rattle.hprkit_words.specs.Ask.{Ask}
-use Rattle.hpr_kit.specs.Answer.{Answer, cannot_read, cannot_write, no_memory}
-use Rattle.hpr_kit.specs.Comes.{Comes, Names, read}
-use Rattle.hpr_kit.specs.Ends.{Change, Says, TookAll, TookPart}
+use Rattle.hpr_kit.specs.Answer.{Answer, Rewrite, cannot_read, cannot_rewrite, cannot_write, no_memory, rewrites}
+use Rattle.hpr_kit.specs.Comes.{Comes, Names}
+use Rattle.hpr_kit.specs.Reading.{read}
+use Rattle.hpr_kit.specs.Ends.{Change, Kept, Rewriting, Rewrote, Says, TookAll, TookPart}
 use Rattle.hpr_kit.specs.declared.program.Unread.{Unread}
 use Rattle.hpr_kit.specs.declared.program.Unread.TheVariants as unread
 use Rattle.hpr_kit.specs.declared.reply.Reply.{Reply}
+use Rattle.hpr_kit.specs.declared.reply.Reply.TheVariants as reply
 use Rattle.hpr_kit.specs.declared.reply.Stop.{Stop}
 use Rattle.hpr_kit.specs.declared.reply.Stop.TheVariants as stop
 use Rattle.hpr_kit.specs.declared.status.Status.{Status}
-use Rattle.hpr_kit.specs.declared.status.Status.TheVariants.{Memory, ReadFault, WriteFault}
+use Rattle.hpr_kit.specs.declared.status.Status.TheVariants.{Done, Memory, ReadFault, WriteFault}
 
 abbrev pub seen : Reply → Answer
-seen reply = record { status = reply.status; out = reply.out.items; err = reply.err.items }
+seen (reply.Said status out err) = record { status = status; out = out.items; err = err.items; rewrite = None }
+seen (reply.Rewrites file had bytes) = rewrites (string_bytes file) bytes.items
 
 abbrev pub stop_status : Stop → Status
 stop_status (stop.ReadFault message) = ReadFault
+stop_status (stop.WriteFault message) = WriteFault
 stop_status stop.Memory = Memory
 
 abbrev pub stop_message : Stop → List ℕ
 stop_message (stop.ReadFault message) = string_bytes message
+stop_message (stop.WriteFault message) = string_bytes message
 stop_message stop.Memory = no_memory
 
 abbrev pub IsWithin : List ℕ → Refusal → Type 0
@@ -56,6 +65,7 @@ Reads bytes (Err unread.Memory) = Unit {0}
 
 abbrev pub StopIs : (Text → Type 0) → ℕ → ℕ → Stop → Type 0
 StopIs reads before now (stop.ReadFault message) = Rose before now × ((file : Text) × reads file × (string_bytes message ≡ cannot_read file))
+StopIs reads before now (stop.WriteFault message) = ⊥
 StopIs reads before now stop.Memory = Unit {0}
 
 abbrev pub Fetches : Option Files → Text → ℕ → ℕ → Result (Vec ℕ Global) Stop → Type 0
@@ -66,5 +76,24 @@ abbrev pub Decides : Ask → Option Files → ℕ → ℕ → Result Reply Stop 
 Decides ask told before now (Ok reply) = IfSome told (λ files. Comes (Some ask) files (seen reply)) × (now ≡ before)
 Decides ask told before now (Err s) = StopIs (Names (Some ask)) before now s
 
-abbrev pub Writes : Answer → Status → Change → Change → Type 0
-Writes a s out err = ((s ≡ a.status) × TookAll a.out out × Says a.err err) ⊎ ((s ≡ WriteFault) × TookPart a.out out × Says cannot_write err)
+abbrev pub WritesTexts : Status → List ℕ → List ℕ → Status → Change → Change → Type 0
+WritesTexts status text message s out err =
+    ((s ≡ status) × TookAll text out × Says message err) ⊎ ((s ≡ WriteFault) × TookPart text out × Says cannot_write err)
+
+abbrev pub IsUnwritten : Text → Stop → Type 0
+IsUnwritten file (stop.ReadFault message) = ⊥
+IsUnwritten file (stop.WriteFault message) = string_bytes message ≡ cannot_rewrite file
+IsUnwritten file stop.Memory = Unit {0}
+
+abbrev pub RewritesFile : Text → List ℕ → Status → Rewriting → Change → Type 0
+RewritesFile file bytes s w err =
+    ((s ≡ Done) × Rewrote (Some (file, bytes)) w × (w.now ≡ w.before) × Says [] err)
+    ⊎ (((s ≡ WriteFault) × Kept w × Rose w.before w.now × Says (cannot_rewrite file) err)
+    ⊎ ((s ≡ Memory) × Kept w × Says no_memory err))
+
+pub data Writes (a : Answer) (s : Status) (w : Rewriting) (out err : Change) : Type 0 where
+  written : s ≡ a.status → Rewrote a.rewrite w → w.now ≡ w.before → TookAll a.out out → Says a.err err → Writes a s w out err
+  cut : s ≡ WriteFault → Kept w → TookPart a.out out → Says cannot_write err → Writes a s w out err
+  lost : (file : Rewrite) → a.rewrite ≡ Some file → s ≡ WriteFault → Kept w → Rose w.before w.now → TookAll [] out → Says (cannot_rewrite file.0) err
+      → Writes a s w out err
+  no_room : s ≡ Memory → Kept w → TookAll [] out → Says no_memory err → Writes a s w out err

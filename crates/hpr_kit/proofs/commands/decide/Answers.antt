@@ -1,5 +1,8 @@
-use Rattle.std.proofs.Common.{refl}
+use Rattle.std.proofs.Common.{Some, inl, inr, map, refl}
+use Rattle.hprkit_words.specs.Ask.{affected, graph, impact}
+use Rattle.hpr_kit.specs.Comes.{Comes, Names}
 use Rattle.hpr_kit.proofs.EndsLemmas.{if_told}
+use Rattle.hpr_kit.proofs.LoadLemmas.{settled_decides, settled_taken}
 use Rattle.hpr_kit.proofs.TakenLemmas.{not_words}
 use Rattle.hpr_kit.proofs.commands.decide.Goals as goal
 
@@ -32,3 +35,36 @@ returns-in_ok-printed-in-Version-clause-decides g c = rw c.in-Version.is (if_tol
 
 pub returns-in_ok-printed-in-Version-clause-taken : goal.returns-in_ok-printed-in-Version-clause-taken
 returns-in_ok-printed-in-Version-clause-taken g c = not_words _ _ c.in_ok-printed-in-Version.ensures tt
+
+pub graph_file-requires : goal.graph_file-requires
+graph_file-requires g c = c.requires c.in-Graph.file.now (rw c.in-Graph.is refl)
+
+pub impact_file-requires : goal.impact_file-requires
+impact_file-requires g c = c.requires c.in-Impact.file.now (rw c.in-Impact.is refl)
+
+pub affected_files-requires-clause-base : goal.affected_files-requires-clause-base
+affected_files-requires-clause-base g c = c.requires c.in-Affected.base.now (rw c.in-Affected.is (inl refl))
+
+pub affected_files-requires-clause-variant : goal.affected_files-requires-clause-variant
+affected_files-requires-clause-variant g c = c.requires c.in-Affected.variant.now (rw c.in-Affected.is (inr refl))
+
+pub returns-in-Graph-clause-decides : goal.returns-in-Graph-clause-decides
+returns-in-Graph-clause-decides g c = rw c.in-Graph.is (settled_decides (graph c.in-Graph.file.now c.in-Graph.form) (g.S.Shelf.files c.args.shelf.now) (g.S.Shelf.faults c.args.shelf.now) (g.S.Shelf.faults c.graph_file.new.shelf) c.graph_file.result c.settle.result c.settle.ensures c.graph_file.ensures.halts)
+
+pub returns-in-Graph-clause-taken : goal.returns-in-Graph-clause-taken
+returns-in-Graph-clause-taken g c = settled_taken (λ files a. Comes (Some (graph c.in-Graph.file.now c.in-Graph.form)) files a) (Names (Some (graph c.in-Graph.file.now c.in-Graph.form))) (g.S.Shelf.files c.args.shelf.now) (g.S.Shelf.faults c.args.shelf.now) (g.S.Shelf.faults c.graph_file.new.shelf) c.graph_file.result c.settle.result c.settle.ensures c.graph_file.ensures.halts
+
+pub returns-in-Impact-clause-decides : goal.returns-in-Impact-clause-decides
+returns-in-Impact-clause-decides g c =
+    rw c.in-Impact.is (settled_decides (impact c.in-Impact.file.now (map (λ w. w.now) c.in-Impact.points.items) c.in-Impact.form) (g.S.Shelf.files c.args.shelf.now) (g.S.Shelf.faults c.args.shelf.now) (g.S.Shelf.faults c.impact_file.new.shelf) c.impact_file.result c.settle-in-Impact.result c.settle-in-Impact.ensures (rw c.as_slice.ensures.value at c.impact_file.ensures.halts))
+
+pub returns-in-Impact-clause-taken : goal.returns-in-Impact-clause-taken
+returns-in-Impact-clause-taken g c = settled_taken (λ files a. Comes (Some (impact c.in-Impact.file.now (map (λ w. w.now) c.in-Impact.points.items) c.in-Impact.form)) files a) (Names (Some (impact c.in-Impact.file.now (map (λ w. w.now) c.in-Impact.points.items) c.in-Impact.form))) (g.S.Shelf.files c.args.shelf.now) (g.S.Shelf.faults c.args.shelf.now) (g.S.Shelf.faults c.impact_file.new.shelf) c.impact_file.result c.settle-in-Impact.result c.settle-in-Impact.ensures (rw c.as_slice.ensures.value at c.impact_file.ensures.halts)
+
+pub returns-in-Affected-clause-decides : goal.returns-in-Affected-clause-decides
+returns-in-Affected-clause-decides g c =
+    rw c.in-Affected.is (settled_decides (affected c.in-Affected.base.now c.in-Affected.variant.now) (g.S.Shelf.files c.args.shelf.now) (g.S.Shelf.faults c.args.shelf.now) (g.S.Shelf.faults c.affected_files.new.shelf) c.affected_files.result c.settle-in-Affected.result c.settle-in-Affected.ensures c.affected_files.ensures.halts)
+
+pub returns-in-Affected-clause-taken : goal.returns-in-Affected-clause-taken
+returns-in-Affected-clause-taken g c =
+    settled_taken (λ files a. Comes (Some (affected c.in-Affected.base.now c.in-Affected.variant.now)) files a) (Names (Some (affected c.in-Affected.base.now c.in-Affected.variant.now))) (g.S.Shelf.files c.args.shelf.now) (g.S.Shelf.faults c.args.shelf.now) (g.S.Shelf.faults c.affected_files.new.shelf) c.affected_files.result c.settle-in-Affected.result c.settle-in-Affected.ensures c.affected_files.ensures.halts

@@ -1,5 +1,6 @@
 use Rattle.std.proofs.Common.{◌≡◌}
-use Rattle.hpr_kit.specs.Comes.{OnProgram, formatted}
+use Rattle.hpr_kit.specs.Comes.{formatted}
+use Rattle.hpr_kit.specs.Reading.{OnProgram}
 use Rattle.hpr_kit.specs.Private.Replies.{seen}
 use Rattle.hpr_kit.proofs.EndsLemmas.{of_read}
 use Rattle.hpr_kit.proofs.TakenLemmas.{program_taken}
@@ -10,10 +11,10 @@ returns-clause-decides g c =
     let file = c.args.file.now in
     let reply = c.in_ok-format_bytes.field-0 in (
       of_read (g.S.Shelf.files c.args.shelf.now) file c.in_ok-bytes.bytes.items c.as_slice.result.now
-          (λ bytes. OnProgram file bytes (λ p. seen reply ≡ formatted c.args.check file bytes p) (seen reply)) c.in_ok-bytes.ensures.fetches.0 c.as_slice.ensures.value
+          (λ bytes. OnProgram file bytes (λ p. seen reply ≡ formatted c.args.form file bytes p) (seen reply)) c.in_ok-bytes.ensures.fetches.0 c.as_slice.ensures.value
           c.in_ok-format_bytes.ensures,
       c.in_ok-bytes.ensures.fetches.1,
     )
 
 pub returns-clause-taken : goal.returns-clause-taken
-returns-clause-taken g c = program_taken c.args.check c.args.file.now c.as_slice.result.now (seen c.in_ok-format_bytes.field-0) c.in_ok-format_bytes.ensures
+returns-clause-taken g c = program_taken c.args.form c.args.file.now c.as_slice.result.now (seen c.in_ok-format_bytes.field-0) c.in_ok-format_bytes.ensures
