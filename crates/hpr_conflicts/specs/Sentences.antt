@@ -9,8 +9,8 @@
 -- flow_text x from to == the name x flows from one vertex to the other
 -- meaning e          == what the edge says
 -- points_text vs     == three of these vertices at most, and the number of the rest
--- sentence file e vs == what the edge e says; that it is so beside the other changes, and not in the file
---                       alone; and to which points it matters
+-- sentence file e vs == that an edge matters to these points beside the other changes, and not in the file
+--                      alone, where it may stand without reaching them; and what it says
 use Rattle.std.specs.Prelude.{ℕ, Bool, true, false, List, [], ◌∷◌, ◌++◌, length, codes}
 use Rattle.std.specs.Fmt.{decimal}
 use Rattle.hpr_terms.specs.Texts.{tag_text}
@@ -68,5 +68,6 @@ points_text (a ∷ b ∷ c ∷ d ∷ vs) =
 
 unfoldable pub sentence : List ℕ → Edge → List Vertex → List ℕ
 sentence file e vs =
-    codes "beside the other changes, and not in " ++ file ++ codes " alone, " ++ meaning e
-    ++ codes ", which matters to " ++ points_text vs
+    codes "beside the other changes, and not in " ++ file ++ codes " alone, this matters to "
+        ++ points_text vs
+    ++ codes ": " ++ meaning e

@@ -48,7 +48,7 @@ impl Drop for Sort {
     }
 }
 
-/// A key is hashed by the edge's ends.
+/// A key is hashed by the number of the variant, the edge's ends, and its loop or shared use.
 impl Hash for Key {
     ghost use Rattle.hpr_conflicts.specs.Private.Hashed.{hash_input, same_input};
 
@@ -57,8 +57,13 @@ impl Hash for Key {
     ghost respects_eq = { same_input };
 
     fn hash<H: Hasher>(&self, state: &mut H) {
+        state.write_usize(self.variant);
         self.to.hash(state);
         self.from.hash(state);
+        match &self.sort {
+            Sort::Control(_) | Sort::Independent(_) => {}
+            Sort::Carried(_, third) | Sort::Order(third) => third.hash(state),
+        }
     }
 }
 

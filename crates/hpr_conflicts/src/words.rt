@@ -9,9 +9,10 @@ use hpr_graph::{Content, Edge, Kind, Name, NoMemory, Vertex};
 use hpr_print::content_text;
 use std::alloc::{AllocError, Global};
 
-/// A sentence on what the edge of some conflicts of the variant in this file means, and to which points it matters: to
-/// those into whose slice it comes beside the other changes. Three of them at most are named. A part of the variant is
-/// named by its tag, and what may have another content there with what it says. It fails only for want of memory.
+/// A sentence on what the edge of some conflicts of the variant in this file means, and to which points it matters beside
+/// the other changes alone: to the points of these conflicts, into whose slices it comes there. Three of them at most are
+/// named. A part of the variant is named by its tag, and what may have another content there with what it says. It fails
+/// only for want of memory.
 #[tactic(auto, unfolding(crate::specs::Sentences::sentence))]
 pub fn sentence(
     alloc: Global,
@@ -24,7 +25,7 @@ pub fn sentence(
     let what = meaning(alloc, &edge.kind, &edge.from, &edge.to)?;
     let whom = points_text(alloc, points)?;
     Ok(format!(in alloc;
-        "beside the other changes, and not in {file} alone, {what}, which matters to {whom}"
+        "beside the other changes, and not in {file} alone, this matters to {whom}: {what}"
     )?)
 }
 

@@ -7,9 +7,9 @@ pub returns : goal.returns
 unfolding sentence
 returns c =
     let beside = codes "beside the other changes, and not in " in
-    let alone = codes " alone, " in
-    let matters = codes ", which matters to " in
+    let matters = codes " alone, this matters to " in
+    let colon = codes ": " in
     let file = c.args.file.now in
     c.in_ok-format.ensures.ok
-    ∙ ap₂ (λ (a b : List ℕ). beside ++ (file ++ (alone ++ (a ++ (matters ++ b))))) c.in_ok-what.ensures c.in_ok-whom.ensures
-    ∙ ap (λ (s : List ℕ). beside ++ s) (five file alone (meaning c.args.edge.now) matters (points_text (map (λ p. p.now) c.args.points.now)))
+    ∙ ap₂ (λ (a b : List ℕ). beside ++ (file ++ (matters ++ (b ++ (colon ++ a))))) c.in_ok-what.ensures c.in_ok-whom.ensures
+    ∙ ap (λ (s : List ℕ). beside ++ s) (five file matters (points_text (map (λ p. p.now) c.args.points.now)) colon (meaning c.args.edge.now))
