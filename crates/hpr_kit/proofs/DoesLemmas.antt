@@ -1,7 +1,6 @@
 -- What each command does, by how a call ends.
-use Rattle.std.proofs.Common.{◌≡◌, ◌≢◌, ◌∙◌, ℕ, ◌+◌, ◌≤◌, Bool, true, false, cond, List, [], ◌++◌, length, take, refl, sym, ap, subst, inl, inr, None, Option, Some, IfSome, arith, length-take, bytes_eq, nat_lt, codes}
+use Rattle.std.proofs.Common.{◌≡◌, ◌≢◌, ◌∙◌, ℕ, ◌≤◌, Bool, true, false, cond, List, [], ◌∷◌, ◌++◌, length, refl, sym, ap, subst, inl, inr, None, Option, Some, IfSome, bytes_eq, nat_lt, codes}
 use Rattle.std.proofs.lemmas.Bool.{ltb-false, true≢false}
-use Rattle.std.proofs.lemmas.List.{take_all}
 use Rattle.hpr_io.specs.Files.{Files, bytes_of}
 use Rattle.hpr_terms.specs.declared.limits.TheConstants.{MAX_FILE}
 use Rattle.hpr_syntax.specs.Grammar.{tagged}
@@ -13,7 +12,7 @@ use Rattle.hpr_refusals.specs.Refusals.{IsFileOf}
 use Rattle.hpr_refusals.specs.declared.files.Refusal.TheVariants.{Longer}
 use Rattle.hpr_tagging.specs.Tagging.{kept}
 use Rattle.hpr_words.proofs.RowLemmas.{is_same, same_text}
-use Rattle.hprkit_words.specs.Ask.{Ask, affected, format, graph, help, impact, place, tag, version}
+use Rattle.hprkit_words.specs.Ask.{Ask, affected, conflicts, format, graph, help, impact, place, tag, version}
 use Rattle.hprkit_words.specs.declared.forms.FormatForm.TheVariants as form
 use Rattle.hpr_kit.specs.Answer.{Answer, beyond_text, denies, differs_text, prints, refused_text, refuses, rewrites}
 use Rattle.hpr_kit.specs.Comes.{Comes, OnTagged, checked, formatted, placed, retold}
@@ -22,7 +21,8 @@ use Rattle.hpr_kit.specs.Does.{Checks, Formats, IsCanonical, Places, Renews, Ren
 use Rattle.hpr_kit.specs.Ends.{Change, Ends, Kept, Rewriting, Rewrote, TookAll, answers, cut_short, no_memory, unread, unwritten}
 use Rattle.hpr_kit.specs.Shown.{place_of}
 use Rattle.hpr_kit.specs.Tags.{IsTagging}
-use Rattle.hpr_kit.proofs.GraphLemmas.{graph_said, impact_said, on_source, reasons_said}
+use Rattle.hpr_kit.proofs.ReadLemmas.{file_is, read_all, read_is}
+use Rattle.hpr_kit.proofs.GraphLemmas.{conflicts_said, graph_said, impact_said, on_source, on_sources, reasons_said}
 use Rattle.hpr_kit.proofs.TagLemmas.{tagged_done}
 use Rattle.hpr_kit.specs.declared.status.Status.{Status}
 use Rattle.hpr_kit.specs.declared.status.Status.TheVariants as status
@@ -49,26 +49,9 @@ module _ (s : Status) (P : Answer → Type 0) (reads : List ℕ → Type 0) (bef
   answer_at : (t : Status) → IsAnswer t → s ≡ t → Ends s P reads before now w out err → (a : Answer) × P a × (a.status ≡ t) × TookAll a.out out
   answer_at t is e (answers a p so same rewrote quiet took says) = (a, p, sym so ∙ e, took)
   answer_at t is e (cut_short a p so same kept took says) = absurd (subst IsAnswer (sym e ∙ so) is)
-  answer_at t is e (unwritten a file p so is_file same kept rose took says) = absurd (subst IsAnswer (sym e ∙ is_file) is)
+  answer_at t is e (unwritten a r p so is_file same kept rose took says) = absurd (subst IsAnswer (sym e ∙ is_file) is)
   answer_at t is e (unread file r so rose kept took says) = absurd (subst IsAnswer (sym e ∙ so) is)
   answer_at t is e (no_memory so kept took says) = absurd (subst IsAnswer (sym e ∙ so) is)
-
--- what is read of a file that isn't too long is the file
-whole : (n : ℕ) (bytes : List ℕ) → length (take (n + 1) bytes) ≤ n → take (n + 1) bytes ≡ bytes
-whole n bytes short = take_all (n + 1) bytes (omega (arith, length-take (n + 1) bytes, short))
-
-read_short : (n : ℕ) (bytes : List ℕ) → length bytes ≤ n → take (n + 1) bytes ≡ bytes
-read_short n bytes short = take_all (n + 1) bytes (omega (arith, short))
-
-module _ (files : Files) (file : List ℕ) where
-  read_is : length (read files file) ≤ MAX_FILE → read files file ≡ bytes_of files file
-  read_is short = whole MAX_FILE (bytes_of files file) short
-
-  file_is : (p : Tree) → IsFileOf (read files file) p → IsFileOf (bytes_of files file) p
-  file_is p is = subst (λ bytes. IsFileOf bytes p) (read_is is.short) is
-
-  read_all : (p : Tree) → IsFileOf (bytes_of files file) p → read files file ≡ bytes_of files file
-  read_all p is = read_short MAX_FILE (bytes_of files file) is.short
 
 -- an answer has one status
 abbrev of_status : (a b : Answer) → a ≡ b → a.status ≡ b.status
@@ -98,6 +81,7 @@ printed (tag file author keep) files a h done = tt
 printed (graph file how) files a h done = tt
 printed (impact file points how) files a h done = tt
 printed (affected base variant) files a h done = tt
+printed (conflicts base variants) files a h done = tt
 
 -- ---- `fmt --check`
 
@@ -192,6 +176,7 @@ told_place (tag file author keep) files a h done = tt
 told_place (graph file how) files a h done = tt
 told_place (impact file points how) files a h done = tt
 told_place (affected base variant) files a h done = tt
+told_place (conflicts base variants) files a h done = tt
 
 -- ---- `tag`
 
@@ -206,6 +191,7 @@ tagged_file (place file n) files a h done = tt
 tagged_file (graph file how) files a h done = tt
 tagged_file (impact file points how) files a h done = tt
 tagged_file (affected base variant) files a h done = tt
+tagged_file (conflicts base variants) files a h done = tt
 
 module _ (ask : Ask) (files : Files) (reads : List ℕ → Type 0) (s : Status) (before now : ℕ) (w : Rewriting) (out err : Change) (ends : Ends s (Comes (Some ask) files) reads before now w out err) where
   took_done : (Does : List ℕ → Type 0) → ((a : Answer) → Comes (Some ask) files a → a.status ≡ status.Done → Does a.out) → s ≡ status.Done → Took out.old out.new Does
@@ -244,6 +230,7 @@ checks (tag file author keep) files reads s before now w out err ends = tt
 checks (graph file how) files reads s before now w out err ends = tt
 checks (impact file points how) files reads s before now w out err ends = tt
 checks (affected base variant) files reads s before now w out err ends = tt
+checks (conflicts base variants) files reads s before now w out err ends = tt
 
 -- ---- `fmt --in-place`
 
@@ -252,21 +239,21 @@ module _ (s : Status) (P : Answer → Type 0) (reads : List ℕ → Type 0) (bef
   none_given : ((a : Answer) → P a → a.rewrite ≡ None) → Ends s P reads before now w out err → Kept w
   none_given none (answers a p so same rewrote quiet took says) = subst (λ r. Rewrote r w) (none a p) rewrote
   none_given none (cut_short a p so same kept took says) = kept
-  none_given none (unwritten a file p so is same kept rose took says) = kept
+  none_given none (unwritten a r p so is same kept rose took says) = kept
   none_given none (unread file r so rose kept took says) = kept
   none_given none (no_memory so kept took says) = kept
 
   done_gives : s ≡ status.Done → Ends s P reads before now w out err → (a : Answer) × P a × (a.status ≡ status.Done) × Rewrote a.rewrite w
   done_gives e (answers a p so same rewrote quiet took says) = (a, p, sym so ∙ e, rewrote)
   done_gives e (cut_short a p so same kept took says) = absurd (subst IsAnswer (sym e ∙ so) tt)
-  done_gives e (unwritten a file p so is same kept rose took says) = absurd (subst IsAnswer (sym e ∙ is) tt)
+  done_gives e (unwritten a r p so is same kept rose took says) = absurd (subst IsAnswer (sym e ∙ is) tt)
   done_gives e (unread file r so rose kept took says) = absurd (subst IsAnswer (sym e ∙ so) tt)
   done_gives e (no_memory so kept took says) = absurd (subst IsAnswer (sym e ∙ so) tt)
 
   else_kept : ((a : Answer) → P a → a.status ≢ status.Done → a.rewrite ≡ None) → s ≢ status.Done → Ends s P reads before now w out err → Kept w
   else_kept none e (answers a p so same rewrote quiet took says) = subst (λ r. Rewrote r w) (none a p (λ is. e (so ∙ is))) rewrote
   else_kept none e (cut_short a p so same kept took says) = kept
-  else_kept none e (unwritten a file p so is same kept rose took says) = kept
+  else_kept none e (unwritten a r p so is same kept rose took says) = kept
   else_kept none e (unread file r so rose kept took says) = kept
   else_kept none e (no_memory so kept took says) = kept
 
@@ -310,8 +297,8 @@ module _ (file bytes : List ℕ) (a : Answer) where
   abbrev IsRenewal : Type 0
   IsRenewal = OnProgram file bytes (λ p. a ≡ formatted form.InPlace file bytes p) a
 
-  by_sameness : (p : Tree) (b : Bool) → a ≡ cond b (prints []) (rewrites file (text p))
-      → (a.status ≡ status.Done) × (a.rewrite ≡ cond b None (Some (file, text p)))
+  by_sameness : (p : Tree) (b : Bool) → a ≡ cond b (prints []) (rewrites file bytes (text p))
+      → (a.status ≡ status.Done) × (a.rewrite ≡ cond b None (Some (record { file = file; had = bytes; bytes = text p })))
   by_sameness p true is = (of_status a _ is, ap (λ (x : Answer). x.rewrite) is)
   by_sameness p false is = (of_status a _ is, ap (λ (x : Answer). x.rewrite) is)
 
@@ -354,3 +341,6 @@ module _ (files : Files) (reads : List ℕ → Type 0) (s : Status) (before now 
       none_given s _ reads before now w out err
       (λ a comes. (on_source files base _ a
       (λ p r then. on_source files variant _ a (λ q t told. reasons_said base p variant q t a told) then) comes).none) ends
+  renews (conflicts base variants) ends =
+      none_given s _ reads before now w out err
+      (λ a comes. (on_sources files (base ∷ variants) _ a (λ ps ss told. conflicts_said (base ∷ variants) ps ss a told) comes).none) ends

@@ -6,11 +6,11 @@ use Rattle.hpr_io.specs.Files.{Files}
 use Rattle.hpr_io.specs.Taken.{taken_then}
 use Rattle.hprkit_words.specs.Ask.{Ask}
 use Rattle.hpr_kit.specs.Answer as text
-use Rattle.hpr_kit.specs.Answer.{Answer, rewrites, usage_text}
-use Rattle.hpr_kit.specs.Comes.{Comes, Names}
+use Rattle.hpr_kit.specs.Answer.{Answer, Rewrite, rewrites, usage_text}
+use Rattle.hpr_kit.specs.Comes.{Comes, MayRead}
 use Rattle.hpr_kit.specs.Reading.{read}
 use Rattle.hpr_kit.specs.Ends.{Change, Ends, Kept, Rewriting, Says, TookAll, answers, cut_short, no_memory, unread, unwritten}
-use Rattle.hpr_kit.specs.Private.Replies.{IsUnwritten, RewritesFile, StopIs, Writes, WritesTexts, cut, lost, no_room, stop_message, stop_status, written}
+use Rattle.hpr_kit.specs.Private.Replies.{IsUnwritten, RewritesFile, StopIs, Writes, cut, lost, no_room, stop_message, stop_status, written}
 use Rattle.hpr_kit.specs.declared.reply.Stop.{Stop}
 use Rattle.hpr_kit.specs.declared.reply.Stop.TheVariants as stop
 use Rattle.hpr_kit.specs.declared.status.Status.{Status}
@@ -35,7 +35,7 @@ module _ (P : Answer → Type 0) (reads : List ℕ → Type 0) (before now : ℕ
   pub reply_ends : (a : Answer) (s : Status) → P a → now ≡ before → Writes a s w out err → Ends s P reads before now w out err
   reply_ends a s p same (written is rewrote quiet took says) = answers a p is same rewrote quiet took says
   reply_ends a s p same (cut is kept took says) = cut_short a p is same kept took says
-  reply_ends a s p same (lost file so is kept rose took says) = unwritten a file p so is same kept rose took says
+  reply_ends a s p same (lost r so is kept rose took says) = unwritten a r p so is same kept rose took says
   reply_ends a s p same (no_room is kept took says) = no_memory is kept took says
 
   pub memory_ends : (s : Status) → s ≡ Memory → Kept w → TookAll [] out → Says text.no_memory err → Ends s P reads before now w out err
@@ -49,10 +49,10 @@ module _ (P : Answer → Type 0) (reads : List ℕ → Type 0) (before now : ℕ
 
 -- what was put of a reply
 module _ (w : Rewriting) (out err : Change) where
-  pub file_written : (file bytes : List ℕ) (s : Status) → TookAll [] out → RewritesFile file bytes s w err → Writes (rewrites file bytes) s w out err
-  file_written file bytes s took (inl (is, rewrote, quiet, says)) = written is rewrote quiet took says
-  file_written file bytes s took (inr (inl (is, kept, rose, says))) = lost (file, bytes) refl is kept rose took says
-  file_written file bytes s took (inr (inr (is, kept, says))) = no_room is kept took says
+  pub file_written : (r : Rewrite) (s : Status) → TookAll [] out → RewritesFile r s w err → Writes (rewrites r.file r.had r.bytes) s w out err
+  file_written r s took (inl (is, rewrote, quiet, says)) = written is rewrote quiet took says
+  file_written r s took (inr (inl (is, kept, rose, says))) = lost r refl is kept rose took says
+  file_written r s took (inr (inr (is, kept, says))) = no_room is kept took says
 
 -- that a file can't be written is said, or that there is no memory to say it
 module _ (w : Rewriting) (err : Change) where
@@ -64,13 +64,13 @@ module _ (w : Rewriting) (err : Change) where
 
 -- the same end, for what is asked by another name
 pub ends_for : (s : Status) (told : Option Files) (o q : Option Ask) (before now : ℕ) (w : Rewriting) (out err : Change) → q ≡ o
-    → Ends s (λ a. IfSome told (λ files. Comes q files a)) (Names q) before now w out err
-    → Ends s (λ a. IfSome told (λ files. Comes o files a)) (Names o) before now w out err
-ends_for s told o q before now w out err e h = subst (λ x. Ends s (λ a. IfSome told (λ files. Comes x files a)) (Names x) before now w out err) e h
+    → Ends s (λ a. IfSome told (λ files. Comes q files a)) (MayRead q told) before now w out err
+    → Ends s (λ a. IfSome told (λ files. Comes o files a)) (MayRead o told) before now w out err
+ends_for s told o q before now w out err e h = subst (λ x. Ends s (λ a. IfSome told (λ files. Comes x files a)) (MayRead x told) before now w out err) e h
 
 -- words that are no call give the usage text
 pub words_end : (ask : Option Ask) (told : Option Files) (before : ℕ) (w : Rewriting) (out err : Change) → ask ≡ None → Kept w → w.now ≡ w.before → TookAll [] out
-    → Says usage_text err → Ends Words (λ a. IfSome told (λ files. Comes ask files a)) (Names ask) before before w out err
+    → Says usage_text err → Ends Words (λ a. IfSome told (λ files. Comes ask files a)) (MayRead ask told) before before w out err
 words_end ask told before w out err none kept quiet took says =
     let usage : Answer = record { status = Words; out = []; err = usage_text; rewrite = None } in
     answers usage (if_told told (λ files. Comes ask files usage) (λ files. subst (λ o. Comes o files usage) (sym none) refl)) refl refl kept quiet took says

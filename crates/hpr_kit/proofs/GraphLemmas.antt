@@ -1,5 +1,5 @@
 -- What is told of graphs is said on `out` or `err`, and not on the words.
-use Rattle.std.proofs.Common.{◌≡◌, ◌≢◌, ℕ, List, refl, sym, subst, inl, inr, None}
+use Rattle.std.proofs.Common.{◌≡◌, ◌≢◌, ℕ, List, [], ◌∷◌, refl, sym, subst, inl, inr, None}
 use Rattle.hpr_io.specs.Files.{Files}
 use Rattle.hpr_syntax.specs.Tree.{Tree}
 use Rattle.hpr_graph.specs.Graphs.{Same}
@@ -12,9 +12,9 @@ use Rattle.hprkit_words.specs.declared.forms.ImpactForm.TheVariants as impact_fo
 use Rattle.hpr_located.specs.Sources.{Standing}
 use Rattle.hpr_kit.specs.Answer.{Answer, prints, refuses}
 use Rattle.hpr_json.specs.Refusals.{edges_text}
-use Rattle.hpr_kit.specs.Graphs.{AreReasonsTold, HasTooManyEdges, IsGraphTold, IsImpactTold, OnGraph, OnPoints}
+use Rattle.hpr_kit.specs.Graphs.{AreConflictsTold, AreReasonsTold, HasTooManyEdges, IsGraphTold, IsImpactTold, OnGraph, OnGraphs, OnPoints}
 use Rattle.hpr_kit.specs.Private.Graphs.{SaysIn}
-use Rattle.hpr_kit.specs.Sources.{OnSource}
+use Rattle.hpr_kit.specs.Sources.{OnSource, OnSources}
 use Rattle.hpr_kit.specs.declared.load.Halt.{Halt}
 use Rattle.hpr_kit.specs.declared.load.Halt.TheVariants as halt
 use Rattle.hpr_kit.specs.declared.status.Status.TheVariants.{Words}
@@ -35,8 +35,15 @@ pub on_source : (files : Files) (file : List ℕ) (next : Tree → Standing → 
 on_source files file next a said (inl (why, cause, is)) = refused _ a is
 on_source files file next a said (inr (p, spelled, (s, stands, h))) = said p s h
 
+pub on_sources : (files : Files) (names : List (List ℕ)) (next : List Tree → List Standing → Type 0) (a : Answer)
+    → ((ps : List Tree) (ss : List Standing) → next ps ss → IsSaid a) → OnSources files names next a → IsSaid a
+on_sources files [] next a said h = said [] [] h
+on_sources files (n ∷ names) next a said h =
+    on_source files n (λ p s. OnSources files names (λ ps ss. next (p ∷ ps) (s ∷ ss)) a) a
+    (λ p s then. on_sources files names (λ ps ss. next (p ∷ ps) (s ∷ ss)) a (λ ps ss. said (p ∷ ps) (s ∷ ss)) then) h
+
 module _ (file : List ℕ) (p : Tree) (a : Answer) where
-  on_graph : (next : Numbered → Type 0) → ((g : Numbered) → next g → IsSaid a) → OnGraph file p next a → IsSaid a
+  pub on_graph : (next : Numbered → Type 0) → ((g : Numbered) → next g → IsSaid a) → OnGraph file p next a → IsSaid a
   on_graph next said (inl (many, is)) = refused _ a is
   on_graph next said (inr (few, (g, same, h))) = said g h
 
@@ -69,6 +76,19 @@ pub reasons_said : (base : List ℕ) (p : Tree) (variant : List ℕ) (q : Tree) 
 reasons_said base p variant q s a told =
     on_graph base p a (λ h. OnGraph variant q (λ g. AreReasonsTold g h s a) a)
     (λ h then. on_graph variant q a (λ g. AreReasonsTold g h s a) (λ g is. reasons_told g h s a is) then) told
+
+on_graphs : (names : List (List ℕ)) (ps : List Tree) (next : List Numbered → Type 0) (a : Answer) → ((gs : List Numbered) → next gs → IsSaid a)
+    → OnGraphs names ps next a → IsSaid a
+on_graphs [] ps next a said h = said [] h
+on_graphs (n ∷ names) [] next a said h = said [] h
+on_graphs (n ∷ names) (p ∷ ps) next a said h =
+    on_graph n p a (λ g. OnGraphs names ps (λ gs. next (g ∷ gs)) a) (λ g then. on_graphs names ps (λ gs. next (g ∷ gs)) a (λ gs. said (g ∷ gs)) then) h
+
+conflicts_told : (gs : List Numbered) (ss : List Standing) (a : Answer) → AreConflictsTold gs ss a → IsSaid a
+conflicts_told gs ss a (cs, d, are, told, is) = printed _ a is
+
+pub conflicts_said : (names : List (List ℕ)) (ps : List Tree) (ss : List Standing) (a : Answer) → OnGraphs names ps (λ gs. AreConflictsTold gs ss a) a → IsSaid a
+conflicts_said names ps ss a h = on_graphs names ps (λ gs. AreConflictsTold gs ss a) a (λ gs told. conflicts_told gs ss a told) h
 
 -- the second graph has too many edges, and the first hasn't
 pub second_too_many : (file : List ℕ) (p : Tree) (h : Numbered) → Same (graph_in h) (graph_of p) → (¬ HasTooManyEdges p) → (other : List ℕ) (q : Tree)

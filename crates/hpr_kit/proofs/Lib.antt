@@ -1,6 +1,8 @@
 mod TakenLemmas
+mod ReadLemmas
 mod EndsLemmas
 mod TagLemmas
 mod DoesLemmas
 mod GraphLemmas
+mod ManyGraphs
 mod LoadLemmas

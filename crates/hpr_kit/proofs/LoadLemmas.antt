@@ -1,17 +1,17 @@
 -- Files that are read one after another, and what comes of them.
-use Rattle.std.proofs.Common.{◌≡◌, ◌≢◌, ◌∙◌, ℕ, ◌+◌, ◌<◌, All, Bool, Contains, IsTrue, List, [], ◌∷◌, ◌++◌, length, take, drop, get_or, map, Bor, Option, Some, None, Result, Ok, Err, IfOk, IfSome, Vec, inl, inr, sym, ap, subst}
+use Rattle.std.proofs.Common.{◌≡◌, ◌≢◌, ◌∙◌, ℕ, ◌+◌, ◌<◌, All, Bool, IsTrue, List, [], ◌∷◌, ◌++◌, length, take, drop, get_or, map, Bor, Option, Some, None, Result, Ok, Err, IfOk, IfSome, Vec, inl, inr, sym, ap, subst}
 use Rattle.std.proofs.lemmas.List.{drop_more, get_or-map, length-map, map-append, take-append-drop, take_more}
-use Rattle.std.proofs.lemmas.List.Elements.{Contains-get_or}
 use Rattle.std.specs.Global.{Global}
 use Rattle.hpr_io.specs.Counts.{Rose}
 use Rattle.hpr_io.specs.Files.{Files}
 use Rattle.hpr_syntax.specs.Tree.{Tree}
 use Rattle.hpr_refusals.specs.Refusals.{IsFileOf}
+use Rattle.hpr_inputs.specs.Reads.{IsReached}
 use Rattle.hpr_located.specs.Sources.{Standing, standing_of}
 use Rattle.hpr_located.specs.declared.source.Source.{Source}
 use Rattle.hpr_kit.specs.Answer.{Answer, refused_text, refuses}
 use Rattle.hprkit_words.specs.Ask.{Ask}
-use Rattle.hpr_kit.specs.Comes.{Comes, Names}
+use Rattle.hpr_kit.specs.Comes.{Comes, MayRead}
 use Rattle.hpr_kit.specs.Reading.{OnProgram, read}
 use Rattle.hpr_kit.specs.Private.Loads.{AreLoaded, HaltIs, IsLoaded, Judges, Loads}
 use Rattle.hpr_kit.specs.Private.Graphs.{Halts, Says, Settles}
@@ -23,6 +23,7 @@ use Rattle.hpr_kit.specs.declared.reply.Reply.{Reply}
 use Rattle.hpr_kit.specs.declared.reply.Stop.{Stop}
 use Rattle.hpr_kit.specs.declared.reply.Stop.TheVariants as stop
 use Rattle.hpr_kit.specs.declared.status.Status.TheVariants.{Words}
+use Rattle.hpr_kit.proofs.ReadLemmas.{reached}
 use Rattle.hpr_kit.proofs.TakenLemmas.{not_words}
 
 -- what is so of the files that are told
@@ -66,6 +67,17 @@ module _ (files : Files) where
 
   pub loaded_one : (file : List ℕ) (p : Tree) (s : Standing) (next : Tree → Standing → Type 0) (a : Answer) → IsLoaded files file p s → next p s → OnSource files file next a
   loaded_one file p s next a is h = inr (p, is.0, (s, is.1, h))
+
+  loaded_all : (names : List (List ℕ)) (ps : List Tree) (ss : List Standing) (next : List Tree → List Standing → Type 0) (a : Answer) → AreLoaded files names ps ss
+      → next ps ss → OnSources files names next a
+  loaded_all [] [] [] next a are h = h
+  loaded_all [] [] (s ∷ ss) next a are h = absurd are
+  loaded_all [] (p ∷ ps) ss next a are h = absurd are
+  loaded_all (n ∷ names) [] ss next a are h = absurd are
+  loaded_all (n ∷ names) (p ∷ ps) [] next a are h = absurd are
+  loaded_all (n ∷ names) (p ∷ ps) (s ∷ ss) next a are h =
+      loaded_one n p s (λ q t. OnSources files names (λ qs ts. next (q ∷ qs) (t ∷ ts)) a) a are.0
+      (loaded_all names ps ss (λ qs ts. next (p ∷ qs) (s ∷ ts)) a are.1 h)
 
 -- a reply that refuses a file is none on the words
 refused_taken : (file bytes : List ℕ) (a : Answer) → OnProgram file bytes (λ p. ⊥) a → a.status ≢ Words
@@ -113,6 +125,27 @@ module _ (told : Option Files) (reads : List ℕ → Type 0) where
       (told_map told (λ fs. (bytes ≡ read fs file) × IsLoaded fs file p s) (λ fs. (a : Answer) → N bytes p s a → OnSource fs file (λ q t. N (read fs file) q t a) a)
       (λ fs h a k. loaded_one fs file p s (λ q t. N (read fs file) q t a) a h.1 (subst (λ b. N b p s a) h.0 k)) is) same r says
 
+  -- the same of several files
+  module _ (names : List (List ℕ)) (N : List Tree → List Standing → Answer → Type 0) where
+    abbrev Each : Files → Answer → Type 0
+    Each fs a = OnSources fs names (λ ps ss. N ps ss a) a
+
+    pub of_sources : (ps : List Tree) (ss : List Standing) (before now : ℕ) → ((a : Answer) → N ps ss a → a.status ≢ Words) → IfSome told (λ fs. AreLoaded fs names ps ss)
+        → now ≡ before → (r : Result Reply Halt) → Says (λ a. N ps ss a) r → Halts Each reads told before now r
+    of_sources ps ss before now taken are same r says =
+        said told before now (N ps ss) Each reads taken
+        (told_map told (λ fs. AreLoaded fs names ps ss) (λ fs. (a : Answer) → N ps ss a → Each fs a)
+        (λ fs h a k. loaded_all fs names ps ss (λ qs ts. N qs ts a) a h k) are) same r says
+
+    pub all_halt : (before now : ℕ) (h : Halt) → HaltIs (λ fs a. OnSources fs names (λ ps ss. ⊥) a) reads told before now h → HaltIs Each reads told before now h
+    all_halt before now (halt.Refused reply) (is, same, taken) = (
+      told_map told (λ fs. OnSources fs names (λ ps ss. ⊥) (seen reply)) (λ fs. Each fs (seen reply))
+          (λ fs h. refused_all fs names (λ ps ss. N ps ss (seen reply)) (seen reply) h) is,
+      same,
+      taken,
+    )
+    all_halt before now (halt.Stop s) h = h
+
   -- the same of a second file, behind a first one
   module _ (file bytes : List ℕ) (p : Tree) (s : Standing) (before mid : ℕ) (is : IfSome told (λ fs. (bytes ≡ read fs file) × IsLoaded fs file p s)) (same : mid ≡ before)
       (other : Option Files) (same_told : other ≡ told) (second : List ℕ) (N : Tree → Tree → Standing → Answer → Type 0) where
@@ -143,7 +176,7 @@ module _ (told : Option Files) (reads : List ℕ → Type 0) where
 
 -- what is settled is decided
 pub settled_decides : (ask : Ask) (told : Option Files) (before now : ℕ) (r : Result Reply Halt) (settled : Result Reply Stop) → Settles r settled
-    → Halts (λ files a. Comes (Some ask) files a) (Names (Some ask)) told before now r → Decides ask told before now settled
+    → Halts (λ files a. Comes (Some ask) files a) (MayRead (Some ask) told) told before now r → Decides ask told before now settled
 settled_decides ask told before now (Ok reply) settled e (is, same, taken) = subst (λ x. Decides ask told before now x) (sym e) (is, same)
 settled_decides ask told before now (Err (halt.Refused reply)) settled e (is, same, taken) = subst (λ x. Decides ask told before now x) (sym e) (is, same)
 settled_decides ask told before now (Err (halt.Stop s)) settled e h = subst (λ x. Decides ask told before now x) (sym e) h
@@ -170,9 +203,6 @@ module _ (xs : List (Bor (List ℕ))) (i : ℕ) (d : Bor (List ℕ)) (low : i < 
   parts =
       ap (λ ws. take i (names xs) ++ ws) (sym (drop_more (names xs) i (get_or xs i d).now within ∙ ap (λ w. w ∷ drop (i + 1) (names xs)) here))
       ∙ take-append-drop i (names xs)
-
-  named : Contains (names xs) (get_or xs i d).now
-  named = subst (Contains (names xs)) here (Contains-get_or (names xs) i (get_or xs i d).now within)
 
   -- each of the names may be asked for
   pub served : (serves : List ℕ → Bool) → All (λ n. IsTrue (serves n)) (names xs) → IsTrue (serves (get_or xs i d).now)
@@ -202,9 +232,14 @@ module _ (xs : List (Bor (List ℕ))) (i : ℕ) (d : Bor (List ℕ)) (low : i < 
         (told_map other (λ fs. (bytes ≡ read fs (get_or xs i d).now) × IsLoaded fs (get_or xs i d).now p (standing_of source))
         (λ fs. IsLoaded fs (get_or xs i d).now p (standing_of source)) (λ fs h. h.1) is))))
 
+    next_reached : IsReached told (names xs) (get_or xs i d).now
+    next_reached =
+        subst (λ ws. IsReached told ws (get_or xs i d).now) parts
+        (reached told (take i (names xs)) (drop (i + 1) (names xs)) (get_or xs i d).now ps ss are)
+
     halts_at : (before now : ℕ) (h : Halt)
         → HaltIs (λ fs a. OnProgram (get_or xs i d).now (read fs (get_or xs i d).now) (λ p. ⊥) a) (λ n. n ≡ (get_or xs i d).now) told before now h
-        → HaltIs (λ fs a. OnSources fs (names xs) (λ qs ts. ⊥) a) (Contains (names xs)) told before now h
+        → HaltIs (λ fs a. OnSources fs (names xs) (λ qs ts. ⊥) a) (IsReached told (names xs)) told before now h
     halts_at before now (halt.Refused reply) (is, same, taken) = (
       subst (λ ws. IfSome told (λ fs. OnSources fs ws (λ qs ts. ⊥) (seen reply))) parts
           (told_both told (λ fs. AreLoaded fs (take i (names xs)) ps ss) (λ fs. OnProgram (get_or xs i d).now (read fs (get_or xs i d).now) (λ p. ⊥) (seen reply))
@@ -214,13 +249,16 @@ module _ (xs : List (Bor (List ℕ))) (i : ℕ) (d : Bor (List ℕ)) (low : i < 
       same,
       taken,
     )
-    halts_at before now (halt.Stop (stop.ReadFault message)) (rose, (file, is, e)) = (rose, (file, subst (Contains (names xs)) (sym is) named, e))
+    halts_at before now (halt.Stop (stop.ReadFault message)) (rose, (file, is, e)) = (
+      rose,
+      (file, subst (IsReached told (names xs)) (sym is) next_reached, e),
+    )
     halts_at before now (halt.Stop (stop.WriteFault message)) h = absurd h
     halts_at before now (halt.Stop stop.Memory) h = tt
 
     pub halts_too : (other : Option Files) (before mid now : ℕ) (h : Halt) → other ≡ told → mid ≡ before
         → HaltIs (λ fs a. OnProgram (get_or xs i d).now (read fs (get_or xs i d).now) (λ p. ⊥) a) (λ n. n ≡ (get_or xs i d).now) other mid now h
-        → HaltIs (λ fs a. OnSources fs (names xs) (λ qs ts. ⊥) a) (Contains (names xs)) told before now h
+        → HaltIs (λ fs a. OnSources fs (names xs) (λ qs ts. ⊥) a) (IsReached told (names xs)) told before now h
     halts_too other before mid now h same_told same is =
         halts_at before now h
         (halts_from (λ fs a. OnProgram (get_or xs i d).now (read fs (get_or xs i d).now) (λ p. ⊥) a) (λ n. n ≡ (get_or xs i d).now) told other before mid now h same_told same is)

@@ -8,12 +8,10 @@ use Rattle.hpr_syntax.specs.Spelling.{Spells}
 use Rattle.hpr_syntax.specs.Tree.{Tree}
 use Rattle.hpr_syntax.proofs.TextSpells.{text_spells}
 use Rattle.hpr_tagging.specs.Tagging.{kept}
-use Rattle.hpr_refusals.specs.Refusals.{IsCauseIn, IsFileOf}
-use Rattle.hpr_refusals.specs.declared.files.Refusal.{Refusal}
+use Rattle.hpr_refusals.specs.Refusals.{IsFileOf}
 use Rattle.hpr_refusals.specs.declared.files.Refusal.TheVariants as refusal
 use Rattle.hpr_kit.specs.Answer.{Answer, prints, refused_text, refuses, spent_text}
 use Rattle.hpr_kit.specs.Comes.{OnTagged, kept_answer, retold}
-use Rattle.hpr_kit.specs.Private.Replies.{IsWithin}
 use Rattle.hpr_kit.specs.Tags.{IsTagged, IsTagging}
 use Rattle.hpr_kit.specs.declared.status.Status.TheVariants as status
 

@@ -37,7 +37,7 @@ cond_taken false x y p q = q
 formatted_taken : (how : FormatForm) (file bytes : List ℕ) (p : Tree) → IsTaken (formatted how file bytes p).status
 formatted_taken form.Print file bytes p = tt
 formatted_taken form.Check file bytes p = cond_taken (bytes_eq bytes (text p)) (prints []) (denies (differs_text file bytes (text p))) tt tt
-formatted_taken form.InPlace file bytes p = cond_taken (bytes_eq bytes (text p)) (prints []) (rewrites file (text p)) tt tt
+formatted_taken form.InPlace file bytes p = cond_taken (bytes_eq bytes (text p)) (prints []) (rewrites file bytes (text p)) tt tt
 
 pub program_taken : (how : FormatForm) (file bytes : List ℕ) (a : Answer) → OnProgram file bytes (λ p. a ≡ formatted how file bytes p) a → a.status ≢ status.Words
 program_taken how file bytes a (inl (why, cause, is)) = not_words a (refuses (refused_text file bytes why)) is tt

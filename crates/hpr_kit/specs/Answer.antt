@@ -1,10 +1,10 @@
 -- What a call answers.
 --
--- Rewrite                           == the name of a file, and the bytes that it is to get
--- Answer                            == a call's status, what `out` and `err` are to take, and which file is to
---                                      get which bytes, if one is
+-- Rewrite                           == the name of a file, the bytes that it had, and those that it is to get
+-- Answer                            == a call's status, what `out` and `err` are to take, and which file is
+--                                      to get which bytes, if one is
 -- prints bytes                      == the command did what it is for, and prints these bytes
--- rewrites file bytes               == it did what it is for, and gives the file these bytes
+-- rewrites file had bytes           == it did what it is for, and gives the file, which had others, these bytes
 -- denies message                    == the answer is no, and the message says why
 -- refuses message                   == something is refused, and the message says why
 -- place_if_any file bytes why       == the place of bytes that spell no tree; else nothing
@@ -26,8 +26,10 @@ use Rattle.hpr_kit.specs.Shown.{place_text}
 use Rattle.hpr_kit.specs.declared.status.Status.{Status}
 use Rattle.hpr_kit.specs.declared.status.Status.TheVariants as status
 
-abbrev pub Rewrite : Type 0
-Rewrite = List ℕ × List ℕ
+pub record Rewrite : Type 0 where
+  pub file : List ℕ
+  pub had : List ℕ
+  pub bytes : List ℕ
 
 pub record Answer : Type 0 where
   pub status : Status
@@ -38,8 +40,13 @@ pub record Answer : Type 0 where
 abbrev pub prints : List ℕ → Answer
 prints bytes = record { status = status.Done; out = bytes; err = []; rewrite = None }
 
-abbrev pub rewrites : List ℕ → List ℕ → Answer
-rewrites file bytes = record { status = status.Done; out = []; err = []; rewrite = Some (file, bytes) }
+abbrev pub rewrites : List ℕ → List ℕ → List ℕ → Answer
+rewrites file had bytes = record {
+  status = status.Done;
+  out = [];
+  err = [];
+  rewrite = Some (record { file = file; had = had; bytes = bytes });
+}
 
 abbrev pub denies : List ℕ → Answer
 denies message = record { status = status.No; out = []; err = message; rewrite = None }
@@ -57,10 +64,12 @@ refused_text file bytes why = refusal_text file why ++ place_if_any file bytes w
 
 abbrev pub differs_text : List ℕ → List ℕ → List ℕ → List ℕ
 differs_text file bytes canonical =
-    codes "hprkit: " ++ file ++ codes ": not the canonical text\n" ++ place_text file bytes (common_prefix_len (λ x y. x == y) bytes canonical)
+    codes "hprkit: " ++ file ++ codes ": not the canonical text\n"
+    ++ place_text file bytes (common_prefix_len (λ x y. x == y) bytes canonical)
 
 abbrev pub beyond_text : List ℕ → ℕ → ℕ → List ℕ
-beyond_text file n count = codes "hprkit: " ++ file ++ codes ": no byte " ++ decimal n ++ codes " in " ++ decimal count ++ codes "\n"
+beyond_text file n count =
+    codes "hprkit: " ++ file ++ codes ": no byte " ++ decimal n ++ codes " in " ++ decimal count ++ codes "\n"
 
 abbrev pub spent_text : List ℕ → List ℕ
 spent_text file = about file (codes "serials are spent")
@@ -74,6 +83,7 @@ usage_text =
     ++ codes "       hprkit graph FILE --dot [--no-control] [--no-flow] [--no-order]\n"
     ++ codes "       hprkit impact FILE POINT.. [--json | --marks]\n"
     ++ codes "       hprkit affected BASE V\n"
+    ++ codes "       hprkit conflicts BASE V1 V2..\n"
     ++ codes "       hprkit --help\n"
     ++ codes "       hprkit --version\n"
 
@@ -94,7 +104,10 @@ help_text =
     ++ codes "impact FILE POINT.. [--json | --marks]\n"
     ++ codes "                  print what a change at these points can reach: one a line, as\n"
     ++ codes "                  JSON, or as FILE's text with marks at the lines it reaches\n"
-    ++ codes "affected BASE V   print, as JSON, the points that V changes of BASE, and why\n"
+    ++ codes "affected BASE V   print, as JSON, the affected points of V, and why each is one\n"
+    ++ codes "conflicts BASE V1 V2..\n"
+    ++ codes "                  print, as JSON, what interferes in their integration: 2 to 16\n"
+    ++ codes "                  variants\n"
     ++ codes "\n"
     ++ codes "`-` as FILE is standard input.\n"
 

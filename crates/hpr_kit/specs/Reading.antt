@@ -19,4 +19,5 @@ read files file = take (MAX_FILE + 1) (bytes_of files file)
 
 abbrev pub OnProgram : Text → List ℕ → (Tree → Type 0) → Answer → Type 0
 OnProgram file bytes next a =
-    ((why : Refusal) × IsCauseIn tagged bytes why × (a ≡ refuses (refused_text file bytes why))) ⊎ ((p : Tree) × IsFileOf bytes p × next p)
+    ((why : Refusal) × IsCauseIn tagged bytes why × (a ≡ refuses (refused_text file bytes why)))
+    ⊎ ((p : Tree) × IsFileOf bytes p × next p)

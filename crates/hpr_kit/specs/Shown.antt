@@ -2,7 +2,7 @@
 --
 -- place_of bytes n           == `LINE:COLUMN` of the byte n
 -- shown b                    == the byte b as it is shown: a blank for a control byte, as a tab is, and `?`
---                               for one that is not of ASCII
+--                               for DEL and for one that is not of ASCII
 -- stays b                    == the byte b is no newline
 -- left bytes n               == what stands before the byte n in its line, at most the last ROOM bytes of it
 -- front bytes                == what stands before the first newline, at most the first ROOM bytes of it
@@ -37,7 +37,9 @@ unfoldable pub head_text : List ℕ → ℕ → ℕ → List ℕ
 head_text file line column = file ++ codes ":" ++ decimal line ++ codes ":" ++ decimal column ++ codes "\n"
 
 unfoldable pub line_text : List ℕ → List ℕ → List ℕ
-line_text before behind = map shown before ++ map shown (front behind) ++ codes "\n" ++ replicate (length before) 32 ++ codes "^\n"
+line_text before behind =
+    map shown before ++ map shown (front behind) ++ codes "\n" ++ replicate (length before) 32 ++ codes "^\n"
 
 unfoldable pub place_text : List ℕ → List ℕ → ℕ → List ℕ
-place_text file bytes n = head_text file (line_at bytes n) (column_at bytes n) ++ line_text (left bytes n) (drop n bytes)
+place_text file bytes n =
+    head_text file (line_at bytes n) (column_at bytes n) ++ line_text (left bytes n) (drop n bytes)

@@ -1,11 +1,11 @@
 -- Files that spell programs, with where the parts of these stand.
 --
--- IsSource file bytes p s       == s is the file with these bytes, which spell the program p, and where p's parts
---                                  stand in them
--- OnSource files file next a    == a refuses the file; or it spells a program and stands so, and a is what next
---                                  says of both
--- OnSources files names next a  == the same of several files: a refuses the first that spells no program; or it is
---                                  what next says of all programs and of where they stand
+-- IsSource file bytes p s       == s is the file with these bytes, which spell the program p, and where p's
+--                                  parts stand in them
+-- OnSource files file next a    == a refuses the file; or it spells a program and stands so, and a is what
+--                                  next says of both
+-- OnSources files names next a  == the same of several files: a refuses the first that spells no program; or
+--                                  it is what next says of all programs and of where they stand
 use Rattle.std.specs.Prelude.{◌≡◌, ℕ, List, [], ◌∷◌}
 use Rattle.hpr_io.specs.Files.{Files}
 use Rattle.hpr_syntax.specs.Tree.{Tree}

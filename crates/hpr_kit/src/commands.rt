@@ -1,20 +1,22 @@
 //! The commands: each has its own reply.
-ghost use Rattle.std.specs.Prelude.{◌≡◌, ◌≢◌, ℕ, List, Some, IfOk, IsTrue, map};
+ghost use Rattle.std.specs.Prelude.{◌≡◌, ◌≢◌, ◌≤◌, ◌∷◌, ℕ, All, List, Some, IfOk, IsTrue, length, map};
+ghost use Rattle.hpr_terms.specs.declared.limits.TheConstants.{MAX_VARIANTS};
 ghost use Rattle.hpr_words.specs.Request.{Text};
-ghost use Rattle.hprkit_words.specs.Ask.{affected, format, graph, impact, place, tag};
+ghost use Rattle.hprkit_words.specs.Ask.{IsInRange, affected, conflicts, format, graph, impact, place, tag};
 ghost use Rattle.hprkit_words.specs.Asked.{ask_of};
 ghost use Rattle.hpr_kit.specs.Answer.{prints};
-ghost use Rattle.hpr_kit.specs.Comes.{Comes, Names};
+ghost use Rattle.hpr_kit.specs.Comes.{Comes, MayRead, Names};
 ghost use Rattle.hpr_kit.specs.Private.Graphs.{Halts};
 ghost use Rattle.hpr_kit.specs.Private.Replies.{Decides, seen};
 
 use crate::affected::affected_reply;
 use crate::at::place_bytes;
 use crate::canonical::format_bytes;
+use crate::conflicts::{conflicts_reply, with_base};
 use crate::fetch::fetch;
 use crate::graphs::graph_reply;
 use crate::impact::impact_reply;
-use crate::load::{Halt, load, settle};
+use crate::load::{Halt, load, load_all, settle};
 use crate::reply::{HELP, Reply, Stop, VERSION, prints};
 use crate::status::Status;
 use crate::tag::tag_bytes;
@@ -29,7 +31,8 @@ pub(crate) fn decide<S: Shelf>(
     asked: Asked<'_>,
     shelf: &mut S,
 ) -> Result<Reply, Stop>
-    requires { (name : Text) → Names (Some (ask_of asked)) name → IsTrue (S.serves shelf.old name) }
+    requires names { (name : Text) → Names (Some (ask_of asked)) name → IsTrue (S.serves shelf.old name) }
+    requires in_range { IsInRange (ask_of asked) }
     ensures decides { Decides (ask_of asked.entry) (S.files shelf.old)
         (S.faults shelf.old) (S.faults shelf.new) result }
     ensures taken { IfOk result (λ reply. (seen reply).status ≢ Status.Words) }
@@ -47,6 +50,9 @@ pub(crate) fn decide<S: Shelf>(
             settle(impact_file(alloc, file, points.as_slice(), form, shelf))
         }
         Asked::Affected { base, variant } => settle(affected_files(alloc, base, variant, shelf)),
+        Asked::Conflicts { base, variants } => {
+            settle(conflicts_files(alloc, base, variants.as_slice(), shelf))
+        }
     }
 }
 
@@ -111,7 +117,8 @@ fn graph_file<S: Shelf>(
     shelf: &mut S,
 ) -> Result<Reply, Halt>
     requires { IsTrue (S.serves shelf.old file.now) }
-    ensures halts { Halts (λ files a. Comes (Some (graph file.now form)) files a) (Names (Some (graph file.now form)))
+    ensures halts { Halts (λ files a. Comes (Some (graph file.now form)) files a)
+        (Names (Some (graph file.now form)))
         (S.files shelf.old) (S.faults shelf.old) (S.faults shelf.new) result }
     ensures same_files { S.files shelf.new ≡ S.files shelf.old }
     ensures same_names { (n : List ℕ) → S.serves shelf.new n ≡ S.serves shelf.old n }
@@ -128,7 +135,8 @@ fn impact_file<S: Shelf>(
     shelf: &mut S,
 ) -> Result<Reply, Halt>
     requires { IsTrue (S.serves shelf.old file.now) }
-    ensures halts { Halts (λ files a. Comes (Some (impact file.now (map (λ w. w.now) points.now) form)) files a) (Names (Some (impact file.now (map (λ w. w.now) points.now) form)))
+    ensures halts { Halts (λ files a. Comes (Some (impact file.now (map (λ w. w.now) points.now) form)) files a)
+        (Names (Some (impact file.now (map (λ w. w.now) points.now) form)))
         (S.files shelf.old) (S.faults shelf.old) (S.faults shelf.new) result }
     ensures same_files { S.files shelf.new ≡ S.files shelf.old }
     ensures same_names { (n : List ℕ) → S.serves shelf.new n ≡ S.serves shelf.old n }
@@ -153,7 +161,8 @@ fn affected_files<S: Shelf>(
 ) -> Result<Reply, Halt>
     requires base { IsTrue (S.serves shelf.old base.now) }
     requires variant { IsTrue (S.serves shelf.old variant.now) }
-    ensures halts { Halts (λ files a. Comes (Some (affected base.now variant.now)) files a) (Names (Some (affected base.now variant.now)))
+    ensures halts { Halts (λ files a. Comes (Some (affected base.now variant.now)) files a)
+        (MayRead (Some (affected base.now variant.now)) (S.files shelf.old))
         (S.files shelf.old) (S.faults shelf.old) (S.faults shelf.new) result }
     ensures same_files { S.files shelf.new ≡ S.files shelf.old }
     ensures same_names { (n : List ℕ) → S.serves shelf.new n ≡ S.serves shelf.old n }
@@ -161,4 +170,24 @@ fn affected_files<S: Shelf>(
     let (_, base_program, _) = load(alloc, base, shelf)?;
     let (_, program, source) = load(alloc, variant, shelf)?;
     affected_reply(alloc, base, &base_program, variant, &program, source)
+}
+
+fn conflicts_files<S: Shelf>(
+    alloc: Global,
+    base: &str,
+    variants: &[&str],
+    shelf: &mut S,
+) -> Result<Reply, Halt>
+    requires least { 2 ≤ length variants.now }
+    requires most { length variants.now ≤ MAX_VARIANTS }
+    requires serves { All (λ name. IsTrue (S.serves shelf.old name)) (base.now ∷ map (λ w. w.now) variants.now) }
+    ensures halts { Halts (λ files a. Comes (Some (conflicts base.now (map (λ w. w.now) variants.now))) files a)
+        (MayRead (Some (conflicts base.now (map (λ w. w.now) variants.now))) (S.files shelf.old))
+        (S.files shelf.old) (S.faults shelf.old) (S.faults shelf.new) result }
+    ensures same_files { S.files shelf.new ≡ S.files shelf.old }
+    ensures same_names { (n : List ℕ) → S.serves shelf.new n ≡ S.serves shelf.old n }
+{
+    let files = with_base(alloc, base, variants)?;
+    let loaded = load_all(alloc, files.as_slice(), shelf)?;
+    conflicts_reply(alloc, files.as_slice(), &loaded)
 }

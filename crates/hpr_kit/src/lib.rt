@@ -1,4 +1,4 @@
-//! The top call of hprkit, what tools and hands need beside hpr: reads the words and the file that they name, decides,
+//! The top call of hprkit, what tools and hands need beside hpr: reads the words and the files that they name, decides,
 //! and writes the answer.
 #![tactic(auto)]
 
@@ -6,6 +6,7 @@ mod affected;
 mod at;
 mod canonical;
 mod commands;
+mod conflicts;
 mod fetch;
 mod graphs;
 mod impact;
@@ -22,8 +23,9 @@ mod write;
 
 ghost use Rattle.std.specs.Prelude.{◌≡◌, ◌≢◌, ◌↔◌, ℕ, List, None, Some, IfSome, IsTrue};
 ghost use Rattle.hpr_words.specs.Request.{Text};
+ghost use Rattle.hprkit_words.specs.Ask.{IsInRange};
 ghost use Rattle.hprkit_words.specs.Asked.{ask_of};
-ghost use Rattle.hpr_kit.specs.Comes.{Comes, Names};
+ghost use Rattle.hpr_kit.specs.Comes.{Comes, MayRead, Names};
 ghost use Rattle.hpr_kit.specs.Does.{Checks, Formats, Places, Renews, Tags, Took, WhereAsked, asked_by};
 ghost use Rattle.hpr_kit.specs.Ends.{Ends};
 
@@ -36,20 +38,25 @@ pub use status::Status;
 use std::alloc::Global;
 pub use store::{RewriteError, Store};
 
-/// Makes one call: reads its words, fetches the file that they name, and puts its text to `out` or its message to
-/// `err`.
+/// Makes one call: reads its words, fetches the files that they name, each once those before it are judged, and puts
+/// its text to `out` or its message to `err`.
 ///
 /// `fmt FILE` prints the canonical text of the program that the file spells. `fmt FILE --check` prints nothing and
 /// tells by the status whether the file has that text already; `fmt FILE --in-place` gives it the file, through `store`,
 /// where it hasn't. `at FILE BYTE` prints the line and the column of a byte,
 /// of whatever the file holds. `tag FILE --author N` prints the canonical text of the program that the file spells once
 /// its parts without a tag have the next serials of the author, as [`hpr_tagging::tag_parts`] gives them, and with
-/// `--keep` the file's own text with these tags. `--help` and `--version` print fixed texts, and read no file.
+/// `--keep` the file's own text with these tags. `graph FILE` prints the dependence graph of the program that the file
+/// spells, as JSON with where its vertices stand, or for Graphviz; `impact FILE POINT..` what a change at some of its
+/// points can reach; `affected BASE V` the affected points of a variant with their reasons; and `conflicts BASE V1 V2..`
+/// what interferes in an integration of two to sixteen variants. `--help` and `--version` print fixed texts, and read
+/// no file.
 ///
 /// A file of more than 4,194,304 bytes is refused, and so is one that is to spell a program and spells none: with
 /// the line that hpr says of it and, where its bytes spell no tree, the line around the place and a caret under it.
 /// `tag` refuses also a file for whose parts the author has too few serials, and with `--keep` one whose text has more
-/// bytes than that with the tags.
+/// bytes than that with the tags. A program whose graph has more than 1,000,000 edges is refused where its graph is
+/// asked for, and so is a word that names no point.
 /// All text is made before its first byte is put, or a file gets it. No status is for a failed write to `err`.
 pub fn kit<S: Shelf, D: Store, O: Sink, E: Sink>(
     alloc: Global,
@@ -61,10 +68,10 @@ pub fn kit<S: Shelf, D: Store, O: Sink, E: Sink>(
 ) -> Status
     requires { (name : Text) → Names (asked_by words.now) name → IsTrue (S.serves shelf.old name) }
 
-    // The status and the texts are those of what comes of the words and the files, unless a read or a write failed or
-    // memory ran out.
+    // The status and the texts are those of what comes of the words and the files, unless a write failed, or a read of a
+    // file before which all others spell programs, or memory ran out.
     ensures ends { Ends result (λ a. IfSome (S.files shelf.old) (λ files. Comes (asked_by words.now) files a))
-        (Names (asked_by words.now)) (S.faults shelf.old) (S.faults shelf.new)
+        (MayRead (asked_by words.now) (S.files shelf.old)) (S.faults shelf.old) (S.faults shelf.new)
         (record {
           before = D.faults store.old;
           now = D.faults store.new;
@@ -122,7 +129,7 @@ fn run_words<S: Shelf, D: Store, O: Sink, E: Sink>(
 ) -> Status
     requires { (name : Text) → Names (asked_by words.now) name → IsTrue (S.serves shelf.old name) }
     ensures ends { Ends result (λ a. IfSome (S.files shelf.old) (λ files. Comes (asked_by words.now) files a))
-        (Names (asked_by words.now)) (S.faults shelf.old) (S.faults shelf.new)
+        (MayRead (asked_by words.now) (S.files shelf.old)) (S.faults shelf.old) (S.faults shelf.new)
         (record {
           before = D.faults store.old;
           now = D.faults store.new;
@@ -153,10 +160,11 @@ fn run_asked<S: Shelf, D: Store, O: Sink, E: Sink>(
     out: &mut O,
     err: &mut E,
 ) -> Status
-    requires { (name : Text) → Names (Some (ask_of asked)) name → IsTrue (S.serves shelf.old name) }
+    requires names { (name : Text) → Names (Some (ask_of asked)) name → IsTrue (S.serves shelf.old name) }
+    requires in_range { IsInRange (ask_of asked) }
     ensures ends { Ends result
         (λ a. IfSome (S.files shelf.old) (λ files. Comes (Some (ask_of asked.entry)) files a))
-        (Names (Some (ask_of asked.entry))) (S.faults shelf.old) (S.faults shelf.new)
+        (MayRead (Some (ask_of asked.entry)) (S.files shelf.old)) (S.faults shelf.old) (S.faults shelf.new)
         (record {
           before = D.faults store.old;
           now = D.faults store.new;

@@ -94,7 +94,7 @@ pub(crate) fn load_all<S: Shelf>(
 }
 
 /// Puts one behind others.
-fn push_one<T: Drop>(all: &mut Vec<T>, one: T) -> Result<(), NoMemory>
+pub(crate) fn push_one<T: Drop>(all: &mut Vec<T>, one: T) -> Result<(), NoMemory>
     ensures { OnOk result (all.new.items ≡ all.old.items ++ one ∷ []) }
 {
     all.push(one)?;

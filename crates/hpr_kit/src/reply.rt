@@ -16,6 +16,7 @@ usage: hprkit fmt FILE [--check | --in-place]\n\
 \x20      hprkit graph FILE --dot [--no-control] [--no-flow] [--no-order]\n\
 \x20      hprkit impact FILE POINT.. [--json | --marks]\n\
 \x20      hprkit affected BASE V\n\
+\x20      hprkit conflicts BASE V1 V2..\n\
 \x20      hprkit --help\n\
 \x20      hprkit --version\n";
 
@@ -28,6 +29,7 @@ usage: hprkit fmt FILE [--check | --in-place]\n\
 \x20      hprkit graph FILE --dot [--no-control] [--no-flow] [--no-order]\n\
 \x20      hprkit impact FILE POINT.. [--json | --marks]\n\
 \x20      hprkit affected BASE V\n\
+\x20      hprkit conflicts BASE V1 V2..\n\
 \x20      hprkit --help\n\
 \x20      hprkit --version\n\
 \n\
@@ -44,7 +46,10 @@ graph FILE --dot  print it for Graphviz, less the kinds of edges that flags name
 impact FILE POINT.. [--json | --marks]\n\
 \x20                 print what a change at these points can reach: one a line, as\n\
 \x20                 JSON, or as FILE's text with marks at the lines it reaches\n\
-affected BASE V   print, as JSON, the points that V changes of BASE, and why\n\
+affected BASE V   print, as JSON, the affected points of V, and why each is one\n\
+conflicts BASE V1 V2..\n\
+\x20                 print, as JSON, what interferes in their integration: 2 to 16\n\
+\x20                 variants\n\
 \n\
 `-` as FILE is standard input.\n";
 

@@ -1,7 +1,7 @@
 //! Where files get other bytes.
-ghost use Rattle.std.specs.Prelude.{◌≡◌, ℕ, ◌∷◌, ◌++◌, [], Option, option_map, OnOk, OnErr, IsErrOf};
+ghost use Rattle.std.specs.Prelude.{◌≡◌, ℕ, List, ◌∷◌, ◌++◌, [], Option, option_map, OnOk, OnErr, IsErrOf};
 ghost use Rattle.hpr_io.specs.Counts.{Counted};
-ghost use Rattle.hpr_io.specs.Files.{Files};
+ghost use Rattle.hpr_kit.specs.Answer.{Rewrite};
 
 use std::alloc::Global;
 use thiserror::Error;
@@ -19,8 +19,8 @@ pub enum RewriteError {
 
 /// A place where files get other bytes.
 pub trait Store {
-    // which files got which bytes, in order, where it tells them
-    ghost rewritten: { Self → Option Files };
+    // which files got which bytes in place of which, in order, where it tells them
+    ghost rewritten: { Self → Option (List Rewrite) };
 
     // how many calls failed, at most the last value of a u64
     ghost faults: { Self → ℕ };
@@ -37,7 +37,8 @@ pub trait Store {
         bytes: &[u8],
     ) -> Result<(), RewriteError>
         ensures rewritten { OnOk result (rewritten self.new
-            ≡ option_map (λ files. files ++ (name.now, bytes.now) ∷ []) (rewritten self.old)) }
+            ≡ option_map (λ rs. rs ++ record { file = name.now; had = had.now; bytes = bytes.now } ∷ [])
+            (rewritten self.old)) }
         ensures kept { OnErr result (rewritten self.new ≡ rewritten self.old) }
         ensures count { Counted (faults self.old) (faults self.new) (IsErrOf result RewriteError.Failed) };
 }

@@ -79,7 +79,7 @@ fn rewrite_file<D: Store, E: Sink>(
     store: &mut D,
     err: &mut E,
 ) -> Status
-    ensures { RewritesFile file.now bytes.now result
+    ensures { RewritesFile (record { file = file.now; had = had.now; bytes = bytes.now }) result
         (record {
           before = D.faults store.old;
           now = D.faults store.new;

@@ -97,11 +97,12 @@ fn tell_over(
     put_count(told, "status ", u64::from(status.number()));
     put_part(told, "out ", out.bytes());
     put_part(told, "err ", err.bytes());
-    for (name, bytes) in store.files() {
+    for renewal in store.renewals() {
         put(told, &["file "]);
-        put_bytes(told, name.as_bytes());
+        put_bytes(told, renewal.file.as_bytes());
         put(told, &["\n"]);
-        put_part(told, "bytes ", bytes.as_slice());
+        put_part(told, "had ", renewal.had.as_slice());
+        put_part(told, "bytes ", renewal.bytes.as_slice());
     }
     Some(())
 }

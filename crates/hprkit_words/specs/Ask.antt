@@ -10,7 +10,10 @@
 -- graph file form   == the dependence graph of the program of a file
 -- impact file points form == what a change at these points of the program of a file can reach
 -- affected base variant   == the affected points of a variant, each with its reason
-use Rattle.std.specs.Prelude.{ℕ, Bool, List}
+-- conflicts base variants == what interferes in an integration of these variants
+-- IsInRange ask     == its variants, if it lists some, are from two to their limit
+use Rattle.std.specs.Prelude.{ℕ, ◌≤◌, Bool, List, length}
+use Rattle.hpr_terms.specs.declared.limits.TheConstants.{MAX_VARIANTS}
 use Rattle.hpr_words.specs.Request.{Text}
 use Rattle.hprkit_words.specs.declared.forms.FormatForm.{FormatForm}
 use Rattle.hprkit_words.specs.declared.forms.GraphForm.{GraphForm}
@@ -25,3 +28,8 @@ pub data Ask : Type 0 where
   graph : (file : Text) (form : GraphForm) → Ask
   impact : (file : Text) (points : List Text) (form : ImpactForm) → Ask
   affected : (base variant : Text) → Ask
+  conflicts : (base : Text) (variants : List Text) → Ask
+
+abbrev pub IsInRange : Ask → Type 0
+IsInRange (conflicts base variants) = (2 ≤ length variants) × (length variants ≤ MAX_VARIANTS)
+IsInRange _ = Unit {0}

@@ -12,24 +12,27 @@
 --                               the others what a picture leaves out
 -- impact_of ws l ns fs       == what is asked of a file, one point or more, and at most one flag
 -- affected_of ws l ns fs     == what is asked of two names
+-- conflicts_of ws l ns fs    == what is asked of a base and its variants, two or more up to their limit
 -- format_form                == `fmt FILE [--check | --in-place]`
 -- at_form                    == `at FILE BYTE`
 -- tag_form                   == `tag FILE --author N [--keep]`
 -- graph_form                 == `graph FILE --json | --dot [--no-control] [--no-flow] [--no-order]`
 -- impact_form                == `impact FILE POINT.. [--json | --marks]`
 -- affected_form              == `affected BASE V`
+-- conflicts_form             == `conflicts BASE V1 V2..`
 -- commands                   == all of them
 -- form_named name            == the command of this name, if there is one
 -- asked_with form ws l ns fs == what the command asks for, where it is given all of these
 -- form_rules form            == what the command takes, as `clap` has it
 -- form_app form              == the command, as `clap` has it
-use Rattle.std.specs.Prelude.{ℕ, Bool, true, false, not, List, [], ◌∷◌, ◌++◌, map, find, Option, Some, None, is_some, option_map, option_to_list, if◌then◌else◌, codes}
+use Rattle.std.specs.Prelude.{ℕ, Bool, true, false, not, List, [], ◌∷◌, ◌++◌, map, find, Option, Some, None, is_some, option_map, option_to_list, if◌then◌else◌, length, nat_le, codes}
 use Rattle.std.specs.Str.{bytes_eq}
 use Rattle.clap.specs.Simple.{on_top}
 use Rattle.clap.specs.Words.{App, Rule, new_app}
+use Rattle.hpr_terms.specs.declared.limits.TheConstants.{MAX_VARIANTS}
 use Rattle.hpr_words.specs.Commands.{NumberOption, author, flag_rule, list_rule, number_rule, number_within, word_rule}
 use Rattle.hpr_words.specs.Request.{Text}
-use Rattle.hprkit_words.specs.Ask.{Ask, affected, format, graph, impact, place, tag}
+use Rattle.hprkit_words.specs.Ask.{Ask, affected, conflicts, format, graph, impact, place, tag}
 use Rattle.hprkit_words.specs.declared.forms.FormatForm.TheVariants as form
 use Rattle.hprkit_words.specs.declared.forms.GraphForm.TheVariants.{Dot, Json}
 use Rattle.hprkit_words.specs.declared.forms.ImpactForm.TheVariants as told
@@ -75,6 +78,11 @@ impact_of _ _ _ _ = None
 abbrev pub affected_of : (words list : List Text) (numbers : List ℕ) (flags : List Bool) → Option Ask
 affected_of (base ∷ variant ∷ []) list numbers flags = Some (affected base variant)
 affected_of _ _ _ _ = None
+
+abbrev pub conflicts_of : (words list : List Text) (numbers : List ℕ) (flags : List Bool) → Option Ask
+conflicts_of (base ∷ []) (a ∷ b ∷ more) numbers flags =
+    if nat_le (length (a ∷ b ∷ more)) MAX_VARIANTS then Some (conflicts base (a ∷ b ∷ more)) else None
+conflicts_of _ _ _ _ = None
 
 -- ---- the commands
 
@@ -138,8 +146,19 @@ affected_form = record {
   asks = affected_of;
 }
 
+abbrev pub conflicts_form : Form
+conflicts_form = record {
+  name = codes "conflicts";
+  words = codes "base" ∷ [];
+  list = Some (codes "variant");
+  numbers = [];
+  flags = [];
+  asks = conflicts_of;
+}
+
 abbrev pub commands : List Form
-commands = format_form ∷ at_form ∷ tag_form ∷ graph_form ∷ impact_form ∷ affected_form ∷ []
+commands =
+    format_form ∷ at_form ∷ tag_form ∷ graph_form ∷ impact_form ∷ affected_form ∷ conflicts_form ∷ []
 
 abbrev pub form_named : Text → Option Form
 form_named name = find (λ form. bytes_eq name form.name) commands

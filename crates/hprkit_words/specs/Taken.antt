@@ -21,11 +21,14 @@ listed_in None rows = []
 listed_in (Some id) rows = list_in id rows
 
 abbrev pub asked_in : Form → List Row → Option Ask
-asked_in form rows = asked_with form (all_some (map (λ id. first_of id rows) form.words)) (listed_in form.list rows)
+asked_in form rows =
+    asked_with form (all_some (map (λ id. first_of id rows) form.words)) (listed_in form.list rows)
     (all_some (map (λ option. number_in option rows) form.numbers)) (map (λ id. flag_in id rows) form.flags)
 
 abbrev pub taken_by : Form → List Text → Option Ask
-taken_by form words = if is_empty (fault_of (form_app form) words) then asked_in form (matches_of (form_app form) words) else None
+taken_by form words =
+    if is_empty (fault_of (form_app form) words) then asked_in form
+    (matches_of (form_app form) words) else None
 
 abbrev pub commanded : List Text → Option Ask
 commanded [] = None
@@ -40,4 +43,5 @@ asks_version (word ∷ []) = bytes_eq word (codes "--version")
 asks_version _ = false
 
 abbrev pub taken : List Text → Option Ask
-taken words = if asks_help words then Some help else (if asks_version words then Some version else commanded words)
+taken words =
+    if asks_help words then Some help else (if asks_version words then Some version else commanded words)

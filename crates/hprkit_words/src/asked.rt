@@ -1,5 +1,6 @@
 //! What words ask for.
 ghost use Rattle.std.specs.Prelude.{◌≡◌, IfOk, IsErrOf, Some, None, map, string_bytes};
+ghost use Rattle.hprkit_words.specs.Ask.{IsInRange};
 ghost use Rattle.hprkit_words.specs.Asked.{ask_of};
 ghost use Rattle.hprkit_words.specs.Taken.{asks_help, asks_version, commanded, taken};
 
@@ -52,6 +53,12 @@ pub enum Asked<'a> {
         base: &'a str,
         variant: &'a str,
     },
+    /// `conflicts BASE V1 V2..`: tell what interferes in an integration of two to sixteen variants of base. The variants
+    /// stand in the order of their words.
+    Conflicts {
+        base: &'a str,
+        variants: Vec<&'a str>,
+    },
 }
 
 /// Whether one of the words is `--help`.
@@ -84,6 +91,7 @@ fn asks_version(words: &[String]) -> bool
 /// `Refused` exactly where the words are not taken, and `Memory` where memory ran out.
 pub fn read_words<'a>(alloc: Global, words: &'a [String]) -> Result<Asked<'a>, WordsError>
     ensures taken { IfOk result (λ a. taken (map string_bytes words.entry.now) ≡ Some (ask_of a)) }
+    ensures in_range { IfOk result (λ a. IsInRange (ask_of a)) }
     ensures refused { IsErrOf result WordsError.Refused → taken (map string_bytes words.entry.now) ≡ None }
 {
     if asks_help(words) {
@@ -98,6 +106,7 @@ pub fn read_words<'a>(alloc: Global, words: &'a [String]) -> Result<Asked<'a>, W
 /// What the words ask of the command that the first of them names.
 fn read_command<'a>(alloc: Global, words: &'a [String]) -> Result<Asked<'a>, WordsError>
     ensures taken { IfOk result (λ a. commanded (map string_bytes words.entry.now) ≡ Some (ask_of a)) }
+    ensures in_range { IfOk result (λ a. IsInRange (ask_of a)) }
     ensures refused { IsErrOf result WordsError.Refused
         → commanded (map string_bytes words.entry.now) ≡ None }
 {

@@ -5,14 +5,14 @@ ghost use Rattle.clap.specs.Words.{found_of, rows_of};
 ghost use Rattle.hpr_words.specs.Arguments.{app_with};
 ghost use Rattle.hpr_words.specs.Commands.{author};
 ghost use Rattle.hpr_words.specs.Taken.{number_in};
-ghost use Rattle.hprkit_words.specs.Commands.{affected_form, at_form, form_app, form_named, format_form, format_of, graph_form, graph_of, impact_form, impact_of, tag_form};
+ghost use Rattle.hprkit_words.specs.Commands.{affected_form, at_form, conflicts_form, conflicts_of, form_app, form_named, format_form, format_of, graph_form, graph_of, impact_form, impact_of, tag_form};
 ghost use Rattle.hprkit_words.specs.Private.Commands.{Reads, form_of};
 ghost use Rattle.hprkit_words.specs.Taken.{asked_in};
 
 use crate::asked::Asked;
 use crate::forms::{FormatForm, GraphForm, ImpactForm, LeftOut};
 use clap::ArgMatches;
-use hpr_terms::limits::MAX_TAG_NUMBER;
+use hpr_terms::limits::{MAX_TAG_NUMBER, MAX_VARIANTS};
 use hpr_words::{Argument, WordsError, flag_from, list_from, name_from, word_number_from};
 use std::alloc::Global;
 
@@ -35,6 +35,11 @@ const KEEP: Argument = Argument::Flag("keep");
 const BASE: Argument = Argument::Word("base");
 
 const VARIANT: Argument = Argument::Word("variant");
+
+const VARIANTS: Argument = Argument::List {
+    name: "variant",
+    is_needed: true,
+};
 
 const POINTS: Argument = Argument::List {
     name: "point",
@@ -62,6 +67,7 @@ pub enum CommandName {
     Graph,
     Impact,
     Affected,
+    Conflicts,
 }
 
 impl CommandName {
@@ -76,6 +82,7 @@ impl CommandName {
             "graph" => Some(CommandName::Graph),
             "impact" => Some(CommandName::Impact),
             "affected" => Some(CommandName::Affected),
+            "conflicts" => Some(CommandName::Conflicts),
             _ => None,
         }
     }
@@ -91,6 +98,7 @@ impl CommandName {
             CommandName::Graph => &[FILE, JSON, DOT, NO_CONTROL, NO_FLOW, NO_ORDER],
             CommandName::Impact => &[FILE, POINTS, JSON, MARKS],
             CommandName::Affected => &[BASE, VARIANT],
+            CommandName::Conflicts => &[BASE, VARIANTS],
         }
     }
 
@@ -105,6 +113,7 @@ impl CommandName {
             CommandName::Graph => graph_from(matches),
             CommandName::Impact => impact_from(alloc, matches),
             CommandName::Affected => affected_from(matches),
+            CommandName::Conflicts => conflicts_from(alloc, matches),
         }
     }
 }
@@ -239,4 +248,21 @@ fn affected_from<'a>(matches: &ArgMatches<'a>) -> Result<Asked<'a>, WordsError>
         base: name_from(matches, "base")?,
         variant: name_from(matches, "variant")?,
     })
+}
+
+fn conflicts_from<'a>(alloc: Global, matches: &ArgMatches<'a>) -> Result<Asked<'a>, WordsError>
+    ensures { Reads (asked_in conflicts_form (rows_of (found_of matches.now))) result }
+{
+    let base = name_from(matches, "base")?;
+    conflicts_told(base, list_from(alloc, matches, "variant")?)
+}
+
+/// The conflicts of the variants, of which there must be 2 to 16.
+fn conflicts_told<'a>(base: &'a str, variants: Vec<&'a str>) -> Result<Asked<'a>, WordsError>
+    ensures { Reads (conflicts_of (base.entry.now ∷ []) (map (λ s. s.now) variants.entry.items) [] []) result }
+{
+    match variants.as_slice() {
+        [_, _, ..] if variants.len() <= MAX_VARIANTS => Ok(Asked::Conflicts { base, variants }),
+        _ => Err(WordsError::Refused),
+    }
 }

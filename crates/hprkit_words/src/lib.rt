@@ -1,8 +1,8 @@
 //! The words of a call of hprkit: each command's own words are read by `clap`, as hpr's are.
 //!
 //! The commands are `fmt FILE [--check | --in-place]`, `at FILE BYTE`, `tag FILE --author N [--keep]`,
-//! `graph FILE --json | --dot [--no-control] [--no-flow] [--no-order]`, `impact FILE POINT.. [--json | --marks]`
-//! and `affected BASE V`. A call with the word `--help` asks for the help, and the word `--version` alone for the
+//! `graph FILE --json | --dot [--no-control] [--no-flow] [--no-order]`, `impact FILE POINT.. [--json | --marks]`,
+//! `affected BASE V` and `conflicts BASE V1 V2..`. A call with the word `--help` asks for the help, and the word `--version` alone for the
 //! version.
 #![tactic(auto)]
 

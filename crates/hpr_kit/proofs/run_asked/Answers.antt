@@ -4,8 +4,11 @@ use Rattle.hpr_kit.proofs.EndsLemmas.{reply_ends, stop_ends, taken_nothing}
 use Rattle.hpr_kit.proofs.TakenLemmas.{stopped_taken, write_taken}
 use Rattle.hpr_kit.proofs.run_asked.Goals as goal
 
-pub decide-requires : goal.decide-requires
-decide-requires g c = c.requires
+pub decide-requires-clause-names : goal.decide-requires-clause-names
+decide-requires-clause-names g c = c.requires.names
+
+pub decide-requires-clause-in_range : goal.decide-requires-clause-in_range
+decide-requires-clause-in_range g c = c.requires.in_range
 
 pub returns-in-Ok-clause-ends : goal.returns-in-Ok-clause-ends
 returns-in-Ok-clause-ends g c = reply_ends _ _ _ _ _ _ _ _ c.write_reply.result c.in-Ok.ensures.decides.0 c.in-Ok.ensures.decides.1 c.write_reply.ensures

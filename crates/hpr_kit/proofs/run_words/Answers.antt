@@ -4,8 +4,11 @@ use Rattle.hpr_kit.specs.Comes.{Names}
 use Rattle.hpr_kit.proofs.EndsLemmas.{ends_for, memory_ends, taken_nothing, words_end}
 use Rattle.hpr_kit.proofs.run_words.Goals as goal
 
-pub run_asked-requires : goal.run_asked-requires
-run_asked-requires g c = subst (λ o. (name : Text) → Names o name → IsTrue (g.S.Shelf.serves c.args.shelf.now name)) c.in-Ok.ensures.taken c.requires
+pub run_asked-requires-clause-in_range : goal.run_asked-requires-clause-in_range
+run_asked-requires-clause-in_range g c = c.in-Ok.ensures.in_range
+
+pub run_asked-requires-clause-names : goal.run_asked-requires-clause-names
+run_asked-requires-clause-names g c = subst (λ o. (name : Text) → Names o name → IsTrue (g.S.Shelf.serves c.args.shelf.now name)) c.in-Ok.ensures.taken c.requires
 
 pub returns-in-Ok-clause-ends : goal.returns-in-Ok-clause-ends
 returns-in-Ok-clause-ends g c = ends_for _ _ _ _ _ _ _ _ _ (sym c.in-Ok.ensures.taken) c.run_asked.ensures.ends

@@ -2,21 +2,22 @@
 --
 -- IsLoaded files file p s       == the file spells the program p, whose parts stand so in it
 -- AreLoaded files names ps ss   == the same of several files; there are as many programs and sources
--- ReadsSource file bytes result == the program that the bytes of a file spell, and where its parts stand; or why
---                                  they are refused; or want of memory
+-- ReadsSource file bytes result == the program that the bytes of a file spell, and where its parts stand; or
+--                                  why they are refused; or want of memory
 -- Locates bytes result          == where the parts stand of the program that the bytes spell; or the same
 -- Judges file bytes result      == the same as ReadsSource, where a refusal is a reply
--- HaltIs P reads told before now halt == a reply of P, where the files are told, and not on the words; or a read
---                                  failed; or memory ran out
+-- HaltIs P reads told before now halt == a reply of P, where the files are told, and not on the words; or a
+--                                  read failed; or memory ran out
 -- Loads told file before now result == the same of a file that is read
 -- LoadsAll told names before now result == the same of several files
-use Rattle.std.specs.Prelude.{◌≡◌, ◌≢◌, ℕ, List, [], ◌∷◌, Contains, map, Option, Result, Ok, Err, IfSome, Vec}
+use Rattle.std.specs.Prelude.{◌≡◌, ◌≢◌, ℕ, List, [], ◌∷◌, map, Option, Result, Ok, Err, IfSome, Vec}
 use Rattle.std.specs.Global.{Global}
 use Rattle.hpr_io.specs.Files.{Files}
 use Rattle.hpr_syntax.specs.Grammar.{tagged}
 use Rattle.hpr_syntax.specs.Tree.{Tree}
 use Rattle.hpr_refusals.specs.Refusals.{IsCauseIn, IsFileOf}
 use Rattle.hpr_words.specs.Request.{Text}
+use Rattle.hpr_inputs.specs.Reads.{IsReached}
 use Rattle.hpr_located.specs.Located.{AreLocated}
 use Rattle.hpr_located.specs.Sources.{Standing, standing_of}
 use Rattle.hpr_located.specs.declared.located.Located.{Located}
@@ -52,7 +53,8 @@ Locates bytes (Err (unread.Refused why)) = IsCauseIn tagged bytes why
 Locates bytes (Err unread.Memory) = Unit {0}
 
 abbrev pub Judges : Text → List ℕ → Result (Vec ℕ Global × Tree × Source) Halt → Type 0
-Judges file bytes (Ok (kept, p, s)) = (kept.items ≡ bytes) × IsFileOf bytes p × IsSource file bytes p (standing_of s)
+Judges file bytes (Ok (kept, p, s)) =
+    (kept.items ≡ bytes) × IsFileOf bytes p × IsSource file bytes p (standing_of s)
 Judges file bytes (Err (halt.Refused reply)) = OnProgram file bytes (λ p. ⊥) (seen reply)
 Judges file bytes (Err (halt.Stop s)) = s ≡ stop.Memory
 
@@ -63,12 +65,14 @@ HaltIs P reads told before now (halt.Stop s) = StopIs reads before now s
 
 abbrev pub Loads : Option Files → Text → ℕ → ℕ → Result (Vec ℕ Global × Tree × Source) Halt → Type 0
 Loads told file before now (Ok (bytes, p, s)) =
-    IfSome told (λ files. (bytes.items ≡ read files file) × IsLoaded files file p (standing_of s)) × (now ≡ before)
+    IfSome told (λ files. (bytes.items ≡ read files file) × IsLoaded files file p (standing_of s))
+    × (now ≡ before)
 Loads told file before now (Err h) =
     HaltIs (λ files a. OnProgram file (read files file) (λ p. ⊥) a) (λ named. named ≡ file) told before now h
 
 abbrev pub LoadsAll : Option Files → List Text → ℕ → ℕ → Result Loaded Halt → Type 0
 LoadsAll told names before now (Ok l) =
-    IfSome told (λ files. AreLoaded files names l.programs.items (map standing_of l.sources.items)) × (now ≡ before)
+    IfSome told (λ files. AreLoaded files names l.programs.items (map standing_of l.sources.items))
+    × (now ≡ before)
 LoadsAll told names before now (Err h) =
-    HaltIs (λ files a. OnSources files names (λ ps ss. ⊥) a) (Contains names) told before now h
+    HaltIs (λ files a. OnSources files names (λ ps ss. ⊥) a) (IsReached told names) told before now h

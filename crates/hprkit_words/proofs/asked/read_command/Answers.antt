@@ -7,6 +7,7 @@ use Rattle.hpr_words.proofs.AskedLemmas.{same_error}
 use Rattle.hprkit_words.specs.Private.Commands.{form_of}
 use Rattle.hprkit_words.proofs.AskedLemmas.{reads_refused, reads_taken, taken_not, unnamed}
 use Rattle.hprkit_words.proofs.NameLemmas.{is_simple, named_is}
+use Rattle.hprkit_words.proofs.RangeLemmas.{ok-range}
 use Rattle.hprkit_words.proofs.asked.read_command.Goals as goal
 
 pub parse-requires : goal.parse-requires
@@ -40,5 +41,6 @@ returns c =
     let rows = rows_of (found_of c.in_ok-matches.matches) in
     record {
       taken = reads_taken words name form first named app same rows c.in_ok-matches.ensures.ok c.asked.result c.asked.ensures;
+      in_range = ok-range words c.asked.result (reads_taken words name form first named app same rows c.in_ok-matches.ensures.ok c.asked.result c.asked.ensures);
       refused = reads_refused words name form first named app same rows c.in_ok-matches.ensures.ok c.asked.result c.asked.ensures;
     }
