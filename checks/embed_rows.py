@@ -64,9 +64,9 @@ class Files:
             self.files[-1][1].extend(unescaped(rest))
         elif sign == b"*":
             first, last, text = rest.split(b" ", 2)
-            piece = unescaped(text)
-            for number in range(int(first), int(last) + 1):
-                self.files[-1][1].extend(piece.replace(b"$", b"%d" % number))
+            piece, numbers = unescaped(text), range(int(first), int(last) + 1)
+            pieces = (piece.replace(b"$", b"%d" % number) for number in numbers)
+            self.files[-1][1].extend(b"".join(pieces) if b"$" in piece else piece * len(numbers))
         elif self.files:
             self.files[-1][1].extend((b"\n" if self.has_line else b"") + unescaped(line))
             self.has_line = True
