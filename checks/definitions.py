@@ -214,7 +214,8 @@ class Reader:
         issued = {}
         if self.peek() == "issued":
             self.take()
-            issued = dict(self.list(lambda: self.pair(":")))
+            for author, serial in self.list(lambda: self.pair(":")):
+                issued[author] = max(serial, issued.get(author, 0))
         body = self.block("end")
         self.take("end")
         self.take("(")
