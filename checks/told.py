@@ -12,7 +12,8 @@ def words_of(one):
 
 
 def vertex(one):
-    return f"[{words_of(one)}]"
+    """A vertex as it stands in lines; what is such a text already stays."""
+    return one if isinstance(one, str) else f"[{words_of(one)}]"
 
 
 def edge(one):
@@ -43,8 +44,9 @@ def compact(found):
 def graph(vertices, edges, is_json):
     if is_json:
         return [compact({"edges": edges, "vertices": list(map(words_of, vertices))})]
-    ends = [{end: vertices[one[end]] for end in ("from", "to", "loop", "for") if end in one} for one in edges]
-    return [*listed("vertices", map(vertex, vertices)), *listed("edges", [edge(one | at) for one, at in zip(edges, ends)])]
+    texts = list(map(vertex, vertices))
+    ends = ({end: texts[one[end]] for end in ("from", "to", "loop", "for") if end in one} for one in edges)
+    return [*listed("vertices", texts), *listed("edges", [edge(one | at) for one, at in zip(edges, ends)])]
 
 
 def parsed(text):
