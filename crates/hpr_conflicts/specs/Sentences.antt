@@ -69,5 +69,5 @@ points_text (a ∷ b ∷ c ∷ d ∷ vs) =
 unfoldable pub sentence : List ℕ → Edge → List Vertex → List ℕ
 sentence file e vs =
     codes "beside the other changes, and not in " ++ file ++ codes " alone, this matters to "
-        ++ points_text vs
+    ++ points_text vs
     ++ codes ": " ++ meaning e
