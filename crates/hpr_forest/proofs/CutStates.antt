@@ -4,7 +4,7 @@ use Rattle.hpr_forest.specs.Choices.{Follows, IsWhole, IsBacktrackFree}
 use Rattle.hpr_forest.proofs.Leaves.{follows_push, follows_front, follows_last}
 use Rattle.hpr_forest.proofs.Unique.{in_none, in_cons}
 use Rattle.hpr_forest.specs.Cuts.{IsLive, IsWithin, leaves_of, FindsFirst, FindsNone, FindsSpent}
-use Rattle.hpr_forest.proofs.CutSteps.{Passed, child, rest, at_start, found, placed, whole_child, none_left, all_done, some_below, all_below_fail, none_passed, same_passed, more_passed, spent_passed, first_passed, none_fits}
+use Rattle.hpr_forest.proofs.CutSteps.{Passed, child, rest, at_start, found, placed, whole_child, none_left, all_done, some_below, all_below_fail, none_passed, same_passed, more_passed, spent_passed, first_passed, none_fits, tried_passed}
 
 -- nothing stands behind a list that is whole already
 no_more : (n : ℕ) (q l r : List ℕ) (d : ℕ) → length q + 1 ≡ n → length l ≡ n → l ≡ q ++ d ∷ r → r ≡ []
@@ -103,6 +103,13 @@ module _ (can : List ℕ → ℕ → Bool) (fits : List ℕ → Type 0) (n : ℕ
       let more : 0 < length (rest can n w q from) =
       omega (arith, ap length (is_found w q from d next), length-append (child can n w q d) (rest can n w q (d + 1)), some_below can n it live w q d f next.1 short) in
       spent_passed can fits n w tries left (rest can n w q from) (s w within) more none
+
+  -- with no more tries than those that were spent the search is spent here
+  pub tried_state : (tries left k : ℕ) (q : List ℕ) (from d : ℕ) → Follows can [] q → length q < n → IsNext q from d → k ≡ tries - left
+      → State can fits n clash tries left q from → FindsSpent can fits n clash k
+  tried_state tries left k q from d f short next is s =
+      subst (FindsSpent can fits n clash) (sym is)
+      (spent_state (tries - left) 0 q from d f short next refl (λ w within. tried_passed can fits n w tries left (rest can n w q from) (s w within)))
 
   pub none_state : (tries left : ℕ) (q : List ℕ) (from : ℕ) → q ≡ [] → ((d : ℕ) → from ≤ d → d < n → can q d ≡ false) → State can fits n clash tries left q from
       → FindsNone can fits n clash

@@ -152,6 +152,10 @@ module _ (can : List ℕ → ℕ → Bool) (fits : List ℕ → Type 0) (n : ℕ
     subst (λ (q : List (List ℕ)). AllFail can fits n (take tries q)) (sym t.is) (fail_take tries t.front rest (omega (arith, t.count)) t.none),
   )
 
+  -- with no more tries than those that were spent
+  pub tried_passed : (tries left : ℕ) (rest : List (List ℕ)) → Passed tries left rest → Passed (tries - left) 0 rest
+  tried_passed tries left rest t = record { front = t.front; is = t.is; count = omega (arith, t.count); none = t.none }
+
   pub first_passed : (tries left : ℕ) (rest back : List (List ℕ)) (x : List ℕ) → Passed tries left rest → rest ≡ x ∷ back → IsWhole can n x → fits x
       → IsFirstFit can fits n clash x
   first_passed tries left rest back x t e w yes_ = (t.front, back, t.is ∙ ap (λ r. t.front ++ r) e, t.none, w, yes_)

@@ -2,7 +2,7 @@
 use Rattle.std.proofs.Common.{◌≡◌, ℕ, zero, suc, ◌+◌, ◌-◌, ◌<◌, ◌≤◌, Bool, true, false, List, [], ◌∷◌, ◌++◌, length, take, Contains, refl, sym, ap, ◌∙◌, subst, arith, append_assoc, length-append}
 use Rattle.std.proofs.lemmas.List.{append-nil}
 use Rattle.hpr_forest.specs.Choices.{IsBacktrackFree}
-use Rattle.hpr_forest.specs.Cuts.{AreAtMost, IsAmongFirst, IsLive, leaves_of, pick}
+use Rattle.hpr_forest.specs.Cuts.{AreSoMany, IsAmongFirst, IsLive, leaves_of, pick}
 use Rattle.hpr_forest.proofs.CutStates.{IsNext, is_found, is_whole_child}
 use Rattle.hpr_forest.proofs.CutSteps.{at_start, child, cuts, none_left, placed, rest, all_done}
 use Rattle.hpr_forest.proofs.Unique.{in_first, in_later}
@@ -68,19 +68,23 @@ module _ (can : List ℕ → ℕ → Bool) (n : ℕ) (clash : List ℕ → ℕ �
         one_more tries left left' (q ++ d ∷ []) (rest can n clash q from) (rest can n clash q (d + 1))
         (is_whole_child can fits n clash it live clash q from d len next) less s
 
-    pub finds : (tries left : ℕ) (q : List ℕ) (from d : ℕ) → length q + 1 ≡ n → Next q from d → 0 < left → Spends tries left q from
-        → IsAmongFirst can n clash tries (q ++ d ∷ [])
-    finds tries left q from d len next more s =
-        subst (λ (r : List (List ℕ)). Contains (take tries r) (q ++ d ∷ []))
+    -- the list is the next leaf behind those that were tried
+    pub finds : (tries left k : ℕ) (q : List ℕ) (from d : ℕ) → length q + 1 ≡ n → Next q from d → k ≡ tries - left + 1 → Spends tries left q from
+        → IsAmongFirst can n clash k (q ++ d ∷ [])
+    finds tries left k q from d len next is s =
+        subst (λ (r : List (List ℕ)). Contains (take k r) (q ++ d ∷ []))
         (sym (s.is ∙ ap (λ (r : List (List ℕ)). s.front ++ r) (is_whole_child can fits n clash it live clash q from d len next)))
-        (take_has tries s.front (rest can n clash q (d + 1)) (q ++ d ∷ []) (omega (arith, s.count, more)))
+        (take_has k s.front (rest can n clash q (d + 1)) (q ++ d ∷ []) (omega (arith, s.count, is)))
 
-  pub ends : (tries left : ℕ) (q : List ℕ) (from : ℕ) → q ≡ [] → ((d : ℕ) → from ≤ d → d < n → can q d ≡ false) → Spends tries left q from
-      → AreAtMost can n clash tries
-  ends tries left q from e none s =
+  pub few_left : (tries left : ℕ) (q : List ℕ) (from : ℕ) → Spends tries left q from → left ≤ tries
+  few_left tries left q from s = omega (arith, s.count)
+
+  pub ends : (tries left k : ℕ) (q : List ℕ) (from : ℕ) → q ≡ [] → ((d : ℕ) → from ≤ d → d < n → can q d ≡ false) → k ≡ tries - left → Spends tries left q from
+      → AreSoMany can n clash k
+  ends tries left k q from e none is s =
       let out : rest can n clash q from ≡ [] =
       ap (λ (p : List ℕ). rest can n clash p from) e ∙ all_done can n clash from (λ d h k. subst (λ (p : List ℕ). can p d ≡ false) e (none d h k)) in
-      omega (arith, s.count, ap length s.is, length-append s.front (rest can n clash q from), ap length out)
+      omega (arith, is, s.count, ap length s.is, length-append s.front (rest can n clash q from), ap length out)
 
   -- where a whole list has no number, the empty list is the one leaf
   module _ (none : n ≡ 0) where
@@ -92,5 +96,5 @@ module _ (can : List ℕ → ℕ → Bool) (n : ℕ) (clash : List ℕ → ℕ �
         subst (λ (r : List (List ℕ)). Contains (take tries r) q) (sym one_leaf)
         (subst (λ (x : List ℕ). Contains (take tries ([] ∷ [])) x) (sym e) (take_has tries [] [] [] more))
 
-    pub empty_at_most : (tries : ℕ) → 0 < tries → AreAtMost can n clash tries
-    empty_at_most tries more = omega (arith, ap length one_leaf, more)
+    pub empty_count : AreSoMany can n clash 1
+    empty_count = ap length one_leaf

@@ -17,7 +17,7 @@
 -- FindsFirst, FindsNone, FindsSpent == by each test within `clash`: x is the first leaf that fits; no leaf
 --                                      fits; the tries are spent on leaves
 -- IsAmongFirst can n clash tries x == x is one of the first `tries` leaves
--- AreAtMost can n clash tries == there are no more leaves than tries
+-- AreSoMany can n clash k == there are k leaves
 use Rattle.std.specs.Prelude.{◌≡◌, ℕ, zero, suc, ◌<◌, ◌≤◌, Bool, true, false, List, [], ◌∷◌, ◌++◌, length, Contains, take}
 use Rattle.hpr_forest.specs.Choices.{Follows, IsWhole}
 use Rattle.hpr_forest.specs.Leaves.{branch}
@@ -57,8 +57,8 @@ module _ (can : List ℕ → ℕ → Bool) (n : ℕ) (clash : List ℕ → ℕ �
   abbrev pub IsAmongFirst : ℕ → List ℕ → Type 0
   IsAmongFirst tries x = Contains (take tries leaves_of) x
 
-  abbrev pub AreAtMost : ℕ → Type 0
-  AreAtMost tries = length leaves_of ≤ tries
+  abbrev pub AreSoMany : ℕ → Type 0
+  AreSoMany k = length leaves_of ≡ k
 
 module _ (can : List ℕ → ℕ → Bool) (fits : List ℕ → Type 0) (n : ℕ) where
   abbrev pub Fails : List ℕ → Type 0

@@ -10,6 +10,7 @@ pub mod Trees
 pub mod ArrangedTrees
 pub mod Open
 pub mod Cuts
+pub mod Finds
 pub mod Counting
 pub mod Runs
 pub mod Pending

@@ -1,19 +1,20 @@
 //! The search for the first whole list that fits.
 
-ghost use Rattle.std.specs.Prelude.{◌≡◌, ℕ, ◌<◌, [], IfOk};
+ghost use Rattle.std.specs.Prelude.{◌≡◌, ◌-◌, ◌<◌, ◌≤◌, [], IfOk};
 ghost use Rattle.hpr_forest.specs.Choices.{IsBacktrackFree};
-ghost use Rattle.hpr_forest.specs.Cuts.{AreAtMost, IsAmongFirst, IsLive, FindsFirst, FindsNone, FindsSpent};
+ghost use Rattle.hpr_forest.specs.Cuts.{AreSoMany, FindsFirst, FindsNone, FindsSpent, IsAmongFirst, IsLive};
+ghost use Rattle.hpr_forest.specs.Finds.{IfFirst, IfNoneFits};
 
 use crate::Backtracking;
 use std::alloc::AllocError;
 
-/// What a search found.
+/// What a search found, and with how many tries.
 #[derive(Clone, Copy)]
 pub enum Found {
-    /// The first whole list that fits, which is placed.
-    First,
-    /// No whole list fits.
-    NoneFits,
+    /// The first whole list that fits, which is placed, and the number of its leaf, from 1.
+    First(u64),
+    /// No whole list fits; and how many leaves there are.
+    NoneFits(u64),
     /// The tries are spent: there are more leaves than tries, and none of the first that many fits.
     Spent,
 }
@@ -31,14 +32,18 @@ pub fn first_fitting<T: Backtracking>(search: &mut T, tries: u64) -> Result<Foun
     requires choices { IsBacktrackFree (T.can search.old) (T.size search.old) }
     requires live { IsLive (T.can search.old) (T.size search.old) }
     requires first { T.placed search.old ≡ [] }
-    ensures first { IfOk result (λ f. f ≡ Found.First
-        → FindsFirst (T.can search.old) (T.fits search.old) (T.size search.old) (T.clash search.old) (T.placed search.new)) }
-    ensures first_within { IfOk result (λ f. f ≡ Found.First
-        → IsAmongFirst (T.can search.old) (T.size search.old) (T.clash search.old) tries (T.placed search.new)) }
-    ensures none { IfOk result (λ f. f ≡ Found.NoneFits
-        → FindsNone (T.can search.old) (T.fits search.old) (T.size search.old) (T.clash search.old)) }
-    ensures none_within { IfOk result (λ f. f ≡ Found.NoneFits
-        → AreAtMost (T.can search.old) (T.size search.old) (T.clash search.old) tries) }
+    ensures first { IfOk result (λ f. IfFirst f (λ _.
+        FindsFirst (T.can search.old) (T.fits search.old) (T.size search.old) (T.clash search.old) (T.placed search.new))) }
+    ensures first_within { IfOk result (λ f. IfFirst f (λ n.
+        IsAmongFirst (T.can search.old) (T.size search.old) (T.clash search.old) n (T.placed search.new))) }
+    ensures first_least { IfOk result (λ f. IfFirst f (λ n.
+        FindsSpent (T.can search.old) (T.fits search.old) (T.size search.old) (T.clash search.old) (n - 1))) }
+    ensures first_tries { IfOk result (λ f. IfFirst f (λ n. n ≤ tries)) }
+    ensures none { IfOk result (λ f. IfNoneFits f (λ _.
+        FindsNone (T.can search.old) (T.fits search.old) (T.size search.old) (T.clash search.old))) }
+    ensures none_all { IfOk result (λ f. IfNoneFits f (λ n.
+        AreSoMany (T.can search.old) (T.size search.old) (T.clash search.old) n)) }
+    ensures none_tries { IfOk result (λ f. IfNoneFits f (λ n. n ≤ tries)) }
     ensures spent { IfOk result (λ f. f ≡ Found.Spent
         → FindsSpent (T.can search.old) (T.fits search.old) (T.size search.old) (T.clash search.old) tries) }
     ensures same { T.is_same search.old search.new }
@@ -54,14 +59,18 @@ fn judge_empty<T: Backtracking>(search: &T, tries: u64) -> Result<Found, AllocEr
     requires sound { T.is_sound search.now }
     requires size { T.size search.now ≡ 0 }
     requires first { T.placed search.now ≡ [] }
-    ensures first { IfOk result (λ f. f ≡ Found.First
-        → FindsFirst (T.can search.now) (T.fits search.now) (T.size search.now) (T.clash search.now) (T.placed search.now)) }
-    ensures first_within { IfOk result (λ f. f ≡ Found.First
-        → IsAmongFirst (T.can search.now) (T.size search.now) (T.clash search.now) tries (T.placed search.now)) }
-    ensures none { IfOk result (λ f. f ≡ Found.NoneFits
-        → FindsNone (T.can search.now) (T.fits search.now) (T.size search.now) (T.clash search.now)) }
-    ensures none_within { IfOk result (λ f. f ≡ Found.NoneFits
-        → AreAtMost (T.can search.now) (T.size search.now) (T.clash search.now) tries) }
+    ensures first { IfOk result (λ f. IfFirst f (λ _.
+        FindsFirst (T.can search.now) (T.fits search.now) (T.size search.now) (T.clash search.now) (T.placed search.now))) }
+    ensures first_within { IfOk result (λ f. IfFirst f (λ n.
+        IsAmongFirst (T.can search.now) (T.size search.now) (T.clash search.now) n (T.placed search.now))) }
+    ensures first_least { IfOk result (λ f. IfFirst f (λ n.
+        FindsSpent (T.can search.now) (T.fits search.now) (T.size search.now) (T.clash search.now) (n - 1))) }
+    ensures first_tries { IfOk result (λ f. IfFirst f (λ n. n ≤ tries)) }
+    ensures none { IfOk result (λ f. IfNoneFits f (λ _.
+        FindsNone (T.can search.now) (T.fits search.now) (T.size search.now) (T.clash search.now))) }
+    ensures none_all { IfOk result (λ f. IfNoneFits f (λ n.
+        AreSoMany (T.can search.now) (T.size search.now) (T.clash search.now) n)) }
+    ensures none_tries { IfOk result (λ f. IfNoneFits f (λ n. n ≤ tries)) }
     ensures spent { IfOk result (λ f. f ≡ Found.Spent
         → FindsSpent (T.can search.now) (T.fits search.now) (T.size search.now) (T.clash search.now) tries) }
 {
@@ -69,9 +78,9 @@ fn judge_empty<T: Backtracking>(search: &T, tries: u64) -> Result<Found, AllocEr
         return Ok(Found::Spent);
     }
     if search.judge()? {
-        Ok(Found::First)
+        Ok(Found::First(1))
     } else {
-        Ok(Found::NoneFits)
+        Ok(Found::NoneFits(1))
     }
 }
 
@@ -82,14 +91,18 @@ fn walk_to_first<T: Backtracking>(search: &mut T, tries: u64) -> Result<Found, A
     requires live { IsLive (T.can search.old) (T.size search.old) }
     requires first { T.placed search.old ≡ [] }
     requires size { 0 < T.size search.old }
-    ensures first { IfOk result (λ f. f ≡ Found.First
-        → FindsFirst (T.can search.old) (T.fits search.old) (T.size search.old) (T.clash search.old) (T.placed search.new)) }
-    ensures first_within { IfOk result (λ f. f ≡ Found.First
-        → IsAmongFirst (T.can search.old) (T.size search.old) (T.clash search.old) tries (T.placed search.new)) }
-    ensures none { IfOk result (λ f. f ≡ Found.NoneFits
-        → FindsNone (T.can search.old) (T.fits search.old) (T.size search.old) (T.clash search.old)) }
-    ensures none_within { IfOk result (λ f. f ≡ Found.NoneFits
-        → AreAtMost (T.can search.old) (T.size search.old) (T.clash search.old) tries) }
+    ensures first { IfOk result (λ f. IfFirst f (λ _.
+        FindsFirst (T.can search.old) (T.fits search.old) (T.size search.old) (T.clash search.old) (T.placed search.new))) }
+    ensures first_within { IfOk result (λ f. IfFirst f (λ n.
+        IsAmongFirst (T.can search.old) (T.size search.old) (T.clash search.old) n (T.placed search.new))) }
+    ensures first_least { IfOk result (λ f. IfFirst f (λ n.
+        FindsSpent (T.can search.old) (T.fits search.old) (T.size search.old) (T.clash search.old) (n - 1))) }
+    ensures first_tries { IfOk result (λ f. IfFirst f (λ n. n ≤ tries)) }
+    ensures none { IfOk result (λ f. IfNoneFits f (λ _.
+        FindsNone (T.can search.old) (T.fits search.old) (T.size search.old) (T.clash search.old))) }
+    ensures none_all { IfOk result (λ f. IfNoneFits f (λ n.
+        AreSoMany (T.can search.old) (T.size search.old) (T.clash search.old) n)) }
+    ensures none_tries { IfOk result (λ f. IfNoneFits f (λ n. n ≤ tries)) }
     ensures spent { IfOk result (λ f. f ≡ Found.Spent
         → FindsSpent (T.can search.old) (T.fits search.old) (T.size search.old) (T.clash search.old) tries) }
     ensures same { T.is_same search.old search.new }
@@ -100,7 +113,7 @@ fn walk_to_first<T: Backtracking>(search: &mut T, tries: u64) -> Result<Found, A
     'walk: loop {
         let Some(child) = search.next_ready(from) else {
             let Some(last) = search.take_back() else {
-                return Ok(Found::NoneFits);
+                return Ok(Found::NoneFits(tries - left));
             };
             from = last + 1;
             continue;
@@ -119,7 +132,7 @@ fn walk_to_first<T: Backtracking>(search: &mut T, tries: u64) -> Result<Found, A
             continue;
         }
         if search.judge()? {
-            return Ok(Found::First);
+            return Ok(Found::First(tries - left + 1));
         }
         search.take_back();
         left -= 1;

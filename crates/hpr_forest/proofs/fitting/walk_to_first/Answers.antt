@@ -3,8 +3,8 @@ use Rattle.std.proofs.lemmas.Result.{IfOk-from_err}
 use Rattle.hpr_forest.specs.Choices.{Follows, IsWhole}
 use Rattle.hpr_forest.specs.Cuts.{FindsFirst, IsAmongFirst}
 use Rattle.hpr_forest.proofs.Leaves.{popped, follows_push}
-use Rattle.hpr_forest.proofs.CutStates.{State, IsNext, next_of, none_of, taken_back, start_state, looked_past, pop_state, given_up, down_state, judged, whole_next, first_state, spent_state, none_state, fewer_tries, fewer_down, fewer_up}
-use Rattle.hpr_forest.proofs.Spending.{Spends, ends, finds, gives_up, goes_down, judges, pops, starts}
+use Rattle.hpr_forest.proofs.CutStates.{State, IsNext, next_of, none_of, taken_back, start_state, looked_past, pop_state, given_up, down_state, judged, whole_next, first_state, spent_state, none_state, tried_state, fewer_tries, fewer_down, fewer_up}
+use Rattle.hpr_forest.proofs.Spending.{Spends, ends, few_left, finds, gives_up, goes_down, judges, pops, starts}
 use Rattle.hpr_forest.proofs.fitting.walk_to_first.Goals as goal
 
 true_not_false : true ≡ false → ⊥
@@ -44,10 +44,10 @@ returns-in_default-take_back-clause-none g c =
     let state = c.walk.invariant.3 in
     let same_can : can ≡ search.can now = laws.same_can first now same in
     let none = none_of can fits n clash it live (search.can now) (search.size now) same_can (laws.same_size first now same) q c.walk.from c.in_default.ensures.none in
-    λ is. none_state can fits n clash it live c.args.tries c.walk.left q c.walk.from c.in_default-take_back.ensures.none none state
+    none_state can fits n clash it live c.args.tries c.walk.left q c.walk.from c.in_default-take_back.ensures.none none state
 
-pub returns-in_default-take_back-clause-none_within : goal.returns-in_default-take_back-clause-none_within
-returns-in_default-take_back-clause-none_within g c =
+pub returns-in_default-take_back-clause-none_all : goal.returns-in_default-take_back-clause-none_all
+returns-in_default-take_back-clause-none_all g c =
     let search = g.T.Backtracking in
     let laws = g.met.T.Backtracking in
     let first = c.args.search.now in
@@ -63,7 +63,10 @@ returns-in_default-take_back-clause-none_within g c =
     let spends = c.walk.invariant.4 in
     let same_can : can ≡ search.can now = laws.same_can first now same in
     let none = none_of can fits n clash it live (search.can now) (search.size now) same_can (laws.same_size first now same) q c.walk.from c.in_default.ensures.none in
-    λ is. ends can n clash c.args.tries c.walk.left q c.walk.from c.in_default-take_back.ensures.none none spends
+    ends can n clash c.args.tries c.walk.left (c.args.tries - c.walk.left) q c.walk.from c.in_default-take_back.ensures.none none refl spends
+
+pub returns-in_default-take_back-clause-none_tries : goal.returns-in_default-take_back-clause-none_tries
+returns-in_default-take_back-clause-none_tries g c = omega arith
 
 pub overflow_add-from : goal.overflow_add-from
 overflow_add-from g c =
@@ -288,7 +291,7 @@ returns-then-branch-clause-first g c =
     let now' = c.place.new.self in
     let same' = laws.same_then first now now' same c.place.ensures.same in
     let fit : fits (search.placed now') = laws.same_fits now' first (laws.same_turned first now' same') (search.placed now') (c.in_ok-judge.ensures.0 c.if-branch.true) in
-    λ is. subst (λ (x : List ℕ). FindsFirst can fits n clash x) (sym more)
+    subst (λ (x : List ℕ). FindsFirst can fits n clash x) (sym more)
     (first_state can fits n clash it live c.args.tries c.walk.left q c.walk.from d follows full next (subst fits more fit) state)
 
 pub returns-then-branch-clause-first_within : goal.returns-then-branch-clause-first_within
@@ -314,8 +317,38 @@ returns-then-branch-clause-first_within g c =
     let more = c.place.ensures.placed in
     let len : length (search.placed c.place.new.self) ≡ length q + 1 = omega (arith, ap length more, length-append q (d ∷ [])) in
     let full : length q + 1 ≡ n = omega (arith, len, short, c.if-count-size.false, c.count.ensures, c.size-size.ensures) in
-    λ is. subst (λ (x : List ℕ). IsAmongFirst can n clash c.args.tries x) (sym more)
-    (finds can n clash fits it live c.args.tries c.walk.left q c.walk.from d full next (omega (arith, c.if-left-eq0.false)) spends)
+    let tried = c.args.tries - c.walk.left + 1 in
+    subst (λ (x : List ℕ). IsAmongFirst can n clash tried x) (sym more)
+    (finds can n clash fits it live c.args.tries c.walk.left tried q c.walk.from d full next refl spends)
+
+pub returns-then-branch-clause-first_least : goal.returns-then-branch-clause-first_least
+returns-then-branch-clause-first_least g c =
+    let search = g.T.Backtracking in
+    let laws = g.met.T.Backtracking in
+    let first = c.args.search.now in
+    let now = c.walk.search in
+    let can = search.can first in
+    let fits = search.fits first in
+    let n = search.size first in
+    let clash = search.clash first in
+    let it = c.requires.choices in
+    let live = c.requires.live in
+    let q = search.placed now in
+    let follows = c.walk.invariant.1 in
+    let short = c.walk.invariant.2 in
+    let state = c.walk.invariant.3 in
+    let same_can : can ≡ search.can now = laws.same_can first now c.walk.invariant.0 in
+    let d = c.in-Some.child in
+    let next : IsNext can fits n clash it live q c.walk.from d =
+    next_of can fits n clash it live (search.can now) same_can q c.walk.from d c.in-Some.ensures.from c.in-Some.ensures.ready c.in-Some.ensures.least in
+    tried_state can fits n clash it live c.args.tries c.walk.left (c.args.tries - c.walk.left + 1 - 1) q c.walk.from d follows short next (omega arith) state
+
+pub returns-then-branch-clause-first_tries : goal.returns-then-branch-clause-first_tries
+returns-then-branch-clause-first_tries g c =
+    let search = g.T.Backtracking in
+    let first = c.args.search.now in
+    let few = few_left (search.can first) (search.size first) (search.clash first) c.args.tries c.walk.left (search.placed c.walk.search) c.walk.from c.walk.invariant.4 in
+    omega (arith, few, c.if-left-eq0.false)
 
 pub walk-smaller : goal.walk-smaller
 walk-smaller g c =
@@ -383,5 +416,14 @@ returns-in_err-judge-clause-spent g c = IfOk-from_err c.from_residual.result _ c
 pub returns-in_err-judge-clause-first_within : goal.returns-in_err-judge-clause-first_within
 returns-in_err-judge-clause-first_within g c = IfOk-from_err c.from_residual.result _ c.from_residual.ensures.0
 
-pub returns-in_err-judge-clause-none_within : goal.returns-in_err-judge-clause-none_within
-returns-in_err-judge-clause-none_within g c = IfOk-from_err c.from_residual.result _ c.from_residual.ensures.0
+pub returns-in_err-judge-clause-first_least : goal.returns-in_err-judge-clause-first_least
+returns-in_err-judge-clause-first_least g c = IfOk-from_err c.from_residual.result _ c.from_residual.ensures.0
+
+pub returns-in_err-judge-clause-first_tries : goal.returns-in_err-judge-clause-first_tries
+returns-in_err-judge-clause-first_tries g c = IfOk-from_err c.from_residual.result _ c.from_residual.ensures.0
+
+pub returns-in_err-judge-clause-none_tries : goal.returns-in_err-judge-clause-none_tries
+returns-in_err-judge-clause-none_tries g c = IfOk-from_err c.from_residual.result _ c.from_residual.ensures.0
+
+pub returns-in_err-judge-clause-none_all : goal.returns-in_err-judge-clause-none_all
+returns-in_err-judge-clause-none_all g c = IfOk-from_err c.from_residual.result _ c.from_residual.ensures.0
