@@ -1,11 +1,11 @@
 -- What is open is the last placed item, or one in which it stands: behind each of these all is full.
-use Rattle.std.proofs.Common.{◌≡◌, ℕ, suc, ◌+◌, ◌-◌, ◌<◌, ◌≤◌, Bool, true, false, cond, eqb, Option, Some, None, List, [], ◌∷◌, ◌++◌, length, Contains, slice_get, inl, inr, refl, sym, ap, ◌∙◌, subst, append_assoc, arith, length-append}
+use Rattle.std.proofs.Common.{◌≡◌, ℕ, suc, ◌+◌, ◌<◌, ◌≤◌, Bool, true, false, cond, eqb, Option, Some, None, List, [], ◌∷◌, ◌++◌, length, Contains, inl, inr, refl, sym, ap, ◌∙◌, subst, append_assoc, arith, length-append}
 use Rattle.std.proofs.lemmas.List.Elements.{Contains-append_left, Contains-append_right, Contains-append_cases}
 use Rattle.std.proofs.lemmas.Bool.{eq-eqb, ne_eqb}
 use Rattle.hpr_forest.specs.Choices.{Follows}
 use Rattle.hpr_forest.specs.Forest.{Forest, all_in, can}
 use Rattle.hpr_forest.specs.Open.{open_in}
-use Rattle.hpr_forest.proofs.Unique.{in_none, in_cons, in_first, in_later}
+use Rattle.hpr_forest.proofs.Unique.{in_cons, in_first, in_later}
 use Rattle.hpr_forest.proofs.Members.{all_in-true}
 use Rattle.hpr_forest.proofs.May.{IsFull, IsUnder, May, behind_has, follows_at, follows_within, may-from, true_full}
 use Rattle.hpr_forest.proofs.Opened.{full_none, open_here, open_more}

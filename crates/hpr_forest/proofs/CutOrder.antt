@@ -1,14 +1,12 @@
 -- Cuts keep the order of the lists; where nothing clashes the leaves are the whole lists; and a number may stand next exactly where a whole list begins so.
-use Rattle.std.proofs.Common.{◌≡◌, ℕ, zero, suc, ◌+◌, ◌-◌, ◌<◌, ◌↔◌, Bool, true, false, Some, List, [], ◌∷◌, ◌++◌, length, Contains, slice_get, ◌⊎◌, inl, inr, refl, sym, ap, ◌∙◌, subst, arith, append_assoc, length-append}
-use Rattle.std.proofs.lemmas.List.{append-nil}
+use Rattle.std.proofs.Common.{◌≡◌, ℕ, zero, suc, ◌<◌, Bool, true, false, Some, List, [], ◌∷◌, ◌++◌, Contains, slice_get, ◌⊎◌, inl, inr, refl, sym, ap, ◌∙◌, subst, arith}
 use Rattle.std.proofs.lemmas.Option.{same_Some, slice_get_within, get_or_from_slice_get}
 use Rattle.hpr_forest.specs.Lists.{LexLess, IsAscending, IsListOf}
-use Rattle.hpr_forest.specs.Choices.{Follows, IsWhole, IsBacktrackFree}
+use Rattle.hpr_forest.specs.Choices.{IsWhole, IsBacktrackFree}
 use Rattle.hpr_forest.proofs.Unique.{less_irreflexive, less_trans}
-use Rattle.hpr_forest.proofs.Leaves.{follows_push}
 use Rattle.hpr_forest.specs.Cuts.{IsLive, never, cut_at}
 use Rattle.hpr_forest.specs.Cuts as tree
-use Rattle.hpr_forest.proofs.Cuts.{extend, all_cuts}
+use Rattle.hpr_forest.proofs.Cuts.{all_cuts}
 
 module _ (clash : List ℕ → ℕ → Bool) where
   abbrev cut : List ℕ → List ℕ → List ℕ

@@ -1,10 +1,9 @@
 -- How many leaves a search has passed: one with each try.
-use Rattle.std.proofs.Common.{◌≡◌, ℕ, zero, suc, ◌+◌, ◌-◌, ◌<◌, ◌≤◌, Bool, true, false, List, [], ◌∷◌, ◌++◌, length, take, Contains, refl, sym, ap, ◌∙◌, subst, arith, append_assoc, length-append}
-use Rattle.std.proofs.lemmas.List.{append-nil}
+use Rattle.std.proofs.Common.{◌≡◌, ℕ, zero, suc, ◌+◌, ◌-◌, ◌<◌, ◌≤◌, Bool, true, false, List, [], ◌∷◌, ◌++◌, length, take, Contains, sym, ap, ◌∙◌, subst, arith, append_assoc, length-append}
 use Rattle.hpr_forest.specs.Choices.{IsBacktrackFree}
 use Rattle.hpr_forest.specs.Cuts.{AreSoMany, IsAmongFirst, IsLive, leaves_of, pick}
 use Rattle.hpr_forest.proofs.CutStates.{IsNext, is_found, is_whole_child}
-use Rattle.hpr_forest.proofs.CutSteps.{at_start, child, cuts, none_left, placed, rest, all_done}
+use Rattle.hpr_forest.proofs.CutSteps.{at_start, cuts, none_left, placed, rest, all_done}
 use Rattle.hpr_forest.proofs.Unique.{in_first, in_later}
 
 take_has : (k : ℕ) (front back : List (List ℕ)) (x : List ℕ) → length front < k → Contains (take k (front ++ x ∷ back)) x

@@ -18,7 +18,7 @@
 --                                      fits; the tries are spent on leaves
 -- IsAmongFirst can n clash tries x == x is one of the first `tries` leaves
 -- AreSoMany can n clash k == there are k leaves
-use Rattle.std.specs.Prelude.{◌≡◌, ℕ, zero, suc, ◌<◌, ◌≤◌, Bool, true, false, List, [], ◌∷◌, ◌++◌, length, Contains, take}
+use Rattle.std.specs.Prelude.{◌≡◌, ℕ, zero, suc, ◌<◌, Bool, true, false, List, [], ◌∷◌, ◌++◌, length, Contains, take}
 use Rattle.hpr_forest.specs.Choices.{Follows, IsWhole}
 use Rattle.hpr_forest.specs.Leaves.{branch}
 
