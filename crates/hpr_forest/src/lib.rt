@@ -29,4 +29,4 @@ pub use filling::has_order;
 pub use fitting::{Found, first_fitting};
 pub use orders::Orders;
 pub use pending::Pending;
-pub use walk::{advance, descend};
+pub use walk::{first_order, next_order};

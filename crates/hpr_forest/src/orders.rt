@@ -6,7 +6,7 @@ ghost use Rattle.hpr_forest.specs.Lists.{LexLess, IsListOf};
 ghost use Rattle.hpr_forest.specs.Remaining.{can_of};
 
 use crate::filling::blank_row;
-use crate::{Blocks, Choices, advance, descend};
+use crate::{Blocks, Choices, first_order, next_order};
 use std::alloc::{AllocError, Global};
 use std::marker::Model;
 
@@ -56,7 +56,7 @@ impl Orders {
     {
         let mut placed = Vec::with_capacity(alloc, blocks.parents.len())?;
         let mut marks = blank_row(alloc, blocks.parents.len())?;
-        let more = descend(&blocks, &mut marks, &mut placed);
+        let more = first_order(&blocks, &mut marks, &mut placed);
         Ok(Orders {
             blocks,
             placed,
@@ -77,7 +77,7 @@ impl Orders {
         }
         let mut order = Vec::with_capacity(self.alloc, self.placed.len())?;
         order.extend_from_slice(&self.placed)?;
-        self.more = advance(&self.blocks, &mut self.marks, &mut self.placed);
+        self.more = next_order(&self.blocks, &mut self.marks, &mut self.placed);
         Ok(Some(order))
     }
 }

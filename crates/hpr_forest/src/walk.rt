@@ -10,7 +10,7 @@ use crate::Choices;
 /// Goes on to the first whole list that begins with the placed front; false where there is no whole list at all.
 ///
 /// Asks for one number a level and never goes back. Takes no memory: `placed` has room for a whole list.
-pub fn descend<T: Choices>(choices: &T, marks: &mut Vec<bool>, placed: &mut Vec<usize>) -> bool
+pub fn first_order<T: Choices>(choices: &T, marks: &mut Vec<bool>, placed: &mut Vec<usize>) -> bool
     requires row { vec_len marks.old ≡ T.size choices.now }
     requires marks { IsMarksOf marks.old.items placed.old.items }
     requires choices { IsBacktrackFree (T.can choices.now) (T.size choices.now) }
@@ -40,7 +40,7 @@ pub fn descend<T: Choices>(choices: &T, marks: &mut Vec<bool>, placed: &mut Vec<
 /// Goes on from a whole list to the next one in lexicographic order; false where it was the last.
 ///
 /// Takes numbers off the end until one can be replaced by a greater one, then descends. Takes no memory.
-pub fn advance<T: Choices>(choices: &T, marks: &mut Vec<bool>, placed: &mut Vec<usize>) -> bool
+pub fn next_order<T: Choices>(choices: &T, marks: &mut Vec<bool>, placed: &mut Vec<usize>) -> bool
     requires row { vec_len marks.old ≡ T.size choices.now }
     requires marks { IsMarksOf marks.old.items placed.old.items }
     requires choices { IsBacktrackFree (T.can choices.now) (T.size choices.now) }
@@ -59,7 +59,7 @@ pub fn advance<T: Choices>(choices: &T, marks: &mut Vec<bool>, placed: &mut Vec<
         if let Some(child) = choices.next_child(marks, placed, last + 1) {
             placed.push_reserved(child);
             marks[child] = true;
-            return descend(choices, marks, placed);
+            return first_order(choices, marks, placed);
         }
     }
     false

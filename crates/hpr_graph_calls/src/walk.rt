@@ -2,7 +2,7 @@
 ghost use Rattle.std.specs.Prelude.{◌≡◌, ℕ, ◌<◌, true, false, cond, eqb, ltb, length, replicate, vec_len, IfOk};
 ghost use Rattle.hpr_forest.specs.Marks.{is_in, IsMarksOf};
 
-use hpr_forest::{Choices, advance, descend};
+use hpr_forest::{Choices, first_order, next_order};
 use hpr_rows::{Out, Row, put_numbers};
 use std::alloc::{AllocError, Global};
 
@@ -59,19 +59,19 @@ fn put_lists(alloc: Global, out: &mut Out, blocked: bool) -> Result<(), AllocErr
     let example = Example { blocked };
     let mut marks = blank_row(alloc)?;
     let mut placed = Vec::with_capacity(alloc, 3)?;
-    if !descend(&example, &mut marks, &mut placed) {
+    if !first_order(&example, &mut marks, &mut placed) {
         return Ok(());
     }
     put_numbers(out, "list", &placed);
-    if !advance(&example, &mut marks, &mut placed) {
+    if !next_order(&example, &mut marks, &mut placed) {
         return Ok(());
     }
     put_numbers(out, "list", &placed);
-    if !advance(&example, &mut marks, &mut placed) {
+    if !next_order(&example, &mut marks, &mut placed) {
         return Ok(());
     }
     put_numbers(out, "list", &placed);
-    if !advance(&example, &mut marks, &mut placed) {
+    if !next_order(&example, &mut marks, &mut placed) {
         return Ok(());
     }
     put_numbers(out, "list", &placed);

@@ -1,7 +1,7 @@
 use Rattle.std.proofs.Common.{◌≡◌, ℕ, ◌∙◌, refl, subst, arith, List, true, false, ◌≤◌, ◌<◌}
 use Rattle.hpr_forest.proofs.Marked.{marks_push}
 use Rattle.hpr_forest.proofs.Leaves.{descend_step}
-use Rattle.hpr_forest.proofs.walk.descend.Goals as goal
+use Rattle.hpr_forest.proofs.walk.first_order.Goals as goal
 
 pub loop-marks-preserved : goal.loop-marks-preserved
 loop-marks-preserved g c =

@@ -2,7 +2,7 @@ use Rattle.std.proofs.Common.{◌≡◌, ◌-◌, ◌≤◌, [], vec_len, vec_ca
 use Rattle.hpr_forest.specs.Marks.{IsMarksOf}
 use Rattle.hpr_forest.specs.Choices.{Follows}
 use Rattle.hpr_forest.specs.Leaves.{from_here}
-use Rattle.hpr_forest.proofs.walk.descend.Given as goal
+use Rattle.hpr_forest.proofs.walk.first_order.Given as goal
 
 abbrev pub invariant-loop-marks : goal.invariant-loop-marks
 invariant-loop-marks g l =

@@ -3,7 +3,7 @@ use Rattle.hpr_forest.specs.Choices.{Follows, IsWhole}
 use Rattle.hpr_forest.specs.Marks.{IsMarksOf}
 use Rattle.hpr_forest.proofs.Marked.{marks_push, marks_pop}
 use Rattle.hpr_forest.proofs.Leaves.{popped, last_gone, next_found, follows_push}
-use Rattle.hpr_forest.proofs.walk.advance.Goals as goal
+use Rattle.hpr_forest.proofs.walk.next_order.Goals as goal
 
 pub overflow_add-last : goal.overflow_add-last
 overflow_add-last g c =
@@ -18,8 +18,8 @@ next_child-requires-clause-front g c =
     c.requires.choices c.loop-last.invariant.2 c.in-Some.ensures.items (omega arith) in
     subst (Follows (g.T.Choices.can c.args.choices.now) []) (sym c.deref-in-Some.ensures.value) p.0
 
-pub descend-requires-clause-front : goal.descend-requires-clause-front
-descend-requires-clause-front g c =
+pub first_order-requires-clause-front : goal.first_order-requires-clause-front
+first_order-requires-clause-front g c =
     let can = g.T.Choices.can c.args.choices.now in
     let p = popped can (g.T.Choices.size c.args.choices.now) c.loop-last.placed.items c.pop.new.self.items c.in-Some.last
     c.requires.choices c.loop-last.invariant.2 c.in-Some.ensures.items (omega arith) in
@@ -29,13 +29,13 @@ descend-requires-clause-front g c =
 pub returns-in-Some-next_child-clause-next : goal.returns-in-Some-next_child-clause-next
 returns-in-Some-next_child-clause-next g c = λ yes_.
     let can = g.T.Choices.can c.args.choices.now in
-    let whole : IsWhole can (g.T.Choices.size c.args.choices.now) c.descend.new.placed.items = c.descend.ensures.whole yes_ in
-    next_found can (g.T.Choices.size c.args.choices.now) c.loop-last.placed.items c.pop.new.self.items c.push_reserved.new.self.items c.descend.new.placed.items c.args.placed.now.items
+    let whole : IsWhole can (g.T.Choices.size c.args.choices.now) c.first_order.new.placed.items = c.first_order.ensures.whole yes_ in
+    next_found can (g.T.Choices.size c.args.choices.now) c.loop-last.placed.items c.pop.new.self.items c.push_reserved.new.self.items c.first_order.new.placed.items c.args.placed.now.items
     c.in-Some.last (c.in-Some.last + 1) c.in-Some-next_child.child
     c.requires.choices c.in-Some.ensures.items (omega arith) c.in-Some-next_child.ensures.from c.push_reserved.ensures.items
     (subst (λ (q : List ℕ). (e : ℕ) → c.in-Some.last + 1 ≤ e → e < c.in-Some-next_child.child → can q e ≡ false) c.deref-in-Some.ensures.value c.in-Some-next_child.ensures.least)
     (subst (λ (q : List ℕ). can q c.in-Some-next_child.child ≡ true) c.deref-in-Some.ensures.value c.in-Some-next_child.ensures.can)
-    c.loop-last.invariant.5 whole.len (c.descend.ensures.same yes_)
+    c.loop-last.invariant.5 whole.len (c.first_order.ensures.same yes_)
 
 pub loop-last-preserved : goal.loop-last-preserved
 loop-last-preserved g c =
@@ -69,8 +69,8 @@ next_child-requires-clause-marks g c =
     (marks_pop c.loop-last.marks.items c.deref.result.now c.pop.new.self.items c.loop-last.placed.items c.in-Some.last (omega (arith, p.2, c.loop-last.invariant.0, c.requires.row))
     c.loop-last.invariant.1 c.in-Some.ensures.items p.3 c.deref.ensures.value)
 
-pub descend-requires-clause-marks : goal.descend-requires-clause-marks
-descend-requires-clause-marks g c =
+pub first_order-requires-clause-marks : goal.first_order-requires-clause-marks
+first_order-requires-clause-marks g c =
     let can = g.T.Choices.can c.args.choices.now in
     let p = popped (g.T.Choices.can c.args.choices.now) (g.T.Choices.size c.args.choices.now) c.loop-last.placed.items c.pop.new.self.items c.in-Some.last
     c.requires.choices c.loop-last.invariant.2 c.in-Some.ensures.items (omega arith) in

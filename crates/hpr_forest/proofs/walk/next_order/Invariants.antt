@@ -2,7 +2,7 @@ use Rattle.std.proofs.Common.{◌≡◌, ◌≤◌, [], vec_len, vec_capacity}
 use Rattle.hpr_forest.specs.Marks.{IsMarksOf}
 use Rattle.hpr_forest.specs.Choices.{Follows}
 use Rattle.hpr_forest.specs.Leaves.{after}
-use Rattle.hpr_forest.proofs.walk.advance.Given as goal
+use Rattle.hpr_forest.proofs.walk.next_order.Given as goal
 
 abbrev pub invariant-loop-last : goal.invariant-loop-last
 invariant-loop-last g l =
