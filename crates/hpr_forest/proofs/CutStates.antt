@@ -6,6 +6,13 @@ use Rattle.hpr_forest.proofs.Unique.{in_none, in_cons}
 use Rattle.hpr_forest.specs.Cuts.{IsLive, IsWithin, leaves_of, FindsFirst, FindsNone, FindsSpent}
 use Rattle.hpr_forest.proofs.CutSteps.{Passed, child, rest, at_start, found, placed, whole_child, none_left, all_done, some_below, all_below_fail, none_passed, same_passed, more_passed, spent_passed, first_passed, none_fits, tried_passed}
 
+pub true_not_false : true ≡ false → ⊥
+true_not_false e = absurd cc
+
+pub not_true : (b : Bool) → (b ≡ true → ⊥) → b ≡ false
+not_true true free = absurd (free refl)
+not_true false free = refl
+
 -- nothing stands behind a list that is whole already
 no_more : (n : ℕ) (q l r : List ℕ) (d : ℕ) → length q + 1 ≡ n → length l ≡ n → l ≡ q ++ d ∷ r → r ≡ []
 no_more n q l [] d h k e = refl

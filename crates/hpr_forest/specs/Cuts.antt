@@ -18,7 +18,9 @@
 --                                      fits; the tries are spent on leaves
 -- IsAmongFirst can n clash tries x == x is one of the first `tries` leaves
 -- AreSoMany can n clash k == there are k leaves
-use Rattle.std.specs.Prelude.{◌≡◌, ℕ, zero, suc, ◌<◌, Bool, true, false, List, [], ◌∷◌, ◌++◌, length, Contains, take}
+-- IsFirstLeafAt can n clash q c == the first leaf is q and then c
+-- IsFirstClear can n clash == no number of the first leaf clashes with those before it, or there is no leaf
+use Rattle.std.specs.Prelude.{◌≡◌, ◌⊎◌, ℕ, zero, suc, ◌<◌, Bool, true, false, List, [], ◌∷◌, ◌++◌, length, Contains, take}
 use Rattle.hpr_forest.specs.Choices.{Follows, IsWhole}
 use Rattle.hpr_forest.specs.Leaves.{branch}
 
@@ -59,6 +61,12 @@ module _ (can : List ℕ → ℕ → Bool) (n : ℕ) (clash : List ℕ → ℕ �
 
   abbrev pub AreSoMany : ℕ → Type 0
   AreSoMany k = length leaves_of ≡ k
+
+  abbrev pub IsFirstLeafAt : List ℕ → ℕ → Type 0
+  IsFirstLeafAt q c = (back : List (List ℕ)) × (leaves_of ≡ (q ++ c ∷ []) ∷ back)
+
+  abbrev pub IsFirstClear : Type 0
+  IsFirstClear = (leaves_of ≡ []) ⊎ ((n ≡ 0) ⊎ ((q : List ℕ) × (c : ℕ) × IsFirstLeafAt q c × (clash q c ≡ false)))
 
 module _ (can : List ℕ → ℕ → Bool) (fits : List ℕ → Type 0) (n : ℕ) where
   abbrev pub Fails : List ℕ → Type 0

@@ -1,5 +1,5 @@
-use Rattle.std.proofs.Common.{◌≡◌, true, false, refl, sym, ◌∙◌, arith}
-use Rattle.hpr_forest.proofs.CutStates.{empty_first, empty_is_whole, empty_none, empty_spent}
+use Rattle.std.proofs.Common.{refl, sym, ◌∙◌, arith}
+use Rattle.hpr_forest.proofs.CutStates.{empty_first, empty_is_whole, empty_none, empty_spent, true_not_false}
 use Rattle.hpr_forest.proofs.Spending.{empty_among, empty_count}
 use Rattle.hpr_forest.proofs.fitting.judge_empty.Goals as goal
 
@@ -20,9 +20,6 @@ judge-requires g c =
     let search = g.T.Backtracking in
     let s = c.args.search.now in
     record { sound = c.requires.sound; whole = empty_is_whole (search.can s) (search.fits s) (search.size s) (search.clash s) c.requires.size (search.placed s) c.requires.first }
-
-true_not_false : true ≡ false → ⊥
-true_not_false e = absurd cc
 
 pub returns-else-branch-clause-none : goal.returns-else-branch-clause-none
 returns-else-branch-clause-none g c =

@@ -1,18 +1,11 @@
-use Rattle.std.proofs.Common.{◌≡◌, ℕ, ◌+◌, ◌-◌, ◌<◌, Bool, true, false, List, [], ◌∷◌, ◌++◌, length, length-append, refl, sym, ap, subst, ◌∙◌, arith}
+use Rattle.std.proofs.Common.{◌≡◌, ℕ, ◌+◌, ◌-◌, ◌<◌, true, List, [], ◌∷◌, ◌++◌, length, length-append, refl, sym, ap, subst, ◌∙◌, arith}
 use Rattle.std.proofs.lemmas.Result.{IfOk-from_err}
 use Rattle.hpr_forest.specs.Choices.{Follows, IsWhole}
 use Rattle.hpr_forest.specs.Cuts.{FindsFirst, IsAmongFirst}
 use Rattle.hpr_forest.proofs.Leaves.{popped, follows_push}
-use Rattle.hpr_forest.proofs.CutStates.{State, IsNext, next_of, none_of, taken_back, start_state, looked_past, pop_state, given_up, down_state, judged, whole_next, first_state, spent_state, none_state, tried_state, fewer_tries, fewer_down, fewer_up}
+use Rattle.hpr_forest.proofs.CutStates.{State, IsNext, next_of, none_of, taken_back, start_state, looked_past, pop_state, given_up, down_state, judged, whole_next, first_state, spent_state, none_state, tried_state, true_not_false, not_true, fewer_tries, fewer_down, fewer_up}
 use Rattle.hpr_forest.proofs.Spending.{Spends, ends, few_left, finds, gives_up, goes_down, judges, pops, starts}
 use Rattle.hpr_forest.proofs.fitting.walk_to_first.Goals as goal
-
-true_not_false : true ≡ false → ⊥
-true_not_false e = absurd cc
-
-calm : (b : Bool) → (b ≡ true → ⊥) → b ≡ false
-calm true free = absurd (free refl)
-calm false free = refl
 
 pub walk-init : goal.walk-init
 walk-init g c =
@@ -234,7 +227,7 @@ walk-preserved-then-count-size g c =
       omega (arith, c.if-count-size.true, c.count.ensures, c.size-size.ensures),
       down_state can fits n clash it live c.args.tries c.walk.left q (search.placed c.place.new.self) c.walk.from d next free
           (omega (arith, len, c.if-count-size.true, c.count.ensures, c.size-size.ensures)) more state,
-      goes_down can n clash fits it live c.args.tries c.walk.left q (search.placed c.place.new.self) c.walk.from d next (calm (clash q d) free)
+      goes_down can n clash fits it live c.args.tries c.walk.left q (search.placed c.place.new.self) c.walk.from d next (not_true (clash q d) free)
           (omega (arith, len, c.if-count-size.true, c.count.ensures, c.size-size.ensures)) more c.walk.invariant.4,
     )
 
