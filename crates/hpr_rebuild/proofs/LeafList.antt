@@ -116,7 +116,7 @@ module _ (g : Graph) (name : ℕ → Vertex) (can : List ℕ → ℕ → Bool) (
     names_same : (a b : List ℕ) → AreBelow n a → AreBelow n b → names a ≡ names b → a ≡ b
     names_same = map_injective name n inj
 
-    leaf_in : (y : List ℕ) → Contains leaves y → AreBelow n y
+    pub leaf_in : (y : List ℕ) → Contains leaves y → AreBelow n y
     leaf_in y h =
         let (l, whole, is) = all_of.sound y h in
         subst (λ (v : List ℕ). AreBelow n v) (sym is) (cut_below can n clash [] l (follows_below can n it [] l whole.follows))

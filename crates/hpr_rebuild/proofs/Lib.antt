@@ -7,6 +7,7 @@ pub mod First
 mod Fitting
 pub mod Regular
 mod Refused
+pub mod Counting
 pub mod Sames
 mod Amongst
 pub mod Unchanged

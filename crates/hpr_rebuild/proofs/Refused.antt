@@ -1,6 +1,5 @@
 -- A graph whose control edges are refused has no arrangement, and so no leaves.
-use Rattle.std.proofs.Common.{◌≡◌, ◌≢◌, ℕ, Bool, true, inl, inr, Some, List, [], ◌∷◌, Result, Err, IsErrOf, slice_get, refl, sym, ap, ◌∙◌, subst, arith}
-use Rattle.std.specs.Result.{IsErrAnd}
+use Rattle.std.proofs.Common.{◌≡◌, ◌≢◌, ℕ, Bool, true, inl, inr, Option, Some, None, IfNone, List, [], ◌∷◌, slice_get, refl, sym, ◌∙◌, subst}
 use Rattle.hpr_terms.specs.declared.tag.Tag.{Tag}
 use Rattle.hpr_syntax.specs.declared.rows.Content.{Content}
 use Rattle.hpr_syntax.specs.Issued.{Issued}
@@ -12,16 +11,15 @@ use Rattle.hpr_graph.specs.declared.edge.Kind.TheVariants.{Control}
 use Rattle.hpr_graph.specs.declared.edge.Edge.{Edge}
 use Rattle.hpr_graph.specs.Graphs.{Graph}
 use Rattle.hpr_graph.specs.ProgramGraph.{IsControl, IsEdgeBy, graph_of}
-use Rattle.hpr_graph.specs.Arrangements.{IsArrangement, IsOuter, edge_into}
+use Rattle.hpr_graph.specs.Arrangements.{AreArrangements, IsArrangement, IsOuter, edge_into}
 use Rattle.hpr_graph.specs.Answer.{IsPart}
 use Rattle.hpr_graph.specs.Leaves.{AreLeaves}
 use Rattle.hpr_graph.proofs.Lists.{in_none, once_none}
 use Rattle.hpr_order.specs.declared.tree.OrderError.{OrderError}
 use Rattle.hpr_order.specs.declared.tree.OrderError.TheVariants.{TwoContents, Impossible, Memory}
 use Rattle.hpr_order.specs.Regions.{Allows, IsControlKind, LeadsDown, IsPossible, HasTwoContents, IsRefusal}
-use Rattle.hpr_rebuild.specs.declared.error.RebuildError.{RebuildError}
-use Rattle.hpr_rebuild.specs.declared.error.RebuildError.TheVariants.{NoProgram}
-use Rattle.hpr_rebuild.specs.Tries.{AreAllWithin}
+use Rattle.hpr_rebuild.specs.FirstClash.{HasNoFirstClash}
+use Rattle.hpr_rebuild.specs.Tries.{AreSoMany}
 use Rattle.hpr_rebuild.proofs.Parts.{says_once}
 use Rattle.hpr_rebuild.proofs.Regular.{possible}
 
@@ -104,17 +102,14 @@ no_leaves g = (
   λ i j k l p q x y ep eq lx ly ex ey h. absurd (nothing i p ep),
 )
 
-pub none_at_all : (g : Graph) (rank : List Vertex) (issued : Issued) (tries : ℕ) → ((p : Tree) → ¬ IsArrangement g issued p) → AreAllWithin g rank issued tries
-none_at_all g rank issued tries none = (
-  [],
-  [],
-  (λ p. (λ h. absurd (in_none p h), λ is. absurd (none p is)), λ i j p q less h k. absurd (nothing i p h)),
-  no_leaves g,
-  omega arith,
-)
+pub where_none : {X : Type 0} (o : Option X) (P : Type 0) → o ≡ None → IfNone o P → P
+where_none {X} o P is h = subst (λ (p : Option X). IfNone p P) is h
 
--- an error that is handed on is the same
-pub same_refusal : {T Y : Type 0} (r : Result Y RebuildError) (e : RebuildError) → IsErrAnd r (λ y. y ≡ e) → IsErrOf r NoProgram → IsErrOf {T = T} {E = RebuildError} (Err e) NoProgram
-same_refusal {T} {Y} r e passed is =
-    let same : NoProgram ≡ e = subst (λ (q : Result Y RebuildError). IsErrAnd q (λ y. y ≡ e)) is passed in
-    ap (λ (x : RebuildError). Err x) (sym same)
+none_arranged : (g : Graph) (rank : List Vertex) (issued : Issued) → ((p : Tree) → ¬ IsArrangement g issued p) → AreArrangements g rank issued []
+none_arranged g rank issued none = (λ p. (λ h. absurd (in_none p h), λ is. absurd (none p is)), λ i j p q less h k. absurd (nothing i p h))
+
+pub none_at_all : (g : Graph) (rank : List Vertex) (issued : Issued) → ((p : Tree) → ¬ IsArrangement g issued p) → AreSoMany g rank issued 0
+none_at_all g rank issued none = ([], [], none_arranged g rank issued none, no_leaves g, refl)
+
+pub clear_at_all : (g : Graph) (rank : List Vertex) (issued : Issued) → ((p : Tree) → ¬ IsArrangement g issued p) → HasNoFirstClash g rank issued
+clear_at_all g rank issued none = ([], [], none_arranged g rank issued none, no_leaves g, inl refl)

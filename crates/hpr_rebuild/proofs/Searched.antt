@@ -1,5 +1,5 @@
 -- What a search of the orders of items says of the arrangements.
-use Rattle.std.proofs.Common.{◌≡◌, ℕ, ◌<◌, ◌≤◌, Bool, Some, List, [], ◌∷◌, ◌++◌, map, length, take, slice_get, Contains, get_or, Result, IfOk, refl, sym, ap, ap₂, ◌∙◌, subst, arith}
+use Rattle.std.proofs.Common.{◌≡◌, ℕ, ◌<◌, Bool, true, inl, inr, Option, Some, None, List, [], ◌∷◌, ◌++◌, map, length, take, slice_get, Contains, get_or, Result, IfOk, refl, sym, ap, ap₂, ◌∙◌, subst, arith}
 use Rattle.std.proofs.lemmas.List.{map-append, length-map, take-map}
 use Rattle.std.proofs.lemmas.List.Elements.{Contains-append_left, Contains-append_right}
 use Rattle.std.proofs.lemmas.Result.{IfOk-weaker}
@@ -24,8 +24,9 @@ use Rattle.hpr_order.specs.Arranging.{IsPreorderOf}
 use Rattle.hpr_region.specs.declared.plan.Plan.{Plan}
 use Rattle.hpr_region.specs.Plans.{AreListed, IsPlanOf, clash_in, may_follow, numbers_at, size_of, vertex_at, vertex_by, vertices_at}
 use Rattle.hpr_rebuild.specs.Candidates.{FitsInOrder}
-use Rattle.hpr_rebuild.specs.Tries.{AreAllWithin, IsFoundWithin}
-use Rattle.hpr_rebuild.proofs.LeafList.{AreBelow, follows_below, are_leaves, spent_on_leaves, taken}
+use Rattle.hpr_rebuild.specs.FirstClash.{HasNoFirstClash, IsClear, IsFirstClash}
+use Rattle.hpr_rebuild.specs.Tries.{AreSoMany, IsFoundWithin}
+use Rattle.hpr_rebuild.proofs.LeafList.{AreBelow, follows_below, are_leaves, leaf_in, spent_on_leaves, taken}
 
 -- the same fact, with the result first
 pub for_ok : {X E : Type 0} {P Q : X → Type 0} (r : Result X E) → IfOk r P → ((x : X) → P x → Q x) → IfOk r Q
@@ -57,6 +58,15 @@ only_too g h issued issued' plan plan' same numbers_ stays x m only =
 
 pub parts_too : (g h : Numbered) (plan plan' : Plan) → g ≡ h → plan ≡ plan' → (x : List ℕ) (m : Tree) → parts_of m ≡ vertices_at h plan' x → parts_of m ≡ vertices_at g plan x
 parts_too g h plan plan' same stays x m parts = parts ∙ sym (ap₂ (λ (y : Numbered) (q : Plan). vertices_at y q x) same stays)
+
+-- numbers below n, but for the last
+last_below : (n : ℕ) (q : List ℕ) (c : ℕ) → AreBelow n (q ++ c ∷ []) → c < n
+last_below n [] c (h, more) = h
+last_below n (x ∷ q) c (h, more) = last_below n q c more
+
+front_below : (n : ℕ) (q : List ℕ) (c : ℕ) → AreBelow n (q ++ c ∷ []) → AreBelow n q
+front_below n [] c all = tt
+front_below n (x ∷ q) c (h, more) = (h, front_below n q c more)
 
 -- where a function's values are split at one, so is the list
 map_split : {X Y : Type 0} (f : X → Y) (ps : List X) (ys bs : List Y) (b : Y) → map f ps ≡ ys ++ b ∷ bs
@@ -207,9 +217,62 @@ module _ (g : Numbered) (rank : List Vertex) (plan : Plan) (is : IsPlanOf g rank
           subst (λ (vs : List Vertex). Contains (take tries (map names leaves)) vs) (sym parts) (contains_at (take tries (map names leaves)) i (names x) named),
         )
 
-    pub all_within : (tries : ℕ) → tree.AreAtMost can n (clash_in plan) tries → AreAllWithin (graph_in g) rank issued tries
-    all_within tries few =
-        (ps, map (vertices_at g plan) leaves, are, these, subst (λ k. k ≤ tries) (sym (length-map leaves (vertices_at g plan))) few)
+    pub so_many : (k : ℕ) → tree.AreSoMany can n (clash_in plan) k → AreSoMany (graph_in g) rank issued k
+    so_many k count = (ps, map (vertices_at g plan) leaves, are, these, length-map leaves (vertices_at g plan) ∙ count)
+
+    -- the first leaf by its items
+    first_below : (q : List ℕ) (c : ℕ) → tree.IsFirstLeafAt can n (clash_in plan) q c → AreBelow n (q ++ c ∷ [])
+    first_below q c (back, first) =
+        leaf_in (graph_in g) (vertex_at g plan) can n apart (clash_in plan) is.clashes is.no_clash is.free live orders all ps same (q ++ c ∷ [])
+        (subst (λ (xs : List (List ℕ)). Contains xs (q ++ c ∷ [])) (sym first) (in_here (q ++ c ∷ []) back))
+
+    pub first_item : (q : List ℕ) (c : ℕ) → tree.IsFirstLeafAt can n (clash_in plan) q c → c < n
+    first_item q c first = last_below n q c (first_below q c first)
+
+    pub first_numbers : (q : List ℕ) (c : ℕ) → tree.IsFirstLeafAt can n (clash_in plan) q c
+        → map (slice_get g.vertices) (numbers_at plan q) ≡ map Some (vertices_at g plan q)
+    first_numbers q c first = numbered q (front_below n q c (first_below q c first))
+
+    pub first_number : (q : List ℕ) (c m : ℕ) → tree.IsFirstLeafAt can n (clash_in plan) q c → slice_get plan.numbers.items c ≡ Some m
+        → slice_get g.vertices m ≡ Some (vertex_at g plan c)
+    first_number q c m first there =
+        let (k, at, part) = part_at c (first_item q c first) in
+        let same_number : Some m ≡ Some k = sym there ∙ at in
+        ap (λ (o : Option ℕ). slice_get g.vertices (or_none o)) same_number ∙ part
+      where
+        or_none : Option ℕ → ℕ
+        or_none None = 0
+        or_none (Some j) = j
+
+    pub clash_of : (q : List ℕ) (c : ℕ) → tree.IsFirstLeafAt can n (clash_in plan) q c → clash_in plan q c ≡ true
+        → IsFirstClash (graph_in g) rank issued (vertices_at g plan q) (vertex_at g plan c)
+    clash_of q c (back, first) clashes =
+        let names = vertices_at g plan in (
+          ps,
+          map names leaves,
+          map names back,
+          are,
+          these,
+          ap (map names) first ∙ ap (λ (x : List Vertex). x ∷ map names back) (map-append (vertex_at g plan) q (c ∷ [])),
+          is.clashes q c clashes,
+        )
+
+    pub no_clash_of : tree.IsFirstClear can n (clash_in plan) → HasNoFirstClash (graph_in g) rank issued
+    no_clash_of clear = (ps, map (vertices_at g plan) leaves, are, these, by clear)
+      where
+        by : tree.IsFirstClear can n (clash_in plan) → IsClear (graph_in g) (map (vertices_at g plan) leaves)
+        by (inl none) = inl (ap (map (vertices_at g plan)) none)
+        by (inr (inl zero_)) =
+            inr (inl ([], ap (λ m. map (vertices_at g plan) (tree.leaves_of can m (clash_in plan))) zero_))
+        by (inr (inr (q, c, (back, first), free))) =
+            inr (inr (
+              vertices_at g plan q,
+              vertex_at g plan c,
+              map (vertices_at g plan) back,
+              ap (map (vertices_at g plan)) first
+                  ∙ ap (λ (x : List Vertex). x ∷ map (vertices_at g plan) back) (map-append (vertex_at g plan) q (c ∷ [])),
+              is.no_clash q c free,
+            ))
 
     pub tries_spent : (tries : ℕ) → tree.FindsSpent can fits n (clash_in plan) tries → IsFound {X = Conflict} (graph_in g) rank issued tries spent
     tries_spent tries finds =

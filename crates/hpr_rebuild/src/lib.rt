@@ -4,13 +4,15 @@
 #![tactic(auto)]
 
 mod candidates;
+mod clash;
 mod count;
 mod error;
 pub mod laws;
 mod search;
 
+pub use clash::{FirstClash, first_clash};
 pub use count::part_count;
 pub use error::RebuildError;
 pub use hpr_graph::{Graph, Vertex};
 pub use hpr_syntax::{Issued, Program};
-pub use search::rebuild;
+pub use search::{Rebuilt, rebuild, rebuild_counted};
