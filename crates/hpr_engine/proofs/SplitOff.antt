@@ -162,7 +162,8 @@ of_some_variant base (a ∷ vs) some v h = in_variant base a vs v h
 -- what is made of the merged graph is what is searched
 pub searched_from : (base : Tree) (vs : List Tree) → 1 ≤ length vs → (keep : List Bool) (m s : Searched) → Same (graph_in m.graph) (merged_of_all base vs) → IsRankOf base vs m.rank.items → m.issued ≡ issued_of_all base vs
     → AreKeptBy (graphs_of vs) m.graph keep → IsSplitFrom m (IsUnmarked m.graph keep) s → IsSearchedOf base vs s
-searched_from base vs some keep m s same ranked numbers kept (rs, within, graph, rank, issued) =
+searched_from base vs some keep m s same ranked numbers kept (within, graph, rank, issued) =
+    let rs : List (Vertex × Tag) = s.renamed.items in
     let hs : List Graph = graphs_of vs in
     let M : Graph = merged_of_all base vs in
     let alike : (v : Vertex) → (HasVertex m.graph v × IsPart v × IsUnmarked m.graph keep v) ↔ (M.vertex v × IsPart v × IsSplitOff hs M v) =
@@ -172,7 +173,6 @@ searched_from base vs some keep m s same ranked numbers kept (rs, within, graph,
       λ x. off.1 ((same.0 v).1 x.0, x.1, split.1 x.2),
     )) in
     let renamed_there : AreRenamedWithin M (IsSplitOff hs M) (issued_to 0 m.issued) rs = renamed_alike (graph_in m.graph) M (IsUnmarked m.graph keep) (IsSplitOff hs M) alike (issued_to 0 m.issued) rs within in (
-      rs,
       subst (λ (i : Issued). AreRenamedWithin M (IsSplitOff hs M) (issued_to 0 i) rs) numbers renamed_there,
       split_graph_same rs (graph_in s.graph) (graph_in m.graph) M graph same,
       (m.rank.items, ranked, rank),
@@ -182,7 +182,8 @@ searched_from base vs some keep m s same ranked numbers kept (rs, within, graph,
 -- what is found for what is searched, by the rank that the search was given, is found for the programs
 pub found_for : (X : Type 0) (base : Tree) (vs : List Tree) (s : Searched) (rank : List Vertex) → rank ≡ s.rank.items → (tries : ℕ) (r : AnswerBy X) → IsSearchedOf base vs s
     → IsFound {X = X} (graph_in s.graph) rank s.issued tries r → IsFoundFor {X = X} base vs tries r
-found_for X base vs s rank is tries r (rs, off, same, ranked, numbers) found =
+found_for X base vs s rank is tries r (off, same, ranked, numbers) found =
+    let rs : List (Vertex × Tag) = s.renamed.items in
     let by_rank : IsFound {X = X} (graph_in s.graph) s.rank.items s.issued tries r = subst (λ (l : List Vertex). IsFound {X = X} (graph_in s.graph) l s.issued tries r) is found in (
       rs,
       off,
@@ -232,12 +233,21 @@ module _ (m : Searched) (keep : List Bool) where
   as_it_was : Same (graph_in m.graph) (split_graph [] (graph_in m.graph))
   as_it_was = same_turned (split_graph [] (graph_in m.graph)) (graph_in m.graph) (graphs.split_none (graph_in m.graph))
 
-  pub split_none : PassSerials (graph_in m.graph) IsOff last → IsSplitFrom m IsOff m
-  split_none past = ([], inr (past, refl), as_it_was, sym (rank_itself m.rank.items), refl)
+  -- what is said of a list is said of the one that is equal
+  listed : (rs : List (Vertex × Tag)) → m.renamed.items ≡ rs
+      → AreRenamedWithin (graph_in m.graph) IsOff last rs × Same (graph_in m.graph) (split_graph rs (graph_in m.graph)) × (m.rank.items ≡ split_rank rs m.rank.items)
+      × (m.issued ≡ split_issued (length rs) m.issued)
+      → IsSplitFrom m IsOff m
+  listed rs is h =
+      subst (λ (qs : List (Vertex × Tag)). AreRenamedWithin (graph_in m.graph) IsOff last qs × Same (graph_in m.graph) (split_graph qs (graph_in m.graph))
+      × (m.rank.items ≡ split_rank qs m.rank.items) × (m.issued ≡ split_issued (length qs) m.issued)) (sym is) h
+
+  pub split_none : m.renamed.items ≡ [] → PassSerials (graph_in m.graph) IsOff last → IsSplitFrom m IsOff m
+  split_none empty past = listed [] empty (inr (past, refl), as_it_was, sym (rank_itself m.rank.items), refl)
 
   -- where each part is marked
-  pub split_nothing : All IsProperPair m.issued → (vs : List Vertex) → vs ≡ m.graph.vertices → AreKeptBelow vs keep (length vs) → IsSplitFrom m IsOff m
-  split_nothing pairs vs same all =
+  pub split_nothing : m.renamed.items ≡ [] → All IsProperPair m.issued → (vs : List Vertex) → vs ≡ m.graph.vertices → AreKeptBelow vs keep (length vs) → IsSplitFrom m IsOff m
+  split_nothing empty pairs vs same all =
       let marked : (v : Vertex) → HasVertex m.graph v → IsPart v → IsMarkedVertex m.graph keep v =
       λ v has part. (let (at, there) = place_of m.graph.vertices v has in
       let here : slice_get vs at ≡ Some v = ap (λ (us : List Vertex). slice_get us at) same ∙ there in
@@ -246,17 +256,17 @@ module _ (m : Searched) (keep : List Bool) where
         λ i j x y less at_i at_j. absurd (in_none x (contains_at [] i x at_i)),
         λ v. (λ h. absurd (in_none v h), λ (has, part, clear). absurd (clear (marked v has part))),
       ) in
-      ([], inl (([], none, refl), omega (arith, issued_within 0 m.issued (recursion_from_All IsProperPair m.issued pairs))), as_it_was, sym (rank_itself m.rank.items), refl)
+      listed [] empty
+      (inl (([], none, refl), omega (arith, issued_within 0 m.issued (recursion_from_All IsProperPair m.issued pairs))), as_it_was, sym (rank_itself m.rank.items), refl)
 
   pub split_some : (r : List Vertex) → r ≡ m.rank.items → (o : Option SplitTags) (s : SplitTags) → o ≡ Some s → IfSome o (λ x. AreRenamed (graph_in m.graph) IsOff last x.renamed.items)
       → IfSome o (λ x. Same (graph_in x.graph) (split_graph x.renamed.items (graph_in m.graph))) → IfSome o (λ x. x.rank.items ≡ split_rank x.renamed.items r)
       → IfSome o (λ x. x.issued ≡ split_issued (length x.renamed.items) m.issued) → IsNone o ↔ PassSerials (graph_in m.graph) IsOff last
-      → IsSplitFrom m IsOff (record { graph = s.graph; rank = s.rank; issued = s.issued })
+      → IsSplitFrom m IsOff (record { graph = s.graph; rank = s.rank; issued = s.issued; renamed = s.renamed })
   split_some r r_is o s is tagged graph rank issued none =
       let are = some_then o s is (λ x. AreRenamed (graph_in m.graph) IsOff last x.renamed.items) tagged in
       let rank_then = some_then o s is (λ x. x.rank.items ≡ split_rank x.renamed.items r) rank in
       let never : ¬ PassSerials (graph_in m.graph) IsOff last = λ past. (let both : true ≡ false = sym (ap is_some is) ∙ none.1 past in absurd cc) in (
-        s.renamed.items,
         inl (are, never_passed (graph_in m.graph) IsOff last s.renamed.items are never),
         some_then o s is (λ x. Same (graph_in x.graph) (split_graph x.renamed.items (graph_in m.graph))) graph,
         rank_then ∙ ap (split_rank s.renamed.items) r_is,

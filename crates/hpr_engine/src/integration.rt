@@ -61,6 +61,7 @@ pub fn integrate(
         graph,
         rank,
         issued,
+        renamed: _,
     } = searched_for(alloc, graph, base, a, b)?;
     match rebuild(alloc, &graph, &rank, &issued, tries) {
         Ok(program) => Ok(program),

@@ -1,5 +1,5 @@
 //! What is searched for a program: the merged graph, with new tags for the parts that are split off.
-ghost use Rattle.std.specs.Prelude.{◌≡◌, ◌≤◌, true, length, Contains, IsTrue, IfOk};
+ghost use Rattle.std.specs.Prelude.{◌≡◌, ◌≤◌, true, [], length, Contains, IsTrue, IfOk};
 ghost use Rattle.std.specs.List.{AllByRecursion};
 ghost use Rattle.hpr_syntax.specs.Shape.{IsProgram};
 ghost use Rattle.hpr_graph.specs.Answer.{merged_of, merged_of_all};
@@ -14,7 +14,7 @@ ghost use Rattle.hpr_engine.specs.Searched.{IsSearched, IsSearchedOf, IsSplitFro
 
 use crate::issued::{issued_numbers, issued_numbers_of_all};
 use crate::kept::{kept, kept_of_all};
-use hpr_graph::{Graph, NoMemory, Vertex};
+use hpr_graph::{Graph, NoMemory, Tag, Vertex};
 use hpr_order::{rank, rank_of_all};
 use hpr_split::{SplitTags, split};
 use hpr_syntax::proper::read_issued;
@@ -31,6 +31,8 @@ pub struct Searched {
     pub rank: Vec<Vertex>,
     /// The issued numbers that the program gets.
     pub issued: Issued,
+    /// The parts that got new tags, as they were, in the order of vertices, each with its new tag.
+    pub renamed: Vec<(Vertex, Tag)>,
 }
 
 /// What is searched for two variants and their base, of which this is the merged graph: of two parts of it
@@ -59,6 +61,7 @@ pub fn searched_for(
         graph,
         rank,
         issued,
+        renamed: Vec::new(alloc),
     };
     split_off(alloc, merged, &keep)
 }
@@ -89,6 +92,7 @@ pub fn searched_for_all(
         graph,
         rank,
         issued,
+        renamed: Vec::new(alloc),
     };
     split_off(alloc, merged, &keep)
 }
@@ -97,6 +101,7 @@ pub fn searched_for_all(
 /// marked nothing is copied.
 fn split_off(alloc: Global, merged: Searched, keep: &[bool]) -> Result<Searched, NoMemory>
     requires keep { length keep.now ≡ length merged.graph.vertices }
+    requires none_yet { merged.renamed.items ≡ [] }
     requires ranking { IsRanking (graph_in merged.graph) merged.rank.items }
     requires serials { AreIssuedAmong (Contains merged.rank.items) merged.issued }
     ensures split { IfOk result (λ s. IsSplitFrom merged (IsUnmarked merged.graph keep.now) s) }
@@ -113,12 +118,13 @@ fn split_off(alloc: Global, merged: Searched, keep: &[bool]) -> Result<Searched,
                 graph,
                 rank,
                 issued,
-                renamed: _,
+                renamed,
             },
         ) => Ok(Searched {
             graph,
             rank,
             issued,
+            renamed,
         }),
         None => Ok(merged),
     }

@@ -74,6 +74,7 @@ pub fn integrate_many(
         graph,
         rank,
         issued,
+        renamed: _,
     } = searched_for_all(alloc, graph, base, variants)?;
     match rebuild(alloc, &graph, &rank, &issued, tries) {
         Ok(program) => Ok(program),

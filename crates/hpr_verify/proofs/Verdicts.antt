@@ -33,8 +33,8 @@ first_of_more (p ∷ ps) qs (suc n) h = (h.0, first_of_more ps qs n h.1)
 
 -- how the graph of the offered program differs from what is searched, by the graphs that were made
 pub judged_from : (base a b offered : Tree) (g : Numbered) (s : Searched) (v : Verdict) → Same (graph_in g) (graph_of offered) → IsSearched base a b s → IsDifference (graph_in g) (graph_in s.graph) v → IsJudged base a b offered v
-judged_from base a b offered g s v made (rs, split, same, ranked, numbers) is =
-    (rs, split, difference_same (graph_in g) (graph_of offered) (graph_in s.graph) (searched_graph_of rs base (a ∷ b ∷ [])) made same v is)
+judged_from base a b offered g s v made (split, same, ranked, numbers) is =
+    (s.renamed.items, split, difference_same (graph_in g) (graph_of offered) (graph_in s.graph) (searched_graph_of s.renamed.items base (a ∷ b ∷ [])) made same v is)
 
 module _ (base a b offered : Tree) where
   abbrev Is : Verdict → Type 0

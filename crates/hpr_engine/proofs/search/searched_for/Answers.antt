@@ -34,7 +34,7 @@ returns-clause-searched c =
     let a = c.args.a.now in
     let b = c.args.b.now in
     let keep = c.deref.result.now in
-    let merged : Searched = record { graph = c.args.graph; rank = c.in_ok-rank.rank; issued = c.in_ok-issued.issued } in
+    let merged : Searched = record { graph = c.args.graph; rank = c.in_ok-rank.rank; issued = c.in_ok-issued.issued; renamed = c.new.result } in
     IfOk-weaker c.split_off.result (λ s. IsSplitFrom merged (IsUnmarked c.args.graph keep) s) (λ s. IsSearched base a b s)
     (λ s made.
     searched_from base (a ∷ b ∷ []) (omega arith) keep merged s c.requires c.in_ok-rank.ensures c.in_ok-issued.ensures.numbers

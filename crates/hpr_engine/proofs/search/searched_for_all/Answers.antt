@@ -31,7 +31,7 @@ returns-clause-searched c =
     let base = c.args.base.now in
     let vs = c.args.variants.now in
     let keep = c.deref.result.now in
-    let merged : Searched = record { graph = c.args.graph; rank = c.in_ok-rank.rank; issued = c.in_ok-issued.issued } in
+    let merged : Searched = record { graph = c.args.graph; rank = c.in_ok-rank.rank; issued = c.in_ok-issued.issued; renamed = c.new.result } in
     IfOk-weaker c.split_off.result (λ s. IsSplitFrom merged (IsUnmarked c.args.graph keep) s) (λ s. IsSearchedOf base vs s)
     (λ s made.
     searched_from base vs c.requires.least keep merged s c.requires.graph c.in_ok-rank.ensures c.in_ok-issued.ensures.numbers

@@ -26,14 +26,14 @@ returns-in-Some-clause-issued c =
     some_issued c.in_ok-graph.field-0 c.in-Some.field-0 c.in-Some.is is.ranked is.serials
 
 pub returns-in-None-clause-split : goal.returns-in-None-clause-split
-returns-in-None-clause-split c = split_none c.args.merged c.args.keep.now (c.in_ok-graph.ensures.none.0 (ap is_some c.in-None.is))
+returns-in-None-clause-split c = split_none c.args.merged c.args.keep.now c.requires.none_yet (c.in_ok-graph.ensures.none.0 (ap is_some c.in-None.is))
 
 pub returns-in-None-clause-issued : goal.returns-in-None-clause-issued
 returns-in-None-clause-issued c = λ t d has. c.requires.serials t d (c.requires.ranking.all t d has)
 
 pub returns-then-are_kept-clause-split : goal.returns-then-are_kept-clause-split
 returns-then-are_kept-clause-split c =
-    split_nothing c.args.merged c.args.keep.now c.read_issued.ensures.numbers c.vertices.result.now c.vertices.ensures.vertices (c.are_kept.ensures c.if-are_kept.true)
+    split_nothing c.args.merged c.args.keep.now c.requires.none_yet c.read_issued.ensures.numbers c.vertices.result.now c.vertices.ensures.vertices (c.are_kept.ensures c.if-are_kept.true)
 
 pub returns-then-are_kept-clause-issued : goal.returns-then-are_kept-clause-issued
 returns-then-are_kept-clause-issued c = λ t d has. c.requires.serials t d (c.requires.ranking.all t d has)
