@@ -14,8 +14,10 @@
 -- Places ask files printed  == `at`: the file has so many bytes, and printed is the line and the column
 -- renewal file bytes p      == what the file with these bytes is to get for the canonical text of the program
 --                              p: that, or nothing where it has it
--- Renews ask files s w      == `fmt --in-place`: where the status s is Done the file spells a program, and it
---                              got its renewal; else no file got anything, as in all other calls
+-- RenewsFile file bytes s w == where the status s is Done, the file with these bytes spells a program, and it
+--                              got its renewal; else no file got anything
+-- Renews ask files s w      == `fmt --in-place`: that is so of the file; in all other calls no file got
+--                              anything
 -- Tags ask files printed    == `tag`: with the author's tags the file spells a program, and so does printed
 use Rattle.std.specs.Prelude.{◌≡◌, ◌≢◌, ℕ, ◌≤◌, List, ◌++◌, length, map, None, Option, Some, String, string_bytes, codes, if◌then◌else◌}
 use Rattle.std.specs.Str.{bytes_eq}
