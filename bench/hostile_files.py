@@ -1,5 +1,7 @@
 """Files that nobody writes, but that the limits allow: for each title of CASES a function that takes by how much they are smaller than
-the limits allow, and returns the texts of the files by their names, and the words of some calls."""
+the limits allow, and returns the texts of the files by their names, and the words of some calls of hpr; KIT_CASES has the same of hprkit."""
+import re
+
 from programs import Program, spell
 
 MOST_BYTES, MOST_PARTS = 4 << 20, 4000
@@ -281,6 +283,169 @@ def falling_authors(of):
     return {"header": f"program issued {header} end()\n", "tags": f"program {tags}end()\n"}, [["run", "header"], ["run", "tags"]]
 
 
+# ---- names and edges chosen to be slow
+
+
+MASK, MULTIPLIER = 2**64 - 1, 0x9E3779B97F4A7C15
+
+
+def folded(a, b):
+    return (a * b & MASK) ^ (a * b >> 64)
+
+
+def hash_of(text):
+    """The 32 bits by which an index looks a name of 4 to 8 letters up: what the toolchain's FoldHasher makes of it and of a byte 255."""
+    word = int.from_bytes(text[:4], "little") | int.from_bytes(text[-4:], "little") << 32
+    state = folded(folded(0x243F6A8885A308D3 ^ word, MULTIPLIER ^ 2 * len(text)) ^ 0xFFFFFF, MULTIPLIER ^ 2)
+    return (state ^ state >> 32) & 0xFFFFFFFF
+
+
+def crowded_names(count):
+    """So many names that an index of them and of as many others looks for in an eighth of its groups, which lie one behind another."""
+    groups = 1
+    while 9 * groups < 2 * count:
+        groups *= 2
+    found, at = [], len(DIGITS) ** 2
+    while len(found) < count:
+        text = name(at)
+        if hash_of(text.encode()) & groups - 1 < max(groups // 8, 1):
+            found.append(text)
+        at += 1
+    return found
+
+
+def crowded(of):
+    """All names at `end`, chosen so that their hashes are alike. An index that goes on to the next place passes all that came before."""
+    text = spell("", [], crowded_names(300000 // of)).replace("issued \n", "")
+    return {"f": text}, [["slice", "f", "entry"], ["graph", "f"]]
+
+
+def round_a_loop(count, read):
+    """A loop in which three parts, of which A changes the first and B the last, may give x a value, and the parts behind them read these and
+    one another: the part number k those that `read` tells of it. The least edges of all conflicts are order edges."""
+
+    def text(changed):
+        lines = ["1.1: while c do"]
+        for at in range(3):
+            lines += [f"1.{2 * at + 2}: if p then", f"1.{2 * at + 3}: x := {at + 100 if at == changed else at};", "fi"]
+        for at in range(count):
+            others = [name(other) for other in read(at) if 0 <= other < count]
+            lines.append(f"1.{at + 8}: {name(at)} := {'+'.join(['x'] * (at == 0) + others) or '1'};")
+        return spell(f"1:{count + 7}", [*lines, "od"], [name(count - 1)])
+
+    return three(text(None), text(0), text(2))
+
+
+def both_ways(of):
+    """Each part reads the one before it, and many behind it: values go round the loop in both directions, in one of them by one part a turn."""
+    return round_a_loop(3700 // of, lambda at: [at - 1, *range(at + 1, at + 1 + 100 // of)])
+
+
+def to_and_fro(of):
+    """Each part reads the one behind it, and beside that one of the other half: the longest way goes to and fro between the halves."""
+    half = 1850 // of
+    return round_a_loop(2 * half, lambda at: [at + 1, at - half if at >= half else at + half - 1])
+
+
+# ---- what is told at length
+
+
+def long_sum():
+    """An expression of 255 operators and the longest names: one operator fewer than there may be."""
+    return "+".join(f"{'n' * 60}{at:04}" for at in range(256))
+
+
+def long_conflicts(of):
+    """The 7,800 conflicts of above, where the edge of each lies between parts of 17,000 bytes."""
+    files, calls = skipped(3, ["y := x;"] * (3900 // of), 2)
+    return {file: re.sub(r"x := (\d+);", rf"x := {long_sum()}*\1;", text) for file, text in files.items()}, calls
+
+
+def long_edges(of):
+    """As many flow edges as there may be, all of which carry one name of 64 bytes."""
+    files, _ = parted_definitions(of)
+    return {file: re.sub(r"\bx\b", "x" * 64, text) for file, text in files.items()}, [["graph", "f"], ["graph", "f", "--json"]]
+
+
+# ---- sixteen variants
+
+
+def own_edges(author, of):
+    """The lines of parts of one author, with close to a million edges, and how many parts there are."""
+    lines, serial, one = [], 0, f"x{author}"
+    for _ in range(max(62 // of, 1)):
+        lines += [f"{author}.{serial + 1}: if p then", f"{author}.{serial + 2}: {one} := 1;", "fi"]
+        serial += 2
+    lines += [f"{author}.{serial + at}: y{author} := {one};" for at in range(1, 501)]
+    return lines, serial + 500
+
+
+def sixteen(base, variant):
+    """Sixteen variants of a base, which the function tells."""
+    files = {"base": base} | {f"v{at}": variant(at) for at in range(1, 17)}
+    return files, [["integrate", *files]]
+
+
+def wide_variants(of):
+    """Each adds close to a million edges of its own, and gives x another value."""
+
+    def variant(at):
+        lines, count = own_edges(at + 1, of)
+        return spell(f"1:1, {at + 1}:{count}", [f"1.1: x := {at};", *lines], ["x"])
+
+    return sixteen(spell("1:1", ["1.1: x := 0;"], ["x"]), variant)
+
+
+def many_variants(of):
+    """Each changes a part that all others read: 62,000 conflicts."""
+
+    def variant(at):
+        lines = [f"1.{part}: x{part} := {at if part == at else 0};" for part in range(1, 17)]
+        first = "+".join(f"x{part}" for part in range(1, 17))
+        lines += [f"1.{part}: y := {first if part == 17 else 'y'};" for part in range(17, 3900 // of)]
+        return spell(f"1:{max(3899 // of, 17)}", lines, ["y"])
+
+    return sixteen(variant(0), variant)
+
+
+# ---- what hprkit reads and prints
+
+
+def of_kit(made, *calls):
+    """The files of another case, with these calls."""
+    return lambda of: (made(of)[0], [list(call) for call in calls])
+
+
+def many_signs(of):
+    """A text of signs alone, each of which is looked at for tags."""
+    return {"f": "program " + ";" * (MOST_BYTES // of - 8)}, [["tag", "f", "--author", "1", "--keep"], ["fmt", "f"]]
+
+
+def far_apart(of):
+    """Parts in conditionals as deep as may be, with a comment in front of each and of each `fi`."""
+    gap = f"#{' then ; ' * (MOST_BYTES // of // 8 // 8200)}\n"
+    lines, serial = [], 0
+    while serial < 3900:
+        lines += [f"{gap}1.{serial + at}: if x then" for at in range(1, 64)]
+        lines += [f"{gap}1.{serial + 64}: x := 1;"] + [f"{gap}fi"] * 63
+        serial += 64
+    text = spell(f"1:{serial}", lines, ["x"])
+    bare = re.sub(r"\b1\.\d+: ", "", text)
+    return {"f": text, "bare": bare}, [["impact", "f", "1.1", "--marks"], ["graph", "f", "--json"], ["tag", "bare", "--author", "1", "--keep"]]
+
+
+def points_of_kit(of):
+    """What many points reach."""
+    files, calls = points(of)
+    return files, [["impact", *calls[0][1:], *form] for form in ([], ["--json"], ["--marks"])]
+
+
+def all_affected(of):
+    """Each part is affected, through many edges."""
+    files, _ = round_a_loop(3700 // of, lambda at: [at - 1, *range(at + 1, at + 1 + 100 // of)])
+    return files, [["affected", "base", "a"]]
+
+
 CASES = {
     "330,000 names of `end`": end_names,
     "3,980 parts, each with 125 names of its own": free_names,
@@ -306,4 +471,21 @@ CASES = {
     "`move`, of the last of 3,980 parts": moves,
     "100,000 points": points,
     "authors in falling order": falling_authors,
+    "300,000 names of `end` with hashes that are alike": crowded,
+    "3,700 parts that read one another both ways round a loop, 7,400 conflicts": both_ways,
+    "the same, to and fro between the halves": to_and_fro,
+    "7,800 conflicts, each told with parts of 17,000 bytes": long_conflicts,
+    "870,000 edges, each told with a name of 64 bytes": long_edges,
+    "sixteen variants, each with a million edges of its own": wide_variants,
+    "62,000 conflicts of sixteen variants": many_variants,
+}
+
+KIT_CASES = {
+    "870,000 edges, each told with a name of 64 bytes": of_kit(long_edges, ["graph", "f", "--dot"], ["graph", "f", "--json"]),
+    "7,800 conflicts, each told with parts of 17,000 bytes": of_kit(long_conflicts, ["conflicts", "base", "a", "b"]),
+    "62,000 conflicts of sixteen variants": of_kit(many_variants, ["conflicts", "base", *(f"v{at}" for at in range(1, 17))]),
+    "3,700 parts, all affected through many edges": all_affected,
+    "4 MB of signs": many_signs,
+    "4,000 parts among 4 MB of comments, 64 deep": far_apart,
+    "100,000 points": points_of_kit,
 }
