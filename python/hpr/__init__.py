@@ -61,7 +61,7 @@ class Status(enum.IntEnum):
     NOT_ENDED = 9
     #: an offered program hasn't the merged graph
     REJECTED = 10
-    #: a word or a name has a zero byte in it
+    #: a word or a name has a zero byte in it, or is no Unicode
     FORM = 64
 
 
@@ -167,10 +167,14 @@ def integrate(base: bytes, a: bytes, b: bytes) -> Answer:
 
 
 def _given(words: Sequence[str], files: Mapping[str, bytes]) -> Optional[List[Any]]:
-    """Words and files as the library takes them, if no zero byte stands in a word or a name."""
+    """Words and files as the library takes them, if no zero byte stands in a word or a name and each is Unicode."""
     if any("\0" in text for text in (*words, *files)):
         return None
-    line, names, contents = _packed(words), _packed(files), b"".join(files.values())
+    try:
+        line, names = _packed(words), _packed(files)
+    except UnicodeEncodeError:
+        return None
+    contents = b"".join(files.values())
     lengths = (ctypes.c_size_t * len(files))(*map(len, files.values()))
     return [line, len(line), names, len(names), lengths, len(files), contents, len(contents)]
 
