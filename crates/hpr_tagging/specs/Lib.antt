@@ -2,3 +2,4 @@ pub mod Lexemes
 pub mod Tagging
 pub mod Answers
 pub mod Laws
+pub mod Gaps

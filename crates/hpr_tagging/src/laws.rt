@@ -1,4 +1,5 @@
 //! Laws of the tags that a text gets.
+ghost use Rattle.hpr_tagging.specs.Gaps.{FilledGaps};
 ghost use Rattle.hpr_tagging.specs.Laws.{ChangesInOrder, NewSerials, TaggedStays};
 
 /// What is put into a text, and the number of the header that gives way, stand in the order of the text,
@@ -16,4 +17,11 @@ pub fn new_serials()
 /// A text without such a part stays as it is.
 pub fn tagged_stays()
     ensures { TaggedStays }
+{}
+
+/// Where a part has no tag is told by three lexemes: in parts of the grammar in which tags may be left out, a
+/// tag is put in exactly where one is left out, the serials follow one another in preorder, and the tokens
+/// that come out spell the parts in the tagged form. Every other token stays.
+pub fn filled_gaps()
+    ensures { FilledGaps }
 {}
