@@ -242,15 +242,23 @@ record Starts (content : List Token) : Type 0 where
 
 action_starts : {content : List Token} {d : Action} → SpellsAction content d → Starts content
 action_starts (assignment {x = x} {value = value} h) = record {
-  first = Name x; inside = Mark sign.Becomes ∷ value; is = refl;
-  begins = record { here = refl; before = λ y. refl; last = refl }; inner = inner_term h.0;
+  first = Name x;
+  inside = Mark sign.Becomes ∷ value;
+  is = refl;
+  begins = record { here = refl; before = λ y. refl; last = refl };
+  inner = inner_term h.0;
 }
 action_starts (write {value = value} h) = record {
-  first = Word keyword.Write; inside = value; is = refl;
-  begins = record { here = refl; before = λ y. refl; last = refl }; inner = inner_term h.0;
+  first = Word keyword.Write;
+  inside = value;
+  is = refl;
+  begins = record { here = refl; before = λ y. refl; last = refl };
+  inner = inner_term h.0;
 }
 action_starts (store x {index = index} {value = value} named h) = record {
-  first = Name x; inside = Mark sign.OpenSquare ∷ (index ++ (Mark sign.CloseSquare ∷ Mark sign.Becomes ∷ value)); is = refl;
+  first = Name x;
+  inside = Mark sign.OpenSquare ∷ (index ++ (Mark sign.CloseSquare ∷ Mark sign.Becomes ∷ value));
+  is = refl;
   begins = record { here = refl; before = λ y. refl; last = refl };
   inner = inner_append index (Mark sign.CloseSquare ∷ Mark sign.Becomes ∷ value) (inner_term h.0) (inner_term h.1);
 }
@@ -322,13 +330,20 @@ while_first = record { here = refl; before = λ y. refl; last = refl }
 gaps_filled : {a l n m : ℕ} {ts : List Token} {body : Body} → (x y : Kind) → may_begin x y ≡ true → SpellsGapped a l n m ts body
     → IsFilled a l n m x y ts body
 gaps_filled x y may nothing = record {
-  tokens = []; before = x; last = y; spelled = λ j. (j, grammar.nothing); ends = may; is = λ more. refl;
+  tokens = [];
+  before = x;
+  last = y;
+  spelled = λ j. (j, grammar.nothing);
+  ends = may;
+  is = λ more. refl;
 }
 gaps_filled {a = a} {n = n} {m = m} x y may (simple {l = l} {k = k} {t = t} {d = d} {label = label} {content = content} {more = ts} {rest = rest} g h more) =
     let p = action_heads a n k x y label t content may (action_starts h) g in
     let r = gaps_filled p.before kind.Opens refl more in
     record {
-      tokens = tag_tokens t ++ (content ++ (Mark sign.Semicolon ∷ r.tokens)); before = r.before; last = r.last;
+      tokens = tag_tokens t ++ (content ++ (Mark sign.Semicolon ∷ r.tokens));
+      before = r.before;
+      last = r.last;
       spelled = λ j. let s = r.spelled (j + 1) in (s.0, action_part (p.labels j) h s.1);
       ends = r.ends;
       is = headed_more a n k x y label content t (Mark sign.Semicolon) p ts r.tokens (filled a m r.before r.last) r.is;
@@ -340,7 +355,8 @@ gaps_filled {a = a} {n = n} {m = m} x y may
     let r = gaps_filled q.last kind.Opens refl more in
     record {
       tokens = tag_tokens t ++ (Word keyword.If ∷ (test ++ (Word keyword.Then ∷ (q.tokens ++ (Word keyword.Fi ∷ r.tokens)))));
-      before = r.before; last = r.last;
+      before = r.before;
+      last = r.last;
       spelled = λ i. let u = q.spelled (i + 1) in let v = r.spelled u.0 in (v.0, grammar.conditional (p.labels i) h u.1 v.1);
       ends = r.ends;
       is = headed_more a n k x y label (Word keyword.If ∷ test) t (Word keyword.Then) p (first ++ (Word keyword.Fi ∷ ts))
@@ -357,7 +373,8 @@ gaps_filled {a = a} {n = n} {m = m} x y may
     record {
       tokens = tag_tokens t ++ (Word keyword.If ∷ (test ++ (Word keyword.Then
           ∷ (q.tokens ++ (Word keyword.Else ∷ (w.tokens ++ (Word keyword.Fi ∷ r.tokens)))))));
-      before = r.before; last = r.last;
+      before = r.before;
+      last = r.last;
       spelled = λ f. let u = q.spelled (f + 1) in let v = w.spelled u.0 in let z = r.spelled v.0 in
           (z.0, grammar.conditional_else (p.labels f) h u.1 v.1 z.1);
       ends = r.ends;
@@ -375,7 +392,8 @@ gaps_filled {a = a} {n = n} {m = m} x y may
     let r = gaps_filled q.last kind.Opens refl more in
     record {
       tokens = tag_tokens t ++ (Word keyword.While ∷ (test ++ (Word keyword.Do ∷ (q.tokens ++ (Word keyword.Od ∷ r.tokens)))));
-      before = r.before; last = r.last;
+      before = r.before;
+      last = r.last;
       spelled = λ i. let u = q.spelled (i + 1) in let v = r.spelled u.0 in (v.0, grammar.while_loop (p.labels i) h u.1 v.1);
       ends = r.ends;
       is = headed_more a n k x y label (Word keyword.While ∷ test) t (Word keyword.Do) p (inner ++ (Word keyword.Od ∷ ts))

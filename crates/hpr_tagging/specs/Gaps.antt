@@ -15,8 +15,8 @@
 -- MayLabel a n m ts t        == the tokens are the tag t and its colon, and m is n; or there are none, m is
 --                               n + 1, and t is the tag of a with the serial m
 -- SpellsAction ts d          == the tokens spell an assignment, an output or a store
--- SpellsGapped a l n m ts body == the tokens spell the parts of a block, with at most l levels of parts one in
---                               another; n is a's last serial before them, m behind them
+-- SpellsGapped a l n m ts body == the tokens spell the parts of a block, with at most l levels of parts one
+--                               in another; n is a's last serial before them, m behind them
 -- kind_at t                  == the kind of the token, of a sign that of its first byte
 -- before_last y t            == the kind in front of the token's last lexeme, where y stands before it
 -- last_kind t                == the kind of that lexeme
