@@ -1,11 +1,10 @@
 -- Three lexemes tell where a part has no tag.
-use Rattle.std.proofs.Common.{◌≡◌, ℕ, suc, ◌+◌, Bool, true, false, ◌&&◌, cond, ltb, List, [], ◌∷◌, ◌++◌, append_assoc, refl, sym, ap, subst, ◌∙◌, arith}
+use Rattle.std.proofs.Common.{◌≡◌, ℕ, suc, ◌+◌, Bool, true, false, cond, ltb, List, [], ◌∷◌, ◌++◌, append_assoc, refl, sym, ap, subst, ◌∙◌, arith}
 use Rattle.std.specs.List.{list_all}
 use Rattle.std.proofs.lemmas.List.Folds.{list_all-append}
 use Rattle.hpr_terms.proofs.Facts.{and_both, and_false}
 use Rattle.hpr_terms.specs.declared.limits.TheConstants.{TAG_NUMBERS}
 use Rattle.hpr_terms.specs.declared.tag.Tag.{Tag}
-use Rattle.hpr_terms.specs.declared.expr.Expr.{Expr}
 use Rattle.hpr_terms.specs.declared.expr.Binary.{Binary}
 use Rattle.hpr_terms.specs.declared.expr.Unary.{Unary}
 use Rattle.hpr_terms.specs.declared.keyword.Keyword.TheVariants as keyword
@@ -14,12 +13,12 @@ use Rattle.hpr_terms.specs.declared.token.Token.{Token}
 use Rattle.hpr_terms.specs.declared.token.Token.TheVariants.{Word, Name, Number, Mark}
 use Rattle.hpr_terms.specs.Term.{Term}
 use Rattle.hpr_syntax.specs.Action.{Action}
-use Rattle.hpr_syntax.specs.Body.{Body, done, action, branch, loop}
+use Rattle.hpr_syntax.specs.Body.{Body, action}
 use Rattle.hpr_syntax.specs.Grammar as grammar
 use Rattle.hpr_syntax.specs.Grammar.{Rule, IsTag, SpellsExpr, SpellsTerm, SpellsParts, Labels, Joins, Compares, Prefixes, tagged}
 use Rattle.hpr_tagging.specs.declared.lexemes.Kind.{Kind}
 use Rattle.hpr_tagging.specs.declared.lexemes.Kind.TheVariants as kind
-use Rattle.hpr_tagging.specs.Tagging.{is_colon, begins_part, lacks_tag, lacking}
+use Rattle.hpr_tagging.specs.Tagging.{is_colon, begins_part, lacks_tag}
 use Rattle.hpr_tagging.specs.Gaps.{tag_tokens, next_tag, MayLabel, stands, lacks, SpellsAction, assignment, write, store, SpellsGapped, nothing, simple, conditional, conditional_else, while_loop, kind_at, before_last, last_kind, labelled, filled, may_begin, IsFilled}
 
 -- ---- where no tag is put in
