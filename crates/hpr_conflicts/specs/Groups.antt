@@ -2,9 +2,8 @@
 -- in the order of the first conflicts.
 --
 -- AreAlike c d         == the conflicts are of one variant, and one edge explains them
--- AreNumbers cs ns m   == for each conflict the number of its group: alike conflicts, and no others, have one
---                         number; these are the m numbers from 0, each is used, and none before the lesser
---                         ones are
+-- AreNumbers cs ns m   == for each conflict the number of its group: alike conflicts have one number, each of
+--                         the m numbers is used, and none before the lesser ones are
 -- AreRows ns m rows    == for each of the m numbers the places at which it stands, ascending
 use Rattle.std.specs.Prelude.{◌≡◌, ℕ, ◌<◌, ◌↔◌, Some, List, Contains, length, slice_get}
 use Rattle.std.specs.List.Sorted.{IsStrictlyIncreasing}

@@ -7,7 +7,7 @@
 -- gets v x           == how the vertex v gets the name x
 -- branch_text label v == where the test of v comes out so
 -- flow_text x from to == the name x flows from one vertex to the other
--- meaning_by k from to, meaning e == what an edge of this kind between these vertices, or the edge, says
+-- meaning e          == what the edge says
 -- points_text vs     == three of these vertices at most, and the number of the rest
 -- sentence file e vs == that an edge matters to these points beside the other changes, and not in the file
 --                      alone, where it may stand without reaching them; and what it says

@@ -23,8 +23,8 @@
 -- edges_text out es   == the lines of these edges, in order
 -- looks               == how vertices and what stands beside edges look
 -- dot_text out ps vs es == the picture of these parts, the other ones of these vertices, and these edges
--- IsPicture out p g text == the text is the picture of the entry, of the parts of the program p, and of the
---                        Inits, the Finals and the edges of the graph g, which stand in their order
+-- IsPicture out p g text == the text is the picture of the graph of the program p, whose vertices and edges
+--                        stand in their order
 use Rattle.std.specs.Prelude.{◌≡◌, ℕ, ◌==◌, Bool, true, false, not, ◌||◌, if◌then◌else◌, None, List, [], ◌∷◌, ◌++◌, map, filter, flat_map, take, codes}
 use Rattle.hpr_terms.specs.Texts.{tag_text}
 use Rattle.hpr_syntax.specs.Rows.{rows_of}

@@ -5,8 +5,8 @@
 --                         its point is reached, the next is that of the point where it begins, and the k-th
 --                         has none
 -- AreReasons g base rs == the affected points of the variant's graph g in their order, each with its reason:
---                         exactly the directly affected points have no edge, each edge is a control or flow
---                         edge of g into its point, and the edges lead back to the root
+--                         none but a directly affected point has no edge, each edge is a control or flow edge
+--                         of g into its point, and the edges lead back to the root
 use Rattle.std.specs.Prelude.{◌≡◌, ℕ, suc, ◌↔◌, Some, None, List, Contains, map, slice_get}
 use Rattle.hpr_graph.specs.declared.vertex.Vertex.{Vertex}
 use Rattle.hpr_graph.specs.declared.edge.Edge.{Edge}

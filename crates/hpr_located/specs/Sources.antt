@@ -8,7 +8,6 @@
 --                      first such part does
 -- standing_of s     == the file that a source is
 -- Spot              == the name of a file, and where something stands in its text
--- spot_in f l spot  == this place in the file f, if there is one; else the spot
 -- spot_of ss v      == where v stands in the first of the files in which it stands, if it stands in one
 use Rattle.std.specs.Prelude.{ℕ, List, [], ◌∷◌, map, zip, None, Option, Some, string_bytes}
 use Rattle.std.specs.BTreeMap.{is_at}
