@@ -14,6 +14,7 @@ mod search;
 mod slices;
 mod spelled;
 mod split;
+mod tries;
 mod walk;
 
 use hpr_rows::{Calls, Out, Row, Sheet, take};

@@ -11,6 +11,7 @@ ghost use Rattle.hpr_rebuild.specs.Parts.{IsIssuedPart};
 use crate::graph::{put_vertex, put_vertices};
 use crate::spelled::{graph, program_graph};
 use crate::split;
+use crate::tries::{clash, tries_made};
 use hpr_graph::{Graph, Vertex};
 use hpr_merge::merge;
 use hpr_order::{Arrangements, OrderError, RegionTree, arrange, parts, rank, regions};
@@ -37,6 +38,8 @@ fn of_graph(row: Row<'_>, out: &mut Out) -> Option<()> {
     match row.word(1)? {
         "regions" => put_regions(row.alloc, out, &graph),
         "rebuild" => found(row, out, &graph)?,
+        "tries" => tries_made(row, out, &graph)?,
+        "clash" => clash(row, out, &graph)?,
         _ => in_regions(row, out, &graph)?,
     }
     Some(())
@@ -134,8 +137,8 @@ fn raise(issued: &mut Issued, vertex: &Vertex) -> Option<()> {
     }
 }
 
-// The numbers that the parts of a graph need.
-fn issued_of(alloc: Global, graph: &Graph) -> Option<Issued> {
+/// The numbers that the parts of a graph need.
+pub(crate) fn issued_of(alloc: Global, graph: &Graph) -> Option<Issued> {
     let mut issued = Issued::new(alloc);
     for vertex in graph.vertices() {
         raise(&mut issued, vertex)?;
