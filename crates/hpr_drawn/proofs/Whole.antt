@@ -11,12 +11,12 @@ use Rattle.hpr_graph.specs.declared.vertex.Vertex.TheVariants.{Entry, Init, Part
 use Rattle.hpr_graph.specs.declared.edge.Kind.{Kind}
 use Rattle.hpr_graph.specs.declared.edge.Kind.TheVariants.{Control, Independent, Carried, Order}
 use Rattle.hpr_graph.specs.declared.edge.Edge.{Edge}
-use Rattle.hpr_graph.specs.Graphs.{name_of}
+use Rattle.hpr_graph.specs.Graphs.{Graph, name_of}
 use Rattle.hpr_report.specs.GraphJson.{edge_data, kind_data}
 use Rattle.hpr_json.specs.Vertices.{vertex_data}
 use Rattle.hpr_located.specs.Sources.{Standing, Spot, spot_of}
 use Rattle.hpr_located.specs.Shown.{with_member, with_place, located_data}
-use Rattle.hpr_drawn.specs.Told.{AreTold, names_data, told_data, told_graph}
+use Rattle.hpr_drawn.specs.Told.{AreListed, AreTold, graph_object, names_data, told_data, told_graph}
 
 either : (a b : Bool) → a ≡ false → b ≡ false → (a || b) ≡ false
 either a b e f = ap₂ (λ (a b : Bool). a || b) e f
@@ -79,5 +79,15 @@ edges_whole : (vs : List Vertex) (es : List Edge) → items_have_float (items_of
 edges_whole vs [] = refl
 edges_whole vs (e ∷ es) = either _ _ (kind_whole vs e.kind _ _) (edges_whole vs es)
 
-pub graph_whole : (ss : List Standing) (told vs : List Vertex) (es : List Edge) (ds : List Data) → AreTold ss told ds → has_float (told_graph vs es ds) ≡ false
-graph_whole ss told vs es ds h = either _ _ (edges_whole vs es) (either _ _ refl (either _ _ (vertices_whole ss told ds h) refl))
+module _ (ss : List Standing) (g : Graph) (es ds : List Data) (are : AreListed ss g es ds) where
+  lists_whole : (items_have_float (items_of es) ≡ false) × (items_have_float (items_of ds) ≡ false)
+  lists_whole = (
+    ap (λ (xs : List Data). items_have_float (items_of xs)) are.edges_told ∙ edges_whole are.vertices are.edges,
+    vertices_whole ss are.vertices ds are.told,
+  )
+
+  pub answer_whole : has_float (told_graph es ds) ≡ false
+  answer_whole = either _ _ lists_whole.0 (either _ _ refl (either _ _ lists_whole.1 refl))
+
+  pub object_whole : has_float (graph_object es ds) ≡ false
+  object_whole = either _ _ lists_whole.0 (either _ _ lists_whole.1 refl)

@@ -7,9 +7,12 @@
 --                        names xs, which it uses
 -- IsTold ss v d       == the object tells the vertex v
 -- AreTold ss vs ds    == the objects tell these vertices, in order
--- told_graph vs es ds == these edges, whose vertices are named by their places in the list vs, and these
---                        objects of the vertices
--- IsToldGraph ss g d  == d tells the vertices and the edges of the graph, in their order
+-- AreListed ss g es ds == es tell the edges of the graph, whose vertices are named by their places in the
+--                        list of the vertices, and ds tell these; both in their order
+-- graph_object es ds  == an object with these edges and these vertices
+-- told_graph es ds    == the same with the status of an answer
+-- IsGraphObject ss g d == d tells the vertices and the edges of the graph
+-- IsToldGraph ss g d  == so does d, with the status of an answer
 use Rattle.std.specs.Prelude.{◌≡◌, ℕ, List, [], ◌∷◌, map, codes, Contains, ◌↔◌, option_to_list}
 use Rattle.std.specs.List.Sorted.{IsStrictlySortedBy}
 use Rattle.serde_json.specs.Data.{Data, string, array, object, member, no_members}
@@ -52,17 +55,29 @@ AreTold ss [] (d ∷ ds) = ⊥
 AreTold ss (v ∷ vs) [] = ⊥
 AreTold ss (v ∷ vs) (d ∷ ds) = IsTold ss v d × AreTold ss vs ds
 
-abbrev pub told_graph : List Vertex → List Edge → List Data → Data
-told_graph vs es ds =
-    object
-    (member (codes "edges") (array (items_of (map (edge_data vs) es)))
-    (member (codes "status") (string (codes "done")) (member (codes "vertices") (array (items_of ds)) no_members)))
-
-pub record IsToldGraph (ss : List Standing) (g : Graph) (d : Data) : Type 0 where
+pub record AreListed (ss : List Standing) (g : Graph) (es ds : List Data) : Type 0 where
   pub vertices : List Vertex
   pub edges : List Edge
-  pub objects : List Data
   pub vertices_are : AreVerticesOf g vertices
   pub edges_are : AreEdgesOf g edges
-  pub told : AreTold ss vertices objects
-  pub data_is : d ≡ told_graph vertices edges objects
+  pub told : AreTold ss vertices ds
+  pub edges_told : es ≡ map (edge_data vertices) edges
+
+abbrev pub graph_object : List Data → List Data → Data
+graph_object es ds =
+    object
+    (member (codes "edges") (array (items_of es))
+    (member (codes "vertices") (array (items_of ds)) no_members))
+
+abbrev pub told_graph : List Data → List Data → Data
+told_graph es ds =
+    object
+    (member (codes "edges") (array (items_of es))
+    (member (codes "status") (string (codes "done"))
+    (member (codes "vertices") (array (items_of ds)) no_members)))
+
+abbrev pub IsGraphObject : List Standing → Graph → Data → Type 0
+IsGraphObject ss g d = (es ds : List Data) × AreListed ss g es ds × (d ≡ graph_object es ds)
+
+abbrev pub IsToldGraph : List Standing → Graph → Data → Type 0
+IsToldGraph ss g d = (es ds : List Data) × AreListed ss g es ds × (d ≡ told_graph es ds)

@@ -8,4 +8,4 @@ mod put;
 mod told;
 
 pub use dot::{LeftOut, dot_text};
-pub use told::graph_json;
+pub use told::{graph_json, graph_value};

@@ -1,13 +1,14 @@
 //! Graphs as JSON, with where their vertices stand and which names they define and use.
-ghost use Rattle.std.specs.Prelude.{◌≡◌, ◌∷◌, [], false, IfOk, codes, map, option_to_list};
-ghost use Rattle.serde_json.specs.Data.{array, member, no_members, object, string};
-ghost use Rattle.serde_json.specs.View.{items_view, view};
+ghost use Rattle.std.specs.Prelude.{◌≡◌, ◌∷◌, [], false, IfOk, map, option_to_list};
+ghost use Rattle.serde_json.specs.Data.{string};
+ghost use Rattle.serde_json.specs.View.{view};
 ghost use Rattle.serde_json.specs.Written.{has_float};
 ghost use Rattle.hpr_terms.specs.declared.tag.Tag.{Tag};
 ghost use Rattle.hpr_graph.specs.Graphs.{name_of};
 ghost use Rattle.hpr_graph.specs.Numbered.{graph_in};
 ghost use Rattle.hpr_located.specs.Sources.{standing_of};
-ghost use Rattle.hpr_drawn.specs.Told.{AreTold, AreUses, IsTold, IsToldGraph, names_data};
+ghost use Rattle.hpr_drawn.specs.Told.{AreListed, AreTold, AreUses, IsGraphObject, IsTold, IsToldGraph};
+ghost use Rattle.hpr_drawn.specs.Told.{graph_object, names_data, told_graph};
 
 use hpr_graph::{Content, Graph, Name, NoMemory, Vertex};
 use hpr_json::{edge_values, put_text};
@@ -25,22 +26,69 @@ pub fn graph_json(alloc: Global, graph: &Graph, sources: &[Source]) -> Result<Va
     ensures data { IfOk result (λ value. IsToldGraph (map standing_of sources.now) (graph_in graph.now) (view value)) }
     ensures whole { IfOk result (λ value. has_float (view value) ≡ false) }
 {
+    let listed = listed(alloc, graph, sources)?;
+    Ok(listed_answer(alloc, listed)?)
+}
+
+/// A graph as [`graph_json`] has it, without a status: for an object that tells a graph beside other things. It fails
+/// only for want of memory.
+pub fn graph_value(alloc: Global, graph: &Graph, sources: &[Source]) -> Result<Value, NoMemory>
+    ensures data { IfOk result (λ value. IsGraphObject (map standing_of sources.now) (graph_in graph.now)
+        (view value)) }
+    ensures whole { IfOk result (λ value. has_float (view value) ≡ false) }
+{
+    let listed = listed(alloc, graph, sources)?;
+    Ok(listed_object(alloc, listed)?)
+}
+
+/// What is listed of a graph.
+#[derive(Drop)]
+struct Lists {
+    edges: Vec<Value>,
+    vertices: Vec<Value>,
+}
+
+/// The objects of the edges and of the vertices of a graph.
+fn listed(alloc: Global, graph: &Graph, sources: &[Source]) -> Result<Lists, NoMemory>
+    ensures { IfOk result (λ listed. AreListed (map standing_of sources.now) (graph_in graph.now)
+        (map view listed.edges.items) (map view listed.vertices.items)) }
+{
     let graph = graph.in_order()?;
     let vertices = told_values(alloc, graph.vertices(), sources)?;
     let edges = edge_values(alloc, &graph)?;
-    Ok(listed_graph(alloc, vertices, edges)?)
+    Ok(Lists { edges, vertices })
 }
 
-/// An object with these vertices and these edges.
-fn listed_graph(alloc: Global, vertices: Vec<Value>, edges: Vec<Value>) -> Result<Value, AllocError>
-    ensures { IfOk result (λ value. view value ≡ object (member (codes "edges") (array (items_view edges.items))
-        (member (codes "status") (string (codes "done"))
-        (member (codes "vertices") (array (items_view vertices.items)) no_members)))) }
+/// The object of these lists with the status of an answer.
+fn listed_answer(alloc: Global, listed: Lists) -> Result<Value, AllocError>
+    ensures { IfOk result (λ value. view value
+        ≡ told_graph (map view listed.edges.items) (map view listed.vertices.items)) }
 {
     let mut members = Map::new(alloc);
-    put(&mut members, alloc, "edges", Value::Array(edges))?;
+    put(&mut members, alloc, "edges", Value::Array(listed.edges))?;
     put_text(alloc, &mut members, "status", "done")?;
-    put(&mut members, alloc, "vertices", Value::Array(vertices))?;
+    put(
+        &mut members,
+        alloc,
+        "vertices",
+        Value::Array(listed.vertices),
+    )?;
+    Ok(Value::Object(members))
+}
+
+/// The object of these lists.
+fn listed_object(alloc: Global, listed: Lists) -> Result<Value, AllocError>
+    ensures { IfOk result (λ value. view value
+        ≡ graph_object (map view listed.edges.items) (map view listed.vertices.items)) }
+{
+    let mut members = Map::new(alloc);
+    put(&mut members, alloc, "edges", Value::Array(listed.edges))?;
+    put(
+        &mut members,
+        alloc,
+        "vertices",
+        Value::Array(listed.vertices),
+    )?;
     Ok(Value::Object(members))
 }
 
