@@ -12,7 +12,7 @@ use Rattle.hpr_refusals.specs.Refusals.{IsFileOf}
 use Rattle.hpr_refusals.specs.declared.files.Refusal.TheVariants.{Longer}
 use Rattle.hpr_tagging.specs.Tagging.{kept}
 use Rattle.hpr_words.proofs.RowLemmas.{is_same, same_text}
-use Rattle.hprkit_words.specs.Ask.{Ask, affected, conflicts, format, graph, help, impact, place, tag, version}
+use Rattle.hprkit_words.specs.Ask.{Ask, affected, conflicts, format, graph, help, impact, merge, place, tag, version}
 use Rattle.hprkit_words.specs.declared.forms.FormatForm.TheVariants as form
 use Rattle.hpr_kit.specs.Answer.{Answer, beyond_text, denies, differs_text, prints, refused_text, refuses, rewrites}
 use Rattle.hpr_kit.specs.Comes.{Comes, OnTagged, checked, formatted, placed, retold}
@@ -22,7 +22,7 @@ use Rattle.hpr_kit.specs.Ends.{Change, Ends, Kept, Rewriting, Rewrote, TookAll, 
 use Rattle.hpr_kit.specs.Shown.{place_of}
 use Rattle.hpr_kit.specs.Tags.{IsTagging}
 use Rattle.hpr_kit.proofs.ReadLemmas.{file_is, read_all, read_is}
-use Rattle.hpr_kit.proofs.GraphLemmas.{conflicts_said, graph_said, impact_said, on_source, on_sources, reasons_said}
+use Rattle.hpr_kit.proofs.GraphLemmas.{conflicts_said, graph_said, impact_said, merge_said, on_source, on_sources, reasons_said}
 use Rattle.hpr_kit.proofs.TagLemmas.{tagged_done}
 use Rattle.hpr_kit.specs.declared.status.Status.{Status}
 use Rattle.hpr_kit.specs.declared.status.Status.TheVariants as status
@@ -82,6 +82,7 @@ printed (graph file how) files a h done = tt
 printed (impact file points how) files a h done = tt
 printed (affected base variant) files a h done = tt
 printed (conflicts base variants) files a h done = tt
+printed (merge base variants tries) files a h done = tt
 
 -- ---- `fmt --check`
 
@@ -177,6 +178,7 @@ told_place (graph file how) files a h done = tt
 told_place (impact file points how) files a h done = tt
 told_place (affected base variant) files a h done = tt
 told_place (conflicts base variants) files a h done = tt
+told_place (merge base variants tries) files a h done = tt
 
 -- ---- `tag`
 
@@ -192,6 +194,7 @@ tagged_file (graph file how) files a h done = tt
 tagged_file (impact file points how) files a h done = tt
 tagged_file (affected base variant) files a h done = tt
 tagged_file (conflicts base variants) files a h done = tt
+tagged_file (merge base variants tries) files a h done = tt
 
 module _ (ask : Ask) (files : Files) (reads : List ℕ → Type 0) (s : Status) (before now : ℕ) (w : Rewriting) (out err : Change) (ends : Ends s (Comes (Some ask) files) reads before now w out err) where
   took_done : (Does : List ℕ → Type 0) → ((a : Answer) → Comes (Some ask) files a → a.status ≡ status.Done → Does a.out) → s ≡ status.Done → Took out.old out.new Does
@@ -231,6 +234,7 @@ checks (graph file how) files reads s before now w out err ends = tt
 checks (impact file points how) files reads s before now w out err ends = tt
 checks (affected base variant) files reads s before now w out err ends = tt
 checks (conflicts base variants) files reads s before now w out err ends = tt
+checks (merge base variants tries) files reads s before now w out err ends = tt
 
 -- ---- `fmt --in-place`
 
@@ -344,3 +348,6 @@ module _ (files : Files) (reads : List ℕ → Type 0) (s : Status) (before now 
   renews (conflicts base variants) ends =
       none_given s _ reads before now w out err
       (λ a comes. (on_sources files (base ∷ variants) _ a (λ ps ss told. conflicts_said (base ∷ variants) ps ss a told) comes).none) ends
+  renews (merge base variants tries) ends =
+      none_given s _ reads before now w out err
+      (λ a comes. (on_sources files (base ∷ variants) _ a (λ ps ss told. merge_said (base ∷ variants) ps tries ss a told) comes).none) ends

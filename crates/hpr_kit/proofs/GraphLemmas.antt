@@ -13,6 +13,7 @@ use Rattle.hpr_located.specs.Sources.{Standing}
 use Rattle.hpr_kit.specs.Answer.{Answer, prints, refuses}
 use Rattle.hpr_json.specs.Refusals.{edges_text}
 use Rattle.hpr_kit.specs.Graphs.{AreConflictsTold, AreReasonsTold, HasTooManyEdges, IsGraphTold, IsImpactTold, OnGraph, OnGraphs, OnPoints}
+use Rattle.hpr_kit.specs.Merges.{IsMergeTold}
 use Rattle.hpr_kit.specs.Private.Graphs.{SaysIn}
 use Rattle.hpr_kit.specs.Sources.{OnSource, OnSources}
 use Rattle.hpr_kit.specs.declared.load.Halt.{Halt}
@@ -89,6 +90,12 @@ conflicts_told gs ss a (cs, d, are, told, is) = printed _ a is
 
 pub conflicts_said : (names : List (List ℕ)) (ps : List Tree) (ss : List Standing) (a : Answer) → OnGraphs names ps (λ gs. AreConflictsTold gs ss a) a → IsSaid a
 conflicts_said names ps ss a h = on_graphs names ps (λ gs. AreConflictsTold gs ss a) a (λ gs told. conflicts_told gs ss a told) h
+
+merge_told : (ps : List Tree) (tries : ℕ) (ss : List Standing) (a : Answer) → IsMergeTold ps tries ss a → IsSaid a
+merge_told ps tries ss a (o, comes, (d, told, is)) = printed _ a is
+
+pub merge_said : (names : List (List ℕ)) (ps : List Tree) (tries : ℕ) (ss : List Standing) (a : Answer) → OnGraphs names ps (λ gs. IsMergeTold ps tries ss a) a → IsSaid a
+merge_said names ps tries ss a h = on_graphs names ps (λ gs. IsMergeTold ps tries ss a) a (λ gs told. merge_told ps tries ss a told) h
 
 -- the second graph has too many edges, and the first hasn't
 pub second_too_many : (file : List ℕ) (p : Tree) (h : Numbered) → Same (graph_in h) (graph_of p) → (¬ HasTooManyEdges p) → (other : List ℕ) (q : Tree)

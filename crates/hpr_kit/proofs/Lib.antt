@@ -5,4 +5,5 @@ mod TagLemmas
 mod DoesLemmas
 mod GraphLemmas
 mod ManyGraphs
+mod Merging
 mod LoadLemmas

@@ -9,6 +9,7 @@ use Rattle.hpr_graph.specs.Graphs.{Same}
 use Rattle.hpr_graph.specs.Numbered.{Numbered, graph_in, graphs_in}
 use Rattle.hpr_graph.specs.ProgramGraph.{graph_of}
 use Rattle.hpr_graph.specs.Whole.{AreAll, IsWhole}
+use Rattle.hpr_engine.specs.Made.{AreGraphsOf, IsGraphOf}
 use Rattle.hpr_closure.proofs.ProgramWhole.{program_whole}
 use Rattle.hpr_closure.proofs.WholeSlices.{whole_same}
 use Rattle.hpr_json.specs.Refusals.{edges_text}
@@ -88,6 +89,19 @@ pub next_whole : (gs hs : List Numbered) (g : Numbered) (p : Tree) → AreAll Is
     → AreAll IsWhole (graphs_in hs)
 next_whole gs hs g p are is same more =
     subst (λ xs. AreAll IsWhole (graphs_in xs)) (sym more) (whole_more gs g are (whole_same (graph_in g) (graph_of p) same (program_whole p is)))
+
+-- the graphs of programs, and one more
+graphs_more : (ps : List Tree) (gs : List Numbered) (p : Tree) (g : Numbered) → AreGraphsOf ps gs → IsGraphOf p g → AreGraphsOf (ps ++ p ∷ []) (gs ++ g ∷ [])
+graphs_more [] [] p g are is = (is, tt)
+graphs_more [] (h ∷ gs) p g are is = absurd are
+graphs_more (q ∷ ps) [] p g are is = absurd are
+graphs_more (q ∷ ps) (h ∷ gs) p g are is = (are.0, graphs_more ps gs p g are.1 is)
+
+pub next_graphs : (ps : List Tree) (i : ℕ) (gs hs : List Numbered) (p : Tree) (g : Numbered) → i < length ps → p ≡ get_or ps i p → AreGraphsOf (take i ps) gs → IsGraphOf p g
+    → hs ≡ gs ++ g ∷ [] → AreGraphsOf (take (i + 1) ps) hs
+next_graphs ps i gs hs p g low is are one more =
+    let next : take (i + 1) ps ≡ take i ps ++ p ∷ [] = take_more ps i p low ∙ ap (λ (q : Tree). take i ps ++ q ∷ []) (sym is) in
+    subst (AreGraphsOf (take (i + 1) ps)) (sym more) (subst (λ qs. AreGraphsOf qs (gs ++ g ∷ [])) (sym next) (graphs_more (take i ps) gs p g are one))
 
 -- the conflicts of the variants behind base
 pub among : {E : Type 0} (gs : List Numbered) (base : Numbered) → base ≡ get_or gs 0 base → 3 ≤ length gs → (result : Result (Vec ManyConflict Global) E)

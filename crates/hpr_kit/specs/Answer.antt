@@ -84,6 +84,7 @@ usage_text =
     ++ codes "       hprkit impact FILE POINT.. [--json | --marks]\n"
     ++ codes "       hprkit affected BASE V\n"
     ++ codes "       hprkit conflicts BASE V1 V2..\n"
+    ++ codes "       hprkit merge BASE V1 V2.. [--tries N]\n"
     ++ codes "       hprkit --help\n"
     ++ codes "       hprkit --version\n"
 
@@ -108,6 +109,9 @@ help_text =
     ++ codes "conflicts BASE V1 V2..\n"
     ++ codes "                  print, as JSON, what interferes in their integration: 2 to 16\n"
     ++ codes "                  variants\n"
+    ++ codes "merge BASE V1 V2.. [--tries N]\n"
+    ++ codes "                  integrate them, and print, as JSON, the program with the graph\n"
+    ++ codes "                  that it has, or why there is none\n"
     ++ codes "\n"
     ++ codes "`-` as FILE is standard input.\n"
 

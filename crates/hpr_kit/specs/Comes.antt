@@ -30,10 +30,11 @@ use Rattle.hpr_words.specs.Request.{Text}
 use Rattle.hpr_inputs.specs.Reads.{IsReached}
 use Rattle.hprkit_words.specs.declared.forms.FormatForm.{FormatForm}
 use Rattle.hprkit_words.specs.declared.forms.FormatForm.TheVariants as form
-use Rattle.hprkit_words.specs.Ask.{Ask, affected, conflicts, format, graph, help, impact, place, tag, version}
+use Rattle.hprkit_words.specs.Ask.{Ask, affected, conflicts, format, graph, help, impact, merge, place, tag, version}
 use Rattle.hpr_kit.specs.Answer.{Answer, beyond_text, denies, differs_text, help_text, prints, refused_text, refuses, rewrites, spent_text, usage_text, version_text}
 use Rattle.hpr_kit.specs.Reading.{OnProgram, read}
 use Rattle.hpr_kit.specs.Graphs.{AreConflictsTold, AreReasonsTold, IsGraphTold, IsImpactTold, OnGraph, OnGraphs, OnPoints}
+use Rattle.hpr_kit.specs.Merges.{IsMergeTold}
 use Rattle.hpr_kit.specs.Shown.{place_of}
 use Rattle.hpr_kit.specs.Sources.{OnSource, OnSources}
 use Rattle.hpr_kit.specs.Tags.{IsSpent, IsTagCause, IsTagged}
@@ -94,6 +95,9 @@ Comes (Some (affected base variant)) files a =
 Comes (Some (conflicts base variants)) files a =
     OnSources files (base ∷ variants)
     (λ ps ss. OnGraphs (base ∷ variants) ps (λ gs. AreConflictsTold gs ss a) a) a
+Comes (Some (merge base variants tries)) files a =
+    OnSources files (base ∷ variants)
+    (λ ps ss. OnGraphs (base ∷ variants) ps (λ gs. IsMergeTold ps tries ss a) a) a
 
 abbrev pub Names : Option Ask → Text → Type 0
 Names (Some (format named form)) file = file ≡ named
@@ -106,8 +110,10 @@ Names (Some (graph named form)) file = file ≡ named
 Names (Some (impact named points form)) file = file ≡ named
 Names (Some (affected base variant)) file = (file ≡ base) ⊎ (file ≡ variant)
 Names (Some (conflicts base variants)) file = Contains (base ∷ variants) file
+Names (Some (merge base variants tries)) file = Contains (base ∷ variants) file
 
 abbrev pub MayRead : Option Ask → Option Files → Text → Type 0
 MayRead (Some (affected base variant)) told = IsReached told (base ∷ variant ∷ [])
 MayRead (Some (conflicts base variants)) told = IsReached told (base ∷ variants)
+MayRead (Some (merge base variants tries)) told = IsReached told (base ∷ variants)
 MayRead asked told = Names asked

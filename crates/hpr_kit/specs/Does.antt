@@ -27,7 +27,7 @@ use Rattle.hpr_io.specs.Taken.{taken_then}
 use Rattle.hpr_syntax.specs.Print.{text}
 use Rattle.hpr_syntax.specs.Tree.{Tree}
 use Rattle.hpr_refusals.specs.Refusals.{IsFileOf}
-use Rattle.hprkit_words.specs.Ask.{Ask, affected, conflicts, format, graph, help, impact, place, tag, version}
+use Rattle.hprkit_words.specs.Ask.{Ask, affected, conflicts, format, graph, help, impact, merge, place, tag, version}
 use Rattle.hprkit_words.specs.Taken.{taken}
 use Rattle.hprkit_words.specs.declared.forms.FormatForm.TheVariants as form
 use Rattle.hpr_words.specs.Request.{Text}
@@ -64,6 +64,7 @@ Formats (graph file how) files printed = Unit {0}
 Formats (impact file points how) files printed = Unit {0}
 Formats (affected base variant) files printed = Unit {0}
 Formats (conflicts base variants) files printed = Unit {0}
+Formats (merge base variants tries) files printed = Unit {0}
 
 pub record IsChecked (bytes : List ℕ) (s : Status) : Type 0 where
   pub done : s ≡ Done → IsCanonical bytes
@@ -83,6 +84,7 @@ Checks (graph file how) files s = Unit {0}
 Checks (impact file points how) files s = Unit {0}
 Checks (affected base variant) files s = Unit {0}
 Checks (conflicts base variants) files s = Unit {0}
+Checks (merge base variants tries) files s = Unit {0}
 
 abbrev pub Places : Ask → Files → List ℕ → Type 0
 Places (place file n) files printed =
@@ -95,6 +97,7 @@ Places (graph file how) files printed = Unit {0}
 Places (impact file points how) files printed = Unit {0}
 Places (affected base variant) files printed = Unit {0}
 Places (conflicts base variants) files printed = Unit {0}
+Places (merge base variants tries) files printed = Unit {0}
 
 abbrev pub Tags : Ask → Files → List ℕ → Type 0
 Tags (tag file author keep) files printed = IsTagging author keep (bytes_of files file) printed
@@ -106,6 +109,7 @@ Tags (graph file how) files printed = Unit {0}
 Tags (impact file points how) files printed = Unit {0}
 Tags (affected base variant) files printed = Unit {0}
 Tags (conflicts base variants) files printed = Unit {0}
+Tags (merge base variants tries) files printed = Unit {0}
 
 abbrev pub renewal : Text → List ℕ → Tree → Option Rewrite
 renewal file bytes p =
@@ -127,3 +131,4 @@ Renews (graph file how) files s w = Kept w
 Renews (impact file points how) files s w = Kept w
 Renews (affected base variant) files s w = Kept w
 Renews (conflicts base variants) files s w = Kept w
+Renews (merge base variants tries) files s w = Kept w

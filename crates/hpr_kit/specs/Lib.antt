@@ -5,6 +5,7 @@ pub mod Tags
 pub mod Reading
 pub mod Sources
 pub mod Graphs
+pub mod Merges
 pub mod Comes
 pub mod Ends
 pub mod Does

@@ -2,7 +2,7 @@
 ghost use Rattle.std.specs.Prelude.{◌≡◌, ◌≢◌, ◌≤◌, ◌∷◌, ℕ, All, List, Some, IfOk, IsTrue, length, map};
 ghost use Rattle.hpr_terms.specs.declared.limits.TheConstants.{MAX_VARIANTS};
 ghost use Rattle.hpr_words.specs.Request.{Text};
-ghost use Rattle.hprkit_words.specs.Ask.{IsInRange, affected, conflicts, format, graph, impact, place, tag};
+ghost use Rattle.hprkit_words.specs.Ask.{IsInRange, affected, conflicts, format, graph, impact, merge, place, tag};
 ghost use Rattle.hprkit_words.specs.Asked.{ask_of};
 ghost use Rattle.hpr_kit.specs.Answer.{prints};
 ghost use Rattle.hpr_kit.specs.Comes.{Comes, MayRead, Names};
@@ -17,6 +17,7 @@ use crate::fetch::fetch;
 use crate::graphs::graph_reply;
 use crate::impact::impact_reply;
 use crate::load::{Halt, load, load_all, settle};
+use crate::merge::merge_reply;
 use crate::reply::{HELP, Reply, Stop, VERSION, prints};
 use crate::status::Status;
 use crate::tag::tag_bytes;
@@ -53,6 +54,11 @@ pub(crate) fn decide<S: Shelf>(
         Asked::Conflicts { base, variants } => {
             settle(conflicts_files(alloc, base, variants.as_slice(), shelf))
         }
+        Asked::Merge {
+            base,
+            variants,
+            tries,
+        } => settle(merge_files(alloc, base, variants.as_slice(), tries, shelf)),
     }
 }
 
@@ -190,4 +196,26 @@ fn conflicts_files<S: Shelf>(
     let files = with_base(alloc, base, variants)?;
     let loaded = load_all(alloc, files.as_slice(), shelf)?;
     conflicts_reply(alloc, files.as_slice(), &loaded)
+}
+
+fn merge_files<S: Shelf>(
+    alloc: Global,
+    base: &str,
+    variants: &[&str],
+    tries: u64,
+    shelf: &mut S,
+) -> Result<Reply, Halt>
+    requires least { 2 ≤ length variants.now }
+    requires most { length variants.now ≤ MAX_VARIANTS }
+    requires tries { 1 ≤ tries }
+    requires serves { All (λ name. IsTrue (S.serves shelf.old name)) (base.now ∷ map (λ w. w.now) variants.now) }
+    ensures halts { Halts (λ files a. Comes (Some (merge base.now (map (λ w. w.now) variants.now) tries)) files a)
+        (MayRead (Some (merge base.now (map (λ w. w.now) variants.now) tries)) (S.files shelf.old))
+        (S.files shelf.old) (S.faults shelf.old) (S.faults shelf.new) result }
+    ensures same_files { S.files shelf.new ≡ S.files shelf.old }
+    ensures same_names { (n : List ℕ) → S.serves shelf.new n ≡ S.serves shelf.old n }
+{
+    let files = with_base(alloc, base, variants)?;
+    let loaded = load_all(alloc, files.as_slice(), shelf)?;
+    merge_reply(alloc, files.as_slice(), loaded, tries)
 }

@@ -1,6 +1,7 @@
 //! The command `conflicts`.
 ghost use Rattle.std.specs.Prelude.{◌≡◌, ◌≤◌, ◌+◌, ◌∷◌, IfOk, length, map};
 ghost use Rattle.hpr_terms.specs.declared.limits.TheConstants.{MAX_VARIANTS};
+ghost use Rattle.hpr_engine.specs.Made.{AreGraphsOf};
 ghost use Rattle.hpr_graph.specs.Numbered.{graphs_in};
 ghost use Rattle.hpr_graph.specs.Whole.{AreAll, IsWhole};
 ghost use Rattle.hpr_located.specs.Sources.{standing_of};
@@ -46,17 +47,23 @@ pub(crate) fn conflicts_reply(alloc: Global, files: &[&str], loaded: &Loaded) ->
 }
 
 /// The graphs of the programs of these files.
-fn graphs_for(alloc: Global, files: &[&str], programs: &[Program]) -> Result<Vec<Graph>, Halt>
+pub(crate) fn graphs_for(
+    alloc: Global,
+    files: &[&str],
+    programs: &[Program],
+) -> Result<Vec<Graph>, Halt>
     requires { length programs.now ≡ length files.now }
     ensures makes { MakesGraphs (map (λ w. w.now) files.now) programs.now result }
     ensures count { IfOk result (λ graphs. length graphs.items ≡ length files.now) }
     ensures whole { IfOk result (λ graphs. AreAll IsWhole (graphs_in graphs.items)) }
+    ensures programs { IfOk result (λ graphs. AreGraphsOf programs.now graphs.items) }
 {
     let mut graphs = Vec::new(alloc);
     for (at, file) in files.iter().enumerate() {
         let program = &programs[at];
         let _body = program.body();
         let graph = graph_for(alloc, file, program)?;
+        let _vertices = graph.vertices();
         push_one(&mut graphs, graph)?;
     }
     Ok(graphs)

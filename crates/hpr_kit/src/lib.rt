@@ -11,6 +11,7 @@ mod fetch;
 mod graphs;
 mod impact;
 mod load;
+mod merge;
 mod place;
 mod program;
 mod put;
@@ -48,8 +49,9 @@ pub use store::{RewriteError, Store};
 /// its parts without a tag have the next serials of the author, as [`hpr_tagging::tag_parts`] gives them, and with
 /// `--keep` the file's own text with these tags. `graph FILE` prints the dependence graph of the program that the file
 /// spells, as JSON with where its vertices stand, or for Graphviz; `impact FILE POINT..` what a change at some of its
-/// points can reach; `affected BASE V` the affected points of a variant with their reasons; and `conflicts BASE V1 V2..`
-/// what interferes in an integration of two to sixteen variants. `--help` and `--version` print fixed texts, and read
+/// points can reach; `affected BASE V` the affected points of a variant with their reasons; `conflicts BASE V1 V2..`
+/// what interferes in an integration of two to sixteen variants; and `merge BASE V1 V2..` the program of their integration
+/// with the graph that was searched for, or why there is none. `--help` and `--version` print fixed texts, and read
 /// no file.
 ///
 /// A file of more than 4,194,304 bytes is refused, and so is one that is to spell a program and spells none: with

@@ -17,6 +17,7 @@ usage: hprkit fmt FILE [--check | --in-place]\n\
 \x20      hprkit impact FILE POINT.. [--json | --marks]\n\
 \x20      hprkit affected BASE V\n\
 \x20      hprkit conflicts BASE V1 V2..\n\
+\x20      hprkit merge BASE V1 V2.. [--tries N]\n\
 \x20      hprkit --help\n\
 \x20      hprkit --version\n";
 
@@ -30,6 +31,7 @@ usage: hprkit fmt FILE [--check | --in-place]\n\
 \x20      hprkit impact FILE POINT.. [--json | --marks]\n\
 \x20      hprkit affected BASE V\n\
 \x20      hprkit conflicts BASE V1 V2..\n\
+\x20      hprkit merge BASE V1 V2.. [--tries N]\n\
 \x20      hprkit --help\n\
 \x20      hprkit --version\n\
 \n\
@@ -50,6 +52,9 @@ affected BASE V   print, as JSON, the affected points of V, and why each is one\
 conflicts BASE V1 V2..\n\
 \x20                 print, as JSON, what interferes in their integration: 2 to 16\n\
 \x20                 variants\n\
+merge BASE V1 V2.. [--tries N]\n\
+\x20                 integrate them, and print, as JSON, the program with the graph\n\
+\x20                 that it has, or why there is none\n\
 \n\
 `-` as FILE is standard input.\n";
 

@@ -1,1 +1,2 @@
 mod ManyGraphs
+mod TwoGraphs

@@ -11,6 +11,7 @@ mod interference;
 mod located;
 mod marks;
 mod numbers;
+mod outcome;
 mod put;
 mod reasons;
 mod sentences;
@@ -30,6 +31,7 @@ impl Calls for KitCalls {
             "located" => located::call(row, out),
             "drawn" => drawn::call(row, out),
             "impact" => impact::call(row, out),
+            "outcome" => outcome::call(row, out),
             _ => None,
         }
     }

@@ -1,3 +1,4 @@
 mod NameLemmas
+mod NumberLemmas
 mod RangeLemmas
 mod AskedLemmas

@@ -11,9 +11,11 @@
 -- impact file points form == what a change at these points of the program of a file can reach
 -- affected base variant   == the affected points of a variant, each with its reason
 -- conflicts base variants == what interferes in an integration of these variants
--- IsInRange ask     == its variants, if it lists some, are from two to their limit
+-- merge base variants n == the integration of these variants, within n tries
+-- IsInRange ask     == its variants, if it lists some, are from two to their limit, and its tries, if it has
+--                      some, from 1 to theirs
 use Rattle.std.specs.Prelude.{ℕ, ◌≤◌, Bool, List, length}
-use Rattle.hpr_terms.specs.declared.limits.TheConstants.{MAX_VARIANTS}
+use Rattle.hpr_terms.specs.declared.limits.TheConstants.{MAX_TRIES, MAX_VARIANTS}
 use Rattle.hpr_words.specs.Request.{Text}
 use Rattle.hprkit_words.specs.declared.forms.FormatForm.{FormatForm}
 use Rattle.hprkit_words.specs.declared.forms.GraphForm.{GraphForm}
@@ -29,7 +31,10 @@ pub data Ask : Type 0 where
   impact : (file : Text) (points : List Text) (form : ImpactForm) → Ask
   affected : (base variant : Text) → Ask
   conflicts : (base : Text) (variants : List Text) → Ask
+  merge : (base : Text) (variants : List Text) (tries : ℕ) → Ask
 
 abbrev pub IsInRange : Ask → Type 0
 IsInRange (conflicts base variants) = (2 ≤ length variants) × (length variants ≤ MAX_VARIANTS)
+IsInRange (merge base variants tries) =
+    (2 ≤ length variants) × (length variants ≤ MAX_VARIANTS) × (1 ≤ tries) × (tries ≤ MAX_TRIES)
 IsInRange _ = Unit {0}

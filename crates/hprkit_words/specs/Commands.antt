@@ -13,6 +13,7 @@
 -- impact_of ws l ns fs       == what is asked of a file, one point or more, and at most one flag
 -- affected_of ws l ns fs     == what is asked of two names
 -- conflicts_of ws l ns fs    == what is asked of a base and its variants, two or more up to their limit
+-- merge_of ws l ns fs        == what is asked of the same and a number of tries
 -- format_form                == `fmt FILE [--check | --in-place]`
 -- at_form                    == `at FILE BYTE`
 -- tag_form                   == `tag FILE --author N [--keep]`
@@ -20,6 +21,7 @@
 -- impact_form                == `impact FILE POINT.. [--json | --marks]`
 -- affected_form              == `affected BASE V`
 -- conflicts_form             == `conflicts BASE V1 V2..`
+-- merge_form                 == `merge BASE V1 V2.. [--tries N]`
 -- commands                   == all of them
 -- form_named name            == the command of this name, if there is one
 -- asked_with form ws l ns fs == what the command asks for, where it is given all of these
@@ -30,9 +32,9 @@ use Rattle.std.specs.Str.{bytes_eq}
 use Rattle.clap.specs.Simple.{on_top}
 use Rattle.clap.specs.Words.{App, Rule, new_app}
 use Rattle.hpr_terms.specs.declared.limits.TheConstants.{MAX_VARIANTS}
-use Rattle.hpr_words.specs.Commands.{NumberOption, author, flag_rule, list_rule, number_rule, number_within, word_rule}
+use Rattle.hpr_words.specs.Commands.{NumberOption, author, flag_rule, list_rule, number_rule, number_within, tries, word_rule}
 use Rattle.hpr_words.specs.Request.{Text}
-use Rattle.hprkit_words.specs.Ask.{Ask, affected, conflicts, format, graph, impact, place, tag}
+use Rattle.hprkit_words.specs.Ask.{Ask, affected, conflicts, format, graph, impact, merge, place, tag}
 use Rattle.hprkit_words.specs.declared.forms.FormatForm.TheVariants as form
 use Rattle.hprkit_words.specs.declared.forms.GraphForm.TheVariants.{Dot, Json}
 use Rattle.hprkit_words.specs.declared.forms.ImpactForm.TheVariants as told
@@ -83,6 +85,11 @@ abbrev pub conflicts_of : (words list : List Text) (numbers : List ℕ) (flags :
 conflicts_of (base ∷ []) (a ∷ b ∷ more) numbers flags =
     if nat_le (length (a ∷ b ∷ more)) MAX_VARIANTS then Some (conflicts base (a ∷ b ∷ more)) else None
 conflicts_of _ _ _ _ = None
+
+abbrev pub merge_of : (words list : List Text) (numbers : List ℕ) (flags : List Bool) → Option Ask
+merge_of (base ∷ []) (a ∷ b ∷ more) (n ∷ []) flags =
+    if nat_le (length (a ∷ b ∷ more)) MAX_VARIANTS then Some (merge base (a ∷ b ∷ more) n) else None
+merge_of _ _ _ _ = None
 
 -- ---- the commands
 
@@ -156,9 +163,20 @@ conflicts_form = record {
   asks = conflicts_of;
 }
 
+abbrev pub merge_form : Form
+merge_form = record {
+  name = codes "merge";
+  words = codes "base" ∷ [];
+  list = Some (codes "variant");
+  numbers = tries ∷ [];
+  flags = [];
+  asks = merge_of;
+}
+
 abbrev pub commands : List Form
 commands =
-    format_form ∷ at_form ∷ tag_form ∷ graph_form ∷ impact_form ∷ affected_form ∷ conflicts_form ∷ []
+    format_form ∷ at_form ∷ tag_form ∷ graph_form ∷ impact_form ∷ affected_form ∷ conflicts_form ∷ merge_form
+    ∷ []
 
 abbrev pub form_named : Text → Option Form
 form_named name = find (λ form. bytes_eq name form.name) commands

@@ -59,6 +59,13 @@ pub enum Asked<'a> {
         base: &'a str,
         variants: Vec<&'a str>,
     },
+    /// `merge BASE V1 V2.. [--tries N]`: integrate two to sixteen variants of base, within a number of tries from 1 to
+    /// 1,000,000,000, by default 10,000. The variants stand in the order of their words.
+    Merge {
+        base: &'a str,
+        variants: Vec<&'a str>,
+        tries: u64,
+    },
 }
 
 /// Whether one of the words is `--help`.

@@ -3,16 +3,16 @@ ghost use Rattle.std.specs.Prelude.{◌≡◌, ◌∷◌, [], map, option_map};
 ghost use Rattle.std.specs.Result.{result_ok};
 ghost use Rattle.clap.specs.Words.{found_of, rows_of};
 ghost use Rattle.hpr_words.specs.Arguments.{app_with};
-ghost use Rattle.hpr_words.specs.Commands.{author};
+ghost use Rattle.hpr_words.specs.Commands.{author, tries};
 ghost use Rattle.hpr_words.specs.Taken.{number_in};
-ghost use Rattle.hprkit_words.specs.Commands.{affected_form, at_form, conflicts_form, conflicts_of, form_app, form_named, format_form, format_of, graph_form, graph_of, impact_form, impact_of, tag_form};
+ghost use Rattle.hprkit_words.specs.Commands.{affected_form, at_form, conflicts_form, conflicts_of, form_app, form_named, format_form, format_of, graph_form, graph_of, impact_form, impact_of, merge_form, merge_of, tag_form};
 ghost use Rattle.hprkit_words.specs.Private.Commands.{Reads, form_of};
 ghost use Rattle.hprkit_words.specs.Taken.{asked_in};
 
 use crate::asked::Asked;
 use crate::forms::{FormatForm, GraphForm, ImpactForm, LeftOut};
 use clap::ArgMatches;
-use hpr_terms::limits::{MAX_TAG_NUMBER, MAX_VARIANTS};
+use hpr_terms::limits::{DEFAULT_TRIES, MAX_TAG_NUMBER, MAX_TRIES, MAX_VARIANTS};
 use hpr_words::{Argument, WordsError, flag_from, list_from, name_from, word_number_from};
 use std::alloc::Global;
 
@@ -39,6 +39,12 @@ const VARIANT: Argument = Argument::Word("variant");
 const VARIANTS: Argument = Argument::List {
     name: "variant",
     is_needed: true,
+};
+
+const TRIES: Argument = Argument::Number {
+    name: "tries",
+    most: MAX_TRIES,
+    is_needed: false,
 };
 
 const POINTS: Argument = Argument::List {
@@ -68,6 +74,7 @@ pub enum CommandName {
     Impact,
     Affected,
     Conflicts,
+    Merge,
 }
 
 impl CommandName {
@@ -83,6 +90,7 @@ impl CommandName {
             "impact" => Some(CommandName::Impact),
             "affected" => Some(CommandName::Affected),
             "conflicts" => Some(CommandName::Conflicts),
+            "merge" => Some(CommandName::Merge),
             _ => None,
         }
     }
@@ -99,6 +107,7 @@ impl CommandName {
             CommandName::Impact => &[FILE, POINTS, JSON, MARKS],
             CommandName::Affected => &[BASE, VARIANT],
             CommandName::Conflicts => &[BASE, VARIANTS],
+            CommandName::Merge => &[BASE, VARIANTS, TRIES],
         }
     }
 
@@ -114,6 +123,7 @@ impl CommandName {
             CommandName::Impact => impact_from(alloc, matches),
             CommandName::Affected => affected_from(matches),
             CommandName::Conflicts => conflicts_from(alloc, matches),
+            CommandName::Merge => merge_from(alloc, matches),
         }
     }
 }
@@ -263,6 +273,45 @@ fn conflicts_told<'a>(base: &'a str, variants: Vec<&'a str>) -> Result<Asked<'a>
 {
     match variants.as_slice() {
         [_, _, ..] if variants.len() <= MAX_VARIANTS => Ok(Asked::Conflicts { base, variants }),
+        _ => Err(WordsError::Refused),
+    }
+}
+
+fn merge_from<'a>(alloc: Global, matches: &ArgMatches<'a>) -> Result<Asked<'a>, WordsError>
+    ensures { Reads (asked_in merge_form (rows_of (found_of matches.now))) result }
+{
+    let base = name_from(matches, "base")?;
+    let tries = tries_from(matches)?;
+    merge_told(base, list_from(alloc, matches, "variant")?, tries)
+}
+
+/// The number of tries, which has a default.
+fn tries_from(matches: &ArgMatches<'_>) -> Result<u64, WordsError>
+    ensures { result_ok result ≡ number_in tries (rows_of (found_of matches.now)) }
+{
+    match matches.get_str("tries") {
+        Some(_) => word_number_from(matches, "tries", 1, u64::from(MAX_TRIES)),
+        None => Ok(DEFAULT_TRIES),
+    }
+}
+
+/// The integration of the variants, of which there must be 2 to 16.
+fn merge_told<'a>(
+    base: &'a str,
+    variants: Vec<&'a str>,
+    tries: u64,
+) -> Result<Asked<'a>, WordsError>
+    ensures { Reads (merge_of (base.entry.now ∷ []) (map (λ s. s.now) variants.entry.items) (tries ∷ []) [])
+        result }
+{
+    match variants.as_slice() {
+        [_, _, ..] if variants.len() <= MAX_VARIANTS => {
+            Ok(Asked::Merge {
+                base,
+                variants,
+                tries,
+            })
+        }
         _ => Err(WordsError::Refused),
     }
 }

@@ -2,8 +2,8 @@
 //!
 //! The commands are `fmt FILE [--check | --in-place]`, `at FILE BYTE`, `tag FILE --author N [--keep]`,
 //! `graph FILE --json | --dot [--no-control] [--no-flow] [--no-order]`, `impact FILE POINT.. [--json | --marks]`,
-//! `affected BASE V` and `conflicts BASE V1 V2..`. A call with the word `--help` asks for the help, and the word `--version` alone for the
-//! version.
+//! `affected BASE V`, `conflicts BASE V1 V2..` and `merge BASE V1 V2.. [--tries N]`. A call with the word `--help` asks for
+//! the help, and the word `--version` alone for the version.
 #![tactic(auto)]
 
 mod asked;

@@ -1,7 +1,7 @@
 use Rattle.std.proofs.Common.{◌∷◌, Bor, List, Some, ap, arith, inl, inr, length, map, refl, ℕ}
 use Rattle.std.proofs.lemmas.List.{length-map}
 use Rattle.std.proofs.lemmas.List.Elements.{Contains-get_or}
-use Rattle.hprkit_words.specs.Ask.{affected, conflicts, graph, impact}
+use Rattle.hprkit_words.specs.Ask.{affected, conflicts, graph, impact, merge}
 use Rattle.hpr_kit.specs.Comes.{Comes, MayRead, Names}
 use Rattle.hpr_kit.proofs.EndsLemmas.{if_told}
 use Rattle.hpr_kit.proofs.LoadLemmas.{settled_decides, settled_taken}
@@ -98,3 +98,35 @@ returns-in-Conflicts-clause-decides g c =
 pub returns-in-Conflicts-clause-taken : goal.returns-in-Conflicts-clause-taken
 returns-in-Conflicts-clause-taken g c =
     settled_taken (λ files a. Comes (Some (conflicts c.in-Conflicts.base.now (map (λ w. w.now) c.in-Conflicts.variants.items))) files a) (MayRead (Some (conflicts c.in-Conflicts.base.now (map (λ w. w.now) c.in-Conflicts.variants.items))) (g.S.Shelf.files c.args.shelf.now)) (g.S.Shelf.files c.args.shelf.now) (g.S.Shelf.faults c.args.shelf.now) (g.S.Shelf.faults c.conflicts_files.new.shelf) c.conflicts_files.result c.settle-in-Conflicts.result c.settle-in-Conflicts.ensures (rw c.as_slice-in-Conflicts.ensures.value at c.conflicts_files.ensures.halts)
+
+pub merge_files-requires-clause-least : goal.merge_files-requires-clause-least
+merge_files-requires-clause-least g c =
+    let range = rw c.in-Merge.is at c.requires.in_range in
+    let same = length-map c.in-Merge.variants.items (λ (s : Bor (List ℕ)). s.now) in
+    let whole = ap length c.as_slice-in-Merge.ensures.value in
+    omega (arith, same, whole, range.0)
+
+pub merge_files-requires-clause-most : goal.merge_files-requires-clause-most
+merge_files-requires-clause-most g c =
+    let range = rw c.in-Merge.is at c.requires.in_range in
+    let same = length-map c.in-Merge.variants.items (λ (s : Bor (List ℕ)). s.now) in
+    let whole = ap length c.as_slice-in-Merge.ensures.value in
+    omega (arith, same, whole, range.1)
+
+pub merge_files-requires-clause-serves : goal.merge_files-requires-clause-serves
+merge_files-requires-clause-serves g c =
+    rw c.as_slice-in-Merge.ensures.value (λ i d low.
+    (c.requires.names _ (rw c.in-Merge.is (Contains-get_or (c.in-Merge.base.now ∷ map (λ w. w.now) c.in-Merge.variants.items) i d low))))
+
+pub returns-in-Merge-clause-decides : goal.returns-in-Merge-clause-decides
+returns-in-Merge-clause-decides g c =
+    rw c.in-Merge.is (settled_decides (merge c.in-Merge.base.now (map (λ w. w.now) c.in-Merge.variants.items) c.in-Merge.tries) (g.S.Shelf.files c.args.shelf.now) (g.S.Shelf.faults c.args.shelf.now) (g.S.Shelf.faults c.merge_files.new.shelf) c.merge_files.result c.settle-in-Merge.result c.settle-in-Merge.ensures (rw c.as_slice-in-Merge.ensures.value at c.merge_files.ensures.halts))
+
+pub returns-in-Merge-clause-taken : goal.returns-in-Merge-clause-taken
+returns-in-Merge-clause-taken g c =
+    settled_taken (λ files a. Comes (Some (merge c.in-Merge.base.now (map (λ w. w.now) c.in-Merge.variants.items) c.in-Merge.tries)) files a) (MayRead (Some (merge c.in-Merge.base.now (map (λ w. w.now) c.in-Merge.variants.items) c.in-Merge.tries)) (g.S.Shelf.files c.args.shelf.now)) (g.S.Shelf.files c.args.shelf.now) (g.S.Shelf.faults c.args.shelf.now) (g.S.Shelf.faults c.merge_files.new.shelf) c.merge_files.result c.settle-in-Merge.result c.settle-in-Merge.ensures (rw c.as_slice-in-Merge.ensures.value at c.merge_files.ensures.halts)
+
+pub merge_files-requires-clause-tries : goal.merge_files-requires-clause-tries
+merge_files-requires-clause-tries g c =
+    let range = rw c.in-Merge.is at c.requires.in_range in
+    range.2

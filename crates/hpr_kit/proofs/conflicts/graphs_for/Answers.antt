@@ -1,7 +1,7 @@
 use Rattle.std.proofs.Common.{◌∙◌, [], Bor, List, ℕ, ap, arith, length, length-append}
 use Rattle.std.proofs.lemmas.Result.{err_from_is_err_and}
 use Rattle.hpr_graph.specs.Numbered.{Numbered}
-use Rattle.hpr_kit.proofs.ManyGraphs.{halts_at, next_made, next_whole}
+use Rattle.hpr_kit.proofs.ManyGraphs.{halts_at, next_graphs, next_made, next_whole}
 use Rattle.hpr_kit.proofs.conflicts.graphs_for.Goals as goal
 
 abbrev none : Bor (List ℕ)
@@ -22,6 +22,8 @@ loop-at-preserved c =
       made = next_made c.args.programs.now c.loop-at.at c.loop-at.graphs.items _ c.index-programs-at.result c.in_ok-graph.graph (omega (arith, c.requires, c.loop-at-test.true)) c.index-programs-at.is so_far.made
           graph.0 graph.1 more;
       whole = next_whole c.loop-at.graphs.items _ c.in_ok-graph.graph c.index-programs-at.result so_far.whole c.body-body.ensures.program graph.0 more;
+      programs = next_graphs c.args.programs.now c.loop-at.at c.loop-at.graphs.items _ c.index-programs-at.result c.in_ok-graph.graph (omega (arith, c.requires, c.loop-at-test.true)) c.index-programs-at.is
+          so_far.programs (record { program = c.body-body.ensures.program; numbered = c.vertices-vertices.ensures.numbered; same = graph.0 }) more;
       count = (let now = ap (λ (gs : List Numbered). length gs) more ∙ length-append c.loop-at.graphs.items _ in let was = so_far.count in omega (arith, now, was));
       within = omega (arith, c.requires, c.loop-at-test.true);
     }
